@@ -1,0 +1,11 @@
+pub mod Streams
+pub mod SessionSteps
+pub mod Folds
+pub mod Acting
+pub mod FillSteps
+pub mod Listing
+pub mod Asking
+pub mod Saying
+pub mod Answering
+pub mod Users
+pub mod Scripts

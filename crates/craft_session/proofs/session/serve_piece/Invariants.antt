@@ -1,0 +1,26 @@
+use Rattle.std.proofs.Common.{◌≡◌, ◌≤◌, ◌-◌, List, drop, length}
+use Rattle.std.specs.Arc.{arc_value}
+use Rattle.dxc_outside.specs.declared.clock.Moment.{Moment}
+use Rattle.dxc_outside.specs.Links.{LinkState}
+use Rattle.dxc_model.specs.Tables.{Board}
+use Rattle.tl1_text.specs.declared.reader.UnitKind.TheVariants.{More}
+use Rattle.craft_session.specs.Desks.{at}
+use Rattle.craft_session.specs.Meanings.{language}
+use Rattle.craft_session.specs.Sessions.{Stands, Writes}
+use Rattle.craft_session.proofs.session.serve_piece.Given as goal
+
+abbrev pub invariant-loop-at : goal.invariant-loop-at
+invariant-loop-at g l =
+    let state = g.K.Link.state in
+    let coming = g.C.Clock.coming in
+    let tongue = language (arc_value l.fn.desk.shelf) in
+    record {
+      shelf : l.desk.shelf ≡ l.fn.desk.shelf;
+      link : Writes g.K.Link.told (state l.fn.link) (state l.link);
+      within : l.at ≤ length l.piece;
+      stands : (k : LinkState) (c : List Moment) (t : Board) → Stands tongue g.K.Link.told g.C.Clock.told k (state l.fn.link) c (coming l.fn.clock) t (at l.fn.desk) More l.fn.desk.reader l.piece
+          → Stands tongue g.K.Link.told g.C.Clock.told k (state l.link) c (coming l.clock) t (at l.desk) More l.desk.reader (drop l.at l.piece);
+    }
+
+abbrev pub decreases-loop-at : goal.decreases-loop-at
+decreases-loop-at g l = length l.piece - l.at

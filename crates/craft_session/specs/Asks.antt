@@ -1,0 +1,52 @@
+-- What a session replies, and the language in which it is asked and answers.
+use Rattle.std.specs.Prelude.{ℕ, Bool, true, nat_lt, List}
+use Rattle.dxc_model.specs.declared.cause.Cause.{Cause}
+use Rattle.dxc_model.specs.declared.conn.Conn.{Conn}
+use Rattle.dxc_model.specs.declared.user.SessionUser.{SessionUser}
+use Rattle.dxc_model.specs.declared.user.SessionUser.TheVariants.{Nobody, User}
+use Rattle.dxc_num.specs.Dimensions.{Dimensions}
+use Rattle.dxc_model.specs.Operations.{IsApt}
+use Rattle.craft_session.specs.declared.ask.Ask.{Ask}
+use Rattle.craft_session.specs.declared.ask.Ask.TheVariants.{Refused, LogsIn, LogsOut, Greets, Lists, Changes}
+use Rattle.craft_session.specs.declared.ask.Acted.{Acted}
+use Rattle.craft_session.specs.declared.ask.Acted.TheVariants as acted
+
+-- what a response says
+pub data Reply : Type 0 where
+  completed : Reply
+  completed_rows : List Conn → Reply
+  denied : Cause → Reply
+
+-- what was done, with the rows that were listed
+abbrev pub reply_of : Acted → List Conn → Reply
+reply_of acted.Completed rows = completed
+reply_of acted.Listed rows = completed_rows rows
+reply_of (acted.Denied q) rows = denied q
+
+-- an operation that is asked for is one of the shape's
+abbrev pub IsAptAsk : Dimensions → Ask → Type 0
+IsAptAsk d (Refused q) = Unit {0}
+IsAptAsk d (LogsIn u) = Unit {0}
+IsAptAsk d LogsOut = Unit {0}
+IsAptAsk d Greets = Unit {0}
+IsAptAsk d (Lists which) = Unit {0}
+IsAptAsk d (Changes op) = IsApt d op
+
+-- who is logged in after what was asked
+abbrev pub user_after : SessionUser → Ask → SessionUser
+user_after s (Refused q) = s
+user_after s (LogsIn u) = u
+user_after s LogsOut = Nobody
+user_after s Greets = s
+user_after s (Lists which) = s
+user_after s (Changes op) = s
+
+-- the user is one of so many
+abbrev pub is_known : ℕ → SessionUser → Bool
+is_known users Nobody = true
+is_known users (User n class) = nat_lt n users
+
+-- what units ask for a user, and the bytes of the response to a unit at a moment
+pub record Language (U M : Type 0) : Type 0 where
+  pub asks : SessionUser → U → Ask
+  pub response : M → U → Reply → List ℕ

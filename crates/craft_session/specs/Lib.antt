@@ -1,0 +1,13 @@
+pub mod Asks
+pub mod Happenings
+pub mod Moments
+pub mod Walks
+pub mod Runs
+pub mod Plain
+pub mod Sessions
+pub mod Responses
+pub mod Meanings
+pub mod Seats
+pub mod Desks
+pub mod Laws
+pub mod Words

@@ -1,0 +1,46 @@
+-- The bytes of responses, cut into blocks.
+use Rattle.std.specs.Prelude.{◌≡◌, ℕ, List, [], ◌++◌, Option, map}
+use Rattle.dxc_num.specs.Dimensions.{Dimensions}
+use Rattle.dxc_outside.specs.declared.clock.Moment.{Moment}
+use Rattle.dxc_outside.specs.declared.send.Sent.{Sent}
+use Rattle.dxc_outside.specs.declared.send.Sent.TheVariants.{Whole, Cut}
+use Rattle.dxc_outside.specs.Links.{LinkState, IsSent, Wrote}
+use Rattle.tl1_answer.specs.declared.answer.Code.{Code}
+use Rattle.tl1_answer.specs.declared.answer.Code.TheVariants.{Compld, Deny}
+use Rattle.tl1_answer.specs.Blocks.{Draft, IsUnended}
+use Rattle.tl1_answer.specs.Responses.{blocks_from, joined, response, denial}
+use Rattle.tl1_answer.specs.Texts.{row_text}
+use Rattle.craft_session.specs.Asks.{Reply, completed, completed_rows, denied}
+
+-- the completion code of a reply
+abbrev pub code_of : Reply → Code
+code_of completed = Compld
+code_of (completed_rows cs) = Compld
+code_of (denied q) = Deny
+
+-- its text lines
+abbrev pub lines_of : Dimensions → Reply → List (List ℕ)
+lines_of d completed = []
+lines_of d (completed_rows cs) = map (row_text d) cs
+lines_of d (denied q) = denial q
+
+-- the bytes of a reply's response
+abbrev pub reply_bytes : List ℕ → Dimensions → Moment → Option (List ℕ) → Reply → List ℕ
+reply_bytes sid d m tag r = response sid m tag (code_of r) (lines_of d r)
+
+-- the bytes of the blocks that are still to come, where the one in hand holds these bytes and these lines follow
+unfoldable pub bytes_from : List ℕ → List ℕ → List (List ℕ) → List ℕ
+bytes_from front bytes lines = joined (blocks_from front bytes lines)
+
+-- lines were added to a block: what was written of blocks that were full, and what the block holds then
+pub record Filled (told : Type 0) (k j : LinkState) (old new : Draft) (lines : List (List ℕ)) : Type 0 where
+  pub full : List ℕ
+  pub wrote : Wrote told k j full
+  pub same : new.head ≡ old.head
+  pub unended : IsUnended new
+  pub goes_on : (more : List (List ℕ)) → bytes_from old.head old.bytes (lines ++ more) ≡ full ++ bytes_from old.head new.bytes more
+
+-- lines were added, or a block that was full was cut
+abbrev pub Fills : (told : Type 0) (k j : LinkState) (sent : Sent) (old new : Draft) (lines : List (List ℕ)) → Type 0
+Fills told k j Whole old new lines = Filled told k j old new lines
+Fills told k j Cut old new lines = (more : List (List ℕ)) → IsSent told k j Cut (bytes_from old.head old.bytes (lines ++ more))

@@ -1,0 +1,25 @@
+use dxc_model::{Cause, Op, Selection, SessionUser};
+
+/// What a unit asks of a session: a cause that unit, user and shelf alone decide, else a command.
+#[derive(Clone, Copy, Debug, PartialEq, Eq)]
+pub enum Ask {
+    Refused(Cause),
+    /// ACT-USER of this user.
+    LogsIn(SessionUser),
+    /// CANC-USER.
+    LogsOut,
+    /// RTRV-HDR.
+    Greets,
+    /// RTRV-CRS-T0.
+    Lists(Selection),
+    /// A command that changes the table.
+    Changes(Op),
+}
+
+/// What the session did of it. Listed rows stand beside it.
+#[derive(Clone, Copy, Debug, PartialEq, Eq)]
+pub enum Acted {
+    Completed,
+    Listed,
+    Denied(Cause),
+}

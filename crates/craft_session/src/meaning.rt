@@ -1,0 +1,140 @@
+ghost use Rattle.std.specs.Prelude.{◌≡◌, ◌≤◌, true, length, map};
+ghost use Rattle.tl1_text.specs.Units.{whole};
+ghost use Rattle.dxc_secu.specs.Users.{user_of};
+ghost use Rattle.tl1_text.specs.Spans.{block_at, AreBlocksOf};
+ghost use Rattle.tl1_command.specs.Commands.{asked_by, IsAptCommand};
+ghost use Rattle.craft_session.specs.Asks.{IsAptAsk, is_known, user_after};
+ghost use Rattle.craft_session.specs.Meanings.{asks, is_unserved as unserved, names_unserved as unserved_named, is_two_way as two_way, table_ask, log_in, is_other_user as other_user, session_ask};
+
+use crate::ask::Ask;
+use dxc_model::{Cause, Cct, CommandCode, Op, SessionUser};
+use dxc_secu::{login, same_user};
+use shelf_file::Shelf;
+use tl1_command::{Command, code_in, command_of};
+use tl1_text::Blocks;
+use tl1_text::grammar::blocks;
+
+/// What a whole unit asks of the session of a user.
+pub fn ask_of(shelf: &Shelf, user: SessionUser, unit: &[u8]) -> Ask
+    requires short { length unit.now ≤ 2047 }
+    requires known { is_known (length shelf.now.users) user ≡ true }
+    ensures ask { result ≡ asks shelf.now user (whole unit.now) }
+    ensures apt { IsAptAsk shelf.now.shape result }
+    ensures known { is_known (length shelf.now.users) (user_after user result) ≡ true }
+{
+    let Ok(found) = blocks(unit) else {
+        return Ask::Refused(Cause::BadText);
+    };
+    if names_unserved(unit, &found) {
+        return Ask::Refused(Cause::UnknownCommand);
+    }
+    match command_of(shelf.shape(), shelf.sid(), user, unit, &found) {
+        Ok(command) => served(shelf, user, unit, command),
+        Err(cause) => Ask::Refused(cause),
+    }
+}
+
+/// The code is a command's that sessions don't serve yet.
+fn names_unserved(unit: &[u8], found: &Blocks) -> bool
+    requires { AreBlocksOf unit.now found.now.block.items }
+    ensures { result ≡ unserved_named (map (block_at unit.now) found.now.block.items) }
+{
+    match code_in(unit, found) {
+        Some(code) => is_unserved(code),
+        None => false,
+    }
+}
+
+fn is_unserved(code: CommandCode) -> bool
+    ensures { result ≡ unserved code }
+{
+    match code {
+        CommandCode::AlwMsgAll
+        | CommandCode::InhMsgAll
+        | CommandCode::EdCrsT0
+        | CommandCode::EntEqpt
+        | CommandCode::DltEqpt
+        | CommandCode::InitSys => true,
+        CommandCode::ActUser
+        | CommandCode::CancUser
+        | CommandCode::RtrvHdr
+        | CommandCode::RtrvCrsT0
+        | CommandCode::EntCrsT0
+        | CommandCode::DltCrsT0 => false,
+    }
+}
+
+/// What a command asks of the session.
+fn served(shelf: &Shelf, user: SessionUser, unit: &[u8], command: Command) -> Ask
+    requires apt { IsAptCommand shelf.now.shape unit.now command }
+    requires known { is_known (length shelf.now.users) user ≡ true }
+    ensures ask { result ≡ session_ask shelf.now user (asked_by unit.now command) }
+    ensures apt { IsAptAsk shelf.now.shape result }
+    ensures known { is_known (length shelf.now.users) (user_after user result) ≡ true }
+{
+    match command {
+        Command::ActUser { uid, pid } => log_in_as(shelf, user, uid.text(unit), pid.text(unit)),
+        Command::CancUser { uid } => {
+            if is_other_user(shelf, user, uid.text(unit)) {
+                Ask::Refused(Cause::OtherUser)
+            } else {
+                Ask::LogsOut
+            }
+        }
+        Command::Header => Ask::Greets,
+        Command::Allow | Command::Inhibit => Ask::Refused(Cause::UnknownCommand),
+        Command::Table(op) => on_table(op),
+    }
+}
+
+fn log_in_as(shelf: &Shelf, user: SessionUser, uid: &[u8], pid: &[u8]) -> Ask
+    requires { is_known (length shelf.now.users) user ≡ true }
+    ensures ask { result ≡ log_in shelf.now user (user_of shelf.now uid.now pid.now) }
+    ensures known { is_known (length shelf.now.users) (user_after user result) ≡ true }
+{
+    let Some(index) = login(shelf, uid, pid) else {
+        return Ask::Refused(Cause::BadIdentity);
+    };
+    match user {
+        SessionUser::Nobody => Ask::LogsIn(SessionUser::User {
+            index,
+            class: shelf.class(index),
+        }),
+        SessionUser::User { .. } => Ask::Refused(Cause::AlreadyLoggedIn),
+    }
+}
+
+/// A name is given, and it isn't the session's user.
+fn is_other_user(shelf: &Shelf, user: SessionUser, uid: &[u8]) -> bool
+    requires { is_known (length shelf.now.users) user ≡ true }
+    ensures { result ≡ other_user shelf.now user uid.now }
+{
+    match user {
+        SessionUser::Nobody => false,
+        SessionUser::User { index, .. } => !uid.is_empty() && !same_user(shelf, index, uid),
+    }
+}
+
+/// An operation on the table, as far as it is served.
+fn on_table(op: Op) -> Ask
+    ensures { result ≡ table_ask op }
+{
+    match op {
+        Op::Enter(conn) if is_two_way(conn.cct) => Ask::Refused(Cause::BadValue),
+        Op::Delete {
+            cct: Some(Cct::TwoWay),
+            ..
+        } => Ask::Refused(Cause::BadValue),
+        Op::Enter(_) | Op::Delete { .. } => Ask::Changes(op),
+        Op::Rows(selection) => Ask::Lists(selection),
+        Op::Edit(_) | Op::EnterModule(_) | Op::DeleteModule(_) | Op::Look(_) | Op::Restart => {
+            Ask::Refused(Cause::UnknownCommand)
+        }
+    }
+}
+
+fn is_two_way(cct: Cct) -> bool
+    ensures { result ≡ two_way cct }
+{
+    matches!(cct, Cct::TwoWay)
+}

@@ -1,0 +1,524 @@
+// Sessions over fakes in memory. Expected bytes are written out from the message format.
+ghost use Rattle.std.specs.Prelude.{◌≤◌};
+ghost use Rattle.dxc_outside.specs.Moments.{IsMoment};
+
+use crate::{Status, dxc_run};
+use dxc_outside::{MemClock, MemLink, MemOpener, Moment, Name};
+use shelf_file::{ShelfFault, ShelfKey};
+use std::alloc::Global;
+use std::process::Abort;
+use std::test::Fail;
+
+/// A unit, and its response behind the header.
+type Said = (&'static [u8], &'static [u8]);
+
+const SHELF: &[u8] = b"sid = \"DXC1\"
+modules = 2
+slots = 1
+[[user]]
+uid = \"ANNA\"
+class = \"S\"
+salt = \"61\"
+digest = \"ba7816bf8f01cfea414140de5dae2223b00361a396177a9cb410ff61f20015ad\"
+[[user]]
+uid = \"CARA\"
+class = \"R\"
+salt = \"61\"
+digest = \"ba7816bf8f01cfea414140de5dae2223b00361a396177a9cb410ff61f20015ad\"
+[[user]]
+uid = \"QUINN\"
+class = \"R\"
+salt = \"\"
+digest = \"2a816b9c81fae43931cfee621fef927710d591820099b58517f38463cd2ef22f\"
+";
+
+const LARGEST: &[u8] = b"sid = \"DXC1\"
+modules = 32
+slots = 32
+[[user]]
+uid = \"ANNA\"
+class = \"S\"
+salt = \"61\"
+digest = \"ba7816bf8f01cfea414140de5dae2223b00361a396177a9cb410ff61f20015ad\"
+";
+
+const HALF: &[u8] = b"sid = \"DXC1\"
+modules = 2
+slots = 1
+equipped = [1]
+[[user]]
+uid = \"ANNA\"
+class = \"S\"
+salt = \"61\"
+digest = \"ba7816bf8f01cfea414140de5dae2223b00361a396177a9cb410ff61f20015ad\"
+";
+
+const HEADER: &[u8] = b"\r\n\n   DXC1 26-03-01 12:00:00\r\n";
+
+const ANNA: Said = (b"ACT-USER::ANNA:0A::bc;", b"M  0A COMPLD\r\n;");
+
+const CARA: Said = (b"ACT-USER::CARA:1::bc;", b"M  1 COMPLD\r\n;");
+
+const ENTER: &[u8] = b"ENT-CRS-T0::DS0-1-1,DS0-2-1:1;";
+
+const ENTRY: Said = (ENTER, b"M  1 COMPLD\r\n;");
+
+const NO_COMMAND: &[u8] = b"M  0 DENY\r\n   IISP\r\n   /* UNIT IS NOT A COMMAND */\r\n;";
+
+fn noon(second: u8) -> Moment
+    requires { second ≤ 59 }
+    ensures { IsMoment result }
+{
+    Moment {
+        year: 26,
+        month: 3,
+        day: 1,
+        hour: 12,
+        minute: 0,
+        second,
+    }
+}
+
+fn line(alloc: Global, words: &[&str]) -> Result<Vec<Name>, Fail> {
+    let mut names = Vec::new(alloc);
+    for word in words {
+        names.push(Name::of(String::from_str(alloc, word)?))?;
+    }
+    Ok(names)
+}
+
+/// An opener that holds this file as `shelf.toml`.
+fn opener(alloc: Global, shelf: &[u8], failing: &[u64]) -> Result<MemOpener, Fail> {
+    let mut shelves = Vec::new(alloc);
+    let name = Name::of(String::from_str(alloc, "shelf.toml")?);
+    shelves.push((name, shelf.to_vec(alloc)?))?;
+    Ok(MemOpener::new(alloc, failing.to_vec(alloc)?).with_shelves(shelves))
+}
+
+/// Runs `script shelf.toml` on the input, cut into pieces of these sizes, with these calls of the terminal failing.
+fn run(
+    alloc: Global,
+    shelf: &[u8],
+    input: &[u8],
+    sizes: &[usize],
+    failing: &[u64],
+) -> Result<(Status, MemLink), Fail> {
+    let mut link = MemLink::new(
+        input.to_vec(alloc)?,
+        sizes.to_vec(alloc)?,
+        failing.to_vec(alloc)?,
+        Vec::new(alloc),
+    );
+    let mut moments = Vec::new(alloc);
+    moments.push(noon(0))?;
+    let mut clock = MemClock::new(moments);
+    let words = line(alloc, &["script", "shelf.toml"])?;
+    let mut files = opener(alloc, shelf, &[])?;
+    let status = dxc_run(alloc, &words, &mut files, &mut link, &mut clock);
+    Ok((status, link))
+}
+
+/// What a session of these units is sent and writes.
+fn session(alloc: Global, said: &[Said]) -> Result<(Vec<u8>, Vec<u8>), Fail> {
+    let mut input = Vec::new(alloc);
+    let mut output = Vec::new(alloc);
+    for (unit, response) in said {
+        input.extend_from_slice(unit)?;
+        if !response.is_empty() {
+            output.extend_from_slice(HEADER)?;
+            output.extend_from_slice(response)?;
+        }
+    }
+    Ok((input, output))
+}
+
+fn responds(rt: &impl Abort, alloc: Global, shelf: &[u8], said: &[Said]) -> Result<(), Fail> {
+    let (input, output) = session(alloc, said)?;
+    let (status, link) = run(alloc, shelf, &input, &[], &[])?;
+    assert_eq!(rt; status, Status::Done);
+    assert_eq!(rt; link.output(), output.as_slice());
+    Ok(())
+}
+
+const SESSIONS: [&[Said]; 13] = [
+    &[],
+    &[ANNA, ENTRY],
+    &[
+        ANNA,
+        ENTRY,
+        (ENTER, b"M  1 DENY\r\n   SNVS\r\n   /* SIDE IN USE */\r\n;"),
+        (
+            b"RTRV-CRS-T0::DS0-2-1:2;",
+            b"M  2 COMPLD\r\n   \"DS0-1-1,DS0-2-1:1WAY\"\r\n;",
+        ),
+        (
+            b"DLT-CRS-T0::DS0-2-1,DS0-1-1:3;",
+            b"M  3 DENY\r\n   SNCC\r\n   /* NOT A CONNECTION */\r\n;",
+        ),
+        (b"DLT-CRS-T0::DS0-1-1,DS0-2-1:4;", b"M  4 COMPLD\r\n;"),
+        (b"RTRV-CRS-T0:::5;", b"M  5 COMPLD\r\n;"),
+        ENTRY,
+    ],
+    &[(b";", NO_COMMAND)],
+    &[ANNA, (b"ENT-CRS-T0::DS0-1-1,DS0-2-1:1", b"")],
+    &[(b"ACT-USER::quinn:1::\"b;c\";", b"M  1 COMPLD\r\n;")],
+    &[
+        (
+            b"RTRV-HDR:OTHER::7;",
+            b"M  7 DENY\r\n   IITA\r\n   /* TID IS NOT THIS ELEMENT */\r\n;",
+        ),
+        (
+            b"RTRV-HDR:dxc1::7;",
+            b"M  7 DENY\r\n   PLNA\r\n   /* LOG-IN REQUIRED */\r\n;",
+        ),
+    ],
+    &[
+        (
+            b"ACT-USER::CARA:1::bd;",
+            b"M  1 DENY\r\n   PIUI\r\n   /* USER OR PID INVALID */\r\n;",
+        ),
+        CARA,
+        (
+            ENTER,
+            b"M  1 DENY\r\n   PICC\r\n   /* CLASS NOT ENTITLED */\r\n;",
+        ),
+    ],
+    &[
+        CARA,
+        (
+            b"CANC-USER::ANNA:3;",
+            b"M  3 DENY\r\n   PIUI\r\n   /* SESSION IS ANOTHER USERS */\r\n;",
+        ),
+        (
+            b"ACT-USER::CARA:4::bc;",
+            b"M  4 DENY\r\n   SNVS\r\n   /* ALREADY LOGGED IN */\r\n;",
+        ),
+        (b"CANC-USER:::5;", b"M  5 COMPLD\r\n;"),
+        (
+            b"RTRV-HDR:::6;",
+            b"M  6 DENY\r\n   PLNA\r\n   /* LOG-IN REQUIRED */\r\n;",
+        ),
+    ],
+    &[
+        ANNA,
+        (b"ent-crs-t0::ds0-1-1,ds0-2-1:1;", b"M  1 COMPLD\r\n;"),
+        (
+            b"ENT-CRS-T0::DS0-01-1,DS0-2-1:1;",
+            b"M  1 DENY\r\n   IIAC\r\n   /* AID INVALID */\r\n;",
+        ),
+        (
+            b"ENT-CRS-T0::DS0-3-1,DS0-2-1:1;",
+            b"M  1 DENY\r\n   IIAC\r\n   /* AID INVALID */\r\n;",
+        ),
+        (
+            b"ENT-CRS-T0::DS0-1-1,DS0-1-1:1;",
+            b"M  1 DENY\r\n   IIAC\r\n   /* FROM EQUALS TO */\r\n;",
+        ),
+    ],
+    &[
+        ANNA,
+        (
+            b"\r\n  ENT-CRS-T0::DS0-1-1,DS0-2-1:1;\r\n",
+            b"M  1 COMPLD\r\n;",
+        ),
+        (
+            b"ENT-CRS-T0:: DS0-1-1,DS0-2-1:1;",
+            b"M  1 DENY\r\n   IISP\r\n   /* UNIT IS NOT A COMMAND */\r\n;",
+        ),
+    ],
+    &[
+        ANNA,
+        (
+            b"ENT-CRS-T0::DS0-1-1:1;",
+            b"M  1 DENY\r\n   IPMS\r\n   /* PARAMETER MISSING */\r\n;",
+        ),
+        (
+            b"RTRV-HDR::DS0-1-1:1;",
+            b"M  1 DENY\r\n   IPEX\r\n   /* PARAMETER TOO MANY */\r\n;",
+        ),
+        (
+            b"ENT-CRS-T0::DS0-1-1,DS0-2-1:1::3WAY;",
+            b"M  1 DENY\r\n   IPNV\r\n   /* VALUE NOT KNOWN */\r\n;",
+        ),
+        (
+            b"ENT-CRS-T0::DS0-1-1,DS0-2-1:1:N;",
+            b"M  1 DENY\r\n   IPNV\r\n   /* GENERAL BLOCK NOT EMPTY */\r\n;",
+        ),
+        (
+            b"RTRV-XYZ:::1;",
+            b"M  1 DENY\r\n   IICM\r\n   /* COMMAND CODE UNKNOWN */\r\n;",
+        ),
+        (
+            b"RTRV-HDR:::000;",
+            b"M  0 DENY\r\n   IICT\r\n   /* CTAG INVALID */\r\n;",
+        ),
+        (b"RTRV-HDR:::1::::;", b"M  1 COMPLD\r\n;"),
+        (
+            b"RTRV-HDR::\"a;b\":5;",
+            b"M  5 DENY\r\n   IPEX\r\n   /* PARAMETER TOO MANY */\r\n;",
+        ),
+    ],
+    &[
+        ANNA,
+        (
+            b"ALW-MSG-ALL:::1;",
+            b"M  1 DENY\r\n   IICM\r\n   /* COMMAND CODE UNKNOWN */\r\n;",
+        ),
+        (
+            b"INIT-SYS:::1;",
+            b"M  1 DENY\r\n   IICM\r\n   /* COMMAND CODE UNKNOWN */\r\n;",
+        ),
+        (
+            b"ENT-CRS-T0::DS0-1-1,DS0-2-1:1::2WAY;",
+            b"M  1 DENY\r\n   IPNV\r\n   /* VALUE NOT KNOWN */\r\n;",
+        ),
+    ],
+];
+
+#[test]
+fn units_are_answered(rt: HostRuntime) -> Result<(), Fail> {
+    for said in SESSIONS {
+        responds(&rt, rt.alloc(), SHELF, said)?;
+    }
+    Ok(())
+}
+
+#[test]
+fn a_module_that_is_not_equipped_is_told(rt: HostRuntime) -> Result<(), Fail> {
+    let said = [
+        ANNA,
+        (
+            ENTER,
+            b"M  1 DENY\r\n   ENEQ\r\n   /* MODULE NOT EQUIPPED */\r\n;".as_slice(),
+        ),
+    ];
+    responds(&rt, rt.alloc(), HALF, &said)
+}
+
+/// Units outside the grammar, and one whose CTAG is too long.
+const MALFORMED: [&[u8]; 9] = [
+    b"\x00RTRV-HDR:::;",
+    b"RTRV-HDR:::\x1f;",
+    b"RTRV-HDR:\x7f::;",
+    b"RTRV-HDR:\xff::;",
+    b"RTRV-HDR::;",
+    b"RTRV-HDR::::::::::;",
+    b"RTRV-HDR::1,2,3,4,5,6,7,8,9:;",
+    b"RTRV-HDR::a\"b\":;",
+    b"RTRV--HDR:::;",
+];
+
+#[test]
+fn what_is_no_command_is_told(rt: HostRuntime) -> Result<(), Fail> {
+    for unit in MALFORMED {
+        responds(&rt, rt.alloc(), SHELF, &[(unit, NO_COMMAND), ANNA, ENTRY])?;
+    }
+    let long: Said = (
+        b"RTRV-HDR:::ABCDEFG;",
+        b"M  0 DENY\r\n   IICT\r\n   /* CTAG INVALID */\r\n;",
+    );
+    responds(&rt, rt.alloc(), SHELF, &[long, ANNA, ENTRY])
+}
+
+#[test]
+fn pieces_play_no_part(rt: HostRuntime) -> Result<(), Fail> {
+    let alloc = rt.alloc();
+    let (input, output) = session(alloc, &[ANNA, ENTRY])?;
+    for size in 1..53 {
+        let (status, link) = run(alloc, SHELF, &input, &[size, 0], &[])?;
+        assert_eq!(rt; status, Status::Done);
+        assert_eq!(rt; link.output(), output.as_slice());
+    }
+    Ok(())
+}
+
+#[test]
+fn long_units_are_told_apart(rt: HostRuntime) -> Result<(), Fail> {
+    let alloc = rt.alloc();
+    let too_long: &[u8] = b"M  0 DENY\r\n   IISP\r\n   /* UNIT LONGER THAN 2048 BYTES */\r\n;";
+    for (length, response) in [(2047usize, NO_COMMAND), (2048, too_long), (5000, too_long)] {
+        let (mut input, mut output) = session(alloc, &[ANNA])?;
+        input.extend_from_slice(&Vec::from_elem(alloc, b'A', length)?)?;
+        input.extend_from_slice(b";RTRV-HDR:::8;")?;
+        for part in [HEADER, response, HEADER, b"M  8 COMPLD\r\n;".as_slice()] {
+            output.extend_from_slice(part)?;
+        }
+        let (status, link) = run(alloc, SHELF, &input, &[], &[])?;
+        assert_eq!(rt; status, Status::Done);
+        assert_eq!(rt; link.output(), output.as_slice());
+    }
+    Ok(())
+}
+
+/// A session of two units makes four calls: a read, two writes, a read that ends.
+#[test]
+fn a_terminal_that_fails_is_told(rt: HostRuntime) -> Result<(), Fail> {
+    let alloc = rt.alloc();
+    let (input, both) = session(alloc, &[ANNA, ENTRY])?;
+    let (_, first) = session(alloc, &[ANNA])?;
+    let nothing: &[u8] = b"";
+    let rows = [
+        (0u64, nothing),
+        (1, nothing),
+        (2, first.as_slice()),
+        (3, both.as_slice()),
+    ];
+    for (call, written) in rows {
+        let (status, link) = run(alloc, SHELF, &input, &[], &[call])?;
+        assert_eq!(rt; status, Status::Link);
+        assert_eq!(rt; link.output(), written);
+    }
+    let (status, _) = run(alloc, SHELF, &input, &[], &[4])?;
+    assert_eq!(rt; status, Status::Done);
+    Ok(())
+}
+
+#[test]
+fn each_response_takes_the_next_moment(rt: HostRuntime) -> Result<(), Fail> {
+    let alloc = rt.alloc();
+    let mut link = MemLink::new(
+        b";;;".to_vec(alloc)?,
+        Vec::new(alloc),
+        Vec::new(alloc),
+        Vec::new(alloc),
+    );
+    let mut moments = Vec::new(alloc);
+    moments.push(noon(7))?;
+    moments.push(noon(59))?;
+    let mut clock = MemClock::new(moments);
+    let words = line(alloc, &["script", "shelf.toml"])?;
+    let mut files = opener(alloc, SHELF, &[])?;
+    let status = dxc_run(alloc, &words, &mut files, &mut link, &mut clock);
+    assert_eq!(rt; status, Status::Done);
+    let mut wanted = Vec::new(alloc);
+    for second in [b"07", b"59", b"59"] {
+        wanted.extend_from_slice(b"\r\n\n   DXC1 26-03-01 12:00:")?;
+        wanted.extend_from_slice(second)?;
+        wanted.extend_from_slice(b"\r\n")?;
+        wanted.extend_from_slice(NO_COMMAND)?;
+    }
+    assert_eq!(rt; link.output(), wanted.as_slice());
+    Ok(())
+}
+
+/// Runs these words over a terminal that would send an entry; nothing is written.
+fn status_of(
+    rt: &impl Abort,
+    alloc: Global,
+    words: &[&str],
+    shelf: &[u8],
+    failing: &[u64],
+) -> Result<Status, Fail> {
+    let mut link = MemLink::new(
+        ENTER.to_vec(alloc)?,
+        Vec::new(alloc),
+        Vec::new(alloc),
+        Vec::new(alloc),
+    );
+    let mut clock = MemClock::new(Vec::new(alloc));
+    let names = line(alloc, words)?;
+    let mut files = opener(alloc, shelf, failing)?;
+    let status = dxc_run(alloc, &names, &mut files, &mut link, &mut clock);
+    assert_eq!(rt; link.output(), b"".as_slice());
+    Ok(status)
+}
+
+#[test]
+fn other_words_are_no_line(rt: HostRuntime) -> Result<(), Fail> {
+    let lines: [&[&str]; 7] = [
+        &[],
+        &["script"],
+        &["script", "shelf.toml", "1"],
+        &["Script", "shelf.toml"],
+        &["script", "-shelf.toml"],
+        &["script", "--help"],
+        &["--help"],
+    ];
+    for words in lines {
+        assert_eq!(rt;
+            status_of(&rt, rt.alloc(), words, SHELF, &[])?,
+            Status::BadWords
+        );
+    }
+    Ok(())
+}
+
+#[test]
+fn a_shelf_that_cannot_be_had_is_told(rt: HostRuntime) -> Result<(), Fail> {
+    let words: &[&str] = &["script", "shelf.toml"];
+    let twice: &[u8] = b"sid = \"DXC1\"
+modules = 2
+slots = 1
+[[user]]
+uid = \"ANNA\"
+class = \"S\"
+salt = \"61\"
+digest = \"ba7816bf8f01cfea414140de5dae2223b00361a396177a9cb410ff61f20015ad\"
+[[user]]
+uid = \"anna\"
+class = \"R\"
+salt = \"61\"
+digest = \"ba7816bf8f01cfea414140de5dae2223b00361a396177a9cb410ff61f20015ad\"
+";
+    let two_users = Status::BadShelf(ShelfFault::TwoUsers { user: 2 });
+    let no_name = Status::BadShelf(ShelfFault::Missing {
+        key: ShelfKey::Sid,
+        user: 0,
+    });
+    assert_eq!(rt; status_of(&rt, rt.alloc(), words, twice, &[])?, two_users);
+    assert_eq!(rt; two_users.number(), 3u8);
+    assert_eq!(rt; status_of(&rt, rt.alloc(), words, b"", &[])?, no_name);
+    assert_eq!(rt;
+        status_of(&rt, rt.alloc(), words, SHELF, &[0])?,
+        Status::CannotOpen
+    );
+    let other: &[&str] = &["script", "other.toml"];
+    assert_eq!(rt;
+        status_of(&rt, rt.alloc(), other, SHELF, &[])?,
+        Status::CannotOpen
+    );
+    Ok(())
+}
+
+/// The units that join every port one way to the port of its slot on the next module, and the rows of a listing.
+fn all_entries(alloc: Global) -> Result<Vec<u8>, Fail> {
+    let mut input = b"ACT-USER::ANNA:0A::bc;".to_vec(alloc)?;
+    for module in 0u16..32 {
+        for slot in 0u16..32 {
+            let (from, to) = (module + 1, (module + 1) % 32 + 1);
+            let unit = format!(in alloc;
+                "ENT-CRS-T0::DS0-{from}-{},DS0-{to}-{}:1;",
+                slot + 1,
+                slot + 1
+            )?;
+            input.extend_from_slice(unit.as_bytes())?;
+        }
+    }
+    Ok(input)
+}
+
+#[test]
+fn the_largest_answer_is_cut_into_blocks(rt: HostRuntime) -> Result<(), Fail> {
+    let alloc = rt.alloc();
+    let mut input = all_entries(alloc)?;
+    input.extend_from_slice(b"RTRV-CRS-T0:::9;")?;
+    let (status, link) = run(alloc, LARGEST, &input, &[], &[])?;
+    assert_eq!(rt; status, Status::Done);
+    // The response to ANNA has 45 bytes, that to each entry 44.
+    let answer = link.output().get(45 + 1024 * 44..).ok_or("an answer")?;
+    assert_eq!(rt; answer.len(), 30_944usize);
+    let mut lines = Vec::new(alloc);
+    let mut count = 0u16;
+    for at in 0..answer.len() {
+        if answer[at] == b'"' {
+            count = count.saturating_add(1);
+        }
+        if answer[at] == b'>' || answer[at] == b';' {
+            lines.push(count / 2)?;
+            count = 0;
+        }
+    }
+    let wanted = [142u16, 141, 133, 133, 133, 133, 133, 76];
+    assert_eq!(rt; lines.as_slice(), wanted.as_slice());
+    Ok(())
+}

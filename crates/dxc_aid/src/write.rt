@@ -1,0 +1,49 @@
+// Names as they are written.
+ghost use Rattle.std.specs.Prelude.{◌≡◌, ◌≤◌, ◌+◌, ◌++◌, length, codes, decimal};
+ghost use Rattle.arrayvec.specs.ArrayVec.{array_vec_len};
+ghost use Rattle.dxc_num.specs.Dimensions.{IsModule, IsPort};
+ghost use Rattle.dxc_aid.specs.Names.{port_name, module_name};
+
+use arrayvec::ArrayVec;
+use dxc_num::{Port, Shape};
+
+/// Appends the port's name, in upper case.
+pub fn write_port(shape: Shape, port: Port, out: &mut ArrayVec<u8, 128>)
+    requires inside { IsPort shape port }
+    requires room { array_vec_len out.old + 16 ≤ 128 }
+    ensures name { out.new.items ≡ out.old.items ++ port_name shape port }
+    ensures short { array_vec_len out.new ≤ array_vec_len out.old + 16 }
+{
+    append(out, b"DS0-");
+    append_number(out, shape.module_of(port) + 1);
+    append(out, b"-");
+    append_number(out, shape.slot_of(port) + 1);
+}
+
+/// Appends the module's name, in upper case.
+pub fn write_module(shape: Shape, module: u16, out: &mut ArrayVec<u8, 128>)
+    requires inside { IsModule shape «module» }
+    requires room { array_vec_len out.old + 16 ≤ 128 }
+    ensures name { out.new.items ≡ out.old.items ++ module_name «module» }
+    ensures short { array_vec_len out.new ≤ array_vec_len out.old + 16 }
+{
+    append(out, b"MOD-");
+    append_number(out, module + 1);
+}
+
+fn append(out: &mut ArrayVec<u8, 128>, text: &[u8])
+    requires { array_vec_len out.old + length text.now ≤ 128 }
+    ensures { out.new.items ≡ out.old.items ++ text.now }
+{
+    let _ = out.try_extend_from_slice(text);
+}
+
+/// Appends a number of at most five digits, in decimal.
+fn append_number(out: &mut ArrayVec<u8, 128>, number: u16)
+    requires { array_vec_len out.old + 5 ≤ 128 }
+    ensures digits { out.new.items ≡ out.old.items ++ decimal number }
+    ensures short { array_vec_len out.new ≤ array_vec_len out.old + 5 }
+{
+    let mut buffer = itoa::Buffer::new();
+    append(out, buffer.format(number).as_bytes());
+}

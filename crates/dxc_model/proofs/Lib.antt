@@ -1,0 +1,24 @@
+pub mod Bools
+pub mod Lists
+pub mod Orders
+pub mod Replacing
+pub mod Counts
+pub mod Blocking
+pub mod Widening
+pub mod Verdicts
+pub mod Equipping
+pub mod Effects
+pub mod Growth
+pub mod Lasting
+pub mod Legal
+pub mod Standings
+pub mod Places
+pub mod Apart
+pub mod Users
+pub mod Modules
+pub mod Keeping
+pub mod Busy
+pub mod Taking
+pub mod FirstCauses
+pub mod Needing
+mod WorkedRows

@@ -1,0 +1,10 @@
+pub mod Fakes
+pub mod Files
+pub mod Frames
+pub mod Holdings
+pub mod Items
+pub mod Links
+pub mod Moments
+pub mod Openings
+pub mod Pieces
+pub mod Utc

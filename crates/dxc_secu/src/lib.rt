@@ -1,0 +1,8 @@
+//! Who a user is: log-in by name and PID, and whether a name is a user's.
+#![tactic(auto)]
+
+mod access;
+#[cfg(test)]
+mod tests;
+
+pub use access::{login, same_user};

@@ -1,0 +1,14 @@
+pub mod Cells
+pub mod Noting
+pub mod Passing
+pub mod Working
+pub mod Moving
+pub mod Held
+pub mod Owning
+pub mod Kept
+pub mod Parted
+pub mod Rows
+pub mod Named
+pub mod Choosing
+pub mod Acting
+pub mod Stepping

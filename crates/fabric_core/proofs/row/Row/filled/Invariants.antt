@@ -1,0 +1,5 @@
+use Rattle.std.proofs.Common.{◌≡◌, replicate, vec_capacity}
+use Rattle.fabric_core.proofs.row.Row.filled.Given as goal
+
+abbrev pub invariant-loop : goal.invariant-loop
+invariant-loop g l = record { items : l.items.items ≡ replicate l.counter l.item; room : vec_capacity l.items ≡ l.count }

@@ -1,0 +1,13 @@
+pub mod Registers
+pub mod Passing
+pub mod State
+pub mod Working
+pub mod Moving
+pub mod Steps
+pub mod Allowed
+pub mod Notes
+pub mod Hitless
+pub mod Laid
+pub mod Owned
+pub mod Rule
+pub mod Parts

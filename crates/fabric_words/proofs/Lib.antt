@@ -1,0 +1,9 @@
+pub mod Rows
+pub mod Ties
+pub mod WorkerSteps
+pub mod MoverSteps
+pub mod At
+pub mod Told
+pub mod Moved
+pub mod Deals
+pub mod Asked

@@ -1,0 +1,6 @@
+pub mod Places
+pub mod Tied
+pub mod Plays
+pub mod Seats
+pub mod Laws
+pub mod New

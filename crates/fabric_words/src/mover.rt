@@ -1,0 +1,207 @@
+ghost use Rattle.std.specs.Prelude.{◌≡◌, ◌<◌, [], length};
+ghost use Rattle.fabric_core.specs.declared.event.CoreEvent.TheVariants.{SetIn, SetMid, SwitchOut, ClearOut, ClearMid, ClearIn};
+ghost use Rattle.fabric_core.specs.Passing.{has_passed};
+ghost use Rattle.fabric_core.specs.State.{IsSize, new_mover, looks_of};
+ghost use Rattle.fabric_core.specs.Moving.{looked};
+ghost use Rattle.fabric_core.specs.Steps.{Moves};
+ghost use Rattle.fabric_core.specs.Allowed.{MayMove};
+ghost use Rattle.fabric_core.specs.Owned.{IsMoverRuled};
+ghost use Rattle.fabric_words.specs.declared.table.View.TheVariants.{AsMover};
+ghost use Rattle.fabric_words.specs.Places.{IsRegInside, reg_word};
+
+use crate::fabric::Fabric;
+use crate::path::{in_of, mid_of, middle_of, path_of, phase_after, seen_after};
+use crate::place;
+use crate::plays::{ClearsIn, ClearsMid, ClearsOut, Looks, Reads, SetsIn, SetsMid, Switches};
+use crate::table::{Aim, Token};
+use dxc_num::{Leg, Middle, Reg};
+use fabric_core::{Phase, Seen, Size};
+use std::marker::Model;
+
+/// The seat of the one that writes the registers. It knows all their words, and keeps its phase, the number of its switches, and what its
+/// looks at each worker have told.
+#[derive(Drop)]
+pub struct MoverSeat {
+    token: Token,
+    size: Size,
+    phase: Phase,
+    switches: u64,
+    seen: [Seen; 8],
+}
+
+impl Model for MoverSeat {
+    ghost use Rattle.fabric_words.specs.Seats.{MoverAt, mover_in, IsMoverSeat};
+
+    ghost Value = { MoverAt };
+
+    ghost view = { λ s. record { fabric = record { table = s.token.table_id; size = s.size }; mover = mover_in s.token.me.0 } };
+
+    ghost invariant = { λ s. IsMoverSeat s.size s.token.me s.phase s.switches s.seen };
+}
+
+impl MoverSeat {
+    pub(crate) fn of(token: Token, size: Size) -> MoverSeat
+        requires sized { IsSize size }
+        requires role { token.me ≡ (AsMover size size.workers (new_mover size), []) }
+        ensures { result ≡ record { fabric = record { table = token.table_id; size = size }; mover = new_mover size } }
+    {
+        MoverSeat {
+            token,
+            size,
+            phase: Phase::Rest,
+            switches: 0,
+            seen: [Seen::NOTHING; 8],
+        }
+    }
+
+    /// Which path the mover is about.
+    pub fn phase(&self) -> Phase
+        ensures value { result ≡ self.now.mover.phase }
+        ensures sized { IsSize self.now.fabric.size }
+        ensures ruled { IsMoverRuled self.now.fabric.size self.now.mover }
+    {
+        self.phase
+    }
+
+    /// How many switches were made since the fabric was made.
+    pub fn switches(&self) -> u64
+        ensures { result ≡ length self.now.mover.log }
+    {
+        self.switches
+    }
+
+    /// Whether no frame runs in this worker that ran when the phase Old began, as far as the looks at it since then tell: one gave an even
+    /// number, or an odd one other than the first odd one.
+    pub fn passed(&self, worker: u16) -> bool
+        requires { worker < self.now.fabric.size.workers }
+        ensures { result ≡ has_passed (looks_of self.now.mover worker) }
+    {
+        self.seen[worker as usize].passed
+    }
+
+    /// Begins a path for a leg over a middle: its IN word.
+    pub fn set_in(&mut self, fabric: &Fabric, leg: Leg, middle: Middle)
+        requires own { self.old.fabric ≡ fabric.now }
+        requires allowed { MayMove self.old.fabric.size self.old.mover (SetIn leg middle) }
+        ensures fabric { self.new.fabric ≡ self.old.fabric }
+        ensures event { Moves self.old.fabric.size self.old.mover (SetIn leg middle) self.new.mover }
+    {
+        let shape = self.size.shape;
+        let word = in_of(shape, leg, middle);
+        let slot = shape.slot_of(leg.input) as u64;
+        let aim = Aim { leg, middle };
+        let shared = &fabric.board.shared;
+        shared.compare_exchange_with::<SetsIn>(&mut self.token, word, 0, slot + 1, &aim);
+        self.phase = Phase::InSet { leg, to: middle };
+    }
+
+    /// Sets the MID word of the path that was begun.
+    pub fn set_mid(&mut self, fabric: &Fabric)
+        requires own { self.old.fabric ≡ fabric.now }
+        requires allowed { MayMove self.old.fabric.size self.old.mover SetMid }
+        ensures fabric { self.new.fabric ≡ self.old.fabric }
+        ensures event { Moves self.old.fabric.size self.old.mover SetMid self.new.mover }
+    {
+        let Phase::InSet { leg, to } = self.phase else {
+            unreachable!()
+        };
+        let shape = self.size.shape;
+        let word = mid_of(shape, leg, to);
+        let row = shape.module_of(leg.input) as u64;
+        let shared = &fabric.board.shared;
+        shared.store::<SetsMid>(&mut self.token, word, row + 1);
+        self.phase = Phase::MidSet { leg, to };
+    }
+
+    /// Turns OUT to the path: the leg is joined, or moved. Its number is one more than `switches()`.
+    pub fn switch_out(&mut self, fabric: &Fabric)
+        requires own { self.old.fabric ≡ fabric.now }
+        requires allowed { MayMove self.old.fabric.size self.old.mover SwitchOut }
+        ensures fabric { self.new.fabric ≡ self.old.fabric }
+        ensures event { Moves self.old.fabric.size self.old.mover SwitchOut self.new.mover }
+    {
+        let Phase::MidSet { leg, to } = self.phase else {
+            unreachable!()
+        };
+        let word = place::of_out(self.size.shape, leg.output);
+        let number = self.switches + 1;
+        let value = number * 256 + to.0 as u64 + 1;
+        let shared = &fabric.board.shared;
+        let found = shared.swap::<Switches>(&mut self.token, word, value);
+        self.switches = number;
+        self.phase = phase_after(leg, found);
+        self.seen = seen_after(found, self.seen);
+    }
+
+    /// Clears OUT of an established leg: it is parted.
+    pub fn clear_out(&mut self, fabric: &Fabric, leg: Leg)
+        requires own { self.old.fabric ≡ fabric.now }
+        requires allowed { MayMove self.old.fabric.size self.old.mover (ClearOut leg) }
+        ensures fabric { self.new.fabric ≡ self.old.fabric }
+        ensures event { Moves self.old.fabric.size self.old.mover (ClearOut leg) self.new.mover }
+    {
+        let word = place::of_out(self.size.shape, leg.output);
+        let shared = &fabric.board.shared;
+        let found = shared.swap::<ClearsOut>(&mut self.token, word, 0);
+        self.phase = Phase::Old {
+            leg,
+            old: middle_of(found),
+        };
+        self.seen = [Seen::NOTHING; 8];
+    }
+
+    /// Looks at the frame word of a worker.
+    pub fn look(&mut self, fabric: &Fabric, worker: u16) -> u64
+        requires own { self.old.fabric ≡ fabric.now }
+        requires low { worker < self.old.fabric.size.workers }
+        ensures fabric { self.new.fabric ≡ self.old.fabric }
+        ensures event { self.new.mover ≡ looked worker result self.old.mover }
+    {
+        let word = place::of_frame(self.size.shape, worker);
+        let shared = &fabric.board.shared;
+        let found = shared.load::<Looks>(&mut self.token, word);
+        let at = worker as usize;
+        self.seen[at] = self.seen[at].after(found);
+        found
+    }
+
+    /// Clears the MID word of the path that was left, once all workers have passed, or of one that is half built.
+    pub fn clear_mid(&mut self, fabric: &Fabric)
+        requires own { self.old.fabric ≡ fabric.now }
+        requires allowed { MayMove self.old.fabric.size self.old.mover ClearMid }
+        ensures fabric { self.new.fabric ≡ self.old.fabric }
+        ensures event { Moves self.old.fabric.size self.old.mover ClearMid self.new.mover }
+    {
+        let (leg, old) = path_of(self.phase);
+        let word = mid_of(self.size.shape, leg, old);
+        let shared = &fabric.board.shared;
+        shared.store::<ClearsMid>(&mut self.token, word, 0);
+        self.phase = Phase::Freed { leg, old };
+    }
+
+    /// Clears the IN word of a path whose MID word is none.
+    pub fn clear_in(&mut self, fabric: &Fabric)
+        requires own { self.old.fabric ≡ fabric.now }
+        requires allowed { MayMove self.old.fabric.size self.old.mover ClearIn }
+        ensures fabric { self.new.fabric ≡ self.old.fabric }
+        ensures event { Moves self.old.fabric.size self.old.mover ClearIn self.new.mover }
+    {
+        let (leg, old) = path_of(self.phase);
+        let word = in_of(self.size.shape, leg, old);
+        let shared = &fabric.board.shared;
+        shared.store::<ClearsIn>(&mut self.token, word, 0);
+        self.phase = Phase::Rest;
+    }
+
+    /// Loads a register. It changes nothing.
+    pub fn load(&mut self, fabric: &Fabric, reg: Reg) -> u64
+        requires own { self.old.fabric ≡ fabric.now }
+        requires inside { IsRegInside self.old.fabric.size.shape reg }
+        ensures same { self.new ≡ self.old }
+        ensures word { result ≡ reg_word self.old.fabric.size.shape self.old.mover.registers reg }
+    {
+        let word = place::of_reg(self.size.shape, reg);
+        let shared = &fabric.board.shared;
+        shared.load::<Reads>(&mut self.token, word)
+    }
+}

@@ -1,0 +1,69 @@
+//! What the mover's seat makes of a phase and of an OUT word that it found.
+ghost use Rattle.std.specs.Prelude.{◌≡◌, ◌==◌, if◌then◌else◌, replicate, []};
+ghost use Rattle.dxc_num.specs.Dimensions.{module_of};
+ghost use Rattle.dxc_num.specs.declared.port.Leg.{Leg};
+ghost use Rattle.dxc_num.specs.declared.port.Middle.{Middle};
+ghost use Rattle.fabric_core.specs.declared.phase.Phase.TheVariants.{Rest, Old};
+ghost use Rattle.fabric_core.specs.Registers.{in_cell, middle_in};
+ghost use Rattle.fabric_core.specs.Passing.{seen_of};
+ghost use Rattle.fabric_core.specs.Owned.{HasIn};
+ghost use Rattle.fabric_words.specs.Places.{mid_place};
+
+use crate::place;
+use dxc_num::{Leg, Middle, Shape};
+use fabric_core::{Phase, Seen};
+
+/// The place of the IN word on the path of a leg over a middle.
+pub(crate) fn in_of(shape: Shape, leg: Leg, middle: Middle) -> usize
+    ensures { result ≡ in_cell shape (module_of shape leg.input) middle }
+{
+    place::of_in(shape, shape.module_of(leg.input), middle)
+}
+
+/// The place of its MID word.
+pub(crate) fn mid_of(shape: Shape, leg: Leg, middle: Middle) -> usize
+    ensures { result ≡ mid_place shape middle (module_of shape leg.output) }
+{
+    place::of_mid(shape, middle, shape.module_of(leg.output))
+}
+
+/// The path that a phase names.
+pub(crate) fn path_of(phase: Phase) -> (Leg, Middle)
+    requires { (l : Leg) × (k : Middle) × HasIn phase l k }
+    ensures { HasIn phase result.0 result.1 }
+{
+    match phase {
+        Phase::Rest => unreachable!(),
+        Phase::InSet { leg, to } => (leg, to),
+        Phase::MidSet { leg, to } => (leg, to),
+        Phase::Old { leg, old } => (leg, old),
+        Phase::Freed { leg, old } => (leg, old),
+    }
+}
+
+/// The middle that an OUT word names.
+pub(crate) fn middle_of(word: u64) -> Middle
+    ensures { result ≡ middle_in word }
+{
+    Middle((word % 256).saturating_sub(1) as u8)
+}
+
+/// The phase after a switch of a leg whose OUT word was this one.
+pub(crate) fn phase_after(leg: Leg, found: u64) -> Phase
+    ensures { result ≡ (if found == 0 then Rest else Old leg (middle_in found)) }
+{
+    if found == 0 {
+        return Phase::Rest;
+    }
+    Phase::Old {
+        leg,
+        old: middle_of(found),
+    }
+}
+
+/// What is kept of the looks after a switch of a leg whose OUT word was this one: nothing, where the phase Old begins.
+pub(crate) fn seen_after(found: u64, seen: [Seen; 8]) -> [Seen; 8]
+    ensures { result ≡ (if found == 0 then seen else replicate 8 (seen_of [])) }
+{
+    if found == 0 { seen } else { [Seen::NOTHING; 8] }
+}

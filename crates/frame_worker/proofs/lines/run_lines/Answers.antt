@@ -1,0 +1,27 @@
+use Rattle.std.proofs.Common.{rules, ◌+◌, arith, refl, ⊎_elim}
+use Rattle.frame_worker.specs.declared.lines.LinesEnd.TheVariants.{End, Spent}
+use Rattle.frame_worker.proofs.Running.{run_more, counted}
+use Rattle.frame_worker.proofs.lines.run_lines.Goals as goal
+
+pub returns-in-Some-clause-run : goal.returns-in-Some-clause-run
+returns-in-Some-clause-run g c =
+    let n = c.loop.counter in let e = c.in-Some.end in let ended = c.in-Some.ensures.run in let below = c.loop-test.true in (
+      n + 0,
+      run_more c.args.fabric.now.size g.N.Lines.told n 0 e (g.N.Lines.state c.args.lines.now) (g.N.Lines.state c.loop.lines) (g.N.Lines.state c.run_frame.new.lines) c.args.seat.now.reader.worker c.loop.seat.reader.worker c.run_frame.new.seat.reader.worker (counted e n 0)
+          c.loop.invariant.run ended.1,
+      ((λ spent. absurd (ended.0 spent)), (λ all. absurd (omega arith))),
+    )
+
+pub loop-preserved : goal.loop-preserved
+loop-preserved g c =
+    let i = c.loop.invariant in let n = c.loop.counter in
+    let read = c.run_frame.ensures.read_faults.later in let write = c.run_frame.ensures.write_faults.later in let stop = c.run_frame.ensures.stops.later in
+    let reads = i.read_faults in let writes = i.write_faults in let stops = i.stops in record {
+      fabric = search rules;
+      run = run_more c.args.fabric.now.size g.N.Lines.told n 1 Spent (g.N.Lines.state c.args.lines.now) (g.N.Lines.state c.loop.lines) (g.N.Lines.state c.run_frame.new.lines) c.args.seat.now.reader.worker c.loop.seat.reader.worker c.run_frame.new.seat.reader.worker refl
+          i.run c.in_default.ensures.run;
+      said_end = λ h. ⊎_elim (λ end. absurd (c.in_default.not-Some End end)) (λ old. i.said_end old) (c.run_frame.ensures.said_end h);
+      read_faults = omega arith;
+      write_faults = omega arith;
+      stops = omega arith;
+    }

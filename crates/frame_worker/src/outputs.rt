@@ -1,0 +1,84 @@
+//! The outputs of one module: the loop in which the product spends its time.
+ghost use Rattle.std.specs.Prelude.{◌≡◌, ◌<◌, ◌*◌, ◌%◌, List, length};
+ghost use Rattle.dxc_num.specs.Dimensions.{ports, module_of};
+ghost use Rattle.fabric_core.specs.declared.worker.Hold.TheVariants.{Empty};
+ghost use Rattle.fabric_core.specs.declared.worker.Note.{Note};
+ghost use Rattle.fabric_core.specs.State.{IsSize};
+ghost use Rattle.fabric_core.specs.Working.{Runs, CanLoadOut};
+ghost use Rattle.frame_worker.specs.Frames.{CarriesOne, with_notes};
+ghost use Rattle.frame_worker.specs.Rows.{lanes_of, IsWritten};
+
+use dxc_num::{Port, Shape};
+use fabric_core::cell;
+use fabric_words::{Fabric, Reader};
+
+/// The byte of an output that carries nothing.
+pub const IDLE: u8 = 0x7F;
+
+/// Where the words of an output module lie: its MID word of the middle that an OUT word names is `modules` times that name behind `mids`.
+#[derive(Clone, Copy)]
+pub(crate) struct Lanes {
+    modules: usize,
+    slots: usize,
+    mids: usize,
+    outs: usize,
+}
+
+impl Lanes {
+    fn of(shape: Shape, output_module: u16) -> Lanes
+        ensures { result ≡ lanes_of shape output_module }
+    {
+        Lanes {
+            modules: shape.modules() as usize,
+            slots: shape.slots() as usize,
+            mids: cell::ins(shape) + output_module as usize,
+            outs: cell::ins(shape) + cell::mids(shape),
+        }
+    }
+}
+
+/// The byte of one output.
+#[inline(always)]
+fn carry_one(fabric: &Fabric, reader: &mut Reader, lanes: Lanes, output: Port, input: &[u8]) -> u8
+    requires own { reader.old.fabric ≡ fabric.now }
+    requires size { IsSize reader.old.fabric.size }
+    requires allowed { CanLoadOut reader.old.fabric.size output reader.old.worker }
+    requires lanes { lanes ≡ lanes_of reader.old.fabric.size.shape (module_of reader.old.fabric.size.shape output) }
+    requires room { length input.now ≡ ports reader.old.fabric.size.shape }
+    ensures fabric { reader.new.fabric ≡ reader.old.fabric }
+    ensures carried { (ns : List Note) × (reader.new.worker ≡ with_notes ns reader.old.worker) × CarriesOne reader.old.fabric.size reader.old.worker.number input.now output ns result }
+{
+    let word = reader.load_out(fabric, output, lanes.outs + output.0 as usize);
+    if word == 0 {
+        return IDLE;
+    }
+    let row = (word % 256) as usize * lanes.modules;
+    let module = reader.load_mid(fabric, lanes.mids + row) as usize;
+    let slot = reader.load_in(fabric, row + module) as usize;
+    input[(module - 1) * lanes.slots + (slot - 1)]
+}
+
+/// The bytes of the outputs of one module, three loads each.
+#[inline(never)]
+pub(crate) fn carry_outputs(
+    fabric: &Fabric,
+    reader: &mut Reader,
+    output_module: u16,
+    input: &[u8],
+    output: &mut [u8],
+)
+    requires own { reader.old.fabric ≡ fabric.now }
+    requires size { IsSize reader.old.fabric.size }
+    requires runs { Runs reader.old.worker × (reader.old.worker.hold ≡ Empty) }
+    requires place { (output_module < reader.old.fabric.size.shape.modules) × (output_module % reader.old.fabric.size.workers ≡ reader.old.worker.number) }
+    requires room { (length input.now ≡ ports reader.old.fabric.size.shape) × (length output.old ≡ ports reader.old.fabric.size.shape) }
+    ensures fabric { reader.new.fabric ≡ reader.old.fabric }
+    ensures carried { (ns : List Note) × (reader.new.worker ≡ with_notes ns reader.old.worker) × IsWritten reader.old.fabric.size reader.old.worker.number input.now (output_module * reader.old.fabric.size.shape.slots) reader.old.fabric.size.shape.slots output.old output.new ns }
+{
+    let shape = fabric.shape();
+    let lanes = Lanes::of(shape, output_module);
+    let first = output_module * shape.slots();
+    for port in first..first + shape.slots() {
+        output[port as usize] = carry_one(fabric, reader, lanes, Port(port), input);
+    }
+}

@@ -1,0 +1,16 @@
+pub mod Counting
+pub mod Paths
+pub mod Bound
+pub mod Shifting
+pub mod Seconds
+pub mod Exchanging
+pub mod Joining
+pub mod Going
+pub mod Slots
+pub mod Planning
+pub mod Undoing
+pub mod Expanding
+pub mod Unique
+pub mod Planned
+pub mod Working
+pub mod Chosen

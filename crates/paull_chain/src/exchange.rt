@@ -1,0 +1,57 @@
+//! The exchange of a chain as moves, and the join after it.
+ghost use Rattle.std.specs.Prelude.{◌≡◌, ◌+◌, ◌≤◌, ◌++◌, length, true, false};
+ghost use Rattle.arrayvec.specs.ArrayVec.{array_vec_len};
+ghost use Rattle.paull_chain.specs.Choices.{choice_on, JoinsAfter};
+ghost use Rattle.paull_chain.specs.Exchanges.{each_second, exchange, shifts};
+
+use arrayvec::ArrayVec;
+use dxc_num::{Leg, Middle};
+use paull_matrix::Side;
+use roll_plan::{Chain, Choice, LegOp, Move};
+
+// Moves each second leg, from the first one on or from the second one on.
+fn push_seconds(moves: &mut ArrayVec<Move, 94>, legs: &[Leg], first: bool, from: Middle, to: Middle)
+    requires { array_vec_len moves.old + length (each_second first legs.now) ≤ 94 }
+    ensures moves { moves.new.items ≡ moves.old.items ++ shifts (each_second first legs.now) from.0 to.0 }
+    ensures count { array_vec_len moves.new ≡ array_vec_len moves.old + length (each_second first legs.now) }
+{
+    let mut is_moved = first;
+    for leg in legs {
+        if is_moved {
+            moves.push(Move {
+                leg: *leg,
+                from,
+                to,
+            });
+        }
+        is_moved = !is_moved;
+    }
+}
+
+// The exchange of a chain whose first leg is on `on` and whose second is on `next`.
+fn exchange_moves(legs: &[Leg], on: Middle, next: Middle, spare: Middle) -> ArrayVec<Move, 94>
+    requires { length legs.now ≤ 63 }
+    ensures { result.items ≡ exchange legs.now on.0 next.0 spare.0 }
+{
+    let mut moves = ArrayVec::new();
+    push_seconds(&mut moves, legs, false, next, spare);
+    push_seconds(&mut moves, legs, true, on, next);
+    push_seconds(&mut moves, legs, false, spare, on);
+    moves
+}
+
+/// The join on the middle that the exchange of a chain makes free: the one on which the chain begins.
+pub fn join_after(leg: Leg, side: Side, legs: &[Leg], a: Middle, b: Middle, spare: Middle) -> LegOp
+    requires { length legs.now ≤ 63 }
+    ensures { JoinsAfter leg (choice_on side a b) legs.now spare.0 result }
+{
+    let (middle, next, chain) = match side {
+        Side::Row => (b, a, Chain::Row(a)),
+        Side::Column => (a, b, Chain::Column(b)),
+    };
+    LegOp::Join {
+        leg,
+        choice: Choice { middle, chain },
+        moves: exchange_moves(legs, middle, next, spare),
+    }
+}

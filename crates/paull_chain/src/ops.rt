@@ -1,0 +1,58 @@
+//! Ops on the matrix, made and taken back.
+ghost use Rattle.std.specs.Prelude.{◌≡◌};
+ghost use Rattle.paull_matrix.specs.Colourings.{Colouring};
+ghost use Rattle.paull_chain.specs.Works.{after, after_op, AreValidMoves, IsValidOp, MovesMade, OpMade};
+
+use paull_matrix::Matrix;
+use roll_plan::{LegOp, Move};
+
+fn make_moves(matrix: &mut Matrix, moves: &[Move])
+    requires { AreValidMoves moves.now matrix.old }
+    ensures { matrix.new ≡ after moves.now matrix.old }
+{
+    for step in moves {
+        matrix.recolour(step.leg, step.to);
+    }
+}
+
+fn take_back(matrix: &mut Matrix, moves: &[Move])
+    requires { (c : Colouring) × MovesMade moves.now c matrix.old }
+    ensures { (c : Colouring) → MovesMade moves.now c matrix.old → matrix.new ≡ c }
+{
+    let mut left = moves.len();
+    while left > 0 {
+        left -= 1;
+        let step = moves[left];
+        matrix.recolour(step.leg, step.from);
+    }
+}
+
+/// Makes an op that is valid for the matrix.
+pub fn apply(matrix: &mut Matrix, op: &LegOp)
+    requires { IsValidOp matrix.old op.now }
+    ensures { matrix.new ≡ after_op op.now matrix.old }
+{
+    match op {
+        LegOp::Join { leg, choice, moves } => {
+            make_moves(matrix, moves.as_slice());
+            matrix.place(*leg, choice.middle);
+        }
+        LegOp::Part { leg, .. } => matrix.remove(*leg),
+        LegOp::Shift { moves } => make_moves(matrix, moves.as_slice()),
+    }
+}
+
+/// Gives back the matrix on which a valid op was made.
+pub fn undo(matrix: &mut Matrix, op: &LegOp)
+    requires { (c : Colouring) × OpMade op.now c matrix.old }
+    ensures { (c : Colouring) → OpMade op.now c matrix.old → matrix.new ≡ c }
+{
+    match op {
+        LegOp::Join { leg, moves, .. } => {
+            matrix.remove(*leg);
+            take_back(matrix, moves.as_slice());
+        }
+        LegOp::Part { leg, middle } => matrix.place(*leg, *middle),
+        LegOp::Shift { moves } => take_back(matrix, moves.as_slice()),
+    }
+}

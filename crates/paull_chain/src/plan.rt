@@ -1,0 +1,97 @@
+//! The plan of a join.
+ghost use Rattle.std.specs.Prelude.{◌≡◌, ◌<◌, ◌≤◌, ◌↔◌, [], ◌∷◌, ℕ, IsBitSet, IsTrue, MatchOption};
+ghost use Rattle.dxc_num.specs.Dimensions.{IsInside};
+ghost use Rattle.paull_matrix.specs.Colourings.{IsFree, IsFreeFor, IsProperColouring, IsUnused, module_on};
+ghost use Rattle.paull_matrix.specs.Middles.{FindsLowest, IsLowest, IsSetOf};
+ghost use Rattle.paull_chain.specs.Choices.{IsJoinable, NeedsChain, Plans};
+ghost use Rattle.paull_chain.specs.Works.{IsValidWork};
+
+use crate::exchange::join_after;
+use crate::walk::{module_of, shorter};
+use dxc_num::{Leg, Middle};
+use paull_matrix::{Matrix, MiddleSet, Side};
+use roll_plan::LegOp;
+
+/// The middles that are free on one side of the leg.
+pub fn free_beside(matrix: &Matrix, side: Side, leg: Leg) -> MiddleSet
+    requires { IsInside matrix.now.shape leg }
+    ensures { IsSetOf (IsFree matrix.now side (module_on matrix.now.shape side leg)) matrix.now.shape.slots result }
+{
+    let module = module_of(matrix.shape(), side, leg);
+    match side {
+        Side::Row => matrix.free_in_row(module),
+        Side::Column => matrix.free_in_column(module),
+    }
+}
+
+// The lowest working middle that is free for the leg.
+fn lowest_for(matrix: &Matrix, leg: Leg) -> Option<Middle>
+    requires { IsInside matrix.now.shape leg }
+    ensures proper { IsProperColouring matrix.now }
+    ensures lowest { FindsLowest (IsFreeFor matrix.now leg) matrix.now.shape.slots result }
+{
+    matrix.free_for(leg).lowest(matrix.shape().slots())
+}
+
+// The lowest working middle that is free on one side of the leg. There is one, since the leg's own slot there is unused.
+fn lowest_beside(matrix: &Matrix, side: Side, leg: Leg) -> Middle
+    requires { IsInside matrix.now.shape leg × IsUnused matrix.now leg }
+    ensures { let P = IsFree matrix.now side (module_on matrix.now.shape side leg) in
+        IsLowest P matrix.now.shape.slots result.0 }
+{
+    let free = free_beside(matrix, side, leg);
+    match free.lowest(matrix.shape().slots()) {
+        Some(middle) => middle,
+        None => unreachable!(),
+    }
+}
+
+// The join after the exchange of the shorter chain.
+fn by_chain(matrix: &Matrix, leg: Leg, a: Middle, b: Middle) -> LegOp
+    requires leg { IsJoinable matrix.now leg }
+    requires needs { NeedsChain matrix.now leg a.0 b.0 }
+    ensures { Plans matrix.now leg result }
+{
+    let shape = matrix.shape();
+    let row = shape.module_of(leg.input);
+    let column = shape.module_of(leg.output);
+    let walked = shorter(matrix, row, column, a, b);
+    join_after(
+        leg,
+        walked.side,
+        walked.legs.as_slice(),
+        a,
+        b,
+        shape.spare(),
+    )
+}
+
+/// Whether a join of the leg may be planned: its ends are ports, both its sides are unused, and the spare is empty.
+pub fn may_join(matrix: &Matrix, leg: Leg) -> bool
+    ensures { IsTrue result ↔ IsJoinable matrix.now leg }
+{
+    if !matrix.is_inside(leg) {
+        return false;
+    }
+    if !matrix.is_unused(leg) {
+        return false;
+    }
+    matrix.is_empty(matrix.shape().spare())
+}
+
+/// The join of a new leg: on the lowest working middle that is free in its row and column, or else after the exchange of
+/// the shorter of its two chains.
+///
+/// In a network of r modules a side that takes at most 3 (r - 1) / 2 moves.
+pub fn plan_join(matrix: &Matrix, leg: Leg) -> LegOp
+    requires { IsJoinable matrix.now leg }
+    ensures planned { Plans matrix.now leg result }
+    ensures valid { IsValidWork matrix.now (result ∷ []) }
+{
+    if let Some(middle) = lowest_for(matrix, leg) {
+        return LegOp::direct(leg, middle);
+    }
+    let a = lowest_beside(matrix, Side::Row, leg);
+    let b = lowest_beside(matrix, Side::Column, leg);
+    by_chain(matrix, leg, a, b)
+}

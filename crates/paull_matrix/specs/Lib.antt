@@ -1,0 +1,3 @@
+pub mod Middles
+pub mod Colourings
+pub mod Indexes

@@ -1,0 +1,6 @@
+/// A side of the network: rows are its input modules, columns its output modules.
+#[derive(Clone, Copy, Debug, PartialEq, Eq)]
+pub enum Side {
+    Row,
+    Column,
+}

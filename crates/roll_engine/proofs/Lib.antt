@@ -1,0 +1,10 @@
+pub mod Looking
+pub mod Stepping
+pub mod Running
+pub mod Going
+pub mod Colouring
+pub mod Wording
+pub mod Joining
+pub mod ColdRolling
+pub mod Outputs
+pub mod UnderWay

@@ -1,0 +1,5 @@
+use Rattle.roll_engine.proofs.UnderWay.{under_way_ready}
+use Rattle.roll_engine.proofs.laws.under_way_ready.Goals as goal
+
+pub returns : goal.returns
+returns c = under_way_ready

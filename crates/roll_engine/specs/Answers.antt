@@ -1,0 +1,67 @@
+-- What a call of `advance` says.
+use Rattle.std.specs.Prelude.{◌≡◌, ◌≢◌, ℕ, ◌+◌, ◌<◌, ◌%◌, List, [], ◌∷◌, ◌++◌, length}
+use Rattle.dxc_num.specs.declared.port.Leg.{Leg}
+use Rattle.dxc_num.specs.declared.port.Middle.{Middle}
+use Rattle.dxc_num.specs.declared.register.RegWrite.{RegWrite}
+use Rattle.dxc_num.specs.declared.register.WriteKind.TheVariants.{ClearMid}
+use Rattle.roll_plan.specs.Works.{write}
+use Rattle.fabric_core.specs.declared.size.Size.{Size}
+use Rattle.fabric_core.specs.declared.mover.Mover.{Mover}
+use Rattle.fabric_core.specs.declared.phase.Phase.TheVariants.{Old}
+use Rattle.fabric_core.specs.Passing.{Passed, first_seen}
+use Rattle.fabric_core.specs.State.{looks_of}
+use Rattle.fabric_core.specs.Moving.{looked}
+use Rattle.roll_engine.specs.declared.answer.Advance.{Advance}
+use Rattle.roll_engine.specs.declared.answer.Advance.TheVariants as answer
+use Rattle.roll_engine.specs.Rollings.{RollingAt, rest_of}
+use Rattle.roll_engine.specs.declared.answer.Step.{Step}
+use Rattle.roll_engine.specs.declared.answer.Step.TheVariants as step
+use Rattle.roll_engine.specs.Writes.{Looks, Makes, Runs}
+
+-- of the writes that were left the first ones are made, in order, and the others are left
+pub record Advances (z : Size) (before left : List RegWrite) (m m' : Mover) : Type 0 where
+  pub writes : List RegWrite
+  pub split : before ≡ writes ++ left
+  pub runs : Runs z writes m m'
+
+-- the work in hand is the same, and its step has gone on by the writes made
+pub record GoesOn (z : Size) (old new : RollingAt) (m m' : Mover) : Type 0 where
+  pub work : new.work ≡ old.work
+  pub behind : new.behind ≡ old.behind
+  pub advances : Advances z (rest_of old) (rest_of new) m m'
+  pub step : new.step ≡ old.step + length advances.writes
+
+-- Looks from m to m', of which the last gave f at a worker that hasn't passed: f is the first odd number that was seen of it since the phase Old began
+pub record IsSeen (z : Size) (m m' : Mover) (f : ℕ) : Type 0 where
+  pub worker : ℕ
+  pub low : worker < z.workers
+  pub earlier : List (ℕ × ℕ)
+  pub before : Mover
+  pub looks : Looks z earlier m before
+  pub look : m' ≡ looked worker f before
+  pub not_passed : Passed (looks_of m' worker) → ⊥
+  pub odd : f % 2 ≡ 1
+  pub first : f ≡ first_seen (looks_of m' worker)
+
+-- the next write clears the old MID word, and in this call, as its last step, a frame was seen that may still follow it
+pub record IsInFrame (z : Size) (before left : List RegWrite) (m m' : Mover) (f : ℕ) : Type 0 where
+  pub leg : Leg
+  pub old : Middle
+  pub phase : m'.phase ≡ Old leg old
+  pub later : List RegWrite
+  pub next : left ≡ write ClearMid leg old ∷ later
+  pub reached : Mover
+  pub advances : Advances z before left m reached
+  pub seen : IsSeen z reached m' f
+
+-- what an answer says of the writes that were left before and are left now
+abbrev pub AnswerIs : Size → List RegWrite → List RegWrite → Mover → Mover → Advance → Type 0
+AnswerIs z before left m m' answer.Done = left ≡ []
+AnswerIs z before left m m' (answer.InFrame f) = IsInFrame z before left m m' f
+AnswerIs z before left m m' answer.Stopped = left ≢ []
+
+-- what came of one write
+abbrev pub StepIs : Size → RegWrite → Mover → Mover → Step → Type 0
+StepIs z w m m' step.Made = (fs : List (ℕ × ℕ)) × (a : Mover) × Looks z fs m a × Makes z w a m'
+StepIs z w m m' (step.InFrame f) = (w.kind ≡ ClearMid) × IsSeen z m m' f
+StepIs z w m m' step.Stopped = (fs : List (ℕ × ℕ)) × Looks z fs m m'

@@ -1,0 +1,9 @@
+pub mod Rollings
+pub mod Writes
+pub mod Courses
+pub mod Stages
+pub mod Answers
+pub mod Staying
+pub mod Allowed
+pub mod Cold
+pub mod UnderWay

@@ -1,0 +1,16 @@
+-- A work that is being made, and how far it has come.
+use Rattle.std.specs.Prelude.{ℕ, List, drop}
+use Rattle.dxc_num.specs.declared.register.RegWrite.{RegWrite}
+use Rattle.roll_plan.specs.declared.work.Work.{Work}
+use Rattle.roll_plan.specs.Works.{writes_of}
+use Rattle.roll_engine.specs.declared.rolling.Behind.{Behind}
+
+-- a work in hand of which the first `step` writes are made, and what comes behind it
+pub record RollingAt : Type 0 where
+  pub work : Work
+  pub step : ℕ
+  pub behind : Behind
+
+-- the writes of the work in hand that are left
+abbrev pub rest_of : RollingAt → List RegWrite
+rest_of r = drop r.step (writes_of r.work)

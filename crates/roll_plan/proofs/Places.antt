@@ -1,0 +1,33 @@
+-- The write at a place.
+use Rattle.std.proofs.Common.{◌≡◌, ℕ, zero, suc, ◌+◌, ◌*◌, ◌<◌, List, [], ◌∷◌, ◌++◌, length, sym, refl, ap, ◌∙◌, arith, slice_get, get_or}
+use Rattle.dxc_num.specs.declared.register.RegWrite.{RegWrite}
+use Rattle.roll_plan.specs.declared.op.Move.{Move}
+use Rattle.roll_plan.specs.Works.{move_writes, moves_writes, switches_in}
+
+pub moves_length : (vs : List Move) → length (moves_writes vs) ≡ 5 * length vs
+moves_length [] = refl
+moves_length (v ∷ vs) = let e = moves_length vs in omega arith
+
+pub at_front : (xs ys : List RegWrite) (t : ℕ) → t < length xs → slice_get (xs ++ ys) t ≡ slice_get xs t
+at_front [] ys t low = absurd (omega arith)
+at_front (x ∷ xs) ys zero low = refl
+at_front (x ∷ xs) ys (suc t) low = at_front xs ys t (omega arith)
+
+pub at_back : (xs ys : List RegWrite) (t u : ℕ) → t ≡ length xs + u → slice_get (xs ++ ys) t ≡ slice_get ys u
+at_back [] ys t u e = ap (slice_get ys) (omega arith)
+at_back (x ∷ xs) ys zero u e = absurd (omega arith)
+at_back (x ∷ xs) ys (suc t) u e = at_back xs ys t u (omega arith)
+
+-- the write is one of the move that has five of them before each later move
+pub moves_at : (vs : List Move) (v : Move) (i r t : ℕ) → t ≡ 5 * i + r → r < 5 → i < length vs → v ≡ get_or vs i v → slice_get (moves_writes vs) t ≡ slice_get (move_writes v) r
+moves_at [] v i r t e low room is = absurd (omega arith)
+moves_at (u ∷ vs) v zero r t e low room is = let h : t ≡ r = omega arith in ap (slice_get (moves_writes (u ∷ vs))) h ∙ (at_front (move_writes u) (moves_writes vs) r low ∙ ap (λ (w : Move). slice_get (move_writes w) r) (sym is))
+moves_at (u ∷ vs) v (suc i) r t e low room is = at_back (move_writes u) (moves_writes vs) t (5 * i + r) (omega arith) ∙ moves_at vs v i r (5 * i + r) refl low (omega arith) is
+
+pub switches_on : (xs ys : List RegWrite) → switches_in (xs ++ ys) ≡ switches_in xs + switches_in ys
+switches_on [] ys = omega arith
+switches_on (x ∷ xs) ys = let e = switches_on xs ys in omega arith
+
+pub moves_switches : (vs : List Move) → switches_in (moves_writes vs) ≡ length vs
+moves_switches [] = refl
+moves_switches (v ∷ vs) = let e = switches_on (move_writes v) (moves_writes vs) in let n = moves_switches vs in omega arith

@@ -1,0 +1,12 @@
+use Rattle.std.proofs.Common.{ap, arith}
+use Rattle.roll_plan.specs.declared.op.LegOp.{LegOp}
+use Rattle.roll_plan.specs.Works.{join_writes, moves_writes, op_writes, switches_in}
+use Rattle.roll_plan.proofs.Places.{switches_on, moves_switches}
+use Rattle.roll_plan.proofs.op_writes.op_switches.Goals as goal
+
+pub returns-in-Join-clause-count : goal.returns-in-Join-clause-count
+returns-in-Join-clause-count c = let n = moves_switches c.in-Join.moves.items in let a = switches_on (moves_writes c.in-Join.moves.items) (join_writes c.in-Join.leg c.in-Join.choice.middle) in
+    let e = ap (λ (o : LegOp). switches_in (op_writes o)) c.in-Join.is in omega arith
+
+pub returns-in-Shift-clause-count : goal.returns-in-Shift-clause-count
+returns-in-Shift-clause-count c = let n = moves_switches c.in-Shift.moves.items in let e = ap (λ (o : LegOp). switches_in (op_writes o)) c.in-Shift.is in omega arith

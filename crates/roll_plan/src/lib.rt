@@ -1,0 +1,12 @@
+//! What is done for one command, leg by leg, and the register writes that it takes, in order.
+#![tactic(auto)]
+
+mod op;
+mod op_writes;
+mod work;
+
+pub use op::{Chain, Choice, LegOp, Move};
+pub use work::{Work, switches, write_at_step, writes};
+
+#[cfg(test)]
+mod tests;

@@ -1,0 +1,8 @@
+pub mod Marking
+pub mod Tables
+pub mod Faults
+pub mod Kept
+pub mod Growing
+pub mod Naming
+pub mod Shortness
+pub mod FirstFaults

@@ -1,0 +1,5 @@
+pub mod Keys
+pub mod Checks
+pub mod Contents
+pub mod Users
+pub mod Shelves

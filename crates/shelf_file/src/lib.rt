@@ -1,0 +1,18 @@
+//! The shelf file: the element's name, shape, equipped modules and users, read from TOML.
+#![tactic(auto)]
+
+mod document;
+mod fault;
+mod keys;
+mod lists;
+mod reading;
+mod shelf;
+#[cfg(test)]
+mod tests;
+mod user;
+mod users;
+mod values;
+
+pub use fault::{ShelfFault, ShelfKey};
+pub use reading::shelf_of;
+pub use shelf::Shelf;

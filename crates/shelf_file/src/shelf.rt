@@ -1,0 +1,150 @@
+ghost use Rattle.std.specs.Prelude.{◌≡◌, ◌<◌, ◌≤◌, Some, IfSome, length, option_map, slice_get, position};
+ghost use Rattle.std.specs.Str.{bytes_eq};
+ghost use Rattle.indexmap.specs.IndexMap.{keys};
+ghost use Rattle.dxc_model.specs.Equipment.{IsEquipment};
+ghost use Rattle.shelf_file.specs.Shelves.{named, is_named, PassesOnce};
+
+use crate::user::{Uid, User, upper};
+use dxc_model::Class;
+use dxc_num::Shape;
+use indexmap::IndexMap;
+use std::marker::Model;
+use tl1_text::Sid;
+
+/// What a shelf file describes: the element's identifier, its shape, the modules that are equipped at first, and its
+/// users. Of a PID only the digest is kept, which is SHA-256 (FIPS 180-4) of the user's salt followed by the PID.
+#[derive(Drop)]
+pub struct Shelf {
+    pub(crate) sid: Sid,
+    pub(crate) shape: Shape,
+    pub(crate) equipped: u64,
+    pub(crate) users: IndexMap<Uid, User>,
+}
+
+impl Model for Shelf {
+    ghost use Rattle.shelf_file.specs.Contents.{Contents};
+    ghost use Rattle.shelf_file.specs.Users.{entries_of};
+    ghost use Rattle.shelf_file.specs.Shelves.{IsKept};
+
+    ghost Value = { Contents };
+
+    ghost view = { λ s. record { sid = s.sid; shape = s.shape; equipped = s.equipped; users = entries_of s.users.entries } };
+
+    ghost invariant = { λ s. IsKept (record { sid = s.sid; shape = s.shape; equipped = s.equipped; users = entries_of s.users.entries }) };
+}
+
+impl Shelf {
+    /// The most bytes of a shelf file.
+    pub const MOST_BYTES: usize = 65_536;
+
+    pub fn sid(&self) -> &Sid
+        ensures { result.now ≡ self.now.sid }
+    {
+        &self.sid
+    }
+
+    pub fn shape(&self) -> Shape
+        ensures { result ≡ self.now.shape }
+    {
+        self.shape
+    }
+
+    /// The modules that are equipped at first, bit m for module m from 0.
+    pub fn equipped(&self) -> u64
+        ensures value { result ≡ self.now.equipped }
+        ensures equipment { IsEquipment self.now.shape result }
+    {
+        self.equipped
+    }
+
+    /// How many users there are: 1 to 64.
+    pub fn users(&self) -> u16
+        ensures count { result ≡ length self.now.users }
+        ensures some { 1 ≤ result }
+        ensures few { result ≤ 64 }
+    {
+        self.users.len() as u16
+    }
+
+    fn user(&self, user: u16) -> &User
+        requires { user < length self.now.users }
+        ensures class { option_map (λ e. e.class) (slice_get self.now.users user) ≡ Some result.now.class }
+        ensures salt { option_map (λ e. e.salt) (slice_get self.now.users user) ≡ Some result.now.salt.items }
+        ensures digest { option_map (λ e. e.digest) (slice_get self.now.users user) ≡ Some result.now.digest }
+    {
+        match self.users.get_index(user as usize) {
+            Some((_, kept)) => kept,
+            None => unreachable!(),
+        }
+    }
+
+    /// A user's class. The user is below `users()`, here and in the calls below.
+    pub fn class(&self, user: u16) -> Class
+        requires { user < length self.now.users }
+        ensures { option_map (λ e. e.class) (slice_get self.now.users user) ≡ Some result }
+    {
+        self.user(user).class
+    }
+
+    /// A user's salt.
+    pub fn salt(&self, user: u16) -> &[u8]
+        requires { user < length self.now.users }
+        ensures { option_map (λ e. e.salt) (slice_get self.now.users user) ≡ Some result.now }
+    {
+        self.user(user).salt.as_slice()
+    }
+
+    /// The digest that is kept of a user's salt and PID.
+    pub fn digest(&self, user: u16) -> &[u8; 32]
+        requires { user < length self.now.users }
+        ensures { option_map (λ e. e.digest) (slice_get self.now.users user) ≡ Some result.now }
+    {
+        &self.user(user).digest
+    }
+
+    /// A user's name in upper case.
+    pub fn name(&self, user: u16) -> &[u8]
+        requires { user < length self.now.users }
+        ensures name { option_map (λ e. e.name) (slice_get self.now.users user) ≡ Some result.now }
+        ensures short { length result.now ≤ 10 }
+    {
+        match self.users.get_index(user as usize) {
+            Some((name, _)) => name.as_slice(),
+            None => unreachable!(),
+        }
+    }
+
+    /// Whether a user has the name, without regard to case.
+    pub fn is_named(&self, user: u16, uid: &[u8]) -> bool
+        requires { user < length self.now.users }
+        ensures { option_map (is_named uid.now) (slice_get self.now.users user) ≡ Some result }
+    {
+        let name = self.name(user);
+        match upper(uid) {
+            Some(uid) => name == uid.as_slice(),
+            None => false,
+        }
+    }
+
+    /// The user of that name, without regard to case; None exactly where there is none. No two users have one name.
+    pub fn find(&self, uid: &[u8]) -> Option<u16>
+        ensures found { result ≡ named self.now uid.now }
+        ensures within { IfSome result (λ user. user < length self.now.users) }
+        ensures once { PassesOnce (is_named uid.now) self.now.users }
+    {
+        let users = &self.users;
+        let name = upper(uid)?;
+        match place_of(users, &name) {
+            Some(place) => Some(place as u16),
+            None => None,
+        }
+    }
+}
+
+fn place_of(users: &IndexMap<Uid, User>, name: &Uid) -> Option<usize>
+    ensures found { result ≡ position (λ k. bytes_eq name.now.items k.items) (keys users.now) }
+    ensures within { IfSome result (λ place. place < length users.now.entries) }
+    ensures once { PassesOnce (λ k. bytes_eq name.now.items k.items) (keys users.now) }
+{
+    users.get_index_of(name)
+}

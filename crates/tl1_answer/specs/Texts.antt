@@ -1,0 +1,42 @@
+-- The texts of rows and changes.
+use Rattle.std.specs.Prelude.{ℕ, List, ◌++◌, codes}
+use Rattle.dxc_num.specs.Dimensions.{Dimensions, IsModule, IsPort}
+use Rattle.dxc_model.specs.declared.conn.Cct.{Cct}
+use Rattle.dxc_model.specs.declared.conn.Cct.TheVariants.{OneWay, TwoWay}
+use Rattle.dxc_model.specs.declared.conn.Conn.{Conn}
+use Rattle.dxc_model.specs.declared.op.Change.{Change}
+use Rattle.dxc_model.specs.declared.op.Change.TheVariants.{Enter, Delete, Edit, EnterModule, DeleteModule}
+use Rattle.dxc_aid.specs.Names.{port_name, module_name}
+
+abbrev pub cct_text : Cct → List ℕ
+cct_text OneWay = codes "1WAY"
+cct_text TwoWay = codes "2WAY"
+
+-- both ports are of the shape
+pub record IsOfShape (d : Dimensions) (c : Conn) : Type 0 where
+  pub from : IsPort d c.from
+  pub to : IsPort d c.to
+
+-- what was written before, and then a connection, as FROM,TO:CCT
+abbrev pub with_conn : List ℕ → Dimensions → Conn → List ℕ
+with_conn front d c = front ++ port_name d c.from ++ codes "," ++ port_name d c.to ++ codes ":" ++ cct_text c.cct
+
+-- a row, with its quotes
+abbrev pub row_text : Dimensions → Conn → List ℕ
+row_text d c = with_conn (codes "\"") d c ++ codes "\""
+
+-- the ports or the module of a change are of the shape
+abbrev pub IsChangeOf : Dimensions → Change → Type 0
+IsChangeOf d (Enter c) = IsOfShape d c
+IsChangeOf d (Delete c) = IsOfShape d c
+IsChangeOf d (Edit c) = IsOfShape d c
+IsChangeOf d (EnterModule m) = IsModule d m
+IsChangeOf d (DeleteModule m) = IsModule d m
+
+-- a change, as the command that makes it, with its quotes
+abbrev pub change_text : Dimensions → Change → List ℕ
+change_text d (Enter c) = with_conn (codes "\"ENT-CRS-T0:") d c ++ codes "\""
+change_text d (Delete c) = with_conn (codes "\"DLT-CRS-T0:") d c ++ codes "\""
+change_text d (Edit c) = with_conn (codes "\"ED-CRS-T0:") d c ++ codes "\""
+change_text d (EnterModule m) = codes "\"ENT-EQPT:" ++ module_name m ++ codes "\""
+change_text d (DeleteModule m) = codes "\"DLT-EQPT:" ++ module_name m ++ codes "\""

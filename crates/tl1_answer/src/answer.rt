@@ -1,0 +1,134 @@
+ghost use Rattle.std.specs.Prelude.{◌≡◌, ◌≤◌, ◌↔◌, [], IsTrue, length, codes, option_map};
+ghost use Rattle.dxc_outside.specs.Moments.{IsMoment};
+ghost use Rattle.tl1_answer.specs.Messages.{head, report as whole_report, with_line};
+
+use crate::append::append;
+use crate::message::{append_head, append_line, append_report};
+use arrayvec::ArrayVec;
+use dxc_outside::Moment;
+use std::marker::Model;
+use tl1_text::{Ctag, Sid};
+
+/// Whether a line was kept.
+#[derive(Clone, Copy, Debug, PartialEq, Eq)]
+pub enum Fits {
+    /// It is in the block.
+    Kept,
+    /// It doesn't fit, and the block was ended by `>`.
+    Cut,
+}
+
+/// The completion code of a response (GR-831).
+#[derive(Clone, Copy, Debug, PartialEq, Eq)]
+pub enum Code {
+    /// The command was done.
+    Compld,
+    /// The command was denied.
+    Deny,
+}
+
+/// One block of an answer, of at most 4,096 bytes.
+///
+/// A response is `begin`, its lines, and `end`. A line that is Cut comes again behind `again`, in the next block.
+#[derive(Drop)]
+pub struct Answer {
+    block: ArrayVec<u8, 4096>,
+    head: usize,
+    unended: bool,
+}
+
+impl Model for Answer {
+    ghost use Rattle.std.specs.Prelude.{◌≡◌, ◌≤◌, ◌<◌, true, length, take};
+    ghost use Rattle.tl1_answer.specs.Blocks.{Draft};
+
+    ghost Value = { Draft };
+
+    ghost view = { λ a. record { bytes = a.block.items; head = take a.head a.block.items; unended = a.unended } };
+
+    ghost invariant = { λ a. (a.head ≤ length a.block.items) × (a.head ≤ 64) × (a.unended ≡ true → length a.block.items < 4096) };
+}
+
+impl Answer {
+    ghost use Rattle.std.specs.Prelude.{◌<◌};
+    ghost use Rattle.tl1_answer.specs.Blocks.{Draft, IsBegun, IsUnended, begun, lined, ended, alone, fits};
+
+    /// An empty block.
+    pub fn new() -> Answer
+        ensures { result ≡ alone [] }
+    {
+        Answer {
+            block: ArrayVec::new(),
+            head: 0,
+            unended: false,
+        }
+    }
+
+    /// Clears the block, and writes header and M line; without a CTAG it bears `0`.
+    pub fn begin(&mut self, sid: &Sid, moment: Moment, ctag: Option<&Ctag>, code: Code)
+        requires { IsMoment moment }
+        ensures begun { self.new ≡ begun (head sid.now moment (option_map (λ t. t.now) ctag.entry) code) }
+        ensures short { length self.new.head ≤ 64 }
+        ensures some { IsBegun self.new }
+    {
+        self.block.clear();
+        append_head(&mut self.block, sid, moment, ctag, code);
+        self.head = self.block.len();
+        self.unended = true;
+    }
+
+    /// Adds a text line; Cut exactly where it doesn't fit with the ending byte.
+    pub fn line(&mut self, text: &[u8]) -> Fits
+        requires unended { IsUnended self.old }
+        requires short { length text.now ≤ 128 }
+        ensures fits { (result ≡ Fits.Kept) ↔ IsTrue (fits (with_line self.old.bytes text.now)) }
+        ensures kept { result ≡ Fits.Kept → self.new ≡ lined self.old text.now }
+        ensures cut { result ≡ Fits.Cut → self.new ≡ ended self.old (codes ">") }
+    {
+        if self.block.len() + text.len() + 5 < 4096 {
+            append_line(&mut self.block, text);
+            Fits::Kept
+        } else {
+            append(&mut self.block, b">");
+            self.unended = false;
+            Fits::Cut
+        }
+    }
+
+    /// Begins the next block, with the same header and M line.
+    pub fn again(&mut self)
+        requires { IsBegun self.old }
+        ensures begun { self.new ≡ begun self.old.head }
+        ensures short { length self.new.head ≤ 64 }
+    {
+        self.block.truncate(self.head);
+        self.unended = true;
+    }
+
+    /// Ends the last block.
+    pub fn end(&mut self)
+        requires { IsUnended self.old }
+        ensures { self.new ≡ ended self.old (codes ";") }
+    {
+        append(&mut self.block, b";");
+        self.unended = false;
+    }
+
+    /// Clears the block, and writes a whole report.
+    pub fn report(&mut self, sid: &Sid, moment: Moment, atag: u64, text: &[u8])
+        requires moment { IsMoment moment }
+        requires short { length text.now ≤ 128 }
+        ensures { self.new ≡ alone (whole_report sid.now moment atag text.now) }
+    {
+        self.block.clear();
+        append_report(&mut self.block, sid, moment, atag, text);
+        self.head = 0;
+        self.unended = false;
+    }
+
+    /// The bytes of the block.
+    pub fn bytes(&self) -> &[u8]
+        ensures { result.now ≡ self.now.bytes }
+    {
+        self.block.as_slice()
+    }
+}

@@ -1,0 +1,35 @@
+// Appends to buffers of fixed size.
+ghost use Rattle.std.specs.Prelude.{◌≡◌, ◌≤◌, ◌+◌, ◌++◌, length, decimal};
+ghost use Rattle.arrayvec.specs.ArrayVec.{array_vec_len};
+ghost use Rattle.tl1_answer.specs.Messages.{two};
+
+use arrayvec::ArrayVec;
+
+pub fn append<const N: usize>(out: &mut ArrayVec<u8, N>, text: &[u8])
+    requires { array_vec_len out.old + length text.now ≤ N }
+    ensures items { out.new.items ≡ out.old.items ++ text.now }
+    ensures len { array_vec_len out.new ≡ array_vec_len out.old + length text.now }
+{
+    let _ = out.try_extend_from_slice(text);
+}
+
+/// A number below 100, in two digits.
+pub fn append_two<const N: usize>(out: &mut ArrayVec<u8, N>, number: u8)
+    requires room { array_vec_len out.old + 2 ≤ N }
+    requires small { number ≤ 99 }
+    ensures items { out.new.items ≡ out.old.items ++ two number }
+    ensures len { array_vec_len out.new ≡ array_vec_len out.old + 2 }
+{
+    out.push(b'0' + number / 10);
+    out.push(b'0' + number % 10);
+}
+
+/// A number of at most twenty digits, in decimal.
+pub fn append_number<const N: usize>(out: &mut ArrayVec<u8, N>, number: u64)
+    requires { array_vec_len out.old + 20 ≤ N }
+    ensures items { out.new.items ≡ out.old.items ++ decimal number }
+    ensures len { array_vec_len out.new ≤ array_vec_len out.old + 20 }
+{
+    let mut buffer = itoa::Buffer::new();
+    append(out, buffer.format(number).as_bytes());
+}

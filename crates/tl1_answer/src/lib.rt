@@ -1,0 +1,14 @@
+//! The bytes of TL1 answers: responses cut into blocks, reports, and the texts of rows and changes.
+#![tactic(auto)]
+
+mod answer;
+mod append;
+pub mod laws;
+mod message;
+mod text;
+
+pub use answer::{Answer, Code, Fits};
+pub use text::{change_text, row_text};
+
+#[cfg(test)]
+mod tests;

@@ -1,0 +1,75 @@
+// The texts of rows and changes.
+ghost use Rattle.std.specs.Prelude.{◌≡◌, ◌≤◌, ◌+◌, ◌++◌, length};
+ghost use Rattle.arrayvec.specs.ArrayVec.{array_vec_len};
+ghost use Rattle.tl1_answer.specs.Texts.{IsOfShape, IsChangeOf, cct_text as text_of_cct, with_conn, row_text as text_of_row, change_text as text_of_change};
+
+use crate::append::append;
+use arrayvec::ArrayVec;
+use dxc_aid::{write_module, write_port};
+use dxc_model::{Cct, Change, Conn};
+use dxc_num::Shape;
+
+/// Clears `out`, and writes a connection's row: `"FROM,TO:CCT"` with the quotes.
+pub fn row_text(shape: Shape, conn: &Conn, out: &mut ArrayVec<u8, 128>)
+    requires { IsOfShape shape conn.now }
+    ensures text { out.new.items ≡ text_of_row shape conn.now }
+{
+    out.clear();
+    append(out, b"\"");
+    append_conn(shape, conn, out);
+    append(out, b"\"");
+}
+
+/// Clears `out`, and writes a change as the command that makes it, such as `"ENT-CRS-T0:FROM,TO:CCT"`, with the quotes.
+pub fn change_text(shape: Shape, change: &Change, out: &mut ArrayVec<u8, 128>)
+    requires { IsChangeOf shape change.now }
+    ensures text { out.new.items ≡ text_of_change shape change.now }
+{
+    out.clear();
+    match change {
+        Change::Enter(conn) => {
+            append(out, b"\"ENT-CRS-T0:");
+            append_conn(shape, conn, out);
+        }
+        Change::Delete(conn) => {
+            append(out, b"\"DLT-CRS-T0:");
+            append_conn(shape, conn, out);
+        }
+        Change::Edit(conn) => {
+            append(out, b"\"ED-CRS-T0:");
+            append_conn(shape, conn, out);
+        }
+        Change::EnterModule(number) => {
+            append(out, b"\"ENT-EQPT:");
+            write_module(shape, *number, out);
+        }
+        Change::DeleteModule(number) => {
+            append(out, b"\"DLT-EQPT:");
+            write_module(shape, *number, out);
+        }
+    }
+    append(out, b"\"");
+}
+
+fn append_conn(shape: Shape, conn: &Conn, out: &mut ArrayVec<u8, 128>)
+    requires inside { IsOfShape shape conn.now }
+    requires room { array_vec_len out.old ≤ 16 }
+    ensures text { out.new.items ≡ with_conn out.old.items shape conn.now }
+    ensures short { array_vec_len out.new ≤ array_vec_len out.old + 38 }
+{
+    write_port(shape, conn.from, out);
+    append(out, b",");
+    write_port(shape, conn.to, out);
+    append(out, b":");
+    append(out, cct_text(conn.cct));
+}
+
+fn cct_text(cct: Cct) -> &'static [u8]
+    ensures text { result.now ≡ text_of_cct cct }
+    ensures short { length result.now ≡ 4 }
+{
+    match cct {
+        Cct::OneWay => b"1WAY",
+        Cct::TwoWay => b"2WAY",
+    }
+}

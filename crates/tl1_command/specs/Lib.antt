@@ -1,0 +1,5 @@
+pub mod Codes
+pub mod Blocks
+pub mod Meanings
+pub mod Commands
+pub mod Parts

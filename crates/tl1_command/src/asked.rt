@@ -1,0 +1,127 @@
+ghost use Rattle.std.specs.Prelude.{◌≡◌, MatchResult, Ok, Err, IfOk};
+ghost use Rattle.dxc_num.specs.Dimensions.{Dimensions, IsModule};
+ghost use Rattle.tl1_text.specs.Spans.{IsIn, text_at};
+ghost use Rattle.dxc_model.specs.Operations.{ArePorts};
+ghost use Rattle.tl1_command.specs.Commands.{asked_by, named_by, IsAptCommand, ends_by};
+ghost use Rattle.tl1_command.specs.Meanings.{cct_named, or_one_way as one_way_or, ends_named, selection_or_all, names_all, asked as asked_for, IsOfConnection};
+
+use crate::code::is_same;
+use crate::command::Command;
+use crate::parts::Named;
+use dxc_aid::{module_of, port_of, selection_of};
+use dxc_model::{Cause, Cct, CommandCode, Conn, Op, Selection};
+use dxc_num::{Port, Shape};
+
+/// The CCT that a value names, none where it is empty.
+fn cct_of(value: &[u8]) -> Result<Option<Cct>, Cause>
+    ensures { result ≡ cct_named value.now }
+{
+    if value.is_empty() {
+        Ok(None)
+    } else if is_same(value, "1WAY") {
+        Ok(Some(Cct::OneWay))
+    } else if is_same(value, "2WAY") {
+        Ok(Some(Cct::TwoWay))
+    } else {
+        Err(Cause::BadValue)
+    }
+}
+
+fn or_one_way(cct: Option<Cct>) -> Cct
+    ensures { result ≡ one_way_or cct }
+{
+    cct.unwrap_or(Cct::OneWay)
+}
+
+/// Two different ports.
+fn ends_of(shape: Shape, from: &[u8], to: &[u8]) -> Result<(Port, Port), Cause>
+    ensures ends { MatchResult result (λ e. ends_named shape from.now to.now ≡ Ok (ends_by e)) (λ q. ends_named shape from.now to.now ≡ Err q) }
+    ensures ports { IfOk result (λ e. ArePorts shape e.0 e.1) }
+{
+    let from = port_of(shape, from).ok_or(Cause::BadAid)?;
+    let to = port_of(shape, to).ok_or(Cause::BadAid)?;
+    if from.0 == to.0 {
+        return Err(Cause::SamePort);
+    }
+    Ok((from, to))
+}
+
+fn selection_or_all_of(shape: Shape, text: &[u8]) -> Result<Selection, Cause>
+    ensures { result ≡ selection_or_all shape text.now }
+{
+    if text.is_empty() {
+        return Ok(Selection::All);
+    }
+    selection_of(shape, text).ok_or(Cause::BadAid)
+}
+
+/// Nothing, or ALL.
+fn is_all(text: &[u8]) -> bool
+    ensures { result ≡ names_all text.now }
+{
+    text.is_empty() || is_same(text, "ALL")
+}
+
+/// What a command with its parameters asks for, or why it is denied.
+pub fn asked(shape: Shape, code: CommandCode, unit: &[u8], named: Named) -> Result<Command, Cause>
+    requires first { IsIn unit.now named.first }
+    requires second { IsIn unit.now named.second }
+    requires value { IsIn unit.now named.value }
+    ensures asked { MatchResult result (λ c. asked_for shape code (named_by unit.now named) ≡ Ok (asked_by unit.now c)) (λ q. asked_for shape code (named_by unit.now named) ≡ Err q) }
+    ensures apt { IfOk result (IsAptCommand shape unit.now) }
+{
+    let first = named.first.text(unit);
+    match code {
+        CommandCode::ActUser => Ok(Command::ActUser {
+            uid: named.first,
+            pid: named.value,
+        }),
+        CommandCode::CancUser => Ok(Command::CancUser { uid: named.first }),
+        CommandCode::RtrvHdr => Ok(Command::Header),
+        CommandCode::AlwMsgAll if is_all(first) => Ok(Command::Allow),
+        CommandCode::InhMsgAll if is_all(first) => Ok(Command::Inhibit),
+        CommandCode::AlwMsgAll | CommandCode::InhMsgAll => Err(Cause::BadAid),
+        CommandCode::RtrvCrsT0 => {
+            let selection = selection_or_all_of(shape, first)?;
+            Ok(Command::Table(Op::Rows(selection)))
+        }
+        CommandCode::EntCrsT0 | CommandCode::EdCrsT0 | CommandCode::DltCrsT0 => connection(
+            shape, code, unit, named,
+        ),
+        CommandCode::EntEqpt => {
+            let module = module_of(shape, first).ok_or(Cause::BadAid)?;
+            Ok(Command::Table(Op::EnterModule(module)))
+        }
+        CommandCode::DltEqpt => {
+            let module = module_of(shape, first).ok_or(Cause::BadAid)?;
+            Ok(Command::Table(Op::DeleteModule(module)))
+        }
+        CommandCode::InitSys => Ok(Command::Table(Op::Restart)),
+    }
+}
+
+/// An entry, an edit or a deletion of a connection.
+fn connection(shape: Shape, code: CommandCode, unit: &[u8], named: Named) -> Result<Command, Cause>
+    requires first { IsIn unit.now named.first }
+    requires second { IsIn unit.now named.second }
+    requires value { IsIn unit.now named.value }
+    requires code { IsOfConnection code }
+    ensures asked { MatchResult result (λ c. asked_for shape code (named_by unit.now named) ≡ Ok (asked_by unit.now c)) (λ q. asked_for shape code (named_by unit.now named) ≡ Err q) }
+    ensures apt { IfOk result (IsAptCommand shape unit.now) }
+{
+    let cct = cct_of(named.value.text(unit))?;
+    let (from, to) = ends_of(shape, named.first.text(unit), named.second.text(unit))?;
+    let op = match code {
+        CommandCode::DltCrsT0 => Op::Delete { from, to, cct },
+        CommandCode::EdCrsT0 => Op::Edit(conn(from, to, cct)),
+        _ => Op::Enter(conn(from, to, cct)),
+    };
+    Ok(Command::Table(op))
+}
+
+fn conn(from: Port, to: Port, cct: Option<Cct>) -> Conn
+    ensures { result ≡ record { from = from; to = to; cct = one_way_or cct } }
+{
+    let cct = or_one_way(cct);
+    Conn { from, to, cct }
+}

@@ -1,0 +1,45 @@
+ghost use Rattle.std.specs.Prelude.{◌≡◌};
+ghost use Rattle.tl1_command.specs.Codes.{code_named, is_same_text};
+
+use dxc_model::CommandCode;
+
+/// Whether two texts are the same but for ASCII case.
+pub fn is_same(text: &[u8], name: &str) -> bool
+    ensures { result ≡ is_same_text text.now name.now }
+{
+    text.eq_ignore_ascii_case(name.as_bytes())
+}
+
+/// The command of a code, case aside; None where it is no command's.
+#[tactic(auto, unfolding(crate::specs::Codes::code_named))]
+pub fn code_of(text: &[u8]) -> Option<CommandCode>
+    ensures { result ≡ code_named text.now }
+{
+    if is_same(text, "ACT-USER") {
+        Some(CommandCode::ActUser)
+    } else if is_same(text, "CANC-USER") {
+        Some(CommandCode::CancUser)
+    } else if is_same(text, "RTRV-HDR") {
+        Some(CommandCode::RtrvHdr)
+    } else if is_same(text, "ALW-MSG-ALL") {
+        Some(CommandCode::AlwMsgAll)
+    } else if is_same(text, "INH-MSG-ALL") {
+        Some(CommandCode::InhMsgAll)
+    } else if is_same(text, "RTRV-CRS-T0") {
+        Some(CommandCode::RtrvCrsT0)
+    } else if is_same(text, "ENT-CRS-T0") {
+        Some(CommandCode::EntCrsT0)
+    } else if is_same(text, "ED-CRS-T0") {
+        Some(CommandCode::EdCrsT0)
+    } else if is_same(text, "DLT-CRS-T0") {
+        Some(CommandCode::DltCrsT0)
+    } else if is_same(text, "ENT-EQPT") {
+        Some(CommandCode::EntEqpt)
+    } else if is_same(text, "DLT-EQPT") {
+        Some(CommandCode::DltEqpt)
+    } else if is_same(text, "INIT-SYS") {
+        Some(CommandCode::InitSys)
+    } else {
+        None
+    }
+}

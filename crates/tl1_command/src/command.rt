@@ -1,0 +1,19 @@
+use dxc_model::Op;
+use tl1_text::Span;
+
+/// What a unit asks for. Spans are parts of the unit's text.
+#[derive(Clone, Copy, Debug, PartialEq, Eq)]
+pub enum Command {
+    /// ACT-USER: the user's name and password.
+    ActUser { uid: Span, pid: Span },
+    /// CANC-USER: the user's name, which may be empty.
+    CancUser { uid: Span },
+    /// RTRV-HDR.
+    Header,
+    /// ALW-MSG-ALL.
+    Allow,
+    /// INH-MSG-ALL.
+    Inhibit,
+    /// A command on the table, a look aside.
+    Table(Op),
+}

@@ -1,0 +1,58 @@
+ghost use Rattle.std.specs.Prelude.{◌≡◌, ◌≤◌};
+ghost use Rattle.tl1_command.specs.Codes.{form_of as form_in};
+ghost use Rattle.tl1_command.specs.Meanings.{is_required as must_be, values_named as how_many};
+
+use dxc_model::CommandCode;
+
+/// Whether a command names a parameter.
+#[derive(Clone, Copy, Debug, PartialEq, Eq)]
+pub enum Need {
+    Never,
+    Optional,
+    Required,
+}
+
+impl Need {
+    pub fn is_required(self) -> bool
+        ensures { result ≡ must_be self }
+    {
+        matches!(self, Need::Required)
+    }
+
+    /// How many parameters it names.
+    pub fn named(self) -> usize
+        ensures { result ≡ how_many self }
+    {
+        match self {
+            Need::Never => 0,
+            Need::Optional | Need::Required => 1,
+        }
+    }
+}
+
+/// How many AIDs a command names, whether these have to be there, and whether the first parameter of the first payload
+/// block has.
+#[derive(Clone, Copy, Debug, PartialEq, Eq)]
+pub struct Form {
+    pub aids: usize,
+    pub aid: Need,
+    pub value: Need,
+}
+
+pub fn form_of(code: CommandCode) -> Form
+    ensures form { result ≡ form_in code }
+    ensures few { result.aids ≤ 2 }
+{
+    let (aids, aid, value) = match code {
+        CommandCode::ActUser => (1, Need::Required, Need::Required),
+        CommandCode::CancUser
+        | CommandCode::AlwMsgAll
+        | CommandCode::InhMsgAll
+        | CommandCode::RtrvCrsT0 => { (1, Need::Optional, Need::Never) }
+        CommandCode::RtrvHdr | CommandCode::InitSys => (0, Need::Never, Need::Never),
+        CommandCode::EntCrsT0 | CommandCode::DltCrsT0 => (2, Need::Required, Need::Optional),
+        CommandCode::EdCrsT0 => (2, Need::Required, Need::Required),
+        CommandCode::EntEqpt | CommandCode::DltEqpt => (1, Need::Required, Need::Never),
+    };
+    Form { aids, aid, value }
+}

@@ -1,0 +1,16 @@
+//! The meaning of a unit's text: the command that it asks for, or why it is denied before the table is asked. The layout
+//! is after GR-831, the command names after those of TL1 elements, for cross-connections after GR-199.
+#![tactic(auto)]
+
+mod asked;
+mod checks;
+mod code;
+mod command;
+mod decide;
+mod form;
+mod parts;
+#[cfg(test)]
+mod tests;
+
+pub use command::Command;
+pub use decide::{code_in, command_of};

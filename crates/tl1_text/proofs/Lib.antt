@@ -1,0 +1,12 @@
+pub mod Steps
+pub mod Once
+pub mod Walks
+pub mod Finds
+pub mod WordFacts
+pub mod BlockFacts
+pub mod CutSteps
+pub mod Slices
+pub mod ValueSteps
+pub mod CutBlocks
+pub mod TagFacts
+pub mod Totals

@@ -1,0 +1,9 @@
+pub mod Units
+pub mod Reading
+pub mod Grammar
+pub mod Walk
+pub mod Spans
+pub mod Cuts
+pub mod Values
+pub mod Tags
+pub mod Laws

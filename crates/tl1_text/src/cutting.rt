@@ -1,0 +1,91 @@
+// Cuts a unit into the spans of its blocks, in one pass.
+ghost use Rattle.std.specs.Prelude.{◌≡◌, ◌≤◌, ◌<◌, ◌+◌, ℕ, List, None, length, MatchOption};
+ghost use Rattle.tl1_text.specs.Walk.{blocks_of};
+ghost use Rattle.tl1_text.specs.Cuts.{IsCutTo, IsCut};
+
+use crate::place::Place;
+use crate::span::Span;
+use arrayvec::ArrayVec;
+
+/// A block has at most so many parameters.
+const PARAMS: usize = 8;
+
+/// The blocks found so far, and where the one in hand starts and stands.
+#[derive(Drop)]
+struct Cutting {
+    found: ArrayVec<Span, 10>,
+    start: usize,
+    params: usize,
+    place: Place,
+}
+
+impl Cutting {
+    fn new() -> Cutting
+        ensures { (unit : List ℕ) → IsCutTo unit 0 result }
+    {
+        Cutting {
+            found: ArrayVec::new(),
+            start: 0,
+            params: 1,
+            place: Place::Start,
+        }
+    }
+
+    /// Reads one byte more; None where the unit isn't in the grammar.
+    fn step(&mut self, unit: &[u8], at: usize) -> Option<()>
+        requires short { length unit.now ≤ 2047 }
+        requires within { at < length unit.now }
+        requires cut { IsCutTo unit.now at self.old }
+        ensures { MatchOption result (blocks_of unit.now ≡ None) (λ _. IsCutTo unit.now (at + 1) self.new) }
+    {
+        let b = unit[at];
+        if self.place.is_parted(b, b':') {
+            if self.found.is_full() {
+                return None;
+            }
+            self.found.push(Span::between(self.start, at));
+            self.start = at + 1;
+            self.params = 1;
+            self.place = Place::Start;
+            return Some(());
+        }
+        if self.place.is_parted(b, b',') {
+            if self.params == PARAMS {
+                return None;
+            }
+            self.params += 1;
+            self.place = Place::Start;
+            return Some(());
+        }
+        let Some(next) = self.place.after(b) else {
+            return None;
+        };
+        self.place = next;
+        Some(())
+    }
+
+    /// The spans, behind the last byte; None where the unit isn't in the grammar.
+    fn end(mut self, unit: &[u8]) -> Option<ArrayVec<Span, 10>>
+        requires short { length unit.now ≤ 2047 }
+        requires cut { IsCutTo unit.now (length unit.now) self }
+        ensures { MatchOption result (blocks_of unit.now ≡ None) (λ found. IsCut unit.now found.items) }
+    {
+        if !self.place.is_outside() || self.found.is_full() {
+            return None;
+        }
+        self.found.push(Span::between(self.start, unit.len()));
+        Some(self.found)
+    }
+}
+
+/// The spans of one to ten blocks, each of one to eight parameters; None where the unit isn't in the grammar.
+pub fn cut(unit: &[u8]) -> Option<ArrayVec<Span, 10>>
+    requires { length unit.now ≤ 2047 }
+    ensures { MatchOption result (blocks_of unit.now ≡ None) (λ found. IsCut unit.now found.items) }
+{
+    let mut cutting = Cutting::new();
+    for at in 0..unit.len() {
+        cutting.step(unit, at)?;
+    }
+    cutting.end(unit)
+}

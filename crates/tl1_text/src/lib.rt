@@ -1,0 +1,21 @@
+//! The text of TL1 commands: a stream of bytes is cut into units, and a unit into blocks and parameters.
+#![tactic(auto)]
+
+mod ctag;
+mod cutting;
+pub mod grammar;
+pub mod laws;
+mod place;
+mod reader;
+mod sid;
+mod span;
+mod values;
+
+pub use ctag::{Ctag, ctag_of};
+pub use reader::{Fed, UnitKind, UnitReader};
+pub use sid::Sid;
+pub use span::{BadText, Blocks, Span};
+pub use values::params;
+
+#[cfg(test)]
+mod tests;

@@ -1,0 +1,154 @@
+// Reads units out of pieces of a stream.
+ghost use Rattle.std.specs.Prelude.{◌≡◌, ◌≤◌, ◌<◌, ◌+◌, ℕ, List, [], ◌∷◌, ◌++◌, length, take, true, false};
+ghost use Rattle.tl1_text.specs.Reading.{Holds, IsKind};
+ghost use Rattle.tl1_text.specs.Units.{is_gap as gap, is_quoted};
+
+use arrayvec::ArrayVec;
+use std::marker::Model;
+
+/// A unit has at most so many bytes, the `;` that ends it among them.
+const LIMIT: usize = 2048;
+
+/// What a piece of the stream ended.
+#[derive(Clone, Copy, Debug, PartialEq, Eq)]
+pub enum UnitKind {
+    /// A unit of at most 2,048 bytes.
+    Whole,
+    /// A longer unit.
+    TooLong,
+    /// No unit: there is more to come.
+    More,
+}
+
+/// How many bytes of a piece were taken, and what ended with the last of them.
+#[derive(Clone, Copy, Debug, PartialEq, Eq)]
+pub struct Fed {
+    pub taken: usize,
+    pub unit: UnitKind,
+}
+
+/// Cuts a stream of bytes into units, in whatever pieces the bytes come.
+///
+/// Before a unit blanks, CR and LF fall away. A unit ends at its first `;` outside quotes, where that is at
+/// most its 2,048th byte, and else at the first `;` behind its 2,048th byte.
+#[derive(Drop)]
+pub struct UnitReader {
+    kept: ArrayVec<u8, 2048>,
+    quoted: bool,
+    ended: bool,
+}
+
+impl Model for UnitReader {
+    ghost use Rattle.std.specs.Prelude.{◌≡◌, false};
+    ghost use Rattle.tl1_text.specs.Units.{is_quoted};
+    ghost use Rattle.tl1_text.specs.Reading.{Reader};
+
+    ghost Value = { Reader };
+
+    ghost view = { λ r. record { kept = r.kept.items; ended = r.ended } };
+
+    ghost invariant = { λ r. r.ended ≡ false → r.quoted ≡ is_quoted r.kept.items };
+}
+
+impl UnitReader {
+    ghost use Rattle.tl1_text.specs.Reading.{Reader, hand, Made, IsFed};
+
+    /// A reader that has read nothing.
+    pub fn new() -> UnitReader
+        ensures { Holds [] (hand result) }
+    {
+        UnitReader {
+            kept: ArrayVec::new(),
+            quoted: false,
+            ended: false,
+        }
+    }
+
+    /// Takes bytes up to and with the one that ends a unit, or the whole piece where none does.
+    ///
+    /// However the stream is cut into pieces, the units are the same.
+    pub fn feed(&mut self, piece: &[u8]) -> Fed
+        ensures fed { (bs : List ℕ) → Holds bs (hand self.old) → IsFed bs piece.now result self.new }
+        ensures within { result.taken ≤ length piece.now }
+        ensures some { 0 < length piece.now → 0 < result.taken }
+        ensures short { result.unit ≡ UnitKind.Whole → length self.new.kept ≤ 2047 }
+    {
+        for at in 0..piece.len() {
+            match self.take(piece[at]) {
+                UnitKind::More => {}
+                unit => {
+                    return Fed {
+                        taken: at + 1,
+                        unit,
+                    };
+                }
+            }
+        }
+        Fed {
+            taken: piece.len(),
+            unit: UnitKind::More,
+        }
+    }
+
+    /// The text of the unit that `feed` told to be whole, without its `;`, until the next `feed`.
+    pub fn unit(&self) -> &[u8]
+        ensures { result.now ≡ self.now.kept }
+    {
+        self.kept.as_slice()
+    }
+
+    fn take(&mut self, b: u8) -> UnitKind
+        ensures made { (bs : List ℕ) → Holds bs (hand self.old) → Made (bs ++ b ∷ []) result self.new }
+        ensures short { result ≡ UnitKind.Whole → length self.new.kept ≤ 2047 }
+    {
+        self.begin();
+        let unit = keep(&mut self.kept, &mut self.quoted, b);
+        self.ended = !matches!(unit, UnitKind::More);
+        unit
+    }
+
+    /// Lets go of a unit that ended.
+    fn begin(&mut self)
+        ensures { self.new ≡ record { kept = hand self.old; ended = false } }
+    {
+        if self.ended {
+            self.kept.clear();
+            self.quoted = false;
+            self.ended = false;
+        }
+    }
+}
+
+/// Keeps a byte of the unit in hand, or tells how it ended the unit.
+///
+/// A unit that is too long keeps its first 2,048 bytes, and that they are so many is all that tells it.
+fn keep(kept: &mut ArrayVec<u8, 2048>, quoted: &mut bool, b: u8) -> UnitKind
+    requires { quoted.old ≡ is_quoted kept.old.items }
+    ensures made { (bs : List ℕ) → Holds bs kept.old.items → IsKind (bs ++ b ∷ []) result kept.new.items }
+    ensures quoted { result ≡ UnitKind.More → quoted.new ≡ is_quoted kept.new.items }
+    ensures short { result ≡ UnitKind.Whole → length kept.new.items ≤ 2047 }
+{
+    if kept.len() == LIMIT {
+        return if b == b';' {
+            UnitKind::TooLong
+        } else {
+            UnitKind::More
+        };
+    }
+    if b == b';' && !*quoted {
+        return UnitKind::Whole;
+    }
+    if kept.is_empty() && is_gap(b) {
+        return UnitKind::More;
+    }
+    kept.push(b);
+    *quoted = *quoted != (b == b'"');
+    UnitKind::More
+}
+
+/// A blank, CR or LF.
+fn is_gap(b: u8) -> bool
+    ensures { result ≡ gap b }
+{
+    matches!(b, b' ' | b'\r' | b'\n')
+}

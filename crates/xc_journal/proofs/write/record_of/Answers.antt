@@ -1,0 +1,6 @@
+use Rattle.std.proofs.Common.{◌≡◌, refl}
+use Rattle.xc_journal.proofs.Bytes.{joins}
+use Rattle.xc_journal.proofs.write.record_of.Goals as goal
+
+pub returns : goal.returns
+returns c = rw (c.of_change-c.ensures, c.of_choice-a.ensures, c.of_choice-b.ensures, c.behind.ensures, c.as_slice-list.ensures.value) (joins c.args.change.now c.args.choices.now.items)

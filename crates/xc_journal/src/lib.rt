@@ -1,0 +1,12 @@
+//! The records of the connection journal: a change of the table with the choices of its legs, as 32 bytes, and back. Each
+//! value has one spelling.
+#![tactic(auto)]
+
+pub mod laws;
+mod read;
+#[cfg(test)]
+mod tests;
+mod write;
+
+pub use read::entry_of;
+pub use write::record_of;

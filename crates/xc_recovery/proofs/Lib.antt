@@ -1,0 +1,11 @@
+pub mod HeldLegs
+pub mod Readying
+pub mod TableLegs
+pub mod Placing
+pub mod Spelled
+pub mod Once
+pub mod Folding
+pub mod Making
+pub mod Planning
+pub mod Equipped
+pub mod Replaying
