@@ -1,7 +1,8 @@
 pub mod Streams
 pub mod SessionSteps
-pub mod Folds
-pub mod Acting
+pub mod Playing
+pub mod Acted
+pub mod Changing
 pub mod FillSteps
 pub mod Listing
 pub mod Asking

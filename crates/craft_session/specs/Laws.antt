@@ -1,30 +1,37 @@
 -- What is true of every session's run.
-use Rattle.std.specs.Prelude.{◌≡◌, ℕ, List, ◌++◌, length}
+use Rattle.std.specs.Prelude.{◌≡◌, ℕ, List, ◌++◌, Option}
+use Rattle.std.specs.List.{AllByRecursion}
 use Rattle.dxc_outside.specs.declared.clock.Moment.{Moment}
 use Rattle.dxc_outside.specs.Items.{Item}
+use Rattle.dxc_model.specs.declared.cause.Cause.{Cause}
+use Rattle.dxc_model.specs.declared.op.Change.{Change}
+use Rattle.dxc_model.specs.declared.entry.Entry.{Entry}
+use Rattle.dxc_model.specs.declared.user.SessionUser.{SessionUser}
 use Rattle.dxc_model.specs.declared.user.SessionUser.TheVariants.{Nobody}
 use Rattle.dxc_model.specs.Tables.{Board}
-use Rattle.dxc_model.specs.Histories.{table_after}
+use Rattle.dxc_model.specs.Histories.{Rules, IsLegal, changes_of, table_after}
 use Rattle.tl1_text.specs.Units.{Input, IsRest}
+use Rattle.craft_session.specs.Acting.{IsOwn}
 use Rattle.craft_session.specs.Asks.{Language}
 use Rattle.craft_session.specs.Happenings.{Happening, Happens, bytes_in, units_in}
+use Rattle.craft_session.specs.Walks.{own}
 use Rattle.craft_session.specs.Runs.{Walk, Run}
-use Rattle.craft_session.specs.Plain.{At, responses, at_end}
-use Rattle.craft_session.specs.Sessions.{own, Keeps}
+use Rattle.craft_session.specs.Plain.{At, Limit, Responds}
 
 -- of the same bytes the same units happen
 abbrev pub AreUnitsAlone : Type 0
 AreUnitsAlone = (items more : List Item) (hs gs : List (Happening Input)) (rest other : List ℕ) → Happens items hs rest → Happens more gs other → IsRest rest → IsRest other → bytes_in items ≡ bytes_in more → units_in hs ≡ units_in gs
 
--- a session begins with nobody logged in
-abbrev pub start : Board → At
-start t = record { table = t; user = Nobody }
+-- where a plain session stands behind these entries
+abbrev pub standing : Board → List Entry → SessionUser → At
+standing t h s = record { table = table_after t h; changes = changes_of h; user = s }
 
--- what a walk wrote is the plain fold over its units, and so are the table and the user behind it
-pub record IsFold {U M : Type 0} (l : Language U M) (t : Board) (w : Walk U M) : Type 0 where
-  pub written : w.earlier ++ w.latest ≡ responses l (start t) (units_in w.happenings) w.moments
-  pub ends : record { table = table_after t w.history; user = w.user } ≡ at_end l (start t) (units_in w.happenings)
-  pub moments : length w.moments ≡ length (units_in w.happenings)
+-- a run whose entries go on a legal history writes what the plain session does
+abbrev pub ArePlayed : Rules → Type 0
+ArePlayed r = (l : Language Input Moment) (past : List Entry) (w : Walk Input Moment) → Run l own (table_after r.table past) w → IsLegal r (past ++ w.history) → AllByRecursion IsOwn w.history
+    → Responds l r.limit (standing r.table past Nobody) (units_in w.happenings) w.moments (w.earlier ++ w.latest) (standing r.table (past ++ w.history) w.user)
 
-abbrev pub AreFolds : Type 0
-AreFolds = (l : Language Input Moment) (t now : Board) (w : Walk Input Moment) → Run l own t w → Keeps t w.history now → IsFold l t w
+-- where each change meets one limit, units and moments determine what the plain session writes and where it stands
+abbrev pub AreResponsesOnce : Rules → Type 0
+AreResponsesOnce r = (l : Language Input Moment) (a b c : At) (us : List Input) (ms : List Moment) (out other : List ℕ) → ((cs : List Change) (x : Change) (m n : Option Cause) → r.limit cs x m → r.limit cs x n → m ≡ n)
+    → Responds l r.limit a us ms out b → Responds l r.limit a us ms other c → (out ≡ other) × (b ≡ c)

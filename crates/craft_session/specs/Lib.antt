@@ -2,6 +2,9 @@ pub mod Asks
 pub mod Happenings
 pub mod Moments
 pub mod Walks
+pub mod Acting
+pub mod Changing
+pub mod Progresses
 pub mod Runs
 pub mod Plain
 pub mod Sessions

@@ -1,5 +1,5 @@
--- The plain session: a fold over the units, on one table.
-use Rattle.std.specs.Prelude.{ℕ, Option, Some, None, Result, Ok, Err, List, [], ◌∷◌, ◌++◌}
+-- The plain session: one table, one user, one unit after the other.
+use Rattle.std.specs.Prelude.{◌≡◌, ℕ, Option, Some, None, Result, Ok, Err, List, [], ◌∷◌, ◌++◌}
 use Rattle.dxc_model.specs.declared.cause.Cause.{Cause}
 use Rattle.dxc_model.specs.declared.op.Change.{Change}
 use Rattle.dxc_model.specs.declared.user.SessionUser.{SessionUser}
@@ -10,50 +10,39 @@ use Rattle.craft_session.specs.declared.ask.Ask.{Ask}
 use Rattle.craft_session.specs.declared.ask.Ask.TheVariants.{Refused, LogsIn, LogsOut, Greets, Lists, Changes}
 use Rattle.craft_session.specs.Asks.{Reply, completed, completed_rows, denied, Language}
 
--- the table and the user that a session stands at
+-- the table, the changes that led to it, and who is logged in
 pub record At : Type 0 where
   pub table : Board
+  pub changes : List Change
   pub user : SessionUser
 
-abbrev pub verdict_reply : Option (Result Change Cause) → Reply
-verdict_reply (Some (Ok c)) = completed
-verdict_reply (Some (Err q)) = denied q
-verdict_reply None = completed
+-- what limit a change meets behind these
+abbrev pub Limit : Type 1
+Limit = List Change → Change → Option Cause → Type 0
 
-abbrev pub verdict_effect : Board → Option (Result Change Cause) → Board
-verdict_effect t (Some (Ok c)) = effect t c
-verdict_effect t (Some (Err q)) = t
-verdict_effect t None = t
+-- a change that the table grants is made, unless it meets a limit
+abbrev pub Makes : At → Change → Option Cause → Reply → At → Type 0
+Makes a c None r b = (r ≡ completed) × (b ≡ record { table = effect a.table c; changes = a.changes ++ c ∷ []; user = a.user })
+Makes a c (Some q) r b = (r ≡ denied q) × (b ≡ a)
 
--- the reply to what is asked
-abbrev pub reply_to : At → Ask → Reply
-reply_to a (Refused q) = denied q
-reply_to a (LogsIn u) = completed
-reply_to a LogsOut = completed
-reply_to a Greets = completed
-reply_to a (Lists which) = completed_rows (rows a.table which)
-reply_to a (Changes op) = verdict_reply (verdict a.table op)
+-- a changing command, by the table's verdict
+abbrev pub Judges : Limit → At → Option (Result Change Cause) → Reply → At → Type 0
+Judges limit a (Some (Ok c)) r b = (met : Option Cause) × limit a.changes c met × Makes a c met r b
+Judges limit a (Some (Err q)) r b = (r ≡ denied q) × (b ≡ a)
+Judges limit a None r b = ⊥
 
--- table and user after it
-abbrev pub at_after : At → Ask → At
-at_after a (Refused q) = a
-at_after a (LogsIn u) = record a { user = u }
-at_after a LogsOut = record a { user = Nobody }
-at_after a Greets = a
-at_after a (Lists which) = a
-at_after a (Changes op) = record a { table = verdict_effect a.table (verdict a.table op) }
-
--- the response to a unit at a moment
-abbrev pub answer : {U M : Type 0} → Language U M → At → M → U → List ℕ
-answer l a m u = l.response m u (reply_to a (l.asks a.user u))
+-- the reply to what is asked, and what the session stands at after it
+abbrev pub Replies : Limit → At → Ask → Reply → At → Type 0
+Replies limit a (Refused q) r b = (r ≡ denied q) × (b ≡ a)
+Replies limit a (LogsIn u) r b = (r ≡ completed) × (b ≡ record a { user = u })
+Replies limit a LogsOut r b = (r ≡ completed) × (b ≡ record a { user = Nobody })
+Replies limit a Greets r b = (r ≡ completed) × (b ≡ a)
+Replies limit a (Lists which) r b = (r ≡ completed_rows (rows a.table which)) × (b ≡ a)
+Replies limit a (Changes op) r b = Judges limit a (verdict a.table op) r b
 
 -- the responses to these units in order, each with the next moment
-abbrev pub responses : {U M : Type 0} → Language U M → At → List U → List M → List ℕ
-responses l a [] ms = []
-responses l a (u ∷ us) [] = []
-responses l a (u ∷ us) (m ∷ ms) = answer l a m u ++ responses l (at_after a (l.asks a.user u)) us ms
-
--- table and user after these units
-abbrev pub at_end : {U M : Type 0} → Language U M → At → List U → At
-at_end l a [] = a
-at_end l a (u ∷ us) = at_end l (at_after a (l.asks a.user u)) us
+abbrev pub Responds : {U M : Type 0} → Language U M → Limit → At → List U → List M → List ℕ → At → Type 0
+Responds l limit a [] [] out b = (out ≡ []) × (b ≡ a)
+Responds l limit a [] (m ∷ ms) out b = ⊥
+Responds l limit a (u ∷ us) [] out b = ⊥
+Responds l limit a (u ∷ us) (m ∷ ms) out b = (r : Reply) × (next : At) × (rest : List ℕ) × Replies limit a (l.asks a.user u) r next × (out ≡ l.response m u r ++ rest) × Responds l limit next us ms rest b

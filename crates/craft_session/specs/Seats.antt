@@ -1,13 +1,17 @@
 -- What a place is.
-use Rattle.dxc_model.specs.Tables.{Board}
-use Rattle.dxc_model.specs.Equipment.{empty_table}
+use Rattle.std.specs.Prelude.{◌≡◌, List}
+use Rattle.dxc_model.specs.declared.entry.Entry.{Entry}
+use Rattle.fabric_words.specs.Seats.{FabricId}
 use Rattle.shelf_file.specs.Contents.{Contents}
+use Rattle.xc_core.specs.declared.state.State.{State}
+use Rattle.xc_core.specs.States.{Opening, StandsFor}
 
--- a shelf, and the table that is served
+-- a shelf, and the state that is served, with the fabric that its Provisioner writes
 pub record Seat : Type 0 where
   pub shelf : Contents
-  pub table : Board
+  pub fabric : FabricId
+  pub state : State
 
--- no connections, and the equipped modules of the shelf
-abbrev pub opened_seat : Contents → Seat
-opened_seat s = record { shelf = s; table = empty_table s.shape s.equipped }
+-- the state stands for some history on this fabric
+abbrev pub IsSeated : FabricId → State → Type 0
+IsSeated i s = (o : Opening) × (h : List Entry) × (o.fabric ≡ i) × StandsFor o s h

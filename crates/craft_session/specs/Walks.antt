@@ -13,6 +13,10 @@ use Rattle.craft_session.specs.declared.ask.Ask.{Ask}
 use Rattle.craft_session.specs.declared.ask.Ask.TheVariants.{Refused, LogsIn, LogsOut, Greets, Lists, Changes}
 use Rattle.craft_session.specs.Asks.{Reply, completed, completed_rows, denied}
 
+-- the number of the one place
+abbrev pub own : ℕ
+own = 0
+
 -- an entry of a place
 abbrev pub entry : ℕ → Op → Outcome → Entry
 entry own op o = record { place = own; op = op; outcome = o }

@@ -1,46 +1,65 @@
-ghost use Rattle.std.specs.Prelude.{◌≡◌, ◌≤◌, List, vec_capacity, MatchResult};
+ghost use Rattle.std.specs.Prelude.{◌≡◌, ◌≢◌, ◌≤◌, List, Some, vec_capacity};
+ghost use Rattle.std.specs.List.{AllByRecursion};
+ghost use Rattle.dxc_causes.specs.Causes.{Rose};
 ghost use Rattle.dxc_num.specs.Dimensions.{ports};
 ghost use Rattle.dxc_model.specs.declared.entry.Entry.{Entry};
-ghost use Rattle.dxc_model.specs.declared.op.Change.{Change};
-ghost use Rattle.dxc_model.specs.Operations.{IsApt};
-ghost use Rattle.std.specs.List.{AllByRecursion};
+ghost use Rattle.dxc_model.specs.Tables.{rows as rows_of};
 ghost use Rattle.tl1_answer.specs.Texts.{IsOfShape};
-ghost use Rattle.dxc_model.specs.Tables.{Board, rows as rows_of};
-ghost use Rattle.dxc_model.specs.Verdicts.{Grants, Refuses, effect};
-ghost use Rattle.craft_session.specs.Asks.{reply_of, user_after, IsAptAsk};
-ghost use Rattle.craft_session.specs.Sessions.{Keeps, Acts};
+ghost use Rattle.xc_core.specs.States.{Opening, StandsFor};
+ghost use Rattle.craft_session.specs.Asks.{user_after, IsAptAsk};
+ghost use Rattle.craft_session.specs.Seats.{IsSeated};
+ghost use Rattle.craft_session.specs.Acting.{ActedIs};
 
 use crate::ask::{Acted, Ask};
-use dxc_model::{Cause, Conn, Op, Selection, SessionUser, Table};
+use crate::change::{Changed, change};
+use dxc_model::{Conn, Selection, SessionUser, Table};
+use dxc_outside::Gate;
+use fabric_words::Fabric;
+use std::sync::Wait;
+use xc_core::State;
 
-/// Does what was asked; the rows of a listing stand in `rows` then.
-pub fn act(table: &mut Table, user: &mut SessionUser, rows: &mut Vec<Conn>, ask: Ask) -> Acted
-    requires room { ports table.old.shape ≤ vec_capacity rows.old }
-    requires apt { IsAptAsk table.old.shape ask }
-    ensures acts { (t : Board) → (h : List Entry) → Keeps t h table.old → Acts t h user.old ask (reply_of result rows.new.items) user.new table.new }
-    ensures listed { result ≡ Acted.Listed → AllByRecursion (IsOfShape table.old.shape) rows.new.items }
+/// Does what was asked; the rows of a listing stand in `rows` then. None: the gate stopped.
+pub fn act<G: Gate, R: Wait>(
+    state: &mut State,
+    fabric: &Fabric,
+    user: &mut SessionUser,
+    rows: &mut Vec<Conn>,
+    ask: Ask,
+    gate: &mut G,
+    rt: &R,
+) -> Option<Acted>
+    requires room { ports state.old.table.shape ≤ vec_capacity rows.old }
+    requires apt { IsAptAsk state.old.table.shape ask }
+    requires seated { IsSeated fabric.now state.old }
+    ensures acts { (o : Opening) → (h : List Entry) → StandsFor o state.old h → ActedIs o h user.old ask result rows.new.items user.new state.new }
+    ensures seated { IsSeated fabric.now state.new }
+    ensures listed { result ≡ Some Acted.Listed → AllByRecursion (IsOfShape state.old.table.shape) rows.new.items }
     ensures user { user.new ≡ user_after user.old ask }
-    ensures shape { table.new.shape ≡ table.old.shape }
+    ensures shape { state.new.table.shape ≡ state.old.table.shape }
     ensures room { vec_capacity rows.new ≡ vec_capacity rows.old }
+    ensures acted { result ≢ None → G.stops gate.new ≡ G.stops gate.old }
+    ensures stopped { result ≡ None → Rose (G.stops gate.old) (G.stops gate.new) }
+    ensures later { G.stops gate.old ≤ G.stops gate.new }
 {
     match ask {
-        Ask::Refused(cause) => Acted::Denied(cause),
+        Ask::Refused(cause) => Some(Acted::Denied(cause)),
         Ask::LogsIn(named) => {
             *user = named;
-            Acted::Completed
+            Some(Acted::Completed)
         }
         Ask::LogsOut => {
             *user = SessionUser::Nobody;
-            Acted::Completed
+            Some(Acted::Completed)
         }
-        Ask::Greets => Acted::Completed,
+        Ask::Greets => Some(Acted::Completed),
         Ask::Lists(selection) => {
-            list(table, selection, rows);
-            Acted::Listed
+            list(&state.table, selection, rows);
+            Some(Acted::Listed)
         }
-        Ask::Changes(op) => match change(table, &op) {
-            Ok(()) => Acted::Completed,
-            Err(cause) => Acted::Denied(cause),
+        Ask::Changes(op) => match change(state, fabric, &op, gate, rt) {
+            Changed::Done => Some(Acted::Completed),
+            Changed::Denied(cause) => Some(Acted::Denied(cause)),
+            Changed::Stopped => None,
         },
     }
 }
@@ -55,14 +74,4 @@ fn list(table: &Table, selection: Selection, rows: &mut Vec<Conn>)
     // Its clause tells that the table's ports are of the shape.
     let _shape = table.shape();
     table.rows(selection, rows);
-}
-
-/// Makes the change that the table grants to the operation, or tells why it denies it.
-fn change(table: &mut Table, op: &Op) -> Result<(), Cause>
-    requires { IsApt table.old.shape op.now }
-    ensures { MatchResult result (λ _. (c : Change) × Grants table.old op.now c × (table.new ≡ effect table.old c)) (λ q. Refuses table.old op.now q × (table.new ≡ table.old)) }
-{
-    let granted = table.verdict(op)?;
-    table.take(granted);
-    Ok(())
 }

@@ -6,25 +6,28 @@ ghost use Rattle.craft_session.specs.Asks.{is_known};
 ghost use Rattle.tl1_text.specs.Reading.{Holds, hand};
 
 use arrayvec::ArrayVec;
-use dxc_model::{Conn, SessionUser, Table};
+use dxc_model::{Conn, SessionUser};
+use fabric_words::Fabric;
 use shelf_file::Shelf;
 use std::sync::Arc;
 use tl1_answer::Answer;
 use tl1_text::UnitReader;
+use xc_core::State;
 
-/// All that serves a unit: the shelf, the table, who is logged in, the reader, and the buffers of an answer.
+/// All that serves a unit: the shelf, the fabric and the state, who is logged in, the reader, and the buffers of an answer.
 #[derive(Drop)]
 pub struct Desk {
     pub shelf: Arc<Shelf>,
-    pub table: Table,
+    pub fabric: Arc<Fabric>,
+    pub state: State,
     pub user: SessionUser,
     pub reader: UnitReader,
     pub answer: Answer,
     pub rows: Vec<Conn>,
     pub text: ArrayVec<u8, 128>,
-    ghost same_shape: { table.shape ≡ (arc_value shelf).shape },
+    ghost same_shape: { state.table.shape ≡ (arc_value shelf).shape },
     ghost known: { is_known (length (arc_value shelf).users) user ≡ true },
-    ghost room: { ports table.shape ≤ vec_capacity rows },
+    ghost room: { ports state.table.shape ≤ vec_capacity rows },
 }
 
 impl Desk {
@@ -33,7 +36,8 @@ impl Desk {
     /// Begins a session: nobody is logged in, and what another left unread of a unit is dropped.
     pub fn begin(&mut self)
         ensures shelf { self.new.shelf ≡ self.old.shelf }
-        ensures table { self.new.table ≡ self.old.table }
+        ensures fabric { self.new.fabric ≡ self.old.fabric }
+        ensures state { self.new.state ≡ self.old.state }
         ensures nobody { self.new.user ≡ Nobody }
         ensures nothing_read { Holds [] (hand self.new.reader) }
     {

@@ -3,6 +3,7 @@
 
 mod act;
 mod ask;
+mod change;
 mod desk;
 mod end;
 pub mod laws;

@@ -1,13 +1,19 @@
-ghost use Rattle.std.specs.Prelude.{◌≡◌, ◌↔◌, None, MatchResult, option_map};
-ghost use Rattle.craft_session.specs.Words.{shelf_named as shelf_in, is_dashed as dashed, status_of as status_for, number_of as number_for, HasShelf, NoShelf, IsRunOn, IsRun};
+ghost use Rattle.std.specs.Prelude.{◌≡◌, ◌↔◌, None, IfOk, MatchResult, option_map};
+ghost use Rattle.craft_session.specs.Words.{shelf_named as shelf_in, is_dashed as dashed, status_of as status_for, number_of as number_for, HasShelf, NoShelf, IsOpened, IsRunOn, IsRun};
 
 use crate::end::SessionEnd;
 use crate::place::Place;
 use crate::session::serve_session;
-use dxc_outside::{Clock, Link, Name, Opened, Opener};
+use dxc_causes::NoMemory;
+use dxc_outside::{Clock, Gate, Link, Name, Opened, Opener};
+use fabric_words::Fabric;
 use shelf_file::{Shelf, ShelfFault, shelf_of};
 use std::alloc::Global;
-use std::sync::Arc;
+use std::sync::{Arc, Wait};
+use xc_core::Core;
+
+/// Until frames are carried by the program itself, one worker has a seat, and none runs.
+const WORKERS: u16 = 1;
 
 /// How the program ends.
 #[derive(Clone, Copy, Debug, PartialEq, Eq)]
@@ -24,6 +30,8 @@ pub enum Status {
     NoMemory,
     /// The terminal failed.
     Link,
+    /// The gate stopped: the command in hand has no response.
+    Stopped,
     /// 2^32 reads were made.
     Spent,
 }
@@ -40,6 +48,7 @@ impl Status {
             Status::CannotOpen => 6,
             Status::NoMemory => 8,
             Status::Link => 9,
+            Status::Stopped => 10,
             Status::Spent => 11,
         }
     }
@@ -86,40 +95,59 @@ fn status_of_end(end: SessionEnd) -> Status
     match end {
         SessionEnd::End => Status::Done,
         SessionEnd::ReadFault | SessionEnd::WriteFault => Status::Link,
+        SessionEnd::Stopped => Status::Stopped,
         SessionEnd::Spent => Status::Spent,
     }
 }
 
-/// Runs one session on the shelf, from a table with no connections.
-fn run_on<K: Link, C: Clock>(alloc: Global, shelf: Shelf, terminal: &mut K, clock: &mut C) -> Status
-    ensures { IsRunOn K.told C.told (K.state terminal.old) (K.state terminal.new) (C.coming clock.old) (C.coming clock.new) shelf result }
+/// A place on a new fabric of the shelf's shape, with no connections.
+fn open_place(alloc: Global, shelf: Shelf) -> Result<Place, NoMemory>
+    ensures { IfOk result (IsOpened shelf) }
 {
-    let Ok(shelf) = Arc::new(alloc, shelf) else {
-        return Status::NoMemory;
-    };
-    let Ok(mut place) = Place::new(alloc, shelf) else {
-        return Status::NoMemory;
-    };
-    status_of_end(serve_session(&mut place, terminal, clock))
+    let shelf = Arc::new(alloc, shelf)?;
+    let (fabric, mover, _workers) = Fabric::new(alloc, shelf.shape(), WORKERS)?;
+    let state = Core::open(alloc, &shelf, mover, &fabric)?;
+    let fabric = Arc::new(alloc, fabric)?;
+    Place::new(alloc, shelf, fabric, state)
 }
 
-/// Runs one session over the terminal on the shelf of a file, from a table with no connections. The words are
-/// `script SHELF`, the name of the file, which is read in the form that `shelf_of` tells.
-pub fn dxc_run<O: Opener, K: Link, C: Clock>(
+/// Runs one session on the shelf, from a table with no connections.
+fn run_on<K: Link, C: Clock, G: Gate, R: Wait>(
+    alloc: Global,
+    shelf: Shelf,
+    terminal: &mut K,
+    clock: &mut C,
+    gate: &mut G,
+    rt: &R,
+) -> Status
+    ensures { IsRunOn K.told C.told (K.state terminal.old) (K.state terminal.new) (C.coming clock.old) (C.coming clock.new) (G.stops gate.old) (G.stops gate.new) shelf result }
+{
+    let Ok(mut place) = open_place(alloc, shelf) else {
+        return Status::NoMemory;
+    };
+    status_of_end(serve_session(&mut place, terminal, clock, gate, rt))
+}
+
+/// Runs one session over the terminal on the shelf of a file, from a table with no connections on a new fabric. The words are
+/// `script SHELF`, the name of the file, which is read in the form that `shelf_of` tells. The gate is asked before each register
+/// write and before the table takes a change.
+pub fn dxc_run<O: Opener, K: Link, C: Clock, G: Gate, R: Wait>(
     alloc: Global,
     words: &[Name],
     opener: &mut O,
     terminal: &mut K,
     clock: &mut C,
+    gate: &mut G,
+    rt: &R,
 ) -> Status
     ensures words { (result ≡ Status.BadWords) ↔ (shelf_in words.now ≡ None) }
-    ensures run { IsRun O.told K.told C.told (O.state opener.old) (O.state opener.new) (K.state terminal.old) (K.state terminal.new) (C.coming clock.old) (C.coming clock.new) (shelf_in words.now) result }
+    ensures run { IsRun O.told K.told C.told (O.state opener.old) (O.state opener.new) (K.state terminal.old) (K.state terminal.new) (C.coming clock.old) (C.coming clock.new) (G.stops gate.old) (G.stops gate.new) (shelf_in words.now) result }
 {
     let Some(name) = shelf_named(words) else {
         return Status::BadWords;
     };
     match shelf_of_file(alloc, opener, name.text()) {
-        Ok(shelf) => run_on(alloc, shelf, terminal, clock),
+        Ok(shelf) => run_on(alloc, shelf, terminal, clock, gate, rt),
         Err(status) => status,
     }
 }

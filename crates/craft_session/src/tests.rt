@@ -3,10 +3,11 @@ ghost use Rattle.std.specs.Prelude.{◌≤◌};
 ghost use Rattle.dxc_outside.specs.Moments.{IsMoment};
 
 use crate::{Status, dxc_run};
-use dxc_outside::{MemClock, MemLink, MemOpener, Moment, Name};
+use dxc_outside::{AlwaysGo, Gate, MemClock, MemGate, MemLink, MemOpener, Moment, Name};
 use shelf_file::{ShelfFault, ShelfKey};
 use std::alloc::Global;
 use std::process::Abort;
+use std::sync::Wait;
 use std::test::Fail;
 
 /// A unit, and its response behind the header.
@@ -97,11 +98,25 @@ fn opener(alloc: Global, shelf: &[u8], failing: &[u64]) -> Result<MemOpener, Fai
 
 /// Runs `script shelf.toml` on the input, cut into pieces of these sizes, with these calls of the terminal failing.
 fn run(
+    rt: &impl Wait,
     alloc: Global,
     shelf: &[u8],
     input: &[u8],
     sizes: &[usize],
     failing: &[u64],
+) -> Result<(Status, MemLink), Fail> {
+    run_by(rt, alloc, shelf, input, sizes, failing, &mut AlwaysGo)
+}
+
+/// The same by a gate.
+fn run_by<G: Gate>(
+    rt: &impl Wait,
+    alloc: Global,
+    shelf: &[u8],
+    input: &[u8],
+    sizes: &[usize],
+    failing: &[u64],
+    gate: &mut G,
 ) -> Result<(Status, MemLink), Fail> {
     let mut link = MemLink::new(
         input.to_vec(alloc)?,
@@ -114,7 +129,7 @@ fn run(
     let mut clock = MemClock::new(moments);
     let words = line(alloc, &["script", "shelf.toml"])?;
     let mut files = opener(alloc, shelf, &[])?;
-    let status = dxc_run(alloc, &words, &mut files, &mut link, &mut clock);
+    let status = dxc_run(alloc, &words, &mut files, &mut link, &mut clock, gate, rt);
     Ok((status, link))
 }
 
@@ -132,9 +147,9 @@ fn session(alloc: Global, said: &[Said]) -> Result<(Vec<u8>, Vec<u8>), Fail> {
     Ok((input, output))
 }
 
-fn responds(rt: &impl Abort, alloc: Global, shelf: &[u8], said: &[Said]) -> Result<(), Fail> {
+fn responds<R: Abort + Wait>(rt: &R, alloc: Global, shelf: &[u8], said: &[Said]) -> Result<(), Fail> {
     let (input, output) = session(alloc, said)?;
-    let (status, link) = run(alloc, shelf, &input, &[], &[])?;
+    let (status, link) = run(rt, alloc, shelf, &input, &[], &[])?;
     assert_eq!(rt; status, Status::Done);
     assert_eq!(rt; link.output(), output.as_slice());
     Ok(())
@@ -325,7 +340,7 @@ fn pieces_play_no_part(rt: HostRuntime) -> Result<(), Fail> {
     let alloc = rt.alloc();
     let (input, output) = session(alloc, &[ANNA, ENTRY])?;
     for size in 1..53 {
-        let (status, link) = run(alloc, SHELF, &input, &[size, 0], &[])?;
+        let (status, link) = run(&rt, alloc, SHELF, &input, &[size, 0], &[])?;
         assert_eq!(rt; status, Status::Done);
         assert_eq!(rt; link.output(), output.as_slice());
     }
@@ -343,7 +358,7 @@ fn long_units_are_told_apart(rt: HostRuntime) -> Result<(), Fail> {
         for part in [HEADER, response, HEADER, b"M  8 COMPLD\r\n;".as_slice()] {
             output.extend_from_slice(part)?;
         }
-        let (status, link) = run(alloc, SHELF, &input, &[], &[])?;
+        let (status, link) = run(&rt, alloc, SHELF, &input, &[], &[])?;
         assert_eq!(rt; status, Status::Done);
         assert_eq!(rt; link.output(), output.as_slice());
     }
@@ -364,11 +379,11 @@ fn a_terminal_that_fails_is_told(rt: HostRuntime) -> Result<(), Fail> {
         (3, both.as_slice()),
     ];
     for (call, written) in rows {
-        let (status, link) = run(alloc, SHELF, &input, &[], &[call])?;
+        let (status, link) = run(&rt, alloc, SHELF, &input, &[], &[call])?;
         assert_eq!(rt; status, Status::Link);
         assert_eq!(rt; link.output(), written);
     }
-    let (status, _) = run(alloc, SHELF, &input, &[], &[4])?;
+    let (status, _) = run(&rt, alloc, SHELF, &input, &[], &[4])?;
     assert_eq!(rt; status, Status::Done);
     Ok(())
 }
@@ -388,7 +403,7 @@ fn each_response_takes_the_next_moment(rt: HostRuntime) -> Result<(), Fail> {
     let mut clock = MemClock::new(moments);
     let words = line(alloc, &["script", "shelf.toml"])?;
     let mut files = opener(alloc, SHELF, &[])?;
-    let status = dxc_run(alloc, &words, &mut files, &mut link, &mut clock);
+    let status = dxc_run(alloc, &words, &mut files, &mut link, &mut clock, &mut AlwaysGo, &rt);
     assert_eq!(rt; status, Status::Done);
     let mut wanted = Vec::new(alloc);
     for second in [b"07", b"59", b"59"] {
@@ -402,8 +417,8 @@ fn each_response_takes_the_next_moment(rt: HostRuntime) -> Result<(), Fail> {
 }
 
 /// Runs these words over a terminal that would send an entry; nothing is written.
-fn status_of(
-    rt: &impl Abort,
+fn status_of<R: Abort + Wait>(
+    rt: &R,
     alloc: Global,
     words: &[&str],
     shelf: &[u8],
@@ -418,7 +433,7 @@ fn status_of(
     let mut clock = MemClock::new(Vec::new(alloc));
     let names = line(alloc, words)?;
     let mut files = opener(alloc, shelf, failing)?;
-    let status = dxc_run(alloc, &names, &mut files, &mut link, &mut clock);
+    let status = dxc_run(alloc, &names, &mut files, &mut link, &mut clock, &mut AlwaysGo, rt);
     assert_eq!(rt; link.output(), b"".as_slice());
     Ok(status)
 }
@@ -502,7 +517,7 @@ fn the_largest_answer_is_cut_into_blocks(rt: HostRuntime) -> Result<(), Fail> {
     let alloc = rt.alloc();
     let mut input = all_entries(alloc)?;
     input.extend_from_slice(b"RTRV-CRS-T0:::9;")?;
-    let (status, link) = run(alloc, LARGEST, &input, &[], &[])?;
+    let (status, link) = run(&rt, alloc, LARGEST, &input, &[], &[])?;
     assert_eq!(rt; status, Status::Done);
     // The response to ANNA has 45 bytes, that to each entry 44.
     let answer = link.output().get(45 + 1024 * 44..).ok_or("an answer")?;
@@ -520,5 +535,57 @@ fn the_largest_answer_is_cut_into_blocks(rt: HostRuntime) -> Result<(), Fail> {
     }
     let wanted = [142u16, 141, 133, 133, 133, 133, 133, 76];
     assert_eq!(rt; lines.as_slice(), wanted.as_slice());
+    Ok(())
+}
+
+const THREE: &[u8] = b"sid = \"DXC1\"
+modules = 3
+slots = 2
+[[user]]
+uid = \"ANNA\"
+class = \"S\"
+salt = \"61\"
+digest = \"ba7816bf8f01cfea414140de5dae2223b00361a396177a9cb410ff61f20015ad\"
+";
+
+/// Entries of which each of the first four has a free middle, and the fifth needs three moves.
+const CHAIN: [Said; 6] = [
+    ANNA,
+    (b"ENT-CRS-T0::DS0-2-1,DS0-2-2:1;", b"M  1 COMPLD\r\n;"),
+    (b"ENT-CRS-T0::DS0-1-1,DS0-2-1:1;", b"M  1 COMPLD\r\n;"),
+    (b"ENT-CRS-T0::DS0-3-1,DS0-1-2:1;", b"M  1 COMPLD\r\n;"),
+    (b"ENT-CRS-T0::DS0-3-2,DS0-3-1:1;", b"M  1 COMPLD\r\n;"),
+    (b"ENT-CRS-T0::DS0-1-2,DS0-1-1:1;", b"M  1 COMPLD\r\n;"),
+];
+
+/// The responses that were written when the gate was asked so often: an entry of one join asks before each of its three writes
+/// and before its end.
+fn answered_at(asked: u64) -> usize {
+    let joins = asked / 4;
+    if joins < 4 { joins as usize + 1 } else { 5 }
+}
+
+#[test]
+fn a_stop_at_each_place_ends_the_session(rt: HostRuntime) -> Result<(), Fail> {
+    let alloc = rt.alloc();
+    let (input, _) = session(alloc, &CHAIN)?;
+    for asked in 0..35u64 {
+        let mut stops = Vec::new(alloc);
+        stops.push(asked)?;
+        let mut gate = MemGate::new(stops);
+        let (status, link) = run_by(&rt, alloc, THREE, &input, &[], &[], &mut gate)?;
+        let answered = CHAIN.get(..answered_at(asked)).ok_or("responses")?;
+        let (_, output) = session(alloc, answered)?;
+        assert_eq!(rt; status, Status::Stopped);
+        assert_eq!(rt; status.number(), 10u8);
+        assert_eq!(rt; link.output(), output.as_slice());
+    }
+    let mut stops = Vec::new(alloc);
+    stops.push(35)?;
+    let mut gate = MemGate::new(stops);
+    let (status, link) = run_by(&rt, alloc, THREE, &input, &[], &[], &mut gate)?;
+    let (_, output) = session(alloc, &CHAIN)?;
+    assert_eq!(rt; status, Status::Done);
+    assert_eq!(rt; link.output(), output.as_slice());
     Ok(())
 }

@@ -2,7 +2,7 @@
 #![tactic(auto)]
 
 use craft_session::{Status, dxc_run};
-use dxc_outside::{HostClock, HostOpener, Name, TermLink};
+use dxc_outside::{AlwaysGo, HostClock, HostOpener, Name, TermLink};
 use std::io::ErrorKind;
 use std::process::ExitCode;
 use std::{env, io};
@@ -27,7 +27,7 @@ SHELF is the name of a shelf file, which tells the element's name, its shape and
   digest = \"..\"        # SHA-256 of the salt's bytes and the PID, in hexadecimal
 
 Status: 0 done, 2 words not understood, 3 shelf file refused, 6 cannot open, 8 no memory, 9 terminal failed,
-11 read limit reached.
+10 stopped, 11 read limit reached.
 ";
 
 const VERSION: &str = "dxc 0.1.0\n";
@@ -52,7 +52,15 @@ fn main(rt: HostRuntime) -> anyhow::Result<ExitCode> {
     let mut terminal = TermLink::new(rt.reader(), io::writer(&rt));
     let mut clock = HostClock::new(rt.clone()?);
     let mut opener = HostOpener::new(rt.clone()?);
-    let status = dxc_run(alloc, &words, &mut opener, &mut terminal, &mut clock);
+    let status = dxc_run(
+        alloc,
+        &words,
+        &mut opener,
+        &mut terminal,
+        &mut clock,
+        &mut AlwaysGo,
+        &rt,
+    );
     eprint!(rt; "{}", fault_text(status))?;
     Ok(ExitCode::from(status.number()))
 }
@@ -77,6 +85,7 @@ fn fault_text(status: Status) -> &'static str {
         Status::CannotOpen => "dxc: cannot open\n",
         Status::NoMemory => "dxc: no memory\n",
         Status::Link => "dxc: terminal failed\n",
+        Status::Stopped => "dxc: stopped\n",
         Status::Spent => "dxc: read limit reached\n",
     }
 }

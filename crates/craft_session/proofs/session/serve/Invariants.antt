@@ -2,9 +2,10 @@ use Rattle.std.proofs.Common.{◌≡◌, ◌<◌, [], false, length}
 use Rattle.std.specs.Arc.{arc_value}
 use Rattle.dxc_causes.specs.Causes.{Counted}
 use Rattle.tl1_text.specs.declared.reader.UnitKind.TheVariants.{More}
-use Rattle.craft_session.specs.Desks.{at}
+use Rattle.craft_session.specs.Desks.{now}
 use Rattle.craft_session.specs.Meanings.{language}
-use Rattle.craft_session.specs.Sessions.{Stands}
+use Rattle.craft_session.specs.Seats.{IsSeated}
+use Rattle.craft_session.specs.Sessions.{Beginning, StandsAt, Stands}
 use Rattle.craft_session.proofs.session.serve.Given as goal
 
 abbrev pub invariant-loop : goal.invariant-loop
@@ -13,7 +14,10 @@ invariant-loop g l =
     let coming = g.C.Clock.coming in
     record {
       shelf : l.desk.shelf ≡ l.fn.desk.shelf;
-      stands : Stands (language (arc_value l.fn.desk.shelf)) g.K.Link.told g.C.Clock.told (state l.fn.link) (state l.link) (coming l.fn.clock) (coming l.clock) l.fn.desk.table (at l.desk) More l.desk.reader [];
+      fabric : l.desk.fabric ≡ l.fn.desk.fabric;
+      seated : IsSeated (arc_value l.desk.fabric) l.desk.state;
+      stands : (b : Beginning) → StandsAt b [] l.fn.desk.state → Stands (language (arc_value l.fn.desk.shelf)) g.K.Link.told g.C.Clock.told (state l.fn.link) (state l.link) (coming l.fn.clock) (coming l.clock) b (now l.desk) More l.desk.reader [];
+      gate : g.G.Gate.stops l.gate ≡ g.G.Gate.stops l.fn.gate;
       counted : Counted (state l.fn.link).reads (state l.link).reads l.counter;
       not_ended : 0 < l.counter → (state l.link).ended ≡ false;
       room : 0 < length l.piece;

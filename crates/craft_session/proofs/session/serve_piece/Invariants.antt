@@ -2,11 +2,11 @@ use Rattle.std.proofs.Common.{◌≡◌, ◌≤◌, ◌-◌, List, drop, length}
 use Rattle.std.specs.Arc.{arc_value}
 use Rattle.dxc_outside.specs.declared.clock.Moment.{Moment}
 use Rattle.dxc_outside.specs.Links.{LinkState}
-use Rattle.dxc_model.specs.Tables.{Board}
 use Rattle.tl1_text.specs.declared.reader.UnitKind.TheVariants.{More}
-use Rattle.craft_session.specs.Desks.{at}
+use Rattle.craft_session.specs.Desks.{now}
 use Rattle.craft_session.specs.Meanings.{language}
-use Rattle.craft_session.specs.Sessions.{Stands, Writes}
+use Rattle.craft_session.specs.Seats.{IsSeated}
+use Rattle.craft_session.specs.Sessions.{Beginning, Stands, Writes}
 use Rattle.craft_session.proofs.session.serve_piece.Given as goal
 
 abbrev pub invariant-loop-at : goal.invariant-loop-at
@@ -16,10 +16,13 @@ invariant-loop-at g l =
     let tongue = language (arc_value l.fn.desk.shelf) in
     record {
       shelf : l.desk.shelf ≡ l.fn.desk.shelf;
+      fabric : l.desk.fabric ≡ l.fn.desk.fabric;
+      seated : IsSeated (arc_value l.desk.fabric) l.desk.state;
       link : Writes g.K.Link.told (state l.fn.link) (state l.link);
+      gate : g.G.Gate.stops l.gate ≡ g.G.Gate.stops l.fn.gate;
       within : l.at ≤ length l.piece;
-      stands : (k : LinkState) (c : List Moment) (t : Board) → Stands tongue g.K.Link.told g.C.Clock.told k (state l.fn.link) c (coming l.fn.clock) t (at l.fn.desk) More l.fn.desk.reader l.piece
-          → Stands tongue g.K.Link.told g.C.Clock.told k (state l.link) c (coming l.clock) t (at l.desk) More l.desk.reader (drop l.at l.piece);
+      stands : (k : LinkState) (c : List Moment) (b : Beginning) → Stands tongue g.K.Link.told g.C.Clock.told k (state l.fn.link) c (coming l.fn.clock) b (now l.fn.desk) More l.fn.desk.reader l.piece
+          → Stands tongue g.K.Link.told g.C.Clock.told k (state l.link) c (coming l.clock) b (now l.desk) More l.desk.reader (drop l.at l.piece);
     }
 
 abbrev pub decreases-loop-at : goal.decreases-loop-at

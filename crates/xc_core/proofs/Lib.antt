@@ -1,0 +1,3 @@
+pub mod Reckoning
+pub mod Standing
+pub mod Rolling

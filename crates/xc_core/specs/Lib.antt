@@ -1,0 +1,6 @@
+pub mod Reckonings
+pub mod Provisioners
+pub mod Begins
+pub mod Finishes
+pub mod States
+pub mod Laws

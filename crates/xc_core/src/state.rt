@@ -1,0 +1,72 @@
+//! The state of the controller: the table, and the Provisioner where nobody has it.
+ghost use Rattle.std.specs.Prelude.{◌≡◌, ◌+◌, ℕ, [], IfNone, IfSome};
+ghost use Rattle.dxc_model.specs.declared.op.Change.{Change};
+ghost use Rattle.dxc_model.specs.declared.op.Op.{Op};
+ghost use Rattle.xc_recovery.specs.Folds.{Folded};
+ghost use Rattle.roll_engine.specs.Rollings.{rest_of};
+ghost use Rattle.xc_core.specs.Provisioners.{Rolls};
+ghost use Rattle.xc_core.specs.Finishes.{Finishes};
+
+use crate::provisioner::Provisioner;
+use dxc_model::{Change, Table};
+use paull_chain::apply_work;
+use roll_engine::Rolling;
+use std::mem;
+
+/// Where the Provisioner is.
+#[derive(Drop)]
+pub enum Home {
+    In(Provisioner),
+    /// A session has it, and makes a change with it.
+    Out,
+}
+
+/// What stands for the history of the element's changes.
+#[derive(Drop)]
+pub struct State {
+    pub table: Table,
+    pub home: Home,
+}
+
+impl State {
+    ghost use Rattle.xc_core.specs.declared.state.Home.TheVariants.{In, Out};
+
+    /// Takes the Provisioner, where it is home.
+    pub fn take_out(&mut self) -> Option<Provisioner>
+        ensures state { self.new ≡ record self.old { home = Out } }
+        ensures found { IfSome result (λ p. self.old.home ≡ In p) }
+        ensures none { IfNone result (self.old.home ≡ Out) }
+    {
+        match mem::replace(&mut self.home, Home::Out) {
+            Home::In(p) => Some(p),
+            Home::Out => None,
+        }
+    }
+
+    /// Gives the Provisioner home.
+    pub fn bring_home(&mut self, p: Provisioner)
+        ensures { self.new ≡ record self.old { home = In p } }
+    {
+        self.home = Home::In(p);
+    }
+}
+
+/// Makes the change in the table and in the matrix, once all its register writes are made, and answers it. The Provisioner is
+/// the one of the `begin` that planned it, and isn't home.
+pub fn finish(state: &mut State, p: &mut Provisioner, rolling: Rolling) -> Change
+    requires rolls { (f : Folded) × (n : ℕ) × (op : Op) × (c : Change) × Rolls f n op c p.old rolling × (f.table ≡ state.old.table) }
+    requires done { rest_of rolling ≡ [] }
+    ensures fabric { p.new.mover.fabric ≡ p.old.mover.fabric }
+    ensures home { state.new.home ≡ state.old.home }
+    ensures finishes { (f : Folded) → (n : ℕ) → (op : Op) → (c : Change) → Rolls f n op c p.old rolling → f.table ≡ state.old.table → Finishes f n c rolling state.new.table p.new result }
+{
+    let Some(op) = p.doubt else { unreachable!() };
+    let Ok(change) = state.table.verdict(&op) else {
+        unreachable!()
+    };
+    apply_work(&mut p.matrix, rolling.work());
+    state.table.take(change);
+    p.changes += 1;
+    p.doubt = None;
+    change
+}
