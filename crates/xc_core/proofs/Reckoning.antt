@@ -22,7 +22,7 @@ reckons_more f g [] c ops is planned = subst (λ (x : Folded). ReckonsTo f (c �
 reckons_more f g (d ∷ ds) c ops (os, works, rest) planned = (os, works, reckons_more (with_change f d os) g ds c ops rest planned)
 
 -- the table after changes
-effects : Board → List Change → Board
+abbrev effects : Board → List Change → Board
 effects t [] = t
 effects t (c ∷ cs) = effects (effect t c) cs
 

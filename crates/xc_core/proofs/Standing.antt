@@ -17,6 +17,7 @@ use Rattle.dxc_model.specs.Histories.{Fits, KeepsLimit, IsCut, IsRestarted, IsFa
 use Rattle.dxc_model.proofs.Growth.{changes_append, fits_by, legal_more}
 use Rattle.dxc_model.proofs.Lasting.{lasts_before, lasts_more, lasts_now}
 use Rattle.roll_plan.specs.declared.op.LegOp.{LegOp}
+use Rattle.roll_plan.specs.Works.{ops_writes, switches_in}
 use Rattle.roll_engine.specs.Rollings.{RollingAt}
 use Rattle.xc_recovery.specs.LegTasks.{tasks}
 use Rattle.xc_recovery.specs.ChangeWorks.{WorksPlanned}
@@ -55,7 +56,7 @@ limit_is : (q : Cause) (s n : ℕ) → Some q ≡ limit_by s n → q ≡ SwitchL
 limit_is q s n is = limit_pick q (nat_lt (2 ^ 48) s) (nat_le (2 ^ 48) n) is
 
 pub over_limit : (f : Folded) (n : ℕ) (op : Op) (q : Cause) → IsOverLimit f n op q → IsLimit q
-over_limit f n op q over = inr (limit_is q _ _ over.2.limit)
+over_limit f n op q over = inr (limit_is q (f.switches + switches_in (ops_writes over.2.ops)) n over.2.limit)
 
 module _ (o : Opening) (s : State) (h : List Entry) (st : StandsFor o s h) where
   counted_one : (e : Entry) (c : Change) → made e.outcome ≡ Some c → counted o (changes_of (h ++ e ∷ [])) ≡ counted o (changes_of h) + 1

@@ -7,6 +7,7 @@ ghost use Rattle.dxc_model.specs.Operations.{IsApt};
 ghost use Rattle.xc_recovery.specs.Folds.{Folded};
 ghost use Rattle.roll_engine.specs.Answers.{AnswerIs, GoesOn};
 ghost use Rattle.roll_engine.specs.Rollings.{rest_of};
+ghost use Rattle.fabric_words.specs.Places.{IsRegInside, reg_word};
 ghost use Rattle.xc_core.specs.Provisioners.{IsHome, Rolls, with_halt};
 ghost use Rattle.xc_core.specs.Begins.{BegunIs};
 
