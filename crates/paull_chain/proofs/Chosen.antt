@@ -54,7 +54,7 @@ module _ (c : Colouring) (p : IsProperColouring c) (l : Leg) where
       let clear = n.in_column.1 in
       let row = row_chain c a b p (module_on c.shape Row l) (module_on c.shape Column l) free clear li lj in
       let column = column_chain c a b p (module_on c.shape Row l) (module_on c.shape Column l) free clear li lj in
-      let sum = short c a b p (module_on c.shape Row l) (module_on c.shape Column l) row.0 column.0 free clear li lj (chain_walk c a b p Row (module_on c.shape Row l) row.0 row.1) (chain_walk c a b p Column (module_on c.shape Column l) column.0 column.1) in
+      let sum = short c a b p (module_on c.shape Row l) (module_on c.shape Column l) row.0 column.0 free clear li lj (chain_walk c a b Row (module_on c.shape Row l) row.0 row.1) (chain_walk c a b Column (module_on c.shape Column l) column.0 column.1) in
       let pair : IsPair c l a b = record { low = (n.in_row.0, n.in_column.0); in_row = free; in_column = clear; used = (n.none a n.in_row.0, n.none b n.in_column.0) } in
       let both : BothChains c l a b row.0 column.0 = record { row = row.1; column = column.1 } in
       dite (dec_lt (length column.0) (length row.0))

@@ -33,9 +33,9 @@ module _ (c : Colouring) (a b : ℕ) (p : IsProperColouring c) where
   exchanges s m t ls h different free empty lt lk lq apart kt qt =
       let k : ℕ = leave a b s in
       let q : ℕ = leave a b (other s) in
-      let w = chain_walk c a b p s m ls h in
-      let odd = second_held c a b p true s m ls w in
-      let even = second_held c a b p false s m ls w in
+      let w = chain_walk c a b s m ls h in
+      let odd = second_held c a b true s m ls w in
+      let even = second_held c a b false s m ls w in
       let never : (x : Leg) → Among x (odds ls) → Among x (evens ls) → ⊥ = λ x u v. apart (same_leg c x x k q (odd x u) (even x v) refl).1 in
       let one = shift c (evens ls) q t p (second_different false ls different) lt even (λ x am u y g e. empty y g) in
       let c1 : Colouring = after (shifts (evens ls) q t) c in
@@ -94,9 +94,9 @@ module _ (c : Colouring) (a b : ℕ) (p : IsProperColouring c) where
   frees s m n t ls d h free clear empty apart kt qt r =
       let k : ℕ = leave a b s in
       let q : ℕ = leave a b (other s) in
-      let w = chain_walk c a b p s m ls h in (
+      let w = chain_walk c a b s m ls h in (
         (λ y g e. ⊎_elim
-            (λ (u : Among y (evens ls) × (k ≡ k)). free y (second_held c a b p false s m ls w y u.0) (subst (λ (z : _). module_on z s y ≡ m) r.shape e))
+            (λ (u : Among y (evens ls) × (k ≡ k)). free y (second_held c a b false s m ls w y u.0) (subst (λ (z : _). module_on z s y ≡ m) r.shape e))
             (⊎_elim
             (λ (u : Among y (odds ls) × (k ≡ q)). apart u.1)
             (λ (u : (Among y (evens ls) → ⊥) × (Among y (odds ls) → ⊥) × Holds c y k). u.1 (first_leg c a b p s m ls h y u.2 (subst (λ (z : _). module_on z s y ≡ m) r.shape e))))
@@ -123,9 +123,9 @@ module _ (c : Colouring) (a b : ℕ) (p : IsProperColouring c) where
     where
       back : (x : Leg) (j : ℕ) → Holds d x j → (i : ℕ) × Holds c x i
       back x j g = ⊎_elim
-          (λ (u : Among x (evens ls) × (j ≡ k)). (leave a b (other s), second_held c a b p false s m ls w x u.0))
+          (λ (u : Among x (evens ls) × (j ≡ k)). (leave a b (other s), second_held c a b false s m ls w x u.0))
           (⊎_elim
-          (λ (u : Among x (odds ls) × (j ≡ q)). (leave a b s, second_held c a b p true s m ls w x u.0))
+          (λ (u : Among x (odds ls) × (j ≡ q)). (leave a b s, second_held c a b true s m ls w x u.0))
           (λ (u : (Among x (evens ls) → ⊥) × (Among x (odds ls) → ⊥) × Holds c x j). (j, u.2)))
           (r.origin x j g)
 

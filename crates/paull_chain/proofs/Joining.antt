@@ -97,12 +97,12 @@ module _ (c : Colouring) where
         let k : ℕ = leave a b s in
         let q : ℕ = leave a b (other s) in
         let sides = facts s in
-        let different = walk_different c a b p s (module_on c.shape s l) ls ab (begins s) (chain_walk c a b p s (module_on c.shape s l) ls h) in
+        let different = walk_different c a b p s (module_on c.shape s l) ls ab (begins s) (chain_walk c a b s (module_on c.shape s l) ls h) in
         let e = exchanges c a b p s (module_on c.shape s l) t ls h different sides.0 empty (omega arith) (let z = sides.2 in omega arith) (let z = sides.3 in omega arith) sides.4 (λ d. let z = sides.2 in let n : ⊥ = omega arith in n) (λ d. let z = sides.3 in let n : ⊥ = omega arith in n) in
         let d : Colouring = after (exchange ls k q t) c in
         let r : Exchanged c d ls k q = e.1 in
         let f = frees c a b p s (module_on c.shape s l) (module_on c.shape (other s) l) t ls d h sides.0 sides.1 empty sides.4 (λ x. let z = sides.2 in let n : ⊥ = omega arith in n) (λ x. let z = sides.3 in let n : ⊥ = omega arith in n) r in
-        let u : IsUnused d l = still_unused c a b p s (module_on c.shape s l) ls d l k q (chain_walk c a b p s (module_on c.shape s l) ls h) r unused in
+        let u : IsUnused d l = still_unused c a b p s (module_on c.shape s l) ls d l k q (chain_walk c a b s (module_on c.shape s l) ls h) r unused in
         let all : IsFreeFor d l k = λ v. ⊎_elim
         (λ (is : v ≡ s). subst (λ (w : Dimensions × Side). IsFree d w.1 (module_on w.0 w.1 l) k) (λ i. (sym r.shape i, sym is i)) f.0)
         (λ (is : v ≡ other s). subst (λ (w : Dimensions × Side). IsFree d w.1 (module_on w.0 w.1 l) k) (λ i. (sym r.shape i, sym is i)) f.1)
@@ -161,7 +161,7 @@ rearrangeable c l p empty inside unused few less =
         let lj = module_low c.shape Column l inside in
         let row = row_chain c a b p (module_on c.shape Row l) (module_on c.shape Column l) free clear li lj in
         let column = column_chain c a b p (module_on c.shape Row l) (module_on c.shape Column l) free clear li lj in
-        let sum = short c a b p (module_on c.shape Row l) (module_on c.shape Column l) row.0 column.0 free clear li lj (chain_walk c a b p Row (module_on c.shape Row l) row.0 row.1) (chain_walk c a b p Column (module_on c.shape Column l) column.0 column.1) in
+        let sum = short c a b p (module_on c.shape Row l) (module_on c.shape Column l) row.0 column.0 free clear li lj (chain_walk c a b Row (module_on c.shape Row l) row.0 row.1) (chain_walk c a b Column (module_on c.shape Column l) column.0 column.1) in
         dite (dec_lt (length column.0) (length row.0))
         (λ less. (exchange column.0 a b c.shape.slots, a, by_chain c a b p Column l column.0 inside unused empty la lb ab free clear column.1 (omega arith)))
         (λ more. (exchange row.0 b a c.shape.slots, b, by_chain c a b p Row l row.0 inside unused empty la lb ab free clear row.1 (omega arith)))

@@ -10,7 +10,8 @@ pub mod Slots
 pub mod Planning
 pub mod Undoing
 pub mod Expanding
-pub mod Unique
 pub mod Planned
+pub mod OneChain
+pub mod Unique
 pub mod Working
 pub mod Chosen

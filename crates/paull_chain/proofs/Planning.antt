@@ -38,10 +38,11 @@ pub lowest_of : (P : ℕ → Type 0) (bits n : ℕ) → ((k : ℕ) → k ≤ n �
 lowest_of P bits n is None h = λ k lt f. h k lt ((is k (omega arith)).1 f)
 lowest_of P bits n is (Some m) h = let low = h.0 in (low, (is m.0 (omega arith)).0 h.1, (λ j lt f. h.2 j lt ((is j (omega arith)).1 f)))
 
-module _ (c : Colouring) (l : Leg) (a b : ℕ) (p : IsProperColouring c) (i : IsInside c.shape l) (n : NeedsChain c l a b) where
-  pub apart : a ≢ b
-  apart e = n.none a n.in_row.0 (both_sides c l a n.in_row.1 (subst (IsFree c Column (module_on c.shape Column l)) (sym e) n.in_column.1))
+-- the two middles of a chain that is needed differ
+pub needs_apart : (c : Colouring) (l : Leg) (a b : ℕ) → NeedsChain c l a b → a ≢ b
+needs_apart c l a b n e = n.none a n.in_row.0 (both_sides c l a n.in_row.1 (subst (IsFree c Column (module_on c.shape Column l)) (sym e) n.in_column.1))
 
+module _ (c : Colouring) (l : Leg) (a b : ℕ) (p : IsProperColouring c) (i : IsInside c.shape l) (n : NeedsChain c l a b) where
   row_low : module_on c.shape Row l < c.shape.modules
   row_low = module_low c.shape Row l i
 
@@ -50,9 +51,9 @@ module _ (c : Colouring) (l : Leg) (a b : ℕ) (p : IsProperColouring c) (i : Is
 
   pub shorter_low : (s : Side) (ls : List Leg) → IsShorter c a b (module_on c.shape Row l) (module_on c.shape Column l) s ls → length ls + 1 ≤ c.shape.modules
   shorter_low Row ls h =
-      let f = short c a b p (module_on c.shape Row l) (module_on c.shape Column l) ls h.1.0 n.in_row.1 n.in_column.1 row_low column_low (chain_walk c a b p Row (module_on c.shape Row l) ls h.0) h.1.1 in let e = h.1.2 in omega arith
+      let f = short c a b p (module_on c.shape Row l) (module_on c.shape Column l) ls h.1.0 n.in_row.1 n.in_column.1 row_low column_low (chain_walk c a b Row (module_on c.shape Row l) ls h.0) h.1.1 in let e = h.1.2 in omega arith
   shorter_low Column ls h =
-      let f = short c a b p (module_on c.shape Row l) (module_on c.shape Column l) h.1.0 ls n.in_row.1 n.in_column.1 row_low column_low h.1.1 (chain_walk c a b p Column (module_on c.shape Column l) ls h.0) in let e = h.1.2 in omega arith
+      let f = short c a b p (module_on c.shape Row l) (module_on c.shape Column l) h.1.0 ls n.in_row.1 n.in_column.1 row_low column_low h.1.1 (chain_walk c a b Column (module_on c.shape Column l) ls h.0) in let e = h.1.2 in omega arith
 
   -- the shorter chain is the one that is chosen
   pub chosen : (s : Side) (ls : List Leg) → IsShorter c a b (module_on c.shape Row l) (module_on c.shape Column l) s ls → IsChosen c l (leave a b s) (choice_on s (record { 0 = a }) (record { 0 = b })).chain

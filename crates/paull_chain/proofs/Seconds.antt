@@ -59,7 +59,7 @@ at_low [] q x e = absurd (some-ne-none x (sym e))
 at_low (l ∷ ls) zero x e = omega arith
 at_low (l ∷ ls) (suc q) x e = let h = at_low ls q x e in omega arith
 
-module _ (c : Colouring) (a b : ℕ) (p : IsProperColouring c) where
+module _ (c : Colouring) (a b : ℕ) where
   pub chain_walk : (s : Side) (m : ℕ) (ls : List Leg) → Chain c a b s m ls → Walk c a b s m ls
   chain_walk s m [] h = tt
   chain_walk s m (l ∷ ls) h = (h.0, h.1, chain_walk (other s) (module_on c.shape (other s) l) ls h.2)
@@ -70,6 +70,7 @@ module _ (c : Colouring) (a b : ℕ) (p : IsProperColouring c) where
   second_held true s m (l ∷ ls) h x (inr am) = subst (λ (t : Side). Holds c x (leave a b t)) (twice s) (second_held false (other s) (module_on c.shape (other s) l) ls h.2 x am)
   second_held false s m (l ∷ ls) h x am = second_held true (other s) (module_on c.shape (other s) l) ls h.2 x am
 
+module _ (c : Colouring) (a b : ℕ) (p : IsProperColouring c) where
   -- a leg of the chain, with the side that it leaves
   stop_of : (s : Side) (m : ℕ) (ls : List Leg) (q : ℕ) (x : Leg) → Walk c a b s m ls → get_elem? ls q ≡ some x
       → (t : Side) × Holds c x (leave a b t) × (get_or (stops c.shape s ls) q 0 ≡ code (other t) (module_on c.shape (other t) x))

@@ -11,7 +11,7 @@ use Rattle.paull_matrix.specs.declared.side.Side.TheVariants.{Row, Column}
 use Rattle.paull_matrix.specs.Colourings.{Colouring, IsFree, IsProperColouring, IsUnused}
 use Rattle.paull_chain.specs.Chains.{Chain, RowChain, ColumnChain, ComesTo}
 use Rattle.paull_chain.specs.Works.{after_op, after_ops, IsValidWork}
-use Rattle.paull_chain.specs.Choices.{IsChosen, IsValidChoice, JoinsBy}
+use Rattle.paull_chain.specs.Choices.{IsChosen, IsValidChoice, JoinsBy, Plans}
 
 -- in a proper colouring a is free in row i and b in column j
 pub record HasEnds (c : Colouring) (a b i j : ℕ) : Type 0 where
@@ -44,6 +44,10 @@ IsChosenOnce = (c : Colouring) (l : Leg) (k q : ℕ) (h g : ChainChoice) → IsP
 -- a choice makes one join: the same register writes, and the same of the colouring
 abbrev pub AreJoinsDetermined : Type 0
 AreJoinsDetermined = (c : Colouring) (l : Leg) (h : Choice) (op op' : LegOp) → IsProperColouring c → JoinsBy c l h op → JoinsBy c l h op' → (op_writes op ≡ op_writes op') × (after_op op c ≡ after_op op' c)
+
+-- a leg has one plan
+abbrev pub ArePlansDetermined : Type 0
+ArePlansDetermined = (c : Colouring) (l : Leg) (op op' : LegOp) → Plans c l op → Plans c l op' → op ≡ op'
 
 -- valid works, one after the other, are one valid work
 abbrev pub AreWorksComposed : Type 0

@@ -1,5 +1,5 @@
 //! What holds of every colouring, as the contracts of functions without parameters.
-ghost use Rattle.paull_chain.specs.Laws.{AreChainsApart, AreChainsDetermined, AreJoinsDetermined, AreWorksComposed, DoChainsEnd, IsAlwaysChosen, IsChosenOnce, IsPropernessKept};
+ghost use Rattle.paull_chain.specs.Laws.{AreChainsApart, AreChainsDetermined, AreJoinsDetermined, ArePlansDetermined, AreWorksComposed, DoChainsEnd, IsAlwaysChosen, IsChosenOnce, IsPropernessKept};
 ghost use Rattle.paull_chain.specs.Paull.{IsRearrangeable};
 
 /// Paull's theorem: a new leg can always be joined after at most 3 (r - 1) / 2 valid moves.
@@ -32,9 +32,14 @@ pub fn chosen_once()
     ensures { IsChosenOnce }
 {}
 
-/// A choice makes one join, so `plan_join` and `expand` are functions of the colouring.
+/// A choice makes one join, so `expand` is a function of the colouring.
 pub fn joins_determined()
     ensures { AreJoinsDetermined }
+{}
+
+/// A leg has one plan, in any colouring, so `plan_join` is a function of it too.
+pub fn plans_determined()
+    ensures { ArePlansDetermined }
 {}
 
 /// Valid works, one after the other, are one valid work.

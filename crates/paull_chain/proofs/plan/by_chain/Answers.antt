@@ -5,7 +5,7 @@ use Rattle.paull_matrix.specs.declared.side.Side.TheVariants.{Row, Column}
 use Rattle.paull_matrix.specs.Colourings.{Colouring, module_on}
 use Rattle.paull_chain.specs.Choices.{choice_on, JoinsAfter}
 use Rattle.paull_chain.specs.Walks.{IsShorter}
-use Rattle.paull_chain.proofs.Planning.{apart, plans, shorter_low}
+use Rattle.paull_chain.proofs.Planning.{needs_apart, plans, shorter_low}
 use Rattle.paull_chain.proofs.plan.by_chain.Goals as goal
 
 pub join_after-requires : goal.join_after-requires
@@ -27,5 +27,5 @@ returns c =
     let h = subst (λ (w : ℕ × ℕ). IsShorter d c.args.a.0 c.args.b.0 w.0 w.1 walked.side walked.legs.items)
     (λ i. ((c.module_of-row.ensures ∙ ap (λ (x : Dimensions). module_on x Row c.args.leg) z) i, (c.module_of-column.ensures ∙ ap (λ (x : Dimensions). module_on x Column c.args.leg) z) i)) c.shorter-walked.ensures in
     let after = subst (λ (w : List Leg × ℕ). JoinsAfter c.args.leg (choice_on walked.side c.args.a c.args.b) w.0 w.1 c.join_after.result) (λ i. (c.as_slice.ensures.value i, (c.spare.ensures ∙ ap (λ (x : Dimensions). x.slots) z) i)) c.join_after.ensures in
-    plans d c.args.leg c.args.a c.args.b c.shape-shape.ensures.proper c.requires.leg.0 c.requires.leg.1 c.requires.leg.2 n.in_row.0 n.in_column.0 (apart d c.args.leg c.args.a.0 c.args.b.0 c.shape-shape.ensures.proper c.requires.leg.0 n) n.in_row.1 n.in_column.1
+    plans d c.args.leg c.args.a c.args.b c.shape-shape.ensures.proper c.requires.leg.0 c.requires.leg.1 c.requires.leg.2 n.in_row.0 n.in_column.0 (needs_apart d c.args.leg c.args.a.0 c.args.b.0 n) n.in_row.1 n.in_column.1
     n walked.side walked.legs.items c.join_after.result h after

@@ -1,6 +1,7 @@
 use Rattle.xc_recovery.specs.ChangeWorks.{choices_in}
 use Rattle.std.proofs.Common.{◌∙◌, refl}
 use Rattle.xc_recovery.specs.LegTasks.{tasks}
+use Rattle.xc_recovery.proofs.Once.{plans_once}
 use Rattle.xc_recovery.proofs.Placing.{placed_after, work_valid}
 use Rattle.xc_recovery.proofs.Spelled.{plans_made, tasks_length, works_length, works_spell}
 use Rattle.xc_recovery.proofs.laws.works.Goals as goal
@@ -13,6 +14,9 @@ returns-clause-spelled c = works_spell
 
 pub returns-clause-made : goal.returns-clause-made
 returns-clause-made c = plans_made
+
+pub returns-clause-once : goal.returns-clause-once
+returns-clause-once c = plans_once
 
 pub returns-clause-recorded : goal.returns-clause-recorded
 returns-clause-recorded c t colours change ops fits g w =
