@@ -147,7 +147,12 @@ fn session(alloc: Global, said: &[Said]) -> Result<(Vec<u8>, Vec<u8>), Fail> {
     Ok((input, output))
 }
 
-fn responds<R: Abort + Wait>(rt: &R, alloc: Global, shelf: &[u8], said: &[Said]) -> Result<(), Fail> {
+fn responds<R: Abort + Wait>(
+    rt: &R,
+    alloc: Global,
+    shelf: &[u8],
+    said: &[Said],
+) -> Result<(), Fail> {
     let (input, output) = session(alloc, said)?;
     let (status, link) = run(rt, alloc, shelf, &input, &[], &[])?;
     assert_eq!(rt; status, Status::Done);
@@ -403,7 +408,15 @@ fn each_response_takes_the_next_moment(rt: HostRuntime) -> Result<(), Fail> {
     let mut clock = MemClock::new(moments);
     let words = line(alloc, &["script", "shelf.toml"])?;
     let mut files = opener(alloc, SHELF, &[])?;
-    let status = dxc_run(alloc, &words, &mut files, &mut link, &mut clock, &mut AlwaysGo, &rt);
+    let status = dxc_run(
+        alloc,
+        &words,
+        &mut files,
+        &mut link,
+        &mut clock,
+        &mut AlwaysGo,
+        &rt,
+    );
     assert_eq!(rt; status, Status::Done);
     let mut wanted = Vec::new(alloc);
     for second in [b"07", b"59", b"59"] {
@@ -433,7 +446,15 @@ fn status_of<R: Abort + Wait>(
     let mut clock = MemClock::new(Vec::new(alloc));
     let names = line(alloc, words)?;
     let mut files = opener(alloc, shelf, failing)?;
-    let status = dxc_run(alloc, &names, &mut files, &mut link, &mut clock, &mut AlwaysGo, rt);
+    let status = dxc_run(
+        alloc,
+        &names,
+        &mut files,
+        &mut link,
+        &mut clock,
+        &mut AlwaysGo,
+        rt,
+    );
     assert_eq!(rt; link.output(), b"".as_slice());
     Ok(status)
 }

@@ -1,3 +1,5 @@
 pub mod Reckoning
+pub mod Granting
 pub mod Standing
 pub mod Rolling
+pub mod Opened

@@ -1,10 +1,11 @@
 -- A work of the Provisioner, from its plan to its end.
-use Rattle.std.proofs.Common.{◌≡◌, ℕ, ◌+◌, ◌<◌, ◌≤◌, ◌^◌, [], length, Option, Some, None, sym, refl, ap, ◌∙◌, subst, arith}
+use Rattle.std.proofs.Common.{◌≡◌, ℕ, ◌+◌, ◌<◌, ◌≤◌, ◌^◌, [], length, Option, Some, None, sym, refl, ap, ap₂, ◌∙◌, subst, arith}
 use Rattle.std.specs.Prelude.{nat_lt, nat_le}
 use Rattle.dxc_model.specs.declared.op.Op.{Op}
 use Rattle.dxc_model.specs.declared.op.Change.{Change}
 use Rattle.dxc_model.specs.declared.cause.Cause.{Cause}
-use Rattle.dxc_model.specs.Verdicts.{Grants}
+use Rattle.dxc_model.specs.Tables.{Board}
+use Rattle.dxc_model.specs.Verdicts.{Grants, effect}
 use Rattle.dxc_model.proofs.Verdicts.{own_verdict}
 use Rattle.roll_plan.specs.declared.work.Work.{Work}
 use Rattle.roll_plan.specs.Works.{ops_writes, switches_in, writes_of}
@@ -29,6 +30,7 @@ use Rattle.xc_core.specs.Reckonings.{Meets, limit_by}
 use Rattle.xc_core.specs.Provisioners.{IsHome, Rolls}
 use Rattle.xc_core.specs.Begins.{Starts}
 use Rattle.xc_core.specs.Finishes.{Finishes}
+use Rattle.xc_core.proofs.Granting.{granted_once}
 
 -- within the limits
 within : (s n : ℕ) → limit_by s n ≡ None → (s ≤ 2 ^ 48) × (n < 2 ^ 48)
@@ -102,4 +104,16 @@ module _ (f : Folded) (n : ℕ) (op : Op) (c : Change) (p : Provisioner) where
           registers = under_way_done p.mover.fabric.size f.colours r p.mover.mover h.under_way none;
           switches = let e = ap switches_in none in let s = h.switches in omega (arith, e, s);
           changes = ap (λ (k : ℕ). k + 1) h.changes;
+        }
+
+    -- the end of the work, by the calls that make it
+    pub finishes : (before table : Board) (matrix : Colouring) (x : Op) (answer : Change) → f.table ≡ before → rest_of r ≡ [] → p.doubt ≡ Some x → Grants before x answer → matrix ≡ after_ops r.work.ops.items p.matrix → table ≡ effect before answer
+        → Finishes f n c r table (record { matrix = matrix; mover = p.mover; doubt = None; changes = p.changes + 1; halted = p.halted }) answer
+    finishes before table matrix x answer same none doubt grants is made =
+        let op_is : x ≡ op = let e : Some x ≡ Some op = sym doubt ∙ h.doubt in cc in
+        let answer_is : answer ≡ c = granted_once f.table op c answer h.granted (subst (λ (y : Op). Grants f.table y answer) op_is (subst (λ (b : Board). Grants b x answer) (sym same) grants)) in
+        record {
+          change = answer_is;
+          table_is = made ∙ ap₂ effect (sym same) answer_is;
+          home = subst (λ (m : Colouring). IsHome (with_change f c r.work.ops.items) (n + 1) (record { matrix = m; mover = p.mover; doubt = None; changes = p.changes + 1; halted = p.halted })) (sym is) (home_after none);
         }

@@ -30,6 +30,7 @@ use Rattle.xc_core.specs.Reckonings.{Meets, ReckonsTo, limit_by}
 use Rattle.xc_core.specs.Provisioners.{IsHome, IsHalted, Rolls, with_halt}
 use Rattle.xc_core.specs.Begins.{IsOverLimit}
 use Rattle.xc_core.specs.States.{Opening, counted, LimitIs, rules_of, HomeIs, StandsFor}
+use Rattle.xc_core.proofs.Granting.{granted_once}
 use Rattle.xc_core.proofs.Reckoning.{reckons_more, reckoned_table}
 
 abbrev entry : ℕ → Op → Outcome → Entry
@@ -41,10 +42,6 @@ changes_same h e none = changes_append h (e ∷ []) ∙ ap (λ (o : Option Chang
 
 changes_one : (h : List Entry) (e : Entry) (c : Change) → made e.outcome ≡ Some c → changes_of (h ++ e ∷ []) ≡ changes_of h ++ c ∷ []
 changes_one h e c one = changes_append h (e ∷ []) ∙ ap (λ (o : Option Change). changes_of h ++ (option_to_list o ++ [])) one
-
--- the verdict is one
-granted_once : (t : Board) (op : Op) (c d : Change) → Grants t op c → Grants t op d → d ≡ c
-granted_once t op c d g k = let e : Some (Ok d) ≡ Some (Ok c) = sym k.says ∙ g.says in cc
 
 -- a limit is that of the switch numbers
 limit_pick : (q : Cause) (a b : Bool) → Some q ≡ (if a then Some SwitchLimit else (if b then Some SwitchLimit else None)) → q ≡ SwitchLimit
@@ -95,10 +92,13 @@ module _ (o : Opening) (s : State) (h : List Entry) (st : StandsFor o s h) where
   }
 
   home_read : (e : Entry) (x : Home) → made e.outcome ≡ None → (IsCut e → ⊥) → (IsRestarted e → ⊥) → HomeIs o st.now h x → HomeIs o st.now (h ++ e ∷ []) x
-  home_read e (In p) none not_cut not_restarted at = (at.0, elim at.1 [
-    | inl a ↦ (home_same e p none not_cut not_restarted at.0 a).1
-    | inr b ↦ inr (subst (λ (cs : List Change). IsHalted st.now (counted o cs) p) (sym (changes_same h e none)) b.0, lasts_more (λ x. IsCut x ⊎ IsFailedRestart x) IsRestarted h e b.1 not_restarted)
-  ])
+  home_read e (In p) none not_cut not_restarted at = (
+    at.0,
+    elim at.1 [
+      | inl a ↦ (home_same e p none not_cut not_restarted at.0 a).1
+      | inr b ↦ inr (subst (λ (cs : List Change). IsHalted st.now (counted o cs) p) (sym (changes_same h e none)) b.0, lasts_more (λ x. IsCut x ⊎ IsFailedRestart x) IsRestarted h e b.1 not_restarted)
+    ],
+  )
   home_read e Out none not_cut not_restarted at = absurd at
 
   -- a retrieval
@@ -162,6 +162,11 @@ module _ (o : Opening) (s : State) (h : List Entry) (st : StandsFor o s h) where
         reckoned = subst (λ (cs : List Change). ReckonsTo o.first cs (with_change st.now c ops)) (sym one) (reckons_more o.first st.now (changes_of h) c ops st.reckoned planned);
         table = is ∙ ap (λ (b : Board). effect b c) st.table;
         legal = legal_more (rules_of o) h e st.legal (fits_by (rules_of o) h e (effect (table_after o.first.table h) c, (granted, refl)) (limit_met own op p s.table refl fabric c None (Done c) grants meets refl) tt);
-        home = (fabric, inl (subst (λ (n : ℕ). IsHome (with_change st.now c ops) n p) (sym (counted_one e c refl)) home,
-            λ stopped. unstopped (lasts_before IsCut IsRestarted h e stopped (λ x. let y : Done c ≡ Cut = x in cc))));
+        home = (
+          fabric,
+          inl (
+            subst (λ (n : ℕ). IsHome (with_change st.now c ops) n p) (sym (counted_one e c refl)) home,
+            λ stopped. unstopped (lasts_before IsCut IsRestarted h e stopped (λ x. let y : Done c ≡ Cut = x in cc)),
+          ),
+        );
       }

@@ -27,6 +27,8 @@ impl Core {
         requires shape { fabric.now.size.shape ≡ shelf.now.shape }
         ensures { IfOk result (λ s. StandsFor (opening shelf.now fabric.now) s []) }
     {
+        // Its clause tells that the fabric's size is within the limits.
+        let _phase = mover.phase();
         let shape = shelf.shape();
         let table = Table::new(alloc, shape, shelf.equipped())?;
         let matrix = Matrix::new(alloc, shape)?;
