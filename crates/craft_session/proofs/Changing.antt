@@ -19,6 +19,7 @@ use Rattle.xc_core.specs.Begins.{BegunIs}
 use Rattle.xc_core.specs.Finishes.{Finishes}
 use Rattle.xc_core.specs.States.{Opening, StandsFor, counted}
 use Rattle.xc_core.proofs.Standing.{ready_home, stands_denied, stands_failed, stands_done, stands_cut, over_limit}
+use Rattle.craft_session.specs.declared.change.Changed.{Changed}
 use Rattle.craft_session.specs.declared.change.Changed.TheVariants.{Done, Denied, Stopped}
 use Rattle.craft_session.specs.Changing.{ChangedIs, HasBegun}
 use Rattle.craft_session.specs.Seats.{IsSeated}
@@ -27,10 +28,10 @@ use Rattle.craft_session.specs.Walks.{own}
 module _ (s : State) (p : Provisioner) (is : s.home ≡ In p) (ready : p.halted ≡ false) where
   -- the Provisioner that was taken may begin
   pub may_begin : (i : FabricId) → IsSeated i s → (f : Folded) × (n : ℕ) × IsHome f n p × (f.table ≡ s.table)
-  may_begin i seat = let st = seat.2.2.1 in (st.now, counted seat.0 (changes_of seat.1), (ready_home seat.0 s seat.1 st p is ready).1.0, sym st.table)
+  may_begin i seat = let st = seat.3 in (st.now, counted seat.0 (changes_of seat.1), (ready_home seat.0 s seat.1 st p is ready).1.0, sym st.table)
 
   pub on_fabric : (i : FabricId) → IsSeated i s → p.mover.fabric ≡ i
-  on_fabric i seat = (ready_home seat.0 s seat.1 seat.2.2.1 p is ready).0 ∙ seat.2.2.0
+  on_fabric i seat = (ready_home seat.0 s seat.1 seat.3 p is ready).0 ∙ seat.2
 
   module _ (op : Op) (q : Provisioner) (same : q.mover.fabric ≡ p.mover.fabric) where
     -- it was denied
@@ -56,7 +57,7 @@ module _ (s : State) (p : Provisioner) (is : s.home ≡ In p) (ready : p.halted 
     pub may_carry_out : (r : RollingAt) (left : State) → left.table ≡ s.table → ((f : Folded) (n : ℕ) → IsHome f n p → f.table ≡ s.table → BegunIs f n op q (begun.Rolling r))
         → (i : FabricId) → IsSeated i s → (f : Folded) × (n : ℕ) × (x : Op) × (c : Change) × Rolls f n x c q r × (f.table ≡ left.table)
     may_carry_out r left table begins i seat =
-        let st = seat.2.2.1 in
+        let st = seat.3 in
         let b = was_planned r left table begins seat.0 seat.1 st in
         (b.stands.now, counted seat.0 (changes_of seat.1), op, b.change, b.rolls, sym b.stands.table ∙ sym b.table)
 
@@ -82,3 +83,9 @@ module _ (o : Opening) (h : List Entry) (op : Op) (s : State) (p : Provisioner) 
     where
       halted : Rolls b.stands.now (counted o (changes_of h)) op b.change q t → Rolls b.stands.now (counted o (changes_of h)) op b.change (with_halt false (with_halt true q)) t
       halted x = record { ready = refl; matrix = x.matrix; placed = x.placed; doubt = x.doubt; granted = x.granted; planned = x.planned; under_way = x.under_way; switches = x.switches; changes = x.changes; few = x.few }
+
+-- the state stands for some history still
+pub seated_after : (i : FabricId) (o : Opening) (h : List Entry) (op : Op) (s : State) (how : Changed) → o.fabric ≡ i → ChangedIs o h op s how → IsSeated i s
+seated_after i o h op s Done same x = (o, _, same, x.1)
+seated_after i o h op s (Denied q) same x = elim x [ inl st ↦ (o, _, same, st) | inr st ↦ (o, _, same, st.1) ]
+seated_after i o h op s Stopped same x = (o, _, same, x)

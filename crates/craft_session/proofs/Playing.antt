@@ -1,6 +1,7 @@
 -- A run over a legal history is the plain session's.
 use Rattle.std.proofs.Common.{◌≡◌, ◌⊎◌, ℕ, List, [], ◌∷◌, ◌++◌, Option, Some, None, Result, Ok, Err, refl, sym, ◌∙◌, ap, ap₂, subst, append_assoc, append-nil, inl, inr}
 use Rattle.std.specs.List.{AllByRecursion}
+use Rattle.std.specs.Prelude.{option_to_list}
 use Rattle.dxc_model.specs.declared.cause.Cause.{Cause}
 use Rattle.dxc_model.specs.declared.op.Op.{Op}
 use Rattle.dxc_model.specs.declared.op.Op.TheVariants.{Rows}
@@ -39,13 +40,16 @@ pub each_last : {X : Type 0} (P : X → Type 0) (xs : List X) (y : X) → AllByR
 each_last P [] y a = a.0
 each_last P (x ∷ xs) y a = each_last P xs y a.1
 
-at_same : (t u : Board) (cs ds : List Change) (s z : SessionUser) → t ≡ u → cs ≡ ds → s ≡ z → record { table = t; changes = cs; user = s } ≡ (record { table = u; changes = ds; user = z } : At)
+abbrev at : Board → List Change → SessionUser → At
+at t cs s = record { table = t; changes = cs; user = s }
+
+at_same : (t u : Board) (cs ds : List Change) (s z : SessionUser) → t ≡ u → cs ≡ ds → s ≡ z → at t cs s ≡ at u ds z
 at_same t u cs ds s z e f g = rw (e, f, g) refl
 
 -- an entry that makes no change leaves the plain session where it was
 stands_still : (t : Board) (h : List Entry) (e : Entry) (s z : SessionUser) → made e.outcome ≡ None → table_after t (h ++ e ∷ []) ≡ table_after t h → z ≡ s → standing t (h ++ e ∷ []) z ≡ standing t h s
 stands_still t h e s z none table same =
-    at_same _ _ _ _ z s table (changes_append h (e ∷ []) ∙ ap (λ (o : Option Change). changes_of h ++ (Rattle.std.specs.Prelude.option_to_list o ++ [])) none ∙ append-nil (changes_of h)) same
+    at_same _ _ _ _ z s table (changes_append h (e ∷ []) ∙ ap (λ (o : Option Change). changes_of h ++ (option_to_list o ++ [])) none ∙ append-nil (changes_of h)) same
 
 apart : (q : Cause) → IsLimit q → IsFault q → ⊥
 apart q l f = elim l [ inl a ↦ elim f [ inl b ↦ (let e = sym a ∙ b in cc) | inr b ↦ (let e = sym a ∙ b in cc) ] | inr a ↦ elim f [ inl b ↦ (let e = sym a ∙ b in cc) | inr b ↦ (let e = sym a ∙ b in cc) ] ]
@@ -62,16 +66,22 @@ module _ (r : Rules) (h : List Entry) (s z : SessionUser) (op : Op) (reply : Rep
   judged (Done c) is ended fits =
       let met = fits.limit c fits.step.0 in
       let e = entry own op (Done c) in
-      by_verdict (Some (Ok c)) (standing r.table (h ++ e ∷ []) z) fits.step.0.says
-      (None, subst (λ (x : Option Cause). r.limit (changes_of h) c x) met.2.1 met.2.0, is,
-       at_same _ _ _ _ z s fits.step.1 (changes_append h (e ∷ [])) same)
+      by_verdict (Some (Ok c)) (standing r.table (h ++ e ∷ []) z) fits.step.0.says (
+        None,
+        subst (λ (x : Option Cause). r.limit (changes_of h) c x) met.2.1 met.2.0,
+        is,
+        at_same _ _ _ _ z s fits.step.1 (changes_append h (e ∷ [])) same,
+      )
   judged (Denied q) is ended fits =
       by_verdict (Some (Err q)) _ fits.step.0.says (is, stands_still r.table h (entry own op (Denied q)) s z refl fits.step.1 same)
   judged (Failed q) is ended fits = elim fits.step.0 [
     | inl limited ↦ (let g : Grants t op limited.1.0 = limited.1.1 in let met = fits.limit limited.1.0 g in
-        by_verdict (Some (Ok limited.1.0)) _ g.says
-        (Some q, subst (λ (x : Option Cause). r.limit (changes_of h) limited.1.0 x) (elim met.2.1 [ inl f ↦ absurd (apart q ended f) | inr m ↦ m ]) met.2.0, is,
-         stands_still r.table h (entry own op (Failed q)) s z refl fits.step.1 same))
+        by_verdict (Some (Ok limited.1.0)) _ g.says (
+          Some q,
+          subst (λ (x : Option Cause). r.limit (changes_of h) limited.1.0 x) (elim met.2.1 [ inl f ↦ absurd (apart q ended f) | inr m ↦ m ]) met.2.0,
+          is,
+          stands_still r.table h (entry own op (Failed q)) s z refl fits.step.1 same,
+        ))
     | inr fault ↦ absurd (apart q ended fault.0)
   ]
   judged Answered is ended fits = absurd is
@@ -90,16 +100,17 @@ served r past h es s z (LogsIn u) reply x legal alone = (x.1, no_entries r.table
 served r past h es s z LogsOut reply x legal alone = (x.1, no_entries r.table (past ++ h) es Nobody z x.0 x.2)
 served r past h es s z Greets reply x legal alone = (x.1, no_entries r.table (past ++ h) es s z x.0 x.2)
 served r past h es s z (Lists which) reply x legal alone =
-    let e = entry own (Rows which) Answered in
-    (x.1 ∙ ap (λ (b : Board). completed_rows (rows b which)) (sym (table_append r.table past h)),
-     ap (λ (y : List Entry). standing r.table ((past ++ h) ++ y) z) x.0 ∙ stands_still r.table (past ++ h) e s z refl (table_more r.table (past ++ h) e) x.2)
+    let e = entry own (Rows which) Answered in (
+      x.1 ∙ ap (λ (b : Board). completed_rows (rows b which)) (sym (table_append r.table past h)),
+      ap (λ (y : List Entry). standing r.table ((past ++ h) ++ y) z) x.0 ∙ stands_still r.table (past ++ h) e s z refl (table_more r.table (past ++ h) e) x.2,
+    )
 served r past h es s z (Changes op) reply x legal alone =
     let one = x.0 in
     let e = entry own op one.0 in
-    subst (λ (y : List Entry). Replies r.limit (standing r.table (past ++ h) s) (Changes op) reply (standing r.table ((past ++ h) ++ y) z)) (sym one.2.0)
-    (judged r (past ++ h) s z op reply x.1 one.0 one.2.1
-        (each_last IsOwn h e (subst (λ (y : List Entry). AllByRecursion IsOwn (h ++ y)) one.2.0 alone)).ended
-        (legal_last r [] (past ++ h) e (subst (λ (y : List Entry). IsLegal r ((past ++ h) ++ y)) one.2.0 legal)))
+    subst (λ (y : List Entry). Replies r.limit (standing r.table (past ++ h) s) (Changes op) reply (standing r.table ((past ++ h) ++ y) z)) (sym one.1)
+    (judged r (past ++ h) s z op reply x.1 one.0 one.2
+    (each_last IsOwn h e (subst (λ (y : List Entry). AllByRecursion IsOwn (h ++ y)) one.1 alone)).ended
+    (legal_last r [] (past ++ h) e (subst (λ (y : List Entry). IsLegal r ((past ++ h) ++ y)) one.1 legal)))
 
 module _ {U M : Type 0} (l : Language U M) (limit : Limit) where
   pub responds_more : (a b next : At) (us : List U) (ms : List M) (u : U) (m : M) (out : List ℕ) (reply : Reply) → Responds l limit a us ms out b → Replies limit b (l.asks b.user u) reply next

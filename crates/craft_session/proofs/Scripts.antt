@@ -162,10 +162,10 @@ script told clock_told k l c d stops later s fabric after end session e =
 -- the same from a place that was opened on the shelf
 pub script_at : (told clock_told : Type 0) (k l : LinkState) (c d : List Moment) (stops later : ℕ) (s : Contents) (place : Seat) (after : State) (end : SessionEnd) (status : Status) → IsOpened s place
     → ((b : Beginning) → StandsFor b.opening place.state (b.past ++ []) → IsServed (language place.shelf) told clock_told k l c d b after end) → IsEnd k l stops later end → status ≡ status_of end → IsScript told clock_told k l c d stops later s status
-script_at told clock_told k l c d stops later s place after end status open session e end_is =
+script_at told clock_told k l c d stops later s place after end status began session e end_is =
     let b : Beginning = record { opening = opening s place.fabric; past = [] } in
     subst (λ (x : Status). IsScript told clock_told k l c d stops later s x) (sym end_is)
-    (script told clock_told k l c d stops later s place.fabric after end (subst (λ (x : Contents). IsServed (language x) told clock_told k l c d b after end) open.shelf (session b open.stands)) e)
+    (script told clock_told k l c d stops later s place.fabric after end (subst (λ (x : Contents). IsServed (language x) told clock_told k l c d b after end) began.shelf (session b began.stands)) e)
 
 -- a session on a shelf has no status of its words
 pub not_words : (told clock_told : Type 0) (k l : LinkState) (c d : List Moment) (stops later : ℕ) (s : Contents) (status : Status) → IsRunOn told clock_told k l c d stops later s status → status ≡ BadWords → ⊥

@@ -1,22 +1,21 @@
 -- What is true of every session's run.
-use Rattle.std.specs.Prelude.{◌≡◌, ℕ, List, ◌++◌, Option}
+use Rattle.std.specs.Prelude.{◌≡◌, ℕ, List, ◌++◌}
 use Rattle.std.specs.List.{AllByRecursion}
 use Rattle.dxc_outside.specs.declared.clock.Moment.{Moment}
 use Rattle.dxc_outside.specs.Items.{Item}
-use Rattle.dxc_model.specs.declared.cause.Cause.{Cause}
-use Rattle.dxc_model.specs.declared.op.Change.{Change}
 use Rattle.dxc_model.specs.declared.entry.Entry.{Entry}
 use Rattle.dxc_model.specs.declared.user.SessionUser.{SessionUser}
 use Rattle.dxc_model.specs.declared.user.SessionUser.TheVariants.{Nobody}
 use Rattle.dxc_model.specs.Tables.{Board}
-use Rattle.dxc_model.specs.Histories.{Rules, IsLegal, changes_of, table_after}
+use Rattle.dxc_model.specs.Histories.{IsLegal, changes_of, table_after}
 use Rattle.tl1_text.specs.Units.{Input, IsRest}
+use Rattle.xc_core.specs.States.{LimitIs, Opening, rules_of}
 use Rattle.craft_session.specs.Acting.{IsOwn}
 use Rattle.craft_session.specs.Asks.{Language}
 use Rattle.craft_session.specs.Happenings.{Happening, Happens, bytes_in, units_in}
 use Rattle.craft_session.specs.Walks.{own}
 use Rattle.craft_session.specs.Runs.{Walk, Run}
-use Rattle.craft_session.specs.Plain.{At, Limit, Responds}
+use Rattle.craft_session.specs.Plain.{At, Responds}
 
 -- of the same bytes the same units happen
 abbrev pub AreUnitsAlone : Type 0
@@ -27,11 +26,11 @@ abbrev pub standing : Board → List Entry → SessionUser → At
 standing t h s = record { table = table_after t h; changes = changes_of h; user = s }
 
 -- a run whose entries go on a legal history writes what the plain session does
-abbrev pub ArePlayed : Rules → Type 0
-ArePlayed r = (l : Language Input Moment) (past : List Entry) (w : Walk Input Moment) → Run l own (table_after r.table past) w → IsLegal r (past ++ w.history) → AllByRecursion IsOwn w.history
-    → Responds l r.limit (standing r.table past Nobody) (units_in w.happenings) w.moments (w.earlier ++ w.latest) (standing r.table (past ++ w.history) w.user)
+abbrev pub ArePlayed : Type 0
+ArePlayed = (l : Language Input Moment) (o : Opening) (past : List Entry) (w : Walk Input Moment) → Run l own (table_after o.first.table past) w → IsLegal (rules_of o) (past ++ w.history) → AllByRecursion IsOwn w.history
+    → Responds l (LimitIs o) (standing o.first.table past Nobody) (units_in w.happenings) w.moments (w.earlier ++ w.latest) (standing o.first.table (past ++ w.history) w.user)
 
--- where each change meets one limit, units and moments determine what the plain session writes and where it stands
-abbrev pub AreResponsesOnce : Rules → Type 0
-AreResponsesOnce r = (l : Language Input Moment) (a b c : At) (us : List Input) (ms : List Moment) (out other : List ℕ) → ((cs : List Change) (x : Change) (m n : Option Cause) → r.limit cs x m → r.limit cs x n → m ≡ n)
-    → Responds l r.limit a us ms out b → Responds l r.limit a us ms other c → (out ≡ other) × (b ≡ c)
+-- units and moments determine what the plain session writes and where it then stands
+abbrev pub AreResponsesOnce : Type 0
+AreResponsesOnce = (l : Language Input Moment) (o : Opening) (a b c : At) (us : List Input) (ms : List Moment) (out other : List ℕ)
+    → Responds l (LimitIs o) a us ms out b → Responds l (LimitIs o) a us ms other c → (out ≡ other) × (b ≡ c)

@@ -19,7 +19,7 @@ own = 0
 
 -- an entry of a place
 abbrev pub entry : ℕ → Op → Outcome → Entry
-entry own op o = record { place = own; op = op; outcome = o }
+entry n op o = record { place = n; op = op; outcome = o }
 
 -- a changing command's reply
 abbrev pub ChangeReply : Outcome → Reply → Type 0
@@ -33,9 +33,9 @@ ChangeReply Taken r = ⊥
 
 -- At the history h and the user s, what is asked takes these own entries, gets this reply, and leaves this user
 abbrev pub Serves : ℕ → Board → List Entry → SessionUser → Ask → List Entry → Reply → SessionUser → Type 0
-Serves own t h s (Refused q) es r z = (es ≡ []) × (r ≡ denied q) × (z ≡ s)
-Serves own t h s (LogsIn u) es r z = (es ≡ []) × (r ≡ completed) × (z ≡ u)
-Serves own t h s LogsOut es r z = (es ≡ []) × (r ≡ completed) × (z ≡ Nobody)
-Serves own t h s Greets es r z = (es ≡ []) × (r ≡ completed) × (z ≡ s)
-Serves own t h s (Lists which) es r z = (es ≡ entry own (Rows which) Answered ∷ []) × (r ≡ completed_rows (rows (table_after t h) which)) × (z ≡ s)
-Serves own t h s (Changes op) es r z = ((o : Outcome) × (es ≡ entry own op o ∷ []) × ChangeReply o r) × (z ≡ s)
+Serves place t h s (Refused q) es r z = (es ≡ []) × (r ≡ denied q) × (z ≡ s)
+Serves place t h s (LogsIn u) es r z = (es ≡ []) × (r ≡ completed) × (z ≡ u)
+Serves place t h s LogsOut es r z = (es ≡ []) × (r ≡ completed) × (z ≡ Nobody)
+Serves place t h s Greets es r z = (es ≡ []) × (r ≡ completed) × (z ≡ s)
+Serves place t h s (Lists which) es r z = (es ≡ entry place (Rows which) Answered ∷ []) × (r ≡ completed_rows (rows (table_after t h) which)) × (z ≡ s)
+Serves place t h s (Changes op) es r z = ((o : Outcome) × (es ≡ entry place op o ∷ []) × ChangeReply o r) × (z ≡ s)

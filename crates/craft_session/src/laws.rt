@@ -1,5 +1,4 @@
 //! What is true of every session's run, as the contract of a function without parameters.
-ghost use Rattle.dxc_model.specs.Histories.{Rules};
 ghost use Rattle.craft_session.specs.Laws.{AreUnitsAlone, ArePlayed, AreResponsesOnce};
 
 /// What was read determines the units, however it was cut into pieces and wherever nothing came for a time.
@@ -10,10 +9,10 @@ pub fn units_are_alone()
 /// What a run wrote is what the plain session writes: each unit's response with the next moment, by the one table after the
 /// units before it.
 pub fn runs_are_played()
-    ensures { (r : Rules) → ArePlayed r }
+    ensures { ArePlayed }
 {}
 
 /// The plain session is one: the units and the moments determine what it writes.
 pub fn responses_are_one()
-    ensures { (r : Rules) → AreResponsesOnce r }
+    ensures { AreResponsesOnce }
 {}

@@ -75,10 +75,13 @@ pub enum Begun {
 /// Plans an operation on the state's table, for a Provisioner that is home and not halted. The first cause against it is the
 /// table's; then `SwitchLimit`, where the switches of its work would pass 2^48 since the fabric was made, or 2^48 changes were
 /// made since the opening.
-pub fn begin<G: Gate>(p: &mut Provisioner, table: &Table, op: &Op, _gate: &mut G) -> Begun
+pub fn begin<G: Gate>(p: &mut Provisioner, table: &Table, op: &Op, gate: &mut G) -> Begun
     requires apt { IsApt table.now.shape op.now }
     requires home { (f : Folded) × (n : ℕ) × IsHome f n p.old × (f.table ≡ table.now) }
     ensures fabric { p.new.mover.fabric ≡ p.old.mover.fabric }
+    ensures stopped { result ≡ Begun.Stopped → Rose (G.stops gate.old) (G.stops gate.new) }
+    ensures unstopped { result ≢ Begun.Stopped → G.stops gate.new ≡ G.stops gate.old }
+    ensures later { G.stops gate.old ≤ G.stops gate.new }
     ensures begun { (f : Folded) → (n : ℕ) → IsHome f n p.old → f.table ≡ table.now → BegunIs f n op.now p.new result }
 {
     let change = match table.verdict(op) {

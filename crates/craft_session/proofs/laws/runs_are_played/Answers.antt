@@ -1,5 +1,6 @@
+use Rattle.xc_core.specs.States.{rules_of}
 use Rattle.craft_session.proofs.Playing.{played}
 use Rattle.craft_session.proofs.laws.runs_are_played.Goals as goal
 
 pub returns : goal.returns
-returns c = λ r l past w. played l r past w
+returns c = λ l o past w. played l (rules_of o) past w
