@@ -1,5 +1,5 @@
 -- What was asked was done: the entries of it, and a history that stays legal.
-use Rattle.std.proofs.Common.{◌≡◌, List, [], ◌∷◌, ◌++◌, refl, sym, ◌∙◌, ap, subst, append-nil, inl, inr}
+use Rattle.std.proofs.Common.{◌≡◌, List, None, [], ◌∷◌, ◌++◌, refl, sym, ◌∙◌, ap, subst, append-nil, inl, inr}
 use Rattle.std.specs.List.{AllByRecursion}
 use Rattle.dxc_model.specs.declared.cause.Cause.{Cause}
 use Rattle.dxc_model.specs.declared.op.Op.{Op}
@@ -48,7 +48,7 @@ module _ (t : Board) (h : List Entry) (now : Board) (k : Keeps t h now) where
       record {
         entries = e ∷ [];
         serves = (refl, ap completed_rows (is ∙ ap (λ (b : Board). rows b which) k.table), refl);
-        keeps = keeps_more (Rows which) Answered now refl (inr (inr refl)) (fits_by (unlimited t) h e (table_after t h, step) (λ c g. refl) tt);
+        keeps = keeps_more (Rows which) Answered now refl (inr (inr refl)) (fits_by (unlimited t) h e (table_after t h, step) (λ c g. (None, refl, refl)) tt);
       }
 
   pub acts_done : (s : SessionUser) (op : Op) (c : Change) (next : Board) → Grants now op c → next ≡ effect now c → Acts t h s (Changes op) completed s next
@@ -58,7 +58,7 @@ module _ (t : Board) (h : List Entry) (now : Board) (k : Keeps t h now) where
       record {
         entries = e ∷ [];
         serves = ((Done c, refl, refl), refl);
-        keeps = keeps_more op (Done c) next is (inl (c, refl)) (fits_by (unlimited t) h e (effect (table_after t h) c, (granted, refl)) (λ d g. refl) tt);
+        keeps = keeps_more op (Done c) next is (inl (c, refl)) (fits_by (unlimited t) h e (effect (table_after t h) c, (granted, refl)) (λ d g. (None, refl, refl)) tt);
       }
 
   pub acts_denied : (s : SessionUser) (op : Op) (q : Cause) → Refuses now op q → Acts t h s (Changes op) (denied q) s now
@@ -68,5 +68,5 @@ module _ (t : Board) (h : List Entry) (now : Board) (k : Keeps t h now) where
       record {
         entries = e ∷ [];
         serves = ((Denied q, refl, refl), refl);
-        keeps = keeps_more op (Denied q) now refl (inr (inl (q, refl))) (fits_by (unlimited t) h e (table_after t h, (refused, refl)) (λ d g. refl) tt);
+        keeps = keeps_more op (Denied q) now refl (inr (inl (q, refl))) (fits_by (unlimited t) h e (table_after t h, (refused, refl)) (λ d g. (None, refl, refl)) tt);
       }

@@ -36,7 +36,7 @@ own = 0
 
 -- no limit stands against a change
 abbrev pub unlimited : Board → Rules
-unlimited t = record { table = t; limit = λ _ _. None }
+unlimited t = record { table = t; limit = λ _ _ met. met ≡ None }
 
 -- the table took it, denied it, or was only read
 abbrev pub IsPlain : Outcome → Type 0
