@@ -21,4 +21,4 @@ pub mod Busy
 pub mod Taking
 pub mod FirstCauses
 pub mod Needing
-mod WorkedRows
+mod WorkedExamples
