@@ -68,20 +68,15 @@ module _ (r : Rules) (h : List Entry) (s z : SessionUser) (op : Op) (reply : Rep
       let e = entry own op (Done c) in
       by_verdict (Some (Ok c)) (standing r.table (h ++ e ∷ []) z) fits.step.0.says (
         None,
-        subst (λ (x : Option Cause). r.limit (changes_of h) c x) met.2.1 met.2.0,
-        is,
-        at_same _ _ _ _ z s fits.step.1 (changes_append h (e ∷ [])) same,
+        subst (λ (x : Option Cause). r.limit (changes_of h) c x) met.2 met.1,
+        (is, at_same _ _ _ _ z s fits.step.1 (changes_append h (e ∷ [])) same),
       )
   judged (Denied q) is ended fits =
       by_verdict (Some (Err q)) _ fits.step.0.says (is, stands_still r.table h (entry own op (Denied q)) s z refl fits.step.1 same)
   judged (Failed q) is ended fits = elim fits.step.0 [
     | inl limited ↦ (let g : Grants t op limited.1.0 = limited.1.1 in let met = fits.limit limited.1.0 g in
-        by_verdict (Some (Ok limited.1.0)) _ g.says (
-          Some q,
-          subst (λ (x : Option Cause). r.limit (changes_of h) limited.1.0 x) (elim met.2.1 [ inl f ↦ absurd (apart q ended f) | inr m ↦ m ]) met.2.0,
-          is,
-          stands_still r.table h (entry own op (Failed q)) s z refl fits.step.1 same,
-        ))
+        by_verdict (Some (Ok limited.1.0)) _ g.says
+        (Some q, subst (λ (x : Option Cause). r.limit (changes_of h) limited.1.0 x) (elim met.2 [ inl f ↦ absurd (apart q ended f) | inr m ↦ m ]) met.1, (is, stands_still r.table h (entry own op (Failed q)) s z refl fits.step.1 same)))
     | inr fault ↦ absurd (apart q ended fault.0)
   ]
   judged Answered is ended fits = absurd is
