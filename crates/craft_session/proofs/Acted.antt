@@ -1,11 +1,10 @@
 -- What was asked was done: the entries of it.
-use Rattle.std.proofs.Common.{◌≡◌, List, [], ◌∷◌, ◌++◌, refl, sym, ◌∙◌, ap, subst, append-nil, inl, inr, ◌⊎◌}
+use Rattle.std.proofs.Common.{◌≡◌, List, [], ◌∷◌, ◌++◌, refl, sym, ◌∙◌, ap, subst, append-nil, inl, inr}
 use Rattle.dxc_model.specs.declared.cause.Cause.{Cause}
 use Rattle.dxc_model.specs.declared.conn.Conn.{Conn}
 use Rattle.dxc_model.specs.declared.op.Op.{Op}
 use Rattle.dxc_model.specs.declared.op.Op.TheVariants.{Rows}
 use Rattle.dxc_model.specs.declared.op.Selection.{Selection}
-use Rattle.dxc_model.specs.declared.op.Change.{Change}
 use Rattle.dxc_model.specs.declared.entry.Outcome.TheVariants.{Done, Denied, Failed, Answered}
 use Rattle.dxc_model.specs.declared.entry.Entry.{Entry}
 use Rattle.dxc_model.specs.declared.user.SessionUser.{SessionUser}
@@ -18,6 +17,9 @@ use Rattle.craft_session.specs.declared.ask.Ask.{Ask}
 use Rattle.craft_session.specs.declared.ask.Ask.TheVariants.{Lists, Changes}
 use Rattle.craft_session.specs.Asks.{Reply, completed, completed_rows, denied}
 use Rattle.craft_session.specs.Walks.{own, entry, Serves}
+use Rattle.craft_session.specs.declared.change.Changed.{Changed}
+use Rattle.craft_session.specs.declared.change.Changed.TheVariants as changed
+use Rattle.craft_session.specs.Changing.{ChangedIs}
 use Rattle.craft_session.specs.Acting.{Acts}
 
 module _ (o : Opening) (h : List Entry) (s : State) where
@@ -33,8 +35,10 @@ module _ (o : Opening) (h : List Entry) (s : State) where
     alone = (record { place = refl; ended = tt }, tt);
   }
 
-  pub acts_done : (u : SessionUser) (op : Op) (c : Change) → StandsFor o s (h ++ entry own op (Done c) ∷ []) → Acts o h u (Changes op) completed u s
-  acts_done u op c st = record { entries = entry own op (Done c) ∷ []; serves = ((Done c, refl, refl), refl); stands = st; alone = (record { place = refl; ended = tt }, tt) }
+  pub acts_done : (u : SessionUser) (op : Op) (how : Changed) → how ≡ changed.Done → ChangedIs o h op s how → Acts o h u (Changes op) completed u s
+  acts_done u op how is x =
+      let y = subst (λ (z : Changed). ChangedIs o h op s z) is x in
+      record { entries = entry own op (Done y.0) ∷ []; serves = ((Done y.0, refl, refl), refl); stands = y.1; alone = (record { place = refl; ended = tt }, tt) }
 
   acts_denied : (u : SessionUser) (op : Op) (q : Cause) → StandsFor o s (h ++ entry own op (Denied q) ∷ []) → Acts o h u (Changes op) (denied q) u s
   acts_denied u op q st = record { entries = entry own op (Denied q) ∷ []; serves = ((Denied q, refl, refl), refl); stands = st; alone = (record { place = refl; ended = tt }, tt) }
@@ -42,5 +46,5 @@ module _ (o : Opening) (h : List Entry) (s : State) where
   acts_failed : (u : SessionUser) (op : Op) (q : Cause) → IsLimit q → StandsFor o s (h ++ entry own op (Failed q) ∷ []) → Acts o h u (Changes op) (denied q) u s
   acts_failed u op q limit st = record { entries = entry own op (Failed q) ∷ []; serves = ((Failed q, refl, refl), refl); stands = st; alone = (record { place = refl; ended = limit }, tt) }
 
-  pub acts_refused : (u : SessionUser) (op : Op) (q : Cause) → StandsFor o s (h ++ entry own op (Denied q) ∷ []) ⊎ (IsLimit q × StandsFor o s (h ++ entry own op (Failed q) ∷ [])) → Acts o h u (Changes op) (denied q) u s
-  acts_refused u op q x = elim x [ inl st ↦ acts_denied u op q st | inr st ↦ acts_failed u op q st.0 st.1 ]
+  pub acts_refused : (u : SessionUser) (op : Op) (q : Cause) (how : Changed) → how ≡ changed.Denied q → ChangedIs o h op s how → Acts o h u (Changes op) (denied q) u s
+  acts_refused u op q how is x = elim (subst (λ (z : Changed). ChangedIs o h op s z) is x) [ inl st ↦ acts_denied u op q st | inr st ↦ acts_failed u op q st.0 st.1 ]

@@ -1,7 +1,8 @@
 -- A unit was answered in the shelf's language.
-use Rattle.std.proofs.Common.{◌≡◌, ℕ, List, [], Option, subst}
+use Rattle.std.proofs.Common.{◌≡◌, ℕ, List, [], Option, sym, subst}
 use Rattle.dxc_outside.specs.declared.clock.Moment.{Moment}
 use Rattle.dxc_outside.specs.declared.send.Sent.{Sent}
+use Rattle.dxc_outside.specs.declared.send.Sent.TheVariants.{Whole, Cut as Sent_cut}
 use Rattle.dxc_outside.specs.Links.{LinkState}
 use Rattle.dxc_model.specs.declared.entry.Entry.{Entry}
 use Rattle.tl1_text.specs.declared.reader.UnitKind.{UnitKind}
@@ -14,7 +15,8 @@ use Rattle.craft_session.specs.declared.ask.Ask.{Ask}
 use Rattle.craft_session.specs.declared.end.Progress.{Progress}
 use Rattle.craft_session.specs.declared.end.Progress.TheVariants.{On, Cut, Stopped}
 use Rattle.craft_session.specs.Acting.{Acts, Stops}
-use Rattle.craft_session.specs.Desks.{IsReplied, IsSaidOf, IsStoppedAt, IsAnswered}
+use Rattle.craft_session.specs.Progresses.{progress_of}
+use Rattle.craft_session.specs.Desks.{IsReplied, IsSaidOf, IsAnswered}
 use Rattle.craft_session.specs.Meanings.{asks, tag_of, language}
 use Rattle.craft_session.specs.Sessions.{Now, Beginning, IsSaid, Stands, Goes}
 use Rattle.craft_session.proofs.SessionSteps.{goes_on, goes_cut, goes_stopped, whole_ended, long_ended}
@@ -52,3 +54,9 @@ pub moved_whole : {Shelf : Type 0} (value : Shelf → Contents) (told clock_told
     → ((k : LinkState) (c : List Moment) (b : Beginning) → Stands (language (value new)) told clock_told k j c d b now More r piece → Goes (language (value new)) told clock_told k j2 c d2 b after how r2 [])
     → (k : LinkState) (c : List Moment) (b : Beginning) → Stands (language (value old)) told clock_told k j c d b now More r piece → Goes (language (value old)) told clock_told k j2 c d2 b after how r2 []
 moved_whole {Shelf} value told clock_told j j2 d d2 now after r r2 piece how old new is goes = subst (λ (s : Shelf). (k : LinkState) (c : List Moment) (b : Beginning) → Stands (language (value s)) told clock_told k j c d b now More r piece → Goes (language (value s)) told clock_told k j2 c d2 b after how r2 []) is goes
+
+-- a response was written, or a part of it
+pub answered_by : (s : Contents) (told clock_told : Type 0) (k j : LinkState) (c d : List Moment) (tag : Option (List ℕ)) (a : Ask) (before after : Now) (sent : Sent) (how : Progress) → how ≡ progress_of sent
+    → IsSaidOf s told clock_told k j c d sent tag a before after → IsAnswered s told clock_told k j c d tag a before after how
+answered_by s told clock_told k j c d tag a before after Whole how is x = subst (λ (y : Progress). IsAnswered s told clock_told k j c d tag a before after y) (sym is) x
+answered_by s told clock_told k j c d tag a before after Sent_cut how is x = subst (λ (y : Progress). IsAnswered s told clock_told k j c d tag a before after y) (sym is) x

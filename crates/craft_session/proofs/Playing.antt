@@ -1,5 +1,5 @@
 -- A run over a legal history is the plain session's.
-use Rattle.std.proofs.Common.{◌≡◌, ◌⊎◌, ℕ, List, [], ◌∷◌, ◌++◌, Option, Some, None, Result, Ok, Err, refl, sym, ◌∙◌, ap, ap₂, subst, append_assoc, append-nil, inl, inr}
+use Rattle.std.proofs.Common.{◌≡◌, ℕ, List, [], ◌∷◌, ◌++◌, Option, Some, None, Result, Ok, Err, refl, sym, ◌∙◌, ap, ap₂, subst, append_assoc, append-nil, inl, inr}
 use Rattle.std.specs.List.{AllByRecursion}
 use Rattle.std.specs.Prelude.{option_to_list}
 use Rattle.dxc_model.specs.declared.cause.Cause.{Cause}
@@ -12,15 +12,15 @@ use Rattle.dxc_model.specs.declared.entry.Entry.{Entry}
 use Rattle.dxc_model.specs.declared.user.SessionUser.{SessionUser}
 use Rattle.dxc_model.specs.declared.user.SessionUser.TheVariants.{Nobody}
 use Rattle.dxc_model.specs.Tables.{Board, rows}
-use Rattle.dxc_model.specs.Verdicts.{Grants, effect, verdict}
-use Rattle.dxc_model.specs.Steps.{IsLimit, IsFault, IsGranted, made}
-use Rattle.dxc_model.specs.Histories.{Rules, Fits, GoesOn, IsLegal, KeepsLimit, changes_of, table_after}
+use Rattle.dxc_model.specs.Verdicts.{Grants, verdict}
+use Rattle.dxc_model.specs.Steps.{IsLimit, IsFault, made}
+use Rattle.dxc_model.specs.Histories.{Rules, Fits, GoesOn, IsLegal, changes_of, table_after}
 use Rattle.dxc_model.proofs.Growth.{changes_append, legal_so_far, table_append, table_more}
 use Rattle.craft_session.specs.declared.ask.Ask.{Ask}
 use Rattle.craft_session.specs.declared.ask.Ask.TheVariants.{Refused, LogsIn, LogsOut, Greets, Lists, Changes}
 use Rattle.craft_session.specs.Acting.{IsEnded, IsOwn}
-use Rattle.craft_session.specs.Asks.{Reply, Language, completed, completed_rows, denied}
-use Rattle.craft_session.specs.Happenings.{unit, quiet, units_in}
+use Rattle.craft_session.specs.Asks.{Reply, Language, completed_rows}
+use Rattle.craft_session.specs.Happenings.{unit, units_in}
 use Rattle.craft_session.specs.Walks.{own, entry, ChangeReply, Serves}
 use Rattle.craft_session.specs.Runs.{Walk, Run, begins, responds, waits}
 use Rattle.craft_session.specs.Plain.{At, Limit, Makes, Judges, Replies, Responds}

@@ -5,9 +5,6 @@ use Rattle.dxc_causes.specs.Causes.{Rose, Counted}
 use Rattle.dxc_outside.specs.declared.clock.Moment.{Moment}
 use Rattle.dxc_outside.specs.Items.{Item}
 use Rattle.dxc_outside.specs.Links.{LinkState}
-use Rattle.dxc_model.specs.declared.entry.Entry.{Entry}
-use Rattle.dxc_model.specs.Histories.{IsLegal}
-use Rattle.std.specs.List.{AllByRecursion}
 use Rattle.tl1_text.specs.Units.{Input, IsRest, IsStream}
 use Rattle.shelf_file.specs.Contents.{Contents}
 use Rattle.craft_session.specs.declared.end.SessionEnd.{SessionEnd}
@@ -18,7 +15,7 @@ use Rattle.craft_session.specs.Happenings.{unit, units_in, bytes_in}
 use Rattle.craft_session.specs.Meanings.{language}
 use Rattle.fabric_words.specs.Seats.{FabricId}
 use Rattle.xc_core.specs.declared.state.State.{State}
-use Rattle.xc_core.specs.States.{Opening, StandsFor, opening, rules_of}
+use Rattle.xc_core.specs.States.{StandsFor, opening, rules_of}
 use Rattle.craft_session.specs.Acting.{IsOwn}
 use Rattle.craft_session.specs.Laws.{standing}
 use Rattle.craft_session.specs.Seats.{Seat}

@@ -1,5 +1,5 @@
 -- How a session goes on.
-use Rattle.std.proofs.Common.{◌≡◌, ℕ, ◌+◌, List, [], ◌∷◌, ◌++◌, take, drop, refl, sym, ◌∙◌, ap, ap₂, subst, arith, append_assoc, take-append-drop}
+use Rattle.std.proofs.Common.{◌≡◌, ℕ, ◌+◌, List, [], ◌∷◌, ◌++◌, take, drop, refl, sym, ◌∙◌, ap, subst, arith, append_assoc, take-append-drop}
 use Rattle.std.proofs.lemmas.List.{append-nil, map-append, drop-drop}
 use Rattle.dxc_causes.specs.Causes.{Counted}
 use Rattle.dxc_outside.specs.declared.link.Got.{Got}
@@ -62,6 +62,13 @@ serves_at t past h es s z LogsOut r x = x
 serves_at t past h es s z Greets r x = x
 serves_at t past h es s z (Lists which) r x = (x.0, x.1 ∙ ap (λ (b : Board). completed_rows (rows b which)) (table_append t past h), x.2)
 serves_at t past h es s z (Changes op) r x = x
+
+-- a session may begin at any history that the state stands for
+abbrev pub begins_at : Opening → List Entry → Beginning
+begins_at o h = record { opening = o; past = h }
+
+pub stands_begun : (o : Opening) (h : List Entry) (s : State) → StandsFor o s h → StandsAt (begins_at o h) [] s
+stands_begun o h s st = subst (λ (x : List Entry). StandsFor o s x) (sym (append-nil h)) st
 
 module _ (l : Language Input Moment) (clock_told : Type 0) (c : List Moment) (b : Beginning) where
   past_none : (now : Now) → StandsAt b [] now.state → now.user ≡ Nobody → Past l clock_told c c b now [] [] []

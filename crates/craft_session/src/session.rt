@@ -174,6 +174,7 @@ fn answer<K: Link, C: Clock, G: Gate, R: Wait>(
     ensures fabric { desk.new.fabric ≡ desk.old.fabric }
     ensures seated { IsSeated (arc_value desk.new.fabric) desk.new.state }
     ensures reader { desk.new.reader ≡ desk.old.reader }
+    ensures link { Writes K.told (K.state link.old) (K.state link.new) }
     ensures answered { IsAnswered (arc_value desk.old.shelf) K.told C.told (K.state link.old) (K.state link.new) (C.coming clock.old) (C.coming clock.new) tag ask (now desk.old) (now desk.new) result }
     ensures stopped { result ≡ Progress.Stopped → Rose (G.stops gate.old) (G.stops gate.new) }
     ensures unstopped { result ≢ Progress.Stopped → G.stops gate.new ≡ G.stops gate.old }

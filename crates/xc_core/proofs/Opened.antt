@@ -1,6 +1,6 @@
 -- A state on a new fabric stands for no entry.
-use Rattle.std.proofs.Common.{◌≡◌, ℕ, [], None, false, refl, sym, ◌∙◌, ap, subst, inl, arith}
-use Rattle.dxc_num.specs.Dimensions.{Dimensions, IsInLimits}
+use Rattle.std.proofs.Common.{◌≡◌, [], None, false, refl, subst, inl}
+use Rattle.dxc_num.specs.Dimensions.{Dimensions}
 use Rattle.dxc_model.specs.Tables.{Board}
 use Rattle.dxc_model.specs.Equipment.{empty_table}
 use Rattle.dxc_model.specs.Histories.{IsCut, IsRestarted}
@@ -13,10 +13,8 @@ use Rattle.roll_engine.proofs.Colouring.{new_at_rest}
 use Rattle.shelf_file.specs.Contents.{Contents}
 use Rattle.xc_recovery.specs.Folds.{none_folded}
 use Rattle.xc_recovery.proofs.Folding.{none_placed}
-use Rattle.xc_core.specs.declared.provisioner.Provisioner.{Provisioner}
 use Rattle.xc_core.specs.declared.state.Home.TheVariants.{In}
-use Rattle.xc_core.specs.declared.state.State.{State}
-use Rattle.xc_core.specs.States.{HomeIs, StandsFor, opening}
+use Rattle.xc_core.specs.States.{StandsFor, opening}
 
 module _ (shelf : Contents) (fabric : FabricId) (sized : IsSize fabric.size) (same : fabric.size.shape ≡ shelf.shape) where
   at_rest : IsAtRestOn fabric.size (no_legs shelf.shape) (new_mover fabric.size)

@@ -1,21 +1,18 @@
 -- A work of the Provisioner, from its plan to its end.
-use Rattle.std.proofs.Common.{◌≡◌, ℕ, ◌+◌, ◌<◌, ◌≤◌, ◌^◌, [], length, Option, Some, None, sym, refl, ap, ap₂, ◌∙◌, subst, arith}
-use Rattle.std.specs.Prelude.{nat_lt, nat_le}
+use Rattle.std.proofs.Common.{◌≡◌, ℕ, ◌+◌, ◌<◌, ◌≤◌, ◌^◌, [], Some, None, sym, refl, ap, ap₂, ◌∙◌, subst, arith}
 use Rattle.dxc_model.specs.declared.op.Op.{Op}
 use Rattle.dxc_model.specs.declared.op.Change.{Change}
-use Rattle.dxc_model.specs.declared.cause.Cause.{Cause}
 use Rattle.dxc_model.specs.Tables.{Board}
 use Rattle.dxc_model.specs.Verdicts.{Grants, effect}
 use Rattle.dxc_model.proofs.Verdicts.{own_verdict}
 use Rattle.roll_plan.specs.declared.work.Work.{Work}
 use Rattle.roll_plan.specs.Works.{ops_writes, switches_in, writes_of}
 use Rattle.paull_matrix.specs.Colourings.{Colouring}
-use Rattle.paull_chain.specs.Works.{AreValidOps, IsValidWork, OpsMade, after_ops}
+use Rattle.paull_chain.specs.Works.{AreValidOps, IsValidWork, after_ops}
 use Rattle.fabric_words.specs.Seats.{FabricId, MoverAt}
 use Rattle.roll_engine.specs.Rollings.{RollingAt, rest_of}
 use Rattle.roll_engine.specs.Courses.{IsReady}
 use Rattle.roll_engine.specs.Answers.{GoesOn}
-use Rattle.roll_engine.specs.Stages.{IsAtRestOn}
 use Rattle.roll_engine.specs.UnderWay.{IsUnderWay, unmade}
 use Rattle.roll_engine.proofs.Running.{drop_none, switch_counted, switches_join}
 use Rattle.roll_engine.proofs.UnderWay.{under_way_begun, under_way_ready, under_way_on, under_way_done}
@@ -26,7 +23,7 @@ use Rattle.xc_recovery.specs.Folds.{Folded, with_change}
 use Rattle.xc_recovery.proofs.Placing.{placed_after}
 use Rattle.xc_recovery.proofs.Spelled.{plans_made}
 use Rattle.xc_core.specs.declared.provisioner.Provisioner.{Provisioner}
-use Rattle.xc_core.specs.Reckonings.{Meets, limit_by}
+use Rattle.xc_core.specs.Reckonings.{limit_by}
 use Rattle.xc_core.specs.Provisioners.{IsHome, Rolls}
 use Rattle.xc_core.specs.Begins.{Starts}
 use Rattle.xc_core.specs.Finishes.{Finishes}

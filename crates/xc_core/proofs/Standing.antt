@@ -1,6 +1,6 @@
 -- A state whose history is one entry longer: a lemma for each outcome, and none but these makes a `StandsFor`.
 use Rattle.std.specs.Prelude.{nat_lt, nat_le, if◌then◌else◌, option_to_list}
-use Rattle.std.proofs.Common.{◌≡◌, ℕ, ◌+◌, ◌^◌, ◌⊎◌, Bool, true, false, List, [], ◌∷◌, ◌++◌, length, length-append, append-nil, Option, Some, None, Ok, Err, refl, sym, ◌∙◌, ap, subst, arith, inl, inr}
+use Rattle.std.proofs.Common.{◌≡◌, ℕ, ◌+◌, ◌^◌, ◌⊎◌, Bool, true, false, List, [], ◌∷◌, ◌++◌, length-append, append-nil, Option, Some, None, Ok, Err, refl, sym, ◌∙◌, ap, subst, arith, inl, inr}
 use Rattle.dxc_model.specs.declared.op.Op.{Op}
 use Rattle.dxc_model.specs.declared.op.Op.TheVariants.{Rows}
 use Rattle.dxc_model.specs.declared.op.Change.{Change}
@@ -11,9 +11,9 @@ use Rattle.dxc_model.specs.declared.entry.Outcome.{Outcome}
 use Rattle.dxc_model.specs.declared.entry.Outcome.TheVariants.{Done, Denied, Failed, Answered, Cut}
 use Rattle.dxc_model.specs.declared.entry.Entry.{Entry}
 use Rattle.dxc_model.specs.Tables.{Board}
-use Rattle.dxc_model.specs.Verdicts.{Grants, Refuses, effect, verdict}
-use Rattle.dxc_model.specs.Steps.{IsLimit, StepsTo, made}
-use Rattle.dxc_model.specs.Histories.{Fits, KeepsLimit, IsCut, IsRestarted, IsFailedRestart, IsStopped, IsRestartDue, changes_of, table_after}
+use Rattle.dxc_model.specs.Verdicts.{Grants, Refuses, effect}
+use Rattle.dxc_model.specs.Steps.{IsLimit, made}
+use Rattle.dxc_model.specs.Histories.{Fits, KeepsLimit, IsCut, IsRestarted, IsFailedRestart, IsStopped, changes_of, table_after}
 use Rattle.dxc_model.proofs.Growth.{changes_append, fits_by, legal_more}
 use Rattle.dxc_model.proofs.Lasting.{lasts_before, lasts_more, lasts_now}
 use Rattle.roll_plan.specs.declared.op.LegOp.{LegOp}

@@ -1,3 +1,4 @@
+use Rattle.std.proofs.Common.{◌∙◌, sym}
 use Rattle.craft_session.proofs.change.roll.Goals as goal
 
 pub drive-requires-clause-rolls : goal.drive-requires-clause-rolls
@@ -7,7 +8,13 @@ pub returns-in-Done-clause-rolls : goal.returns-in-Done-clause-rolls
 returns-in-Done-clause-rolls g c = λ f n op change h. c.drive.ensures.rolls f n op change (c.loop.invariant.rolls f n op change h)
 
 pub loop-preserved : goal.loop-preserved
-loop-preserved g c = ?
+loop-preserved g c = record {
+  goes = (tt, tt);
+  fabric = c.drive.ensures.fabric ∙ c.loop.invariant.fabric;
+  rolls = λ f n op change h. c.drive.ensures.rolls f n op change (c.loop.invariant.rolls f n op change h);
+  work = c.drive.ensures.goes_on.work ∙ c.loop.invariant.work;
+  gate = c.drive.ensures.unstopped (λ is. let no = sym c.in-InFrame.is ∙ is in cc) ∙ c.loop.invariant.gate;
+}
 
 pub returns-in-Stopped-clause-rolls : goal.returns-in-Stopped-clause-rolls
 returns-in-Stopped-clause-rolls g c = λ f n op change h. c.drive.ensures.rolls f n op change (c.loop.invariant.rolls f n op change h)

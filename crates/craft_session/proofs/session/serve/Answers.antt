@@ -1,7 +1,7 @@
 use Rattle.std.proofs.Common.{rules, refl, sym, ◌≡◌, ◌∙◌, arith, false}
 use Rattle.std.proofs.lemmas.Grind.{common_steps}
 use Rattle.std.specs.Arc.{arc_value}
-use Rattle.craft_session.proofs.SessionSteps.{stands_none, stands_piece, stands_quiet, goes_on_is, goes_cut_is, goes_stopped_is, counted_more, served_nothing}
+use Rattle.craft_session.proofs.SessionSteps.{begins_at, stands_begun, stands_none, stands_piece, stands_quiet, goes_on_is, goes_cut_is, goes_stopped_is, counted_more, served_nothing}
 use Rattle.craft_session.proofs.Answering.{moved_whole}
 use Rattle.craft_session.proofs.session.serve.Goals as goal
 use Rattle.craft_session.proofs.session.serve.Goals.{in-Bytes+in-On, in-Quiet}
@@ -66,3 +66,12 @@ loop-preserved g c =
         room = search rules;
       })
     ]
+
+pub returns-in-Cut-clause-write_fault : goal.returns-in-Cut-clause-write_fault
+returns-in-Cut-clause-write_fault g c = λ is. let seat = c.requires.seated in (returns-in-Cut-clause-session g c (begins_at seat.0 seat.1) (stands_begun seat.0 seat.1 _ seat.3)).1.rose
+
+pub returns-in-Failed-clause-read_fault : goal.returns-in-Failed-clause-read_fault
+returns-in-Failed-clause-read_fault g c = λ is.
+    let seat = c.requires.seated in
+    let s = c.loop.invariant.stands (begins_at seat.0 seat.1) (stands_begun seat.0 seat.1 _ seat.3) in
+    omega (arith, s.exchanged.read_later, c.in-Failed.ensures.cause.cause refl)

@@ -6,7 +6,7 @@ use Rattle.craft_session.proofs.Answering.{moved}
 use Rattle.craft_session.proofs.session.serve_piece.Goals as goal
 
 pub loop-at-init : goal.loop-at-init
-loop-at-init g c = record { shelf = refl; fabric = refl; seated = c.requires; link = writes_none _ _; gate = refl; within = omega arith; stands = λ k c0 b s. s }
+loop-at-init g c = record { shelf = refl; fabric = refl; seated = c.requires.seated; link = writes_none _ _; gate = refl; within = omega arith; stands = λ k c0 b s. s }
 
 pub loop-at-preserved : goal.loop-at-preserved
 loop-at-preserved g c =
@@ -31,5 +31,5 @@ pub returns-in_default-clause-goes : goal.returns-in_default-clause-goes
 returns-in_default-clause-goes g c = λ k c0 b s.
     let piece : List ℕ = c.args.piece.now in
     let at : ℕ = c.loop-at.at in
-    goes_ended_is _ _ _ _ _ _ _ _ _ _ _ _ _ _ ?
+    goes_ended_is _ _ _ _ _ _ _ _ _ _ _ _ _ _ (λ is. c.in_default.not-On is)
     (moved arc_value _ _ _ _ _ _ _ _ _ _ _ _ _ c.loop-at.invariant.shelf c.serve_unit.ensures.goes k c0 b _ (stands_on _ _ _ _ _ _ _ _ _ _ piece _ at _ _ (c.loop-at.invariant.stands k c0 b s) (take_rest piece at) c.feed-fed.ensures.fed))
