@@ -1,6 +1,6 @@
 #!/bin/sh
-# What an output byte costs in frames full of joins, beside plain C over the same words: time, and instructions of the loop over
-# outputs where valgrind is there. A word says how many frames are timed.
+# What an output byte costs in frames full of joins, beside plain C over the same words: time, and instructions where valgrind is
+# there. A word says how many frames are timed; CC names the C compiler.
 cd "$(dirname "$0")/.." || exit 1
 frames=${1:-50000}
 made=$(mktemp -d) && trap 'rm -r "$made"' EXIT
@@ -9,11 +9,16 @@ made=$(mktemp -d) && trap 'rm -r "$made"' EXIT
 cp crates/bench_frames/out/bench_frames "$made/proved" || exit 1
 "$made/plain" | cmp - "$made/proved.txt" || exit 1
 
-# Instructions that a program spends in its loop over outputs, a byte: a hundred frames of so many modules and bytes.
+# Instructions of a program that carries so many frames of a network with so many modules.
+total() {
+    valgrind --tool=callgrind --callgrind-out-file=/dev/null "$made/$1" "$2" "$3" 2>&1 | awk '/Collected/ { print $4 }'
+}
+
+# Those of one output byte: what two hundred frames more cost.
 instructions() {
-    valgrind --tool=callgrind --callgrind-out-file="$made/counts" "$made/$1" 100 "$2" >"$made/log" 2>&1 || exit 1
-    callgrind_annotate --threshold=100 "$made/counts" | tr -d , |
-        awk -v bytes="$3" '/carry_outputs/ { sum += $1 } END { printf "%.2f", sum / bytes / 100 }'
+    few=$(total "$1" 100 "$2")
+    many=$(total "$1" 300 "$2")
+    awk -v few="$few" -v many="$many" -v bytes="$3" 'BEGIN { printf "%.2f", (many - few) / 200 / bytes }'
 }
 
 for program in proved plain; do
