@@ -10,6 +10,8 @@ pub mod place;
 mod plays;
 mod reader;
 mod table;
+#[cfg(test)]
+mod tests;
 mod worker;
 
 pub use fabric::Fabric;

@@ -7,8 +7,10 @@ use Rattle.fabric_core.specs.declared.size.Size.{Size}
 use Rattle.fabric_core.specs.declared.worker.Hold.TheVariants.{Empty}
 use Rattle.fabric_core.specs.declared.worker.Note.{Note}
 use Rattle.fabric_core.specs.declared.worker.Worker.{Worker}
+use Rattle.fabric_core.specs.Registers.{in_count, mid_count}
 use Rattle.frame_worker.specs.Frames.{idle, CarriesOne, CarriesFrom, with_notes}
-use Rattle.frame_worker.specs.Rows.{IsWritten}
+use Rattle.frame_worker.specs.declared.outputs.Lanes.{Lanes}
+use Rattle.frame_worker.specs.Rows.{lanes_of, IsWritten}
 
 -- the ports from the first of a module on are the module's
 pub port_in : (d : Dimensions) (j first p : ℕ) → j < d.modules → first ≡ j * d.slots → first ≤ p → p < first + d.slots → (p < ports d) × (module_of d (record { 0 = p }) ≡ j)
@@ -16,6 +18,22 @@ port_in d j first p low is from to =
     let e : p ≡ j * d.slots + (p - first) = omega arith in
     let below : j * d.slots + (p - first) < d.slots * d.modules = mul-add-lt j d.slots (p - first) d.modules low (omega arith) in
     (omega arith, ap (λ (n : ℕ). n / d.slots) e ∙ div-mul-add j d.slots (p - first) (omega arith))
+
+-- where the OUT words of a module begin and end
+pub lane_ends : (d : Dimensions) (j : ℕ) (l : Lanes) → l ≡ lanes_of d j → (l.first ≡ l.outs + j * d.slots) × (l.end ≡ l.first + d.slots)
+lane_ends d j l is =
+    let outs : l.outs ≡ in_count d + mid_count d = ap (λ (t : Lanes). t.outs) is in
+    let first : l.first ≡ (in_count d + mid_count d) + j * d.slots = ap (λ (t : Lanes). t.first) is in
+    (first ∙ ap (λ (n : ℕ). n + j * d.slots) (sym outs), ap (λ (t : Lanes). t.end) is ∙ ap (λ (n : ℕ). n + d.slots) (sym first))
+
+-- the output whose OUT word lies at a place of them
+pub output_at : (d : Dimensions) (j place : ℕ) (l : Lanes) → l ≡ lanes_of d j → j < d.modules → l.first ≤ place → place < l.end
+    → (j * d.slots ≤ place - l.outs) × (place - l.outs < ports d) × (module_of d (record { 0 = place - l.outs }) ≡ j) × (((place - l.outs) + 1) - j * d.slots ≡ ((place + 1) - l.outs) - j * d.slots)
+output_at d j place l is low from to =
+    let at = lane_ends d j l is in let first = at.0 in let end = at.1 in
+    let above : j * d.slots ≤ place - l.outs = omega arith in
+    let port = port_in d j (j * d.slots) (place - l.outs) low refl above (omega arith) in
+    (above, port.0, port.1, omega arith)
 
 pub module_below : (d : Dimensions) (j n : ℕ) → j < d.modules → n ≡ ports d → j * d.slots ≤ n
 module_below d j n low is = let more : j * d.slots ≤ d.modules * d.slots = mul-le j d.slots d.modules d.slots (omega arith) (omega arith) in omega arith

@@ -1,5 +1,5 @@
 -- A frame as it is written, module by module.
-use Rattle.std.specs.Prelude.{◌≡◌, ℕ, ◌+◌, List, length, take, drop}
+use Rattle.std.specs.Prelude.{◌≡◌, ℕ, ◌+◌, ◌*◌, List, length, take, drop}
 use Rattle.dxc_num.specs.Dimensions.{Dimensions}
 use Rattle.fabric_core.specs.declared.size.Size.{Size}
 use Rattle.fabric_core.specs.declared.worker.Note.{Note}
@@ -9,7 +9,15 @@ use Rattle.frame_worker.specs.Frames.{CarriesFrom}
 
 -- where the words of the output module j lie
 abbrev pub lanes_of : Dimensions → ℕ → Lanes
-lanes_of d j = record { modules = d.modules; slots = d.slots; mids = in_count d + j; outs = in_count d + mid_count d }
+lanes_of d j =
+    let outs : ℕ = in_count d + mid_count d in record {
+      modules = d.modules;
+      slots = d.slots;
+      mids = in_count d + j;
+      outs = outs;
+      first = outs + j * d.slots;
+      end = (outs + j * d.slots) + d.slots;
+    }
 
 -- n outputs from the output `first` on were written, and nothing in front of them
 pub record IsWritten (z : Size) (w : ℕ) (input : List ℕ) (first n : ℕ) (old new : List ℕ) (ns : List Note) : Type 0 where

@@ -6,7 +6,7 @@ ghost use Rattle.fabric_core.specs.Working.{CanBegin};
 ghost use Rattle.frame_worker.specs.Frames.{IsFrame, after_frame};
 ghost use Rattle.frame_worker.specs.Rows.{IsWritten};
 
-use crate::outputs::{IDLE, carry_outputs};
+use crate::outputs::{IDLE, Lanes, carry_outputs};
 use dxc_num::Shape;
 use fabric_words::{Fabric, WorkerSeat};
 
@@ -22,7 +22,15 @@ pub fn carry_frame(fabric: &Fabric, seat: &mut WorkerSeat, input: &[u8], output:
     seat.begin_frame(fabric);
     for output_module in 0..fabric.shape().modules() {
         if output_module % fabric.workers() == seat.number() {
-            carry_outputs(fabric, &mut seat.reader, output_module, input, output);
+            let lanes = Lanes::of(fabric.shape(), output_module);
+            carry_outputs(
+                fabric,
+                &mut seat.reader,
+                output_module,
+                lanes,
+                input,
+                output,
+            );
         } else {
             idle_outputs(fabric.shape(), output_module, output);
         }

@@ -4,6 +4,8 @@
 mod carry;
 mod lines;
 mod outputs;
+#[cfg(test)]
+mod tests;
 
 pub use carry::carry_frame;
 pub use lines::{LinesEnd, run_lines};

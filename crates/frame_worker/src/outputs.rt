@@ -5,6 +5,7 @@ ghost use Rattle.fabric_core.specs.declared.worker.Hold.TheVariants.{Empty};
 ghost use Rattle.fabric_core.specs.declared.worker.Note.{Note};
 ghost use Rattle.fabric_core.specs.State.{IsSize};
 ghost use Rattle.fabric_core.specs.Working.{Runs, CanLoadOut};
+ghost use Rattle.fabric_words.specs.Places.{out_place};
 ghost use Rattle.frame_worker.specs.Frames.{CarriesOne, with_notes};
 ghost use Rattle.frame_worker.specs.Rows.{lanes_of, IsWritten};
 
@@ -15,40 +16,59 @@ use fabric_words::{Fabric, Reader};
 /// The byte of an output that carries nothing.
 pub const IDLE: u8 = 0x7F;
 
-/// Where the words of an output module lie: its MID word of the middle that an OUT word names is `modules` times that name behind `mids`.
+/// Where the words of an output module lie, from its first output's OUT word to behind its last one's. Its MID word of the middle that an
+/// OUT word names is `modules` times that name behind `mids`. A port's OUT word is so many behind `outs`.
+///
+/// It is made by the caller of the loop over outputs, so that the loop counts by places alone.
 #[derive(Clone, Copy)]
 pub(crate) struct Lanes {
     modules: usize,
     slots: usize,
     mids: usize,
     outs: usize,
+    first: usize,
+    end: usize,
 }
 
 impl Lanes {
-    fn of(shape: Shape, output_module: u16) -> Lanes
+    pub(crate) fn of(shape: Shape, output_module: u16) -> Lanes
         ensures { result ≡ lanes_of shape output_module }
     {
+        let module = output_module as usize;
+        let slots = shape.slots() as usize;
+        let outs = cell::ins(shape) + cell::mids(shape);
+        let first = outs + module * slots;
         Lanes {
             modules: shape.modules() as usize,
-            slots: shape.slots() as usize,
-            mids: cell::ins(shape) + output_module as usize,
-            outs: cell::ins(shape) + cell::mids(shape),
+            slots,
+            mids: cell::ins(shape) + module,
+            outs,
+            first,
+            end: first + slots,
         }
     }
 }
 
 /// The byte of one output.
 #[inline(always)]
-fn carry_one(fabric: &Fabric, reader: &mut Reader, lanes: Lanes, output: Port, input: &[u8]) -> u8
+fn carry_one(
+    fabric: &Fabric,
+    reader: &mut Reader,
+    lanes: Lanes,
+    output: Port,
+    place: usize,
+    input: &[u8],
+) -> u8
     requires own { reader.old.fabric ≡ fabric.now }
     requires size { IsSize reader.old.fabric.size }
     requires allowed { CanLoadOut reader.old.fabric.size output reader.old.worker }
     requires lanes { lanes ≡ lanes_of reader.old.fabric.size.shape (module_of reader.old.fabric.size.shape output) }
+    requires place { place ≡ out_place reader.old.fabric.size.shape output }
     requires room { length input.now ≡ ports reader.old.fabric.size.shape }
     ensures fabric { reader.new.fabric ≡ reader.old.fabric }
     ensures carried { (ns : List Note) × (reader.new.worker ≡ with_notes ns reader.old.worker) × CarriesOne reader.old.fabric.size reader.old.worker.number input.now output ns result }
 {
-    let word = reader.load_out(fabric, output, lanes.outs + output.0 as usize);
+    let word = reader.load_out(fabric, output, place);
     if word == 0 {
         return IDLE;
     }
@@ -64,21 +84,22 @@ pub(crate) fn carry_outputs(
     fabric: &Fabric,
     reader: &mut Reader,
     output_module: u16,
+    lanes: Lanes,
     input: &[u8],
     output: &mut [u8],
 )
     requires own { reader.old.fabric ≡ fabric.now }
     requires size { IsSize reader.old.fabric.size }
     requires runs { Runs reader.old.worker × (reader.old.worker.hold ≡ Empty) }
+    requires lanes { lanes ≡ lanes_of reader.old.fabric.size.shape output_module }
     requires place { (output_module < reader.old.fabric.size.shape.modules) × (output_module % reader.old.fabric.size.workers ≡ reader.old.worker.number) }
     requires room { (length input.now ≡ ports reader.old.fabric.size.shape) × (length output.old ≡ ports reader.old.fabric.size.shape) }
     ensures fabric { reader.new.fabric ≡ reader.old.fabric }
     ensures carried { (ns : List Note) × (reader.new.worker ≡ with_notes ns reader.old.worker) × IsWritten reader.old.fabric.size reader.old.worker.number input.now (output_module * reader.old.fabric.size.shape.slots) reader.old.fabric.size.shape.slots output.old output.new ns }
 {
-    let shape = fabric.shape();
-    let lanes = Lanes::of(shape, output_module);
-    let first = output_module * shape.slots();
-    for port in first..first + shape.slots() {
-        output[port as usize] = carry_one(fabric, reader, lanes, Port(port), input);
+    let _ = output_module;
+    for place in lanes.first..lanes.end {
+        let port = place - lanes.outs;
+        output[port] = carry_one(fabric, reader, lanes, Port(port as u16), place, input);
     }
 }
