@@ -2,9 +2,9 @@
 use Rattle.std.specs.Prelude.{◌≡◌, ◌≢◌, ℕ, ◌≤◌, List, ◌++◌, length, take, Option, Some}
 use Rattle.dxc_causes.specs.Causes.{HasCause}
 use Rattle.dxc_outside.specs.declared.opened.Opened.{Opened}
-use Rattle.dxc_outside.specs.declared.opened.Opened.TheVariants.{Open, Failed}
+use Rattle.dxc_outside.specs.declared.opened.Opened.TheVariants.{Open, Failed, NoMemory}
 
--- what it holds is told or not; the count always is
+-- which shelf files it holds is told or not; the count always is
 pub record OpenerState : Type 0 where
   -- the bytes of the shelf file of a name, where there is one
   pub shelf_at : List ℕ → Option (List ℕ)
@@ -36,4 +36,23 @@ pub record IsShelfRead (told : Type 0) (old new : OpenerState) (opened : Opened 
   pub opens : opened ≡ Open tt → Appended told old name old_into new_into
   pub keeps : opened ≢ Open tt → new_into ≡ old_into
   pub holds : told → (n : List ℕ) → new.shelf_at n ≡ old.shelf_at n
+  pub cause : HasCause old.faults new.faults (opened ≡ Failed)
+
+-- nothing was opened
+abbrev pub IsClosed : {T : Type 0} → Opened T → Type 0
+IsClosed (Open x) = ⊥
+IsClosed Failed = Unit {0}
+IsClosed NoMemory = Unit {0}
+
+-- the disk that was handed out is the one that was there; where none was, it stays
+abbrev pub Hands : {J : Type 0} → Opened J → Option J → Option J → Type 0
+Hands (Open d) before left = before ≡ Some d
+Hands Failed before left = left ≡ before
+Hands NoMemory before left = left ≡ before
+
+-- one opening of the journal of a name, by the disks of all names before and after it
+pub record IsJournalOpening {J : Type 0} (told : Type 0) (old new : OpenerState) (old_at new_at : List ℕ → Option J) (opened : Opened J) (name : List ℕ) : Type 0 where
+  pub hands : told → Hands opened (old_at name) (new_at name)
+  pub others : told → (n : List ℕ) → n ≢ name → new_at n ≡ old_at n
+  pub shelves : told → (n : List ℕ) → new.shelf_at n ≡ old.shelf_at n
   pub cause : HasCause old.faults new.faults (opened ≡ Failed)

@@ -1,6 +1,6 @@
-//! What the product asks of its surroundings, as traits: a link, a clock, a gate and lines, each with a fake in memory
-//! and an adapter over the operating system. What a call says of counts and ranges holds for each of them; what it says
-//! of content holds for those that tell it, which the fakes do and the adapters don't.
+//! What the product asks of its surroundings, as traits: a link, a clock, a gate, lines, and an opener of files and disks,
+//! each with a fake in memory and an adapter over the operating system. What a call says of counts and ranges holds for
+//! each of them; what it says of content holds for those that tell it, which the fakes do and the adapters don't.
 #![tactic(auto)]
 
 mod always_go;
