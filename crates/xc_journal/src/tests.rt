@@ -60,9 +60,9 @@ fn records_and_back(rt: HostRuntime) -> Result<(), Fail> {
     ];
     for (change, choices, bytes) in rows {
         let mut list: ArrayVec<Choice, 2> = ArrayVec::new();
-        for choice in choices {
-            list.push(*choice);
-        }
+        list.try_extend_from_slice(choices)
+            .ok()
+            .ok_or("two choices at most")?;
         let record = record_of(&change, &list);
         assert_eq!(rt; record[0], 0xA5);
         assert_eq!(rt; &record[1..14], bytes.as_slice());
