@@ -10,3 +10,4 @@ pub mod Saying
 pub mod Answering
 pub mod Users
 pub mod Scripts
+pub mod Completing

@@ -1,21 +1,28 @@
 -- What is true of every session's run.
-use Rattle.std.specs.Prelude.{◌≡◌, ℕ, List, ◌++◌}
+use Rattle.std.specs.Prelude.{◌≡◌, ℕ, false, None, List, ◌++◌}
 use Rattle.std.specs.List.{AllByRecursion}
 use Rattle.dxc_outside.specs.declared.clock.Moment.{Moment}
 use Rattle.dxc_outside.specs.Items.{Item}
+use Rattle.dxc_model.specs.declared.conn.Conn.{Conn}
+use Rattle.dxc_model.specs.declared.op.Op.TheVariants.{Enter}
+use Rattle.dxc_model.specs.declared.op.Change.TheVariants as change
 use Rattle.dxc_model.specs.declared.entry.Entry.{Entry}
 use Rattle.dxc_model.specs.declared.user.SessionUser.{SessionUser}
 use Rattle.dxc_model.specs.declared.user.SessionUser.TheVariants.{Nobody}
 use Rattle.dxc_model.specs.Tables.{Board}
+use Rattle.dxc_model.specs.Operations.{ArePorts}
+use Rattle.dxc_model.specs.Denials.{names_unequipped, needs_used_side}
+use Rattle.dxc_model.specs.Verdicts.{effect}
 use Rattle.dxc_model.specs.Histories.{IsLegal, changes_of, table_after}
 use Rattle.tl1_text.specs.Units.{Input, IsRest}
 use Rattle.xc_core.specs.States.{LimitIs, Opening, rules_of}
 use Rattle.craft_session.specs.Acting.{IsOwn}
-use Rattle.craft_session.specs.Asks.{Language}
+use Rattle.craft_session.specs.declared.ask.Ask.TheVariants.{Changes}
+use Rattle.craft_session.specs.Asks.{Language, Reply, completed}
 use Rattle.craft_session.specs.Happenings.{Happening, Happens, bytes_in, units_in}
 use Rattle.craft_session.specs.Walks.{own}
 use Rattle.craft_session.specs.Runs.{Walk, Run}
-use Rattle.craft_session.specs.Plain.{At, Responds}
+use Rattle.craft_session.specs.Plain.{At, Replies, Responds}
 
 -- of the same bytes the same units happen
 abbrev pub AreUnitsAlone : Type 0
@@ -34,3 +41,14 @@ ArePlayed = (l : Language Input Moment) (o : Opening) (past : List Entry) (w : W
 abbrev pub AreResponsesOnce : Type 0
 AreResponsesOnce = (l : Language Input Moment) (o : Opening) (a b c : At) (us : List Input) (ms : List Moment) (out other : List ℕ)
     → Responds l (LimitIs o) a us ms out b → Responds l (LimitIs o) a us ms other c → (out ≡ other) × (b ≡ c)
+
+-- an entry can be made: its ports are two of the shape, on equipped modules, and the sides that its legs need are free
+pub record CanBeEntered (t : Board) (c : Conn) : Type 0 where
+  pub ports : ArePorts t.shape c.from c.to
+  pub equipped : names_unequipped t (Enter c) ≡ false
+  pub free : needs_used_side t (Enter c) ≡ false
+
+-- an entry that unit and user allow, that can be made and meets no limit, is completed: the table has it then
+abbrev pub EntriesAreCompleted : Type 0
+EntriesAreCompleted = (o : Opening) (a b : At) (c : Conn) (r : Reply) → CanBeEntered a.table c → LimitIs o a.changes (change.Enter c) None → Replies (LimitIs o) a (Changes (Enter c)) r b
+    → (r ≡ completed) × (b.table ≡ effect a.table (change.Enter c))

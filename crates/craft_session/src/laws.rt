@@ -1,5 +1,5 @@
 //! What is true of every session's run, as the contract of a function without parameters.
-ghost use Rattle.craft_session.specs.Laws.{AreUnitsAlone, ArePlayed, AreResponsesOnce};
+ghost use Rattle.craft_session.specs.Laws.{AreUnitsAlone, ArePlayed, AreResponsesOnce, EntriesAreCompleted};
 
 /// What was read determines the units, however it was cut into pieces and wherever nothing came for a time.
 pub fn units_are_alone()
@@ -15,4 +15,10 @@ pub fn runs_are_played()
 /// The plain session is one: the units and the moments determine what it writes.
 pub fn responses_are_one()
     ensures { AreResponsesOnce }
+{}
+
+/// An entry between two free ports of equipped modules is completed, unless a stop comes first: there is always a middle for
+/// it, or circuits that can be moved.
+pub fn entries_are_completed()
+    ensures { EntriesAreCompleted }
 {}

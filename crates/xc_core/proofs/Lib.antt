@@ -3,3 +3,4 @@ pub mod Granting
 pub mod Standing
 pub mod Rolling
 pub mod Opened
+pub mod Moves
