@@ -9,3 +9,4 @@ pub mod Making
 pub mod Planning
 pub mod Equipped
 pub mod Replaying
+pub mod Staging
