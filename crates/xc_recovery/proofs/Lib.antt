@@ -10,3 +10,4 @@ pub mod Planning
 pub mod Equipped
 pub mod Replaying
 pub mod Staging
+pub mod Worded
