@@ -68,6 +68,13 @@ impl Matrix {
         self.shape
     }
 
+    /// What each output port is connected to: the input of its leg, and its middle.
+    pub fn routes(&self) -> &[Option<Route>]
+        ensures { result.now ≡ self.now.routes }
+    {
+        &self.routes
+    }
+
     /// The middle of a leg. None exactly where the leg isn't held.
     pub fn middle_of(&self, leg: Leg) -> Option<Middle>
         requires { IsInside self.now.shape leg }

@@ -9,3 +9,5 @@ pub mod Making
 pub mod Planning
 pub mod Equipped
 pub mod Replaying
+pub mod Staging
+pub mod Worded

@@ -1,5 +1,6 @@
-//! What holds of the folds and works of all journals, as the contracts of functions without parameters.
+//! What holds of the folds and works of all journals, and of the stages of works, as the contracts of functions without parameters.
 ghost use Rattle.xc_recovery.specs.Laws.{ChoicesAreSpelled, FoldsAreDetermined, FoldsArePlaced, FoldsBegin, FoldsGoOn, LastWorksAreValid, PlansAreMade, PlansAreOne, PlansAreRecorded, WorksAreValid};
+ghost use Rattle.xc_recovery.specs.Stages.{StagesAreWords};
 
 /// Records come to one thing; what more of them come to goes on from what the first ones do; table and colouring stand for
 /// the same legs; and the last work is valid on what the records before it come to.
@@ -20,4 +21,9 @@ pub fn works()
     ensures made { PlansAreMade }
     ensures recorded { PlansAreRecorded }
     ensures once { PlansAreOne }
+{}
+
+/// A stage is told by the words of the registers, the numbers of switches aside, and the phase.
+pub fn stages()
+    ensures { StagesAreWords }
 {}

@@ -1,8 +1,9 @@
 //! How a controller takes up its journal: each record's change on the table, with its work on the colouring, from no
-//! connection on. And the work of one change, planned or by given choices.
+//! connection on. The work of one change, planned or by given choices; and the stage of a work at which registers are.
 #![tactic(auto)]
 
 mod choices;
+mod course;
 mod fault;
 mod fold;
 pub mod laws;
@@ -10,6 +11,7 @@ mod leg_task;
 mod make;
 mod plan;
 mod record;
+mod stage;
 #[cfg(test)]
 mod tests;
 
@@ -19,3 +21,4 @@ pub use fold::replay;
 pub use leg_task::{LegTask, tasks_of};
 pub use make::work_of;
 pub use plan::plan_work;
+pub use stage::{Stage, stage_of};

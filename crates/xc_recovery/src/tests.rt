@@ -15,6 +15,7 @@ mod bad;
 mod faults;
 mod good;
 mod plans;
+mod stages;
 
 // Bytes 1 to 13 of a record. Byte 0 is its seal, and the rest are zeros.
 type Record = [u8; 13];
