@@ -2,6 +2,8 @@
 ghost use Rattle.std.specs.Prelude.{◌≤◌};
 ghost use Rattle.dxc_outside.specs.Moments.{IsMoment};
 
+mod registers;
+
 use crate::{Status, dxc_run};
 use dxc_outside::{AlwaysGo, Gate, MemClock, MemGate, MemLink, MemOpener, Moment, Name};
 use shelf_file::{ShelfFault, ShelfKey};
