@@ -1,5 +1,5 @@
 use Rattle.craft_session.proofs.Scripts.{not_words, named}
 use Rattle.craft_session.proofs.run.dxc_run.Goals as goal
 
-pub returns-in-Ok-clause-words : goal.returns-in-Ok-clause-words
-returns-in-Ok-clause-words g c = (λ is. absurd (not_words _ _ _ _ _ _ _ _ _ _ c.run_on.ensures is), λ is. absurd (named _ _ _ _ c.shelf_named.ensures c.in-Some.is is))
+pub returns-in-Open-clause-words : goal.returns-in-Open-clause-words
+returns-in-Open-clause-words g c = (λ is. absurd (not_words _ _ _ _ _ _ _ _ _ _ _ _ _ _ c.run_on.ensures is), λ is. absurd (named _ _ _ _ c.line_of.ensures c.in-Some.is is))
