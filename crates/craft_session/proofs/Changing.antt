@@ -10,12 +10,13 @@ use Rattle.dxc_model.specs.declared.entry.Entry.{Entry}
 use Rattle.dxc_model.specs.declared.entry.Outcome.TheVariants as outcome
 use Rattle.dxc_model.specs.Tables.{Board}
 use Rattle.dxc_model.specs.Verdicts.{effect}
+use Rattle.journal_core.specs.declared.book.Book.{Book}
 use Rattle.roll_engine.specs.Rollings.{RollingAt, rest_of}
 use Rattle.fabric_words.specs.Seats.{FabricId}
 use Rattle.xc_recovery.proofs.Placing.{effect_shape}
 use Rattle.xc_core.specs.declared.provisioner.Provisioner.{Provisioner}
-use Rattle.xc_core.specs.declared.provisioner.Begun.{Begun}
-use Rattle.xc_core.specs.declared.provisioner.Begun.TheVariants as begun
+use Rattle.xc_core.specs.declared.beginning.Begun.{Begun}
+use Rattle.xc_core.specs.declared.beginning.Begun.TheVariants as begun
 use Rattle.xc_core.specs.declared.state.Home.{Home}
 use Rattle.xc_core.specs.declared.state.Home.TheVariants.{In, Out}
 use Rattle.xc_core.specs.declared.state.State.{State}
@@ -55,7 +56,7 @@ module _ {D : Type 0} (told : Type 0) (state : D → DiskState) where
     on_fabric i seat = ap (λ (g : Ground). g.fabric) (ready_home told state seat.0 s seat.1 seat.3 p is ready).ground ∙ seat.2
 
     -- a call planned an operation on the state that is left
-    module _ (op : Op) (q : Provisioner D) (same : ground_of q ≡ ground_of p) (left : State D) (table : left.table ≡ s.table) (how : Begun) (begins : (b : Past) → IsHome told state b p → b.fold.table ≡ left.table → BegunIs told state b op p q how) where
+    module _ (op : Op) (q : Provisioner D) (same : ground_of q ≡ ground_of p) (later : (state p.journal.0).faults ≤ (state q.journal.0).faults) (left : State D) (table : left.table ≡ s.table) (how : Begun) (begins : (b : Past) → IsHome told state b p → b.fold.table ≡ left.table → BegunIs told state b op p q how) where
       module _ (o : Opening) (h : List Entry) (st : StandsFor told state o s h) where
         abbrev taken : IsReadyAfter told state o st.now h p
         taken = ready_home told state o s h st p is ready
@@ -69,13 +70,13 @@ module _ {D : Type 0} (told : Type 0) (state : D → DiskState) where
             let x = subst (λ (y : Begun). BegunIs told state st.now op p q y) how_is said in
             subst (λ (y : State D). ChangedIs told state o h op s y (Denied cause)) (sym after_is) (elim x.1 [
               | inl same_as ↦ elim same_as.0 [
-                | inl r ↦ inl (stands_denied told state o s h st own op p q taken left.table table same cause r same_as.1)
-                | inr l ↦ inr (inl (over_limit st.now op cause l), stands_failed told state o s h st own op p q taken left.table table same cause l same_as.1)
+                | inl r ↦ inl (stands_denied told state o s h st own op p q taken left.table table same later cause r same_as.1)
+                | inr l ↦ inr (inl (over_limit st.now op cause l), stands_failed told state o s h st own op p q taken left.table table same later cause l same_as.1)
               ]
               | inr fault ↦ (let f = faulty (how_is ∙ ap begun.Denied fault.0) in
                   inr (
                     inr (at_first (λ (a : DiskState). IsFaultyDisk 1 a (state q.journal.0)) f, fault.0),
-                    subst (λ (y : Cause). StandsFor told state o (record { table = left.table; home = In q }) (h ++ entry own op (outcome.Failed y) ∷ [])) (sym fault.0) (stands_faulted told state o s h st own op p q taken left.table table same fault.1 fault.2 x.0),
+                    subst (λ (y : Cause). StandsFor told state o (record { table = left.table; home = In q }) (h ++ entry own op (outcome.Failed y) ∷ [])) (sym fault.0) (stands_faulted told state o s h st own op p q taken left.table table same later fault.1 fault.2 f.rose x.0),
                   ))
             ])
 
@@ -84,13 +85,13 @@ module _ {D : Type 0} (told : Type 0) (state : D → DiskState) where
         was_held after how_is after_is =
             let x = subst (λ (y : Begun). BegunIs told state st.now op p q y) how_is said in
             subst (λ (y : State D). ChangedIs told state o h op s y Stopped) (sym after_is)
-            (stands_held told state o s h st own op p (with_halt true q) taken left.table table same x.1 (ap (with_halt true) x.2))
+            (stands_held told state o s h st own op p (with_halt true q) taken left.table table same later x.1 (ap (λ (y : Provisioner D). with_halt true y) x.2))
 
         -- its work was planned
         pub was_planned : (r : RollingAt) → how ≡ begun.Rolling r → HasBegun told state o h op left q r
         was_planned r how_is =
             let x = subst (λ (y : Begun). BegunIs told state st.now op p q y) how_is said in
-            record { whole = s; before = p; home_is = is; was_ready = ready; stands = st; table = table; ground = same; change = x.change; within = x.within; rolls = x.rolls }
+            record { whole = s; before = p; home_is = is; was_ready = ready; stands = st; table = table; ground = same; later = later; change = x.change; within = x.within; rolls = x.rolls }
 
       -- and is under way
       pub may_carry_out : (i : FabricId) → IsSeated told state i s → (r : RollingAt) → how ≡ begun.Rolling r → (b : Past) × (x : Op) × (c : Change) × Rolls told state b x c q r × (b.fold.table ≡ left.table)
@@ -102,24 +103,28 @@ module _ {D : Type 0} (told : Type 0) (state : D → DiskState) where
     abbrev was : IsReadyAfter told state o b.stands.now h b.before
     was = ready_home told state o b.whole h b.stands b.before b.home_is b.was_ready
 
+    -- its disk is the one that the planning left
+    later_by : (x : Provisioner D) → x.journal ≡ p.journal → (state b.before.journal.0).faults ≤ (state x.journal.0).faults
+    later_by x same = subst (λ (j : D × Book). (state b.before.journal.0).faults ≤ (state j.0).faults) (sym same) b.later
+
     -- all its writes were made, and the table took it
     pub was_done : (whole : State D) (t : RollingAt) (q x : Provisioner D) (after : State D) (table : Board) (answer : Change)
         → ((f : Past) (y : Op) (c : Change) → Rolls told state f y c p r → Rolls told state f y c q t)
         → ((f : Past) (y : Op) (c : Change) → Rolls told state f y c q t → f.fold.table ≡ s.table → Finishes told state f c t table x answer)
-        → ground_of x ≡ ground_of p → after ≡ record { table = table; home = In x } → ChangedIs told state o h op whole after Done
-    was_done whole t q x after table answer goes finishes ground is =
+        → ground_of x ≡ ground_of p → x.journal ≡ p.journal → after ≡ record { table = table; home = In x } → ChangedIs told state o h op whole after Done
+    was_done whole t q x after table answer goes finishes ground journal is =
         let rolls = goes b.stands.now op b.change b.rolls in
         let end = finishes b.stands.now op b.change rolls (sym b.stands.table ∙ sym b.table) in
         subst (λ (y : State D). ChangedIs told state o h op whole y Done) (sym is)
-        (b.change, stands_done told state o b.whole h b.stands own op b.before x was s.table b.table (ground ∙ b.ground) b.change t.work.ops.items table (end.table_is ∙ ap (λ (y : Board). effect y b.change) (sym b.stands.table)) rolls.granted rolls.planned b.within end.home end.settled)
+        (b.change, stands_done told state o b.whole h b.stands own op b.before x was s.table b.table (ground ∙ b.ground) (later_by x journal) b.change t.work.ops.items table (end.table_is ∙ ap (λ (y : Board). effect y b.change) (sym b.stands.table)) rolls.granted rolls.planned b.within end.home end.settled)
 
     -- a stop came
-    pub was_stopped : (whole : State D) (t : RollingAt) (q : Provisioner D) (after : State D) → ((f : Past) (y : Op) (c : Change) → Rolls told state f y c p r → Rolls told state f y c q t) → ground_of q ≡ ground_of p
+    pub was_stopped : (whole : State D) (t : RollingAt) (q : Provisioner D) (after : State D) → ((f : Past) (y : Op) (c : Change) → Rolls told state f y c p r → Rolls told state f y c q t) → ground_of q ≡ ground_of p → q.journal ≡ p.journal
         → after ≡ record { table = s.table; home = In (with_halt true q) } → ChangedIs told state o h op whole after Stopped
-    was_stopped whole t q after goes ground is =
+    was_stopped whole t q after goes ground journal is =
         let rolls = goes b.stands.now op b.change b.rolls in
         subst (λ (y : State D). ChangedIs told state o h op whole y Stopped) (sym is)
-        (stands_cut told state o b.whole h b.stands own op b.before (with_halt true q) was s.table b.table (ground ∙ b.ground) b.change t b.within (halted rolls) refl)
+        (stands_cut told state o b.whole h b.stands own op b.before (with_halt true q) was s.table b.table (ground ∙ b.ground) (later_by q journal) b.change t b.within (halted rolls) refl)
       where
         halted : Rolls told state b.stands.now op b.change q t → Rolls told state b.stands.now op b.change (with_halt false (with_halt true q)) t
         halted x = record { ready = refl; matrix = x.matrix; placed = x.placed; doubt = x.doubt; granted = x.granted; planned = x.planned; journalled = x.journalled; under_way = x.under_way; switches = x.switches; changes = x.changes; few = x.few }

@@ -11,3 +11,5 @@ pub mod Answering
 pub mod Users
 pub mod Scripts
 pub mod Completing
+pub mod Checking
+pub mod Started

@@ -139,7 +139,8 @@ module _ {D : Type 0} (disk : Type 0) (state : D → DiskState) (l : Language In
       happened = unit_ended items p.walk.happenings rest u p.happened is;
       gave = p.gave;
       run = p.run;
-      alone = p.keeps.alone;
+      at = now.state;
+      keeps = p.keeps;
       user = same ∙ p.user;
       stops = subst (λ (s : SessionUser). Stops disk state b.opening (b.past ++ p.walk.history) (l.asks s u) after.state) p.user (stops b.opening (b.past ++ p.walk.history) p.keeps.stands);
       written = p.written;

@@ -1,5 +1,5 @@
 -- A changing command of a session, by the entry that it makes.
-use Rattle.std.specs.Prelude.{◌≡◌, ◌⊎◌, List, [], ◌∷◌, ◌++◌, false, None}
+use Rattle.std.specs.Prelude.{◌≡◌, ◌≤◌, ◌⊎◌, List, [], ◌∷◌, ◌++◌, false, None}
 use Rattle.dxc_disk.specs.Disks.{DiskState}
 use Rattle.dxc_model.specs.declared.cause.Cause.TheVariants.{DiskFault}
 use Rattle.dxc_model.specs.declared.op.Op.{Op}
@@ -35,6 +35,7 @@ module _ {D : Type 0} (told : Type 0) (state : D → DiskState) where
     pub stands : StandsFor told state o whole h
     pub table : s.table ≡ whole.table
     pub ground : ground_of p ≡ ground_of before
+    pub later : (state before.journal.0).faults ≤ (state p.journal.0).faults
     pub change : TableChange
     pub within : Meets stands.now change None
     pub rolls : Rolls told state stands.now op change p r

@@ -98,7 +98,8 @@ module _ (l : Language Input Moment) where
       pub happened : Happens items (before.happenings ++ unit last ∷ []) []
       pub gave : clock_told → Gives c d before.moments
       pub run : Run l own (table_at b) before
-      pub alone : AllByRecursion (IsOwn (IsFaulty state (length before.moments) b.state now.state)) before.history
+      pub at : State D
+      pub keeps : Keeps disk_told state b (length before.moments) before.history at
       pub user : now.user ≡ before.user
       pub stops : Stops disk_told state b.opening (b.past ++ before.history) (l.asks before.user last) now.state
       pub written : out ≡ before.earlier ++ before.latest

@@ -1,12 +1,17 @@
 -- The program's words, what it writes, and its status.
-use Rattle.std.specs.Prelude.{◌≡◌, ◌≢◌, ◌↔◌, ◌^◌, ◌+◌, ◌*◌, ◌≤◌, ℕ, length, decimal, flat_map, ◌==◌, ◌⊎◌, Bool, false, true, not, ◌&&◌, if◌then◌else◌, List, [], ◌∷◌, ◌++◌, Option, Some, None, codes, IsTrue}
+use Rattle.std.specs.Prelude.{◌≡◌, ◌≢◌, ◌↔◌, ◌^◌, ◌+◌, ◌*◌, ◌≤◌, ◌<◌, ℕ, length, decimal, flat_map, ◌==◌, ◌⊎◌, Bool, false, true, not, ◌&&◌, if◌then◌else◌, List, [], ◌∷◌, ◌++◌, Option, Some, None, codes, IsTrue}
 use Rattle.std.specs.Str.{bytes_eq}
+use Rattle.std.specs.List.{AllByRecursion}
 use Rattle.dxc_causes.specs.Causes.{Rose, Counted}
 use Rattle.dxc_outside.specs.declared.clock.Moment.{Moment}
 use Rattle.dxc_outside.specs.Items.{Item, bytes}
 use Rattle.dxc_outside.specs.Links.{LinkState, Exchanged, IsSent}
 use Rattle.dxc_outside.specs.Openings.{OpenerState, IsShelfPart}
+use Rattle.dxc_model.specs.declared.user.SessionUser.{SessionUser}
 use Rattle.dxc_model.specs.declared.user.SessionUser.TheVariants.{Nobody}
+use Rattle.dxc_model.specs.declared.entry.Entry.{Entry}
+use Rattle.dxc_model.specs.declared.entry.Outcome.TheVariants.{Cut}
+use Rattle.dxc_model.specs.Histories.{IsLegal}
 use Rattle.tl1_text.specs.Units.{Input, IsStream}
 use Rattle.shelf_file.specs.declared.fault.ShelfFault.TheVariants as fault
 use Rattle.shelf_file.specs.Contents.{Contents, IsShelf}
@@ -15,7 +20,7 @@ use Rattle.craft_session.specs.declared.run.Status.{Status}
 use Rattle.craft_session.specs.declared.run.Status.TheVariants.{Done, BadWords, BadShelf, BadJournal, Disk, CannotOpen, NoMemory, Link, Stopped, Spent}
 use Rattle.craft_session.specs.declared.end.SessionEnd.{SessionEnd}
 use Rattle.craft_session.specs.declared.end.SessionEnd.TheVariants.{End, ReadFault, WriteFault, Stopped as SessionStopped, Spent as SessionSpent}
-use Rattle.craft_session.specs.Happenings.{bytes_in}
+use Rattle.craft_session.specs.Happenings.{Happens, bytes_in, unit, units_in}
 use Rattle.craft_session.specs.Meanings.{language}
 use Rattle.craft_session.specs.Moments.{Gives}
 use Rattle.dxc_model.specs.declared.op.Op.{Op}
@@ -36,7 +41,7 @@ use Rattle.dxc_model.specs.declared.op.Selection.TheVariants.{All}
 use Rattle.dxc_model.specs.Tables.{rows}
 use Rattle.xc_core.specs.declared.state.Home.{Home}
 use Rattle.xc_core.specs.declared.state.Home.TheVariants.{In, Out}
-use Rattle.xc_core.specs.States.{LimitBehind, Opening, StandsFor}
+use Rattle.xc_core.specs.States.{LimitBehind, Opening, StandsFor, faults_in, rules_of}
 use Rattle.craft_session.specs.declared.run.JournalBad.TheVariants.{Header, Record}
 use Rattle.craft_session.specs.declared.run.Mode.{Mode}
 use Rattle.craft_session.specs.declared.run.Mode.TheVariants.{Script, Check}
@@ -44,6 +49,9 @@ use Rattle.craft_session.specs.declared.run.Line.{Line as WordsLine}
 use Rattle.craft_session.specs.Seats.{Seat, disk_in, most_room}
 use Rattle.craft_session.specs.declared.ask.Ask.TheVariants.{Changes}
 use Rattle.craft_session.specs.Asks.{Reply}
+use Rattle.craft_session.specs.Acting.{IsOwn}
+use Rattle.craft_session.specs.Walks.{Serves, entry, own}
+use Rattle.craft_session.specs.Runs.{Run, Walk}
 use Rattle.craft_session.specs.Plain.{At, Replies, Responds}
 
 -- a word that begins with a dash
@@ -124,46 +132,64 @@ room_of commands = 131_079 + most_room * commands
 abbrev pub IsUnsound : DiskState → ℕ → Type 0
 IsUnsound d commands = IsSound (room_of commands) d → ⊥
 
+-- A legal history of this session's entries alone, after so many commands; where the disk that was handed out has room for them, at most as
+-- many of its operations failed by the disk as its margin was.
+pub record IsOwnHistory (o : Opening) (disk : DiskState) (commands : ℕ) (h : List Entry) : Type 0 where
+  pub legal : IsLegal (rules_of o) h
+  pub alone : AllByRecursion (IsOwn (IsUnsound disk commands)) h
+  pub few : room_of commands < disk.room → faults_in h ≤ disk.margin
+
 module _ (clock_told : Type 0) (c d : List Moment) (s : Contents) (o : Opening) (disk : DiskState) where
-  -- each unit of the bytes read was answered, with the next moment, by the plain session on one table
+  -- A run over such a history; and each unit of the bytes read was answered, with the next moment, by the plain session on one table.
   pub record Answered (items : List Item) (out : List ℕ) : Type 0 where
-    pub units : List Input
+    pub walk : Walk Input Moment
     pub rest : List ℕ
-    pub moments : List Moment
     pub now : At
-    pub read : IsStream (bytes_in items) units rest
-    pub gave : clock_told → Gives c d moments
-    pub responds : Responds (language s) (LimitBehind o.first) (IsUnsound disk (length moments)) (opened o) units moments out now
+    pub happened : Happens items walk.happenings rest
+    pub read : IsStream (bytes_in items) (units_in walk.happenings) rest
+    pub gave : clock_told → Gives c d walk.moments
+    pub run : Run (language s) own o.first.fold.table walk
+    pub history : IsOwnHistory o disk (length walk.moments) walk.history
+    pub written : out ≡ walk.earlier ++ walk.latest
+    pub responds : Responds (language s) (LimitBehind o.first) (IsUnsound disk (length walk.moments)) (opened o) (units_in walk.happenings) walk.moments out now
 
   -- the units before the last were answered, and of the last one's response a part was written
   pub record AnsweredInPart (items : List Item) (out : List ℕ) : Type 0 where
-    pub units : List Input
+    pub before : Walk Input Moment
     pub last : Input
-    pub moments : List Moment
     pub moment : Moment
+    pub reply : Reply
+    pub entries : List Entry
+    pub user : SessionUser
     pub now : At
     pub after : At
-    pub reply : Reply
-    pub earlier : List ℕ
     pub part : List ℕ
     pub missing : List ℕ
-    pub read : IsStream (bytes_in items) (units ++ last ∷ []) []
-    pub gave : clock_told → Gives c d (moments ++ moment ∷ [])
-    pub responds : Responds (language s) (LimitBehind o.first) (IsUnsound disk (length moments + 1)) (opened o) units moments earlier now
-    pub replies : Replies (LimitBehind o.first) (IsUnsound disk (length moments + 1)) now ((language s).asks now.user last) reply after
+    pub happened : Happens items (before.happenings ++ unit last ∷ []) []
+    pub read : IsStream (bytes_in items) (units_in before.happenings ++ last ∷ []) []
+    pub gave : clock_told → Gives c d (before.moments ++ moment ∷ [])
+    pub run : Run (language s) own o.first.fold.table before
+    pub serves : Serves own o.first.fold.table before.history before.user ((language s).asks before.user last) entries reply user
+    pub history : IsOwnHistory o disk (length before.moments + 1) (before.history ++ entries)
+    pub responds : Responds (language s) (LimitBehind o.first) (IsUnsound disk (length before.moments + 1)) (opened o) (units_in before.happenings) before.moments (before.earlier ++ before.latest) now
+    pub replies : Replies (LimitBehind o.first) (IsUnsound disk (length before.moments + 1)) now ((language s).asks now.user last) reply after
     pub split : (language s).response moment last reply ≡ part ++ missing
-    pub out_is : out ≡ earlier ++ part
+    pub written : out ≡ (before.earlier ++ before.latest) ++ part
 
   -- the units before the last were answered, and a stop cut the last, a changing command, which has no response
   pub record AnsweredToStop (items : List Item) (out : List ℕ) : Type 0 where
-    pub units : List Input
+    pub before : Walk Input Moment
     pub last : Input
-    pub moments : List Moment
-    pub now : At
     pub op : Op
-    pub read : IsStream (bytes_in items) (units ++ last ∷ []) []
-    pub gave : clock_told → Gives c d moments
-    pub responds : Responds (language s) (LimitBehind o.first) (IsUnsound disk (length moments)) (opened o) units moments out now
+    pub now : At
+    pub happened : Happens items (before.happenings ++ unit last ∷ []) []
+    pub read : IsStream (bytes_in items) (units_in before.happenings ++ last ∷ []) []
+    pub gave : clock_told → Gives c d before.moments
+    pub run : Run (language s) own o.first.fold.table before
+    pub history : IsOwnHistory o disk (length before.moments) before.history
+    pub cut : IsLegal (rules_of o) (before.history ++ entry own op Cut ∷ [])
+    pub written : out ≡ before.earlier ++ before.latest
+    pub responds : Responds (language s) (LimitBehind o.first) (IsUnsound disk (length before.moments)) (opened o) (units_in before.happenings) before.moments out now
     pub asked : (language s).asks now.user last ≡ Changes op
     pub under_way : IsUnderWay now.table op
 
@@ -271,14 +297,15 @@ module _ {D : Type 0} (disk_told : Type 0) (state : D → DiskState) where
   -- it started on what the disk's journal came to
   pub record IsStarted (disk : D) (s : Contents) (o : Opening) : Type 0 where
     pub fabric : FabricId
-    pub opening : IsOpening disk_told (state disk) s fabric o
+    pub opening : IsOpening disk_told (state disk).reads_as s fabric o
 
   -- a place on the shelf whose state stands for no entry behind what the disk's journal came to, on a fabric of its own
   pub record IsOpened (disk : D) (s : Contents) (place : Seat D) : Type 0 where
     pub shelf : place.shelf ≡ s
     pub opening : Opening
-    pub is : IsOpening disk_told (state disk) s place.fabric opening
+    pub is : IsOpening disk_told (state disk).reads_as s place.fabric opening
     pub stands : StandsFor disk_told state opening place.state []
+    pub faults : opening.faults ≡ (disk_in state place.state).faults
     pub later : (state disk).faults ≤ (disk_in state place.state).faults
     pub spends : Spends 131_079 (state disk) (disk_in state place.state)
 

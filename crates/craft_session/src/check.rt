@@ -19,6 +19,15 @@ use dxc_outside::{Link, Sent, write_all};
 use tl1_answer::conn_text;
 use xc_core::Home;
 
+/// Clears `text`, and writes the row on a line of its own.
+fn write_line(shape: Shape, row: &Conn, text: &mut ArrayVec<u8, 128>)
+    requires { IsOfShape shape row.now }
+    ensures { text.new.items ≡ row_line shape row.now }
+{
+    conn_text(shape, row, text);
+    let _ = text.try_push(b'\n');
+}
+
 /// Writes the rows as `FROM,TO:CCT` without quotes, each on a line of its own.
 fn write_rows<K: Link>(
     link: &mut K,
@@ -30,8 +39,7 @@ fn write_rows<K: Link>(
     ensures { IsSent K.told (K.state link.old) (K.state link.new) result (flat_map (row_line shape) rows.now) }
 {
     for at in 0..rows.len() {
-        conn_text(shape, &rows[at], text);
-        let _ = text.try_push(b'\n');
+        write_line(shape, &rows[at], text);
         match write_all(link, text.as_slice()) {
             Sent::Whole => {}
             Sent::Cut => return Sent::Cut,

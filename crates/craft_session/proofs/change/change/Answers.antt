@@ -11,10 +11,10 @@ use Rattle.craft_session.proofs.Changing.{at_first, home_disk, may_carry_out, wa
 use Rattle.craft_session.proofs.change.change.Goals as goal
 
 pub carry_out-requires-clause-rolls : goal.carry_out-requires-clause-rolls
-carry_out-requires-clause-rolls g c = may_carry_out _ _ _ _ c.take_ready-p.ensures.home c.take_ready-p.ensures.ready c.args.op.now _ c.begin.ensures.ground c.take_ready-p.new.state (ap (λ x. x.table) c.take_ready-p.ensures.state) _ c.begin.ensures.begun c.args.fabric.now c.requires.seated c.in-Rolling.rolling c.in-Rolling.is
+carry_out-requires-clause-rolls g c = may_carry_out _ _ _ _ c.take_ready-p.ensures.home c.take_ready-p.ensures.ready c.args.op.now _ c.begin.ensures.ground c.begin.ensures.fault.later c.take_ready-p.new.state (ap (λ x. x.table) c.take_ready-p.ensures.state) _ c.begin.ensures.begun c.args.fabric.now c.requires.seated c.in-Rolling.rolling c.in-Rolling.is
 
 pub returns-in-Rolling-clause-changed : goal.returns-in-Rolling-clause-changed
-returns-in-Rolling-clause-changed g c = λ o h st. c.carry_out.ensures.changed o h c.args.op.now c.args.state.now (was_planned _ _ _ _ c.take_ready-p.ensures.home c.take_ready-p.ensures.ready c.args.op.now _ c.begin.ensures.ground c.take_ready-p.new.state (ap (λ x. x.table) c.take_ready-p.ensures.state) _ c.begin.ensures.begun o h st c.in-Rolling.rolling c.in-Rolling.is)
+returns-in-Rolling-clause-changed g c = λ o h st. c.carry_out.ensures.changed o h c.args.op.now c.args.state.now (was_planned _ _ _ _ c.take_ready-p.ensures.home c.take_ready-p.ensures.ready c.args.op.now _ c.begin.ensures.ground c.begin.ensures.fault.later c.take_ready-p.new.state (ap (λ x. x.table) c.take_ready-p.ensures.state) _ c.begin.ensures.begun o h st c.in-Rolling.rolling c.in-Rolling.is)
 
 pub returns-in-Rolling-clause-seated : goal.returns-in-Rolling-clause-seated
 returns-in-Rolling-clause-seated g c = let seat = c.requires.seated in
@@ -34,7 +34,7 @@ pub returns-in-Rolling-clause-later : goal.returns-in-Rolling-clause-later
 returns-in-Rolling-clause-later g c = omega (arith, c.carry_out.ensures.later, c.begin.ensures.later)
 
 pub returns-in-Denied-clause-changed : goal.returns-in-Denied-clause-changed
-returns-in-Denied-clause-changed g c = λ o h st. was_denied _ _ _ _ c.take_ready-p.ensures.home c.take_ready-p.ensures.ready c.args.op.now _ c.begin.ensures.ground c.take_ready-p.new.state (ap (λ x. x.table) c.take_ready-p.ensures.state) _ c.begin.ensures.begun o h st c.in-Denied.cause _ c.in-Denied.is c.bring_home.ensures
+returns-in-Denied-clause-changed g c = λ o h st. was_denied _ _ _ _ c.take_ready-p.ensures.home c.take_ready-p.ensures.ready c.args.op.now _ c.begin.ensures.ground c.begin.ensures.fault.later c.take_ready-p.new.state (ap (λ x. x.table) c.take_ready-p.ensures.state) _ c.begin.ensures.begun o h st c.in-Denied.cause _ c.in-Denied.is c.bring_home.ensures
     (λ is. record { rose = c.begin.ensures.fault.cause is; unsound = λ x. c.begin.ensures.sound x is })
 
 pub returns-in-Denied-clause-seated : goal.returns-in-Denied-clause-seated
@@ -52,7 +52,7 @@ pub returns-in-Denied-clause-later : goal.returns-in-Denied-clause-later
 returns-in-Denied-clause-later g c = c.begin.ensures.later
 
 pub returns-in-Stopped-clause-changed : goal.returns-in-Stopped-clause-changed
-returns-in-Stopped-clause-changed g c = λ o h st. was_held _ _ _ _ c.take_ready-p.ensures.home c.take_ready-p.ensures.ready c.args.op.now _ c.begin.ensures.ground c.take_ready-p.new.state (ap (λ x. x.table) c.take_ready-p.ensures.state) _ c.begin.ensures.begun o h st _ c.in-Stopped.is (c.bring_home.ensures ∙ ap (λ (q : Provisioner g.D). record { table = _; home = In q }) c.halt.ensures)
+returns-in-Stopped-clause-changed g c = λ o h st. was_held _ _ _ _ c.take_ready-p.ensures.home c.take_ready-p.ensures.ready c.args.op.now _ c.begin.ensures.ground c.begin.ensures.fault.later c.take_ready-p.new.state (ap (λ x. x.table) c.take_ready-p.ensures.state) _ c.begin.ensures.begun o h st _ c.in-Stopped.is (c.bring_home.ensures ∙ ap (λ (q : Provisioner g.D). record { table = _; home = In q }) c.halt.ensures)
 
 pub returns-in-Stopped-clause-seated : goal.returns-in-Stopped-clause-seated
 returns-in-Stopped-clause-seated g c = let seat = c.requires.seated in
