@@ -152,6 +152,24 @@ module _ {U M : Type 0} (l : Language U M) (r : Rules) (faulty : Type 0) (past :
 pub each_before : {X : Type 0} (P : X → Type 0) (xs ys : List X) → AllByRecursion P (xs ++ ys) → AllByRecursion P xs
 each_before P xs ys a = each_front P xs ys a
 
+-- what a fault may license, a weaker one may
+judges_within : (limit : Limit) (F G : Type 0) → (F → G) → (a b : At) (v : Option (Result Change Cause)) (r : Reply) → Judges limit F a v r b → Judges limit G a v r b
+judges_within limit F G f a b v r j = elim j [ inl d ↦ inl d | inr y ↦ inr (f y.0, y.1, y.2) ]
+
+replies_within : (limit : Limit) (F G : Type 0) → (F → G) → (a b : At) (k : Ask) (r : Reply) → Replies limit F a k r b → Replies limit G a k r b
+replies_within limit F G f a b (Refused q) r x = x
+replies_within limit F G f a b (LogsIn u) r x = x
+replies_within limit F G f a b LogsOut r x = x
+replies_within limit F G f a b Greets r x = x
+replies_within limit F G f a b (Lists which) r x = x
+replies_within limit F G f a b (Changes op) r x = judges_within limit F G f a b (verdict a.table op) r x
+
+pub responds_within : {U M : Type 0} (l : Language U M) (limit : Limit) (F G : Type 0) → (F → G) → (a b : At) (us : List U) (ms : List M) (out : List ℕ) → Responds l limit F a us ms out b → Responds l limit G a us ms out b
+responds_within l limit F G f a b [] [] out x = x
+responds_within l limit F G f a b [] (m ∷ ms) out x = absurd x
+responds_within l limit F G f a b (u ∷ us) [] out x = absurd x
+responds_within l limit F G f a b (u ∷ us) (m ∷ ms) out (r, n, rest, here, is, more) = (r, n, rest, replies_within limit F G f a n (l.asks a.user u) r here, is, responds_within l limit F G f n b us ms rest more)
+
 -- The plain session is one
 module _ {U M : Type 0} (l : Language U M) (limit : Limit) (once : (cs : List Change) (x : Change) (m n : Option Cause) → limit cs x m → limit cs x n → m ≡ n) where
   abbrev Same : (r q : Reply) (b c : At) → Type 0

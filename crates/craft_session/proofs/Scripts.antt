@@ -32,9 +32,9 @@ use Rattle.xc_core.specs.Reckonings.{Past as PastBehind}
 use Rattle.xc_core.specs.States.{HomeIs, Opening, StandsFor, faults_in, rules_of}
 use Rattle.craft_session.specs.Acting.{IsOwn}
 use Rattle.craft_session.specs.Laws.{standing}
-use Rattle.craft_session.specs.Seats.{Seat, IsFaulty, disk_at, disk_in, most_room}
+use Rattle.craft_session.specs.Seats.{Seat, IsUnsound, room_of, IsFaulty, disk_at, disk_in, most_room}
 use Rattle.craft_session.specs.Sessions.{Now, Beginning, Keeps, Past, CutPast, StopPast, Served, Breaks, Halts, IsSession, IsServed}
-use Rattle.craft_session.specs.Words.{status_of, status_of_why, status_of_fault, status_of_check, IsUnsound, room_of, IsOwnHistory, Answered, AnsweredInPart, AnsweredToStop, WroteAll, WroteInPart, WroteToStop, Wrote, IsOpened, IsScript, IsRunOn}
+use Rattle.craft_session.specs.Words.{status_of, status_of_why, status_of_fault, status_of_check, IsOwnHistory, Answered, AnsweredInPart, AnsweredToStop, WroteAll, WroteInPart, WroteToStop, Wrote, IsOpened, IsScript, IsRunOn}
 use Rattle.craft_session.proofs.Streams.{stream_of, rest_none, units_in-append}
 use Rattle.craft_session.proofs.SessionSteps.{own_within}
 use Rattle.craft_session.proofs.Playing.{played, played_so_far, replied, each_before, legal_last}
@@ -53,7 +53,7 @@ module _ {D : Type 0} (disk_told : Type 0) (state : D → DiskState) (counts : (
 
   -- a disk on which a command failed isn't sound for opening and all commands
   unsound : (n : ℕ) (t : State D) → IsFaulty state n first t → IsUnsound (state disk) n
-  unsound n t f x = f.unsound (sound_on 131_079 (most_room * n) (state disk) (disk_in state first) later x spends)
+  unsound n t f margin enough = f.unsound (sound_on 131_079 (most_room * n) (state disk) (disk_in state first) later (record { margin = margin; enough = enough }) spends)
 
   within : (n : ℕ) (t : State D) (es : List Entry) → AllByRecursion (IsOwn (IsFaulty state n first t)) es → AllByRecursion (IsOwn (IsUnsound (state disk) n)) es
   within n t es a = own_within (IsFaulty state n first t) (IsUnsound (state disk) n) (unsound n t) es a

@@ -1,5 +1,5 @@
 -- What is true of every session's run.
-use Rattle.std.specs.Prelude.{◌≡◌, ℕ, false, None, List, ◌++◌}
+use Rattle.std.specs.Prelude.{◌≡◌, ◌≤◌, ℕ, false, None, List, ◌++◌}
 use Rattle.std.specs.List.{AllByRecursion}
 use Rattle.dxc_causes.specs.Causes.{Rose}
 use Rattle.dxc_outside.specs.declared.clock.Moment.{Moment}
@@ -18,6 +18,7 @@ use Rattle.dxc_model.specs.Histories.{IsLegal, changes_of, table_after}
 use Rattle.tl1_text.specs.Units.{Input, IsRest}
 use Rattle.xc_core.specs.States.{LimitBehind, Opening, rules_of}
 use Rattle.craft_session.specs.Acting.{IsOwn}
+use Rattle.craft_session.specs.Seats.{IsUnsoundBy, room_of}
 use Rattle.craft_session.specs.declared.ask.Ask.TheVariants.{Changes}
 use Rattle.craft_session.specs.Asks.{Language, Reply, completed}
 use Rattle.craft_session.specs.Happenings.{Happening, Happens, bytes_in, units_in}
@@ -38,10 +39,10 @@ abbrev pub ArePlayed : Type 0
 ArePlayed = (l : Language Input Moment) (before after : ℕ) (o : Opening) (past : List Entry) (w : Walk Input Moment) → Run l own (table_after o.first.fold.table past) w → IsLegal (rules_of o) (past ++ w.history) → AllByRecursion (IsOwn (Rose before after)) w.history
     → Responds l (LimitBehind o.first) (Rose before after) (standing o.first.fold.table past Nobody) (units_in w.happenings) w.moments (w.earlier ++ w.latest) (standing o.first.fold.table (past ++ w.history) w.user)
 
--- where no call on the journal's disk fails, units and moments determine what the plain session writes and where it then stands
+-- on disks that are sound for opening and all commands the plain session is one
 abbrev pub AreResponsesOnce : Type 0
-AreResponsesOnce = (l : Language Input Moment) (o : Opening) (a b c : At) (us : List Input) (ms : List Moment) (out other : List ℕ)
-    → Responds l (LimitBehind o.first) ⊥ a us ms out b → Responds l (LimitBehind o.first) ⊥ a us ms other c → (out ≡ other) × (b ≡ c)
+AreResponsesOnce = (l : Language Input Moment) (o : Opening) (commands room other_room : ℕ) (a b c : At) (us : List Input) (ms : List Moment) (out other : List ℕ) → room_of commands ≤ room → room_of commands ≤ other_room
+    → Responds l (LimitBehind o.first) (IsUnsoundBy 0 room commands) a us ms out b → Responds l (LimitBehind o.first) (IsUnsoundBy 0 other_room commands) a us ms other c → (out ≡ other) × (b ≡ c)
 
 -- an entry can be made: its ports are two of the shape, on equipped modules, and the sides that its legs need are free
 pub record CanBeEntered (t : Board) (c : Conn) : Type 0 where

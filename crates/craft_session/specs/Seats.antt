@@ -1,5 +1,5 @@
 -- What a place is.
-use Rattle.std.specs.Prelude.{◌≡◌, ◌≤◌, ◌*◌, ℕ, List, []}
+use Rattle.std.specs.Prelude.{◌≡◌, ◌≤◌, ◌+◌, ◌*◌, ℕ, List, []}
 use Rattle.dxc_causes.specs.Causes.{Rose}
 use Rattle.dxc_disk.specs.Disks.{DiskState, IsSound, Spends}
 use Rattle.dxc_model.specs.declared.entry.Entry.{Entry}
@@ -31,6 +31,18 @@ disk_in state s = disk_at state s.home
 -- the most that one command takes of a disk's room
 abbrev pub most_room : ℕ
 most_room = 40
+
+-- what opening and so many commands may take of a disk's room
+abbrev pub room_of : ℕ → ℕ
+room_of commands = 131_079 + most_room * commands
+
+-- a disk of this margin and room isn't sound for opening and so many commands
+abbrev pub IsUnsoundBy : (margin room commands : ℕ) → Type 0
+IsUnsoundBy margin room commands = margin ≡ 0 → room_of commands ≤ room → ⊥
+
+-- the disk that was handed out isn't
+abbrev pub IsUnsound : DiskState → ℕ → Type 0
+IsUnsound d commands = IsUnsoundBy d.margin d.room commands
 
 -- so many commands called the disk between
 pub record WentDisk (n : ℕ) (a b : DiskState) : Type 0 where

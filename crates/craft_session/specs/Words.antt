@@ -46,7 +46,7 @@ use Rattle.craft_session.specs.declared.run.JournalBad.TheVariants.{Header, Reco
 use Rattle.craft_session.specs.declared.run.Mode.{Mode}
 use Rattle.craft_session.specs.declared.run.Mode.TheVariants.{Script, Check}
 use Rattle.craft_session.specs.declared.run.Line.{Line as WordsLine}
-use Rattle.craft_session.specs.Seats.{Seat, disk_in, most_room}
+use Rattle.craft_session.specs.Seats.{Seat, IsUnsound, disk_in, room_of}
 use Rattle.craft_session.specs.declared.ask.Ask.TheVariants.{Changes}
 use Rattle.craft_session.specs.Asks.{Reply}
 use Rattle.craft_session.specs.Acting.{IsOwn}
@@ -123,14 +123,6 @@ status_of_fault fault_of.Stopped = Stopped
 -- where a session begins on what the journal came to, with nobody logged in
 abbrev pub opened : Opening → At
 opened o = record { table = o.first.fold.table; changes = []; user = Nobody }
-
--- what opening and so many commands may take of a disk's room
-abbrev pub room_of : ℕ → ℕ
-room_of commands = 131_079 + most_room * commands
-
--- the disk that was handed out isn't sound for opening and so many commands
-abbrev pub IsUnsound : DiskState → ℕ → Type 0
-IsUnsound d commands = IsSound (room_of commands) d → ⊥
 
 -- A legal history of this session's entries alone, after so many commands; where the disk that was handed out has room for them, at most as
 -- many of its operations failed by the disk as its margin was.
