@@ -2,6 +2,7 @@
 ghost use Rattle.std.specs.Prelude.{◌≤◌};
 ghost use Rattle.dxc_outside.specs.Moments.{IsMoment};
 
+mod journalled;
 mod registers;
 
 use crate::{JournalBad, Status, dxc_run};
