@@ -236,15 +236,15 @@ header_once d e f limits fits also same =
     sym (header_equipment d e (header d e) refl (equipment_below d e few fits)) ∙ header_equipment d f (header d e) same (equipment_below d f few also)
 
 -- a file, a shelf and a fabric have one opening
-pub openings_once : (told : Type 0) → told → (file : List ℕ) (shelf : Contents) (fabric : FabricId) (o p : Opening) → IsOpening told file shelf fabric o → IsOpening told file shelf fabric p → (o.ground ≡ p.ground) × (o.first ≡ p.first)
-openings_once told x file shelf fabric o p a b =
+pub openings_once : (told : Type 0) → told → (file : List ℕ) (shelf : Contents) (fabric other : FabricId) (o p : Opening) → IsOpening told file shelf fabric o → IsOpening told file shelf other p → (o.ground.equipped ≡ p.ground.equipped) × (o.first ≡ p.first)
+openings_once told x file shelf fabric other o p a b =
     let same = ⊎_elim (λ n. one_made n) (λ not. one_found not) (new_or_old file) in
     let fold = folds_once (none_folded shelf.shape o.ground.equipped) (folded o.first.fold.table o.first.fold.colours o.first.fold.work a.folded.0) (folded p.first.fold.table p.first.fold.colours p.first.fold.work b.folded.0) o.first.records (none_seated shelf.shape o.ground.equipped).placed.colouring
     a.folded.1 (subst (λ (w : ℕ × List (List ℕ)). IsFold shelf.shape w.0 w.1 (folded p.first.fold.table p.first.fold.colours p.first.fold.work b.folded.0)) (λ k. (sym same.0 k, sym same.1 k)) b.folded.1) in
     let colours = ap (λ (f : Folded). f.colours) fold in
     let switches = a.switches ∙ ap (λ (c : Colouring). switches_in (joins_of c)) colours ∙ sym b.switches in
     let changes = a.changes ∙ sym b.changes in (
-      λ k. record { fabric = (a.fabric_is ∙ sym b.fabric_is) k; shape = (a.shape ∙ sym b.shape) k; equipped = same.0 k },
+      same.0,
       λ k. record { fold = record { table = (fold k).table; colours = (fold k).colours; work = (fold k).work; switches = switches k }; records = same.1 k; changes = changes k },
     )
   where
