@@ -1,5 +1,5 @@
 // Sessions over fakes in memory. Expected bytes are written out from the message format.
-ghost use Rattle.std.specs.Prelude.{◌≤◌};
+ghost use Rattle.std.specs.Prelude.{◌≤◌, ◌<◌};
 ghost use Rattle.dxc_outside.specs.Moments.{IsMoment};
 
 mod journalled;
@@ -698,10 +698,9 @@ fn one_entry() -> [u8; 65] {
     file
 }
 
-#[test]
-fn a_journal_is_taken_up_and_told(rt: HostRuntime) -> Result<(), Fail> {
-    let alloc = rt.alloc();
-    let mut files = opener(alloc, SHELF, &one_entry(), &[], &[])?;
+/// What `check` answers and writes of a journal of two modules of one slot.
+fn audit(rt: &impl Wait, alloc: Global, journal: &[u8]) -> Result<(Status, MemLink), Fail> {
+    let mut files = opener(alloc, SHELF, journal, &[], &[])?;
     let mut link = MemLink::new(
         Vec::new(alloc),
         Vec::new(alloc),
@@ -717,12 +716,74 @@ fn a_journal_is_taken_up_and_told(rt: HostRuntime) -> Result<(), Fail> {
         &mut link,
         &mut clock,
         &mut AlwaysGo,
-        &rt,
+        rt,
     );
-    assert_eq!(rt; status, Status::Done);
-    assert_eq!(rt;
-        link.output(),
-        b"DS0-1-1,DS0-2-1:1WAY\nRECORDS 1\n".as_slice()
-    );
+    Ok((status, link))
+}
+
+const NO_RECORD: &[u8] = b"RECORDS 0\n";
+
+const ONE_RECORD: &[u8] = b"DS0-1-1,DS0-2-1:1WAY\nRECORDS 1\n";
+
+/// The first 32 bytes.
+fn header_of(file: &[u8]) -> [u8; 32] {
+    let mut header = [0u8; 32];
+    if let Some(front) = file.get(..32) {
+        header.copy_from_slice(front);
+    }
+    header
+}
+
+/// A file that was cut: one of at most a byte is new, one that ends in its header is refused, and a record counts once it is whole.
+fn is_cut_as_told<R: Abort + Wait>(rt: &R, alloc: Global, length: usize) -> Result<(), Fail> {
+    let file = one_entry();
+    let cut = file.get(..length).ok_or("a front")?;
+    let (status, link) = audit(rt, alloc, cut)?;
+    if length < 2 || length > 32 {
+        assert_eq!(rt; status, Status::Done);
+        let written = if length < 64 { NO_RECORD } else { ONE_RECORD };
+        assert_eq!(rt; link.output(), written);
+    } else {
+        assert_eq!(rt; status.number(), 4u8);
+        assert_eq!(rt; link.output(), b"".as_slice());
+    }
+    Ok(())
+}
+
+#[test]
+fn a_journal_may_be_cut_at_each_byte(rt: HostRuntime) -> Result<(), Fail> {
+    for length in 0usize..66 {
+        is_cut_as_told(&rt, rt.alloc(), length)?;
+    }
+    Ok(())
+}
+
+/// A file with a bit changed: in the header it is refused, but where other modules are equipped the record makes no change; an
+/// unsealed record doesn't count; any other byte of it counts; and the byte behind the records is unsealed still.
+fn is_changed_as_told<R: Abort + Wait>(rt: &R, alloc: Global, at: usize) -> Result<(), Fail>
+    requires { at < 65 }
+{
+    let mut file = one_entry();
+    file[at] ^= 1;
+    let (status, link) = audit(rt, alloc, &file)?;
+    let header = Status::BadJournal(JournalBad::Header(header_of(&file)));
+    let record = Status::BadJournal(JournalBad::Record(0));
+    let (wanted, written) = match at {
+        21 => (record, b"".as_slice()),
+        0..=31 => (header, b"".as_slice()),
+        32 => (Status::Done, NO_RECORD),
+        33..=63 => (record, b"".as_slice()),
+        _ => (Status::Done, ONE_RECORD),
+    };
+    assert_eq!(rt; status, wanted);
+    assert_eq!(rt; link.output(), written);
+    Ok(())
+}
+
+#[test]
+fn each_byte_of_a_journal_counts(rt: HostRuntime) -> Result<(), Fail> {
+    for at in 0usize..65 {
+        is_changed_as_told(&rt, rt.alloc(), at)?;
+    }
     Ok(())
 }
