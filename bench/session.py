@@ -5,7 +5,7 @@ usage: bench/session.py [UNITS]     (100000 where nothing is given)
 
 The streams, at 32 modules of 32 slots: denials alone, and retrievals of 1,000 connections, one for every 1,000 units, neither of which
 calls the journal's disk; entries and deletions in turn, at most 60,000 of them, on an empty table and beside 1,000 connections, with the
-journal on the disk of the folder for temporary files, and with it in memory. Where valgrind is there, the instructions of a unit of a
+journal on the disk of the folder for temporary files, and with it in memory; a start on the last journal. Where valgrind is there, the instructions of a unit of a
 mixed stream: of 100 units 40 entries, 22 deletions, 12 retrievals of a port, 13 headers, 13 that are no command.
 """
 import os
@@ -131,6 +131,10 @@ def main():
                 journal = os.path.join(where, "office.journal")
                 served, memory = min(measured([PROGRAM, "script", shelf, journal], stream, journal) for _ in range(3))
                 print(f"{name}, journal {place}: {count} units, {served / plain:.1f} times as long as tr, {count / served:,.0f} units a second, {memory} KiB")
+        # The last journal has a record for each change.
+        records = commands.count("CRS-T0")
+        opened, _ = min(measured([PROGRAM, "check", shelf, journal], stream) for _ in range(5))
+        print(f"a start on {records} records: {1e6 * opened / records:.2f} microseconds a record, with reading")
         if shutil.which("valgrind"):
             journal = os.path.join(fast, "office.journal")
             few, many = (instructions(shelf, stream, journal, LOG_IN + mixed(count)) for count in (2_000, 12_000))
