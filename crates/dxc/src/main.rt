@@ -14,8 +14,8 @@ const HELP: &str = "dxc: the controller of a digital cross-connect
   dxc --help                  this text
   dxc --version               the version
 
-JOURNAL is the name of the journal, which is made where there is none. Every change is in it before it is answered, and a start
-takes it up again.
+JOURNAL is the name of the journal, which is made where there is none. Every change is in it before it is answered, and a
+start takes it up again.
 
 SHELF is the name of a shelf file, which tells the element's name, its shape and its users:
 
@@ -30,8 +30,8 @@ SHELF is the name of a shelf file, which tells the element's name, its shape and
   salt = \"61\"          # at most 32 bytes, in hexadecimal
   digest = \"..\"        # SHA-256 of the salt's bytes and the PID, in hexadecimal
 
-Status: 0 done, 2 words not understood, 3 shelf file refused, 4 journal refused, 5 journal disk failed, 6 cannot open, 8 no memory, 9 terminal failed,
-10 stopped, 11 read limit reached.
+Status: 0 done, 2 words not understood, 3 shelf file refused, 4 journal refused, 5 journal disk failed, 6 cannot open,
+8 no memory, 9 terminal failed, 10 stopped, 11 read limit reached.
 ";
 
 const VERSION: &str = "dxc 0.1.0\n";
