@@ -672,6 +672,26 @@ fn each_fault_of_an_append_is_told(rt: HostRuntime) -> Result<(), Fail> {
     Ok(())
 }
 
+/// A journal has room for 65,536 changes.
+#[test]
+fn a_full_journal_is_told(rt: HostRuntime) -> Result<(), Fail> {
+    let alloc = rt.alloc();
+    let mut input = b"ACT-USER::ANNA:0A::bc;".to_vec(alloc)?;
+    for _ in 0..32_768u16 {
+        input.extend_from_slice(ENTER)?;
+        input.extend_from_slice(b"DLT-CRS-T0::DS0-1-1,DS0-2-1:4;")?;
+    }
+    input.extend_from_slice(ENTER)?;
+    let (status, link) = run(&rt, alloc, SHELF, &input, &[], &[])?;
+    assert_eq!(rt; status, Status::Done);
+    // The response to ANNA has 45 bytes, each COMPLD of a change 44.
+    let last = link.output().get(45 + 65_536 * 44..).ok_or("responses")?;
+    let told: Said = (ENTER, b"M  1 DENY\r\n   SSRE\r\n   /* JOURNAL FULL */\r\n;");
+    let (_, wanted) = session(alloc, &[told])?;
+    assert_eq!(rt; last, wanted.as_slice());
+    Ok(())
+}
+
 #[test]
 fn a_journal_of_another_shape_is_refused(rt: HostRuntime) -> Result<(), Fail> {
     let mut header = [0u8; 32];
