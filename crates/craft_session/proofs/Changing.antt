@@ -1,6 +1,7 @@
 -- A changing command's entry.
-use Rattle.std.proofs.Common.{◌≡◌, ℕ, ◌+◌, ◌≤◌, true, false, List, [], ◌∷◌, ◌++◌, Option, None, Some, refl, sym, ◌∙◌, ap, subst, inl, inr, ◌⊎◌}
-use Rattle.dxc_disk.specs.Disks.{DiskState}
+use Rattle.std.proofs.Common.{◌≡◌, ℕ, ◌+◌, ◌≤◌, true, false, List, [], ◌∷◌, ◌++◌, Option, None, Some, arith, refl, sym, ◌∙◌, ap, subst, inl, inr, ◌⊎◌}
+use Rattle.dxc_causes.specs.Causes.{HasCause}
+use Rattle.dxc_disk.specs.Disks.{DiskState, Spends}
 use Rattle.dxc_disk.proofs.DiskSteps.{spends_none}
 use Rattle.dxc_model.specs.declared.cause.Cause.{Cause}
 use Rattle.dxc_model.specs.declared.cause.Cause.TheVariants.{DiskFault}
@@ -30,7 +31,7 @@ use Rattle.xc_core.proofs.Standing.{IsReadyAfter, ready_home, over_limit, stands
 use Rattle.craft_session.specs.declared.change.Changed.{Changed}
 use Rattle.craft_session.specs.declared.change.Changed.TheVariants.{Done, Denied, Stopped}
 use Rattle.craft_session.specs.Changing.{ChangedIs, HasBegun}
-use Rattle.craft_session.specs.Seats.{IsSeated, WentDisk, IsFaultyDisk, Went, disk_at, disk_in}
+use Rattle.craft_session.specs.Seats.{IsSeated, WentDisk, IsFaultyDisk, Went, disk_at, disk_in, most_room}
 use Rattle.craft_session.specs.Walks.{entry, own}
 
 module _ {D : Type 0} (told : Type 0) (state : D → DiskState) where
@@ -47,6 +48,10 @@ module _ {D : Type 0} (told : Type 0) (state : D → DiskState) where
     -- the disk before a command
     pub at_first : (P : DiskState → Type 0) → P (state p.journal.0) → P (disk_in state s)
     at_first P x = subst (λ (h : Home D). P (disk_at state h)) (sym is) x
+
+    -- one call planned on it, and the Provisioner came home with its disk
+    pub went_by : {failed : Type 0} (after : State D) (q : Provisioner D) → disk_home after.home ≡ Some q.journal.0 → HasCause (state p.journal.0).faults (state q.journal.0).faults failed → Spends most_room (state p.journal.0) (state q.journal.0) → Went state 1 s after
+    went_by after q home fault room = at_first (λ (a : DiskState). WentDisk 1 a (disk_in state after)) (home_disk after.home q.journal.0 (λ (b : DiskState). WentDisk 1 (state p.journal.0) b) home (record { later = fault.later; spends = room }))
 
     -- the Provisioner that was taken may begin
     pub may_begin : (i : FabricId) → IsSeated told state i s → (b : Past) × IsHome told state b p × (b.fold.table ≡ s.table)

@@ -1,5 +1,6 @@
 -- What a desk does with a unit.
 use Rattle.std.specs.Prelude.{◌≡◌, ℕ, List, Option}
+use Rattle.dxc_disk.specs.declared.disk.Disk.{Ghosts}
 use Rattle.dxc_disk.specs.Disks.{DiskState}
 use Rattle.dxc_outside.specs.declared.clock.Moment.{Moment}
 use Rattle.dxc_outside.specs.declared.send.Sent.{Sent}
@@ -19,7 +20,7 @@ use Rattle.craft_session.specs.Acting.{Acts, Stops}
 use Rattle.craft_session.specs.Sessions.{Now}
 
 -- the state and the user of a desk
-abbrev pub now : {D : Type 0} → Desk D → Now D
+abbrev pub now : {D : Type 0} {disk : Ghosts D} → Desk D disk → Now D
 now d = record { state = d.state; user = d.user }
 
 -- a reply was written, or a part of it

@@ -82,6 +82,7 @@ pub(crate) enum Mode {
 }
 
 /// A line of the program's words.
+#[derive(Drop)]
 struct Line<'a> {
     mode: Mode,
     shelf: &'a Name,
@@ -241,6 +242,8 @@ pub fn dxc_run<O: Opener, K: Link, C: Clock, G: Gate, R: Wait>(
     gate: &mut G,
     rt: &R,
 ) -> Status
+where
+    O::Journal: Drop,
     ensures words { (result ≡ Status.BadWords) ↔ (line_in words.now ≡ None) }
     ensures run { IsRun O.Journal.told O.Journal.state O.told (O.state opener.old) (O.state opener.new) (O.journal_at opener.old) (line_in words.now) K.told C.told (K.state terminal.old) (K.state terminal.new) (C.coming clock.old) (C.coming clock.new) (G.stops gate.old) (G.stops gate.new) result }
 {
