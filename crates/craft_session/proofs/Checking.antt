@@ -1,6 +1,9 @@
 -- Rows are written one after the other, and what comes behind them.
-use Rattle.std.proofs.Common.{◌≡◌, ◌<◌, ◌+◌, ℕ, List, [], ◌∷◌, ◌++◌, length, take, drop, slice_index_or, sym, ◌∙◌, ap, subst, arith, append_assoc, append-nil, take-append-drop}
+use Rattle.std.proofs.Common.{◌≡◌, ◌<◌, ◌+◌, ℕ, List, [], ◌∷◌, ◌++◌, length, take, drop, slice_index_or, refl, sym, ◌∙◌, ap, subst, arith, append_assoc, append-nil, take-append-drop}
 use Rattle.std.specs.List.{flat_map}
+use Rattle.dxc_num.specs.Dimensions.{Dimensions}
+use Rattle.dxc_model.specs.declared.conn.Conn.{Conn}
+use Rattle.craft_session.specs.Words.{row_line, count_line, listing}
 use Rattle.std.proofs.lemmas.Grind.{flat_map-append}
 use Rattle.std.proofs.lemmas.List.{take_more}
 use Rattle.dxc_outside.specs.declared.send.Sent.{Sent}
@@ -52,3 +55,11 @@ module _ {X : Type 0} (f : X → List ℕ) (d : X) (rows : List X) (at : ℕ) (l
   row_cut told k j m sent l cut is first next =
       subst (λ (ls : List ℕ). IsSent told k m Cut ls) all_rows
       (sent_cut told k m (flat_map f (take (at + 1) rows)) (flat_map f (drop (at + 1) rows)) sent cut (row_sent told k j m sent l is first next))
+
+-- rows and their number
+pub listing_sent : (told : Type 0) (k j m : LinkState) (d e : Dimensions) (cs ds : List Conn) (n records : ℕ) (first sent : Sent) → d ≡ e → cs ≡ ds → n ≡ records → first ≡ Whole → IsSent told k j first (flat_map (row_line d) cs)
+    → IsSent told j m sent (count_line n) → IsSent told k m sent (listing e ds records)
+listing_sent told k j m d e cs ds n records first sent shape rows number whole lines last =
+    subst (λ (x : Dimensions). IsSent told k m sent (listing x ds records)) shape
+    (subst (λ (x : List Conn). IsSent told k m sent (listing d x records)) rows
+    (subst (λ (x : ℕ). IsSent told k m sent (listing d cs x)) number (sent_more told k j m (flat_map (row_line d) cs) (count_line n) sent (sent_is told k j (flat_map (row_line d) cs) first whole lines) last)))

@@ -13,3 +13,4 @@ pub mod Scripts
 pub mod Completing
 pub mod Checking
 pub mod Started
+pub mod Running

@@ -19,7 +19,7 @@ use Rattle.dxc_model.proofs.Growth.{changes_append, legal_so_far, table_append, 
 use Rattle.craft_session.specs.declared.ask.Ask.{Ask}
 use Rattle.craft_session.specs.declared.ask.Ask.TheVariants.{Refused, LogsIn, LogsOut, Greets, Lists, Changes}
 use Rattle.craft_session.specs.Acting.{IsEnded, IsOwn}
-use Rattle.craft_session.specs.Asks.{Reply, Language, completed_rows}
+use Rattle.craft_session.specs.Asks.{Reply, Language, completed_rows, denied}
 use Rattle.craft_session.specs.Happenings.{unit, units_in}
 use Rattle.craft_session.specs.Walks.{own, entry, ChangeReply, Serves}
 use Rattle.craft_session.specs.Runs.{Walk, Run, begins, responds, waits}

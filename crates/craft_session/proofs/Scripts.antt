@@ -11,7 +11,7 @@ use Rattle.shelf_file.specs.Contents.{Contents}
 use Rattle.craft_session.specs.declared.end.SessionEnd.{SessionEnd}
 use Rattle.craft_session.specs.declared.end.SessionEnd.TheVariants.{End, ReadFault, WriteFault, Stopped, Spent}
 use Rattle.craft_session.specs.declared.run.Status.{Status}
-use Rattle.craft_session.specs.declared.run.Status.TheVariants.{Done, BadWords, Link, Stopped as Was_stopped, Spent as Ran_out}
+use Rattle.craft_session.specs.declared.run.Status.TheVariants.{Done, BadWords, NoMemory, Link, Stopped as Was_stopped, Spent as Ran_out}
 use Rattle.craft_session.specs.Happenings.{unit, units_in, bytes_in}
 use Rattle.craft_session.specs.Meanings.{language}
 use Rattle.dxc_disk.specs.Disks.{CountsOn, DiskState, IsSound, Spends}
@@ -34,7 +34,7 @@ use Rattle.craft_session.specs.Acting.{IsOwn}
 use Rattle.craft_session.specs.Laws.{standing}
 use Rattle.craft_session.specs.Seats.{Seat, IsUnsound, room_of, IsFaulty, disk_at, disk_in, most_room}
 use Rattle.craft_session.specs.Sessions.{Now, Beginning, Keeps, Past, CutPast, StopPast, Served, Breaks, Halts, IsSession, IsServed}
-use Rattle.craft_session.specs.Words.{status_of, status_of_why, status_of_fault, status_of_check, IsOwnHistory, Answered, AnsweredInPart, AnsweredToStop, WroteAll, WroteInPart, WroteToStop, Wrote, IsOpened, IsScript, IsRunOn}
+use Rattle.craft_session.specs.Words.{status_of, status_of_why, status_of_fault, status_of_check, IsOwnHistory, Answered, AnsweredInPart, AnsweredToStop, WroteAll, WroteInPart, WroteToStop, Wrote, IsOpened, NotStarted, IsScript, IsRunOn}
 use Rattle.craft_session.proofs.Streams.{stream_of, rest_none, units_in-append}
 use Rattle.craft_session.proofs.SessionSteps.{own_within}
 use Rattle.craft_session.proofs.Playing.{played, played_so_far, replied, each_before, legal_last}
@@ -244,6 +244,13 @@ not_words disk_told state Script disk s told clock_told k l c d stops later stat
     (let spent = ran.2.else_spent (λ e. (let no = sym e ∙ is in cc)) (λ e. (let no = sym e ∙ is in cc)) (λ e. (let no = sym e ∙ is in cc)) in let no = sym spent ∙ is in cc)
 not_words disk_told state Check disk s told clock_told k l c d stops later status (inr ran) is = check_words ran.2.sent (sym ran.2.status_is ∙ is)
 
--- words that name a shelf file
-pub named : {X : Type 0} (f : X → List ℕ) (o : Option X) (x : X) (shelf : Option (List ℕ)) → option_map f o ≡ shelf → o ≡ Some x → shelf ≡ None → ⊥
-named f o x shelf is some none = (let no = sym (ap (λ p. option_map f p) some) ∙ is ∙ none in cc)
+-- memory was wanting
+pub no_memory : {D : Type 0} (disk_told : Type 0) (state : D → DiskState) (disk : D) (s : Contents) (stops later : ℕ) → NotStarted disk_told state disk s stops later NoMemory
+no_memory disk_told state disk s stops later = record { fault = fault_of.NoMemory; is = refl; why = λ _. tt; disk_failed = λ is. cc; stopped = λ is. cc }
+
+-- words that are a line
+pub line_named : {X Y : Type 0} (f : X → Y) (o : Option X) (x : X) (line : Option Y) → option_map f o ≡ line → o ≡ Some x → line ≡ Some (f x)
+line_named f o x line is some = sym is ∙ ap (λ p. option_map f p) some
+
+pub named : {X Y : Type 0} (f : X → Y) (o : Option X) (x : X) (line : Option Y) → option_map f o ≡ line → o ≡ Some x → line ≡ None → ⊥
+named f o x line is some none = (let no = sym (line_named f o x line is some) ∙ none in cc)

@@ -234,9 +234,13 @@ abbrev pub records_at : {D : Type 0} → Home D → ℕ
 records_at (In p) = p.journal.1.count
 records_at Out = 0
 
+-- a line with the number of records
+abbrev pub count_line : ℕ → List ℕ
+count_line records = codes "RECORDS " ++ decimal records ++ 10 ∷ []
+
 -- each row of a table, and how many records led to it
 abbrev pub listing : Dimensions → List Conn → ℕ → List ℕ
-listing d rows records = flat_map (row_line d) rows ++ codes "RECORDS " ++ decimal records ++ 10 ∷ []
+listing d rows records = flat_map (row_line d) rows ++ count_line records
 
 -- the rows of the table were written with the number of records, or a part of them where a write failed; nothing was read
 pub record IsCheck (s : Contents) (o : Opening) (told clock_told : Type 0) (k l : LinkState) (c d : List Moment) (stops later : ℕ) (status : Status) : Type 0 where

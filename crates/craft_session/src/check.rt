@@ -1,5 +1,5 @@
 //! What a journal came to, for whoever audits it.
-ghost use Rattle.std.specs.Prelude.{◌≢◌, ◌++◌, List, ℕ, [], ◌∷◌, codes, decimal, flat_map};
+ghost use Rattle.std.specs.Prelude.{◌≡◌, ◌≢◌, flat_map};
 ghost use Rattle.std.specs.List.{AllByRecursion};
 ghost use Rattle.dxc_outside.specs.Links.{IsSent};
 ghost use Rattle.tl1_answer.specs.Texts.{IsOfShape};
@@ -7,7 +7,7 @@ ghost use Rattle.std.specs.Arc.{arc_value};
 ghost use Rattle.dxc_model.specs.declared.op.Selection.TheVariants.{All};
 ghost use Rattle.dxc_model.specs.Tables.{rows};
 ghost use Rattle.xc_core.specs.declared.state.Home.TheVariants.{Out};
-ghost use Rattle.craft_session.specs.Words.{row_line, listing, records_at};
+ghost use Rattle.craft_session.specs.Words.{row_line, count_line, listing, records_at};
 
 use crate::act::list;
 use crate::desk::Desk;
@@ -50,7 +50,7 @@ fn write_rows<K: Link>(
 
 /// Writes how many records there are.
 fn write_count<K: Link>(link: &mut K, text: &mut ArrayVec<u8, 128>, records: u32) -> Sent
-    ensures { IsSent K.told (K.state link.old) (K.state link.new) result (codes "RECORDS " ++ decimal records ++ 10 ∷ []) }
+    ensures { IsSent K.told (K.state link.old) (K.state link.new) result (count_line records) }
 {
     let mut digits = itoa::Buffer::new();
     text.clear();

@@ -1,4 +1,4 @@
-ghost use Rattle.std.specs.Prelude.{◌≡◌, ◌↔◌, None, MatchResult, option_map};
+ghost use Rattle.std.specs.Prelude.{◌≡◌, ◌≤◌, ◌↔◌, List, ℕ, None, MatchResult, option_map};
 ghost use Rattle.craft_session.specs.Words.{mode_in, line_in, named_line, is_dashed as dashed, status_of as status_for, status_of_check as status_for_check, status_of_fault as status_for_fault, number_of as number_for, HasShelf, NoShelf, NotStarted, IsOpened, IsRunOn, IsRun};
 
 use crate::check::check;
@@ -128,7 +128,9 @@ fn is_dashed(word: &[u8]) -> bool
 
 /// The shelf that the file of that name describes.
 fn shelf_of_file<O: Opener>(alloc: Global, opener: &mut O, name: &str) -> Result<Shelf, Status>
-    ensures { MatchResult result (HasShelf O.told (O.state opener.old) name.now) (NoShelf O.told (O.state opener.old) (O.state opener.new) name.now) }
+    ensures shelf { MatchResult result (HasShelf O.told (O.state opener.old) name.now) (NoShelf O.told (O.state opener.old) (O.state opener.new) name.now) }
+    ensures journals { O.told → (n : List ℕ) → O.journal_at opener.new n ≡ O.journal_at opener.old n }
+    ensures later { (O.state opener.old).faults ≤ (O.state opener.new).faults }
 {
     let mut file = Vec::new(alloc);
     match opener.shelf(alloc, name, &mut file) {
