@@ -35,7 +35,7 @@ module _ {D : Type 0} (disk_told : Type 0) (state : D → DiskState) (told clock
         x.opening,
         record { fabric = place.fabric; opening = x.is },
         subst (λ (m : Mode). IsDone m s x.opening (state disk) told clock_told k l c d stops later status) (sym is)
-        (script_at disk_told state counts told clock_told k l c d stops later s disk place after end status x session (subst (λ (n : ℕ). IsEnd k l n later end) opened.1 e) end_is),
+            (script_at disk_told state counts told clock_told k l c d stops later s disk place after end status x session (subst (λ (n : ℕ). IsEnd k l n later end) opened.1 e) end_is),
       )
 
   pub ran_check : (sent : Sent) → mode ≡ Check → IsSent told k l sent (listing place.shelf.shape (rows place.state.table All) (records_at place.state.home)) → status ≡ status_of_check sent → IsRunOn disk_told state mode disk s told clock_told k l c c stops mid status
@@ -45,7 +45,7 @@ module _ {D : Type 0} (disk_told : Type 0) (state : D → DiskState) (told clock
         x.opening,
         record { fabric = place.fabric; opening = x.is },
         subst (λ (m : Mode). IsDone m s x.opening (state disk) told clock_told k l c c stops mid status) (sym is)
-        (record { sent = sent; wrote = listed_first disk_told state disk s place x told k l sent wrote; status_is = status_is; clock = refl; gate = opened.1 }),
+            (record { sent = sent; wrote = listed_first disk_told state disk s place x told k l sent wrote; status_is = status_is; clock = refl; gate = opened.1 }),
       )
 
 -- a fault behind what was opened before

@@ -3,6 +3,7 @@ use super::{ANNA, CHAIN, ENTRY, SHELF, Said, THREE, line, noon, one_entry, sessi
 use crate::{Status, dxc_run};
 use dxc_outside::{AlwaysGo, Gate, GatePlace, HostOpener, MemClock, MemLink, Pass1};
 use std::fs;
+use std::sync::Wait;
 use std::test::Fail;
 
 /// Counts where it is asked, and always lets go on.
@@ -30,6 +31,7 @@ impl Gate for Counter {
 /// Runs the words over files of the system, with a terminal that sends the input.
 fn run_on_files<G: Gate>(
     rt: &HostRuntime,
+    waits: &impl Wait,
     words: &[&str],
     input: &[u8],
     gate: &mut G,
@@ -46,7 +48,9 @@ fn run_on_files<G: Gate>(
     let mut clock = MemClock::new(moments);
     let names = line(alloc, words)?;
     let mut files = HostOpener::new(rt.clone()?);
-    let status = dxc_run(alloc, &names, &mut files, &mut link, &mut clock, gate, rt);
+    let status = dxc_run(
+        alloc, &names, &mut files, &mut link, &mut clock, gate, waits,
+    );
     Ok((status, link))
 }
 
@@ -62,12 +66,12 @@ fn script_is_journalled(rt: HostRuntime) -> Result<(), Fail> {
         ends: 0,
     };
     let words = ["script", "three.toml", "three.journal"];
-    let (status, link) = run_on_files(&rt, &words, &input, &mut gate)?;
+    let (status, link) = run_on_files(&rt, &rt, &words, &input, &mut gate)?;
     assert_eq!(rt; status, Status::Done);
     assert_eq!(rt; link.output(), output.as_slice());
     assert_eq!(rt; (gate.journals, gate.registers, gate.ends), (5, 30, 5));
     let words = ["check", "three.toml", "three.journal"];
-    let (status, link) = run_on_files(&rt, &words, b"", &mut AlwaysGo)?;
+    let (status, link) = run_on_files(&rt, &rt, &words, b"", &mut AlwaysGo)?;
     assert_eq!(rt; status, Status::Done);
     let rows: &[u8] = b"DS0-1-1,DS0-2-1:1WAY
 DS0-1-2,DS0-1-1:1WAY
@@ -92,7 +96,7 @@ fn a_start_finds_what_was_entered(rt: HostRuntime) -> Result<(), Fail> {
     );
     for said in [[ANNA, ENTRY].as_slice(), [ANNA, row].as_slice()] {
         let (input, output) = session(rt.alloc(), said)?;
-        let (status, link) = run_on_files(&rt, &words, &input, &mut AlwaysGo)?;
+        let (status, link) = run_on_files(&rt, &rt, &words, &input, &mut AlwaysGo)?;
         assert_eq!(rt; status, Status::Done);
         assert_eq!(rt; link.output(), output.as_slice());
     }
