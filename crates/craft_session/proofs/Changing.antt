@@ -1,5 +1,5 @@
 -- A changing command's entry.
-use Rattle.std.proofs.Common.{◌≡◌, ℕ, ◌+◌, ◌≤◌, true, false, List, [], ◌∷◌, ◌++◌, Option, None, Some, arith, refl, sym, ◌∙◌, ap, subst, inl, inr, ◌⊎◌}
+use Rattle.std.proofs.Common.{◌≡◌, ◌≤◌, true, false, List, [], ◌∷◌, ◌++◌, Some, arith, refl, sym, ◌∙◌, ap, subst, inl, inr}
 use Rattle.dxc_causes.specs.Causes.{HasCause}
 use Rattle.dxc_disk.specs.Disks.{DiskState, Spends}
 use Rattle.dxc_disk.proofs.DiskSteps.{spends_none}
@@ -12,7 +12,7 @@ use Rattle.dxc_model.specs.declared.entry.Outcome.TheVariants as outcome
 use Rattle.dxc_model.specs.Tables.{Board}
 use Rattle.dxc_model.specs.Verdicts.{effect}
 use Rattle.journal_core.specs.declared.book.Book.{Book}
-use Rattle.roll_engine.specs.Rollings.{RollingAt, rest_of}
+use Rattle.roll_engine.specs.Rollings.{RollingAt}
 use Rattle.fabric_words.specs.Seats.{FabricId}
 use Rattle.xc_recovery.proofs.Placing.{effect_shape}
 use Rattle.xc_core.specs.declared.provisioner.Provisioner.{Provisioner}

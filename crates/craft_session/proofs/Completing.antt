@@ -1,16 +1,15 @@
 -- An entry that can be made is made.
-use Rattle.std.proofs.Common.{◌≡◌, List, Option, Some, None, Result, Ok, refl, sym, ◌∙◌, ap, subst, inl, inr}
+use Rattle.std.proofs.Common.{◌≡◌, Option, Some, None, Result, Ok, refl, ap, subst, inl, inr}
 use Rattle.dxc_model.specs.declared.cause.Cause.{Cause}
 use Rattle.dxc_model.specs.declared.conn.Conn.{Conn}
 use Rattle.dxc_model.specs.declared.op.Op.TheVariants.{Enter}
 use Rattle.dxc_model.specs.declared.op.Change.{Change}
 use Rattle.dxc_model.specs.declared.op.Change.TheVariants as change
 use Rattle.dxc_model.specs.Tables.{Board}
-use Rattle.dxc_model.specs.Verdicts.{effect, judged, verdict}
+use Rattle.dxc_model.specs.Verdicts.{judged, verdict}
 use Rattle.dxc_model.proofs.Verdicts.{none_of}
-use Rattle.xc_core.specs.States.{LimitBehind, Opening}
+use Rattle.xc_core.specs.States.{LimitBehind}
 use Rattle.xc_core.proofs.Reckoning.{limits_once}
-use Rattle.craft_session.specs.Asks.{Reply}
 use Rattle.craft_session.specs.Plain.{At, Judges, Makes}
 use Rattle.craft_session.specs.Laws.{CanBeEntered, EntriesAreCompleted}
 

@@ -12,9 +12,9 @@ use Rattle.craft_session.specs.declared.end.SessionEnd.{SessionEnd}
 use Rattle.craft_session.specs.declared.end.SessionEnd.TheVariants.{End, ReadFault, WriteFault, Stopped, Spent}
 use Rattle.craft_session.specs.declared.run.Status.{Status}
 use Rattle.craft_session.specs.declared.run.Status.TheVariants.{Done, BadWords, NoMemory, Link, Stopped as Was_stopped, Spent as Ran_out}
-use Rattle.craft_session.specs.Happenings.{unit, units_in, bytes_in}
+use Rattle.craft_session.specs.Happenings.{unit, bytes_in}
 use Rattle.craft_session.specs.Meanings.{language}
-use Rattle.dxc_disk.specs.Disks.{CountsOn, DiskState, IsSound, Spends}
+use Rattle.dxc_disk.specs.Disks.{CountsOn, DiskState, Spends}
 use Rattle.dxc_disk.proofs.DiskSteps.{sound_on, spends_on}
 use Rattle.dxc_outside.specs.declared.send.Sent.{Sent}
 use Rattle.dxc_outside.specs.declared.send.Sent.TheVariants.{Whole, Cut as Sent_cut}

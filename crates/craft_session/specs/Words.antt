@@ -1,5 +1,5 @@
 -- The program's words, what it writes, and its status.
-use Rattle.std.specs.Prelude.{◌≡◌, ◌≢◌, ◌↔◌, ◌^◌, ◌+◌, ◌*◌, ◌≤◌, ◌<◌, ℕ, length, decimal, flat_map, ◌==◌, ◌⊎◌, Bool, false, true, not, ◌&&◌, if◌then◌else◌, List, [], ◌∷◌, ◌++◌, Option, Some, None, codes, IsTrue}
+use Rattle.std.specs.Prelude.{◌≡◌, ◌≢◌, ◌↔◌, ◌^◌, ◌+◌, ◌≤◌, ◌<◌, ℕ, length, decimal, flat_map, ◌==◌, ◌⊎◌, Bool, false, not, ◌&&◌, if◌then◌else◌, List, [], ◌∷◌, ◌++◌, Option, Some, None, codes, IsTrue}
 use Rattle.std.specs.Str.{bytes_eq}
 use Rattle.std.specs.List.{AllByRecursion}
 use Rattle.dxc_causes.specs.Causes.{Rose, Counted}

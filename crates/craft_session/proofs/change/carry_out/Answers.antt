@@ -1,5 +1,4 @@
 use Rattle.std.proofs.Common.{◌∙◌, ap}
-use Rattle.xc_core.specs.declared.provisioner.Provisioner.{Provisioner}
 use Rattle.xc_core.specs.declared.state.Home.TheVariants.{In}
 use Rattle.craft_session.proofs.Changing.{was_done, was_stopped, shape_after}
 use Rattle.craft_session.proofs.change.carry_out.Goals as goal

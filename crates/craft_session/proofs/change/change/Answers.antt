@@ -1,4 +1,4 @@
-use Rattle.std.proofs.Common.{ℕ, Some, ap, refl, sym, ◌∙◌, subst, arith, ◌≡◌}
+use Rattle.std.proofs.Common.{ℕ, Some, ap, sym, ◌∙◌, subst, arith}
 use Rattle.dxc_causes.specs.Causes.{Rose}
 use Rattle.xc_core.specs.declared.provisioner.Provisioner.{Provisioner}
 use Rattle.xc_core.specs.declared.state.Home.TheVariants.{In}
