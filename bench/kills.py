@@ -53,9 +53,9 @@ def killed_run(rng, shelf, journal, table, records):
     """Table and number of records that the journal has after a run that was killed."""
     made = list(commands(rng, table, 400))
     child = subprocess.Popen([PROGRAM, "script", shelf, journal], stdin=subprocess.PIPE, stdout=subprocess.PIPE)
-    child.stdin.write(("ACT-USER::ANNA:0::bc;" + "".join(text for text, _ in made)).encode())
+    child.stdin.write(("ACT-USER::ANNA:1::bc;" + "".join(text for text, _ in made)).encode())
     child.stdin.flush()
-    time.sleep(rng.uniform(0, 0.03))
+    time.sleep(rng.uniform(0, 0.15))
     child.kill()
     written = child.stdout.read().decode()
     child.wait()
