@@ -1,16 +1,15 @@
 -- An entry that can be made is made.
-use Rattle.std.proofs.Common.{◌≡◌, List, Option, Some, None, Result, Ok, refl, sym, ◌∙◌, ap, subst}
+use Rattle.std.proofs.Common.{◌≡◌, Option, Some, None, Result, Ok, refl, ap, subst, inl, inr}
 use Rattle.dxc_model.specs.declared.cause.Cause.{Cause}
 use Rattle.dxc_model.specs.declared.conn.Conn.{Conn}
 use Rattle.dxc_model.specs.declared.op.Op.TheVariants.{Enter}
 use Rattle.dxc_model.specs.declared.op.Change.{Change}
 use Rattle.dxc_model.specs.declared.op.Change.TheVariants as change
 use Rattle.dxc_model.specs.Tables.{Board}
-use Rattle.dxc_model.specs.Verdicts.{effect, judged, verdict}
+use Rattle.dxc_model.specs.Verdicts.{judged, verdict}
 use Rattle.dxc_model.proofs.Verdicts.{none_of}
-use Rattle.xc_core.specs.States.{LimitIs, Opening}
+use Rattle.xc_core.specs.States.{LimitBehind}
 use Rattle.xc_core.proofs.Reckoning.{limits_once}
-use Rattle.craft_session.specs.Asks.{Reply}
 use Rattle.craft_session.specs.Plain.{At, Judges, Makes}
 use Rattle.craft_session.specs.Laws.{CanBeEntered, EntriesAreCompleted}
 
@@ -19,7 +18,8 @@ granted t c h = ap (λ (o : Option Cause). judged o (Some (change.Enter c))) (no
 
 pub entries_completed : EntriesAreCompleted
 entries_completed o a b c r h met replies =
-    let j = subst (λ (v : Option (Result Change Cause)). Judges (LimitIs o) a v r b) (granted a.table c h) replies in
-    let none = limits_once o.first o.changes a.changes (change.Enter c) j.0 None j.1 met in
+    let x = subst (λ (v : Option (Result Change Cause)). Judges (LimitBehind o.first) ⊥ a v r b) (granted a.table c h) replies in
+    let j : (met : Option Cause) × LimitBehind o.first a.changes (change.Enter c) met × Makes a (change.Enter c) met r b = elim x [ inl y ↦ y | inr y ↦ absurd y.0 ] in
+    let none = limits_once o.first a.changes (change.Enter c) j.0 None j.1 met in
     let made = subst (λ (m : Option Cause). Makes a (change.Enter c) m r b) none j.2 in
     (made.0, ap (λ (x : At). x.table) made.1)

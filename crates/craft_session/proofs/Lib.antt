@@ -11,3 +11,6 @@ pub mod Answering
 pub mod Users
 pub mod Scripts
 pub mod Completing
+pub mod Checking
+pub mod Started
+pub mod Running

@@ -19,11 +19,11 @@ use Rattle.dxc_model.proofs.Growth.{changes_append, legal_so_far, table_append, 
 use Rattle.craft_session.specs.declared.ask.Ask.{Ask}
 use Rattle.craft_session.specs.declared.ask.Ask.TheVariants.{Refused, LogsIn, LogsOut, Greets, Lists, Changes}
 use Rattle.craft_session.specs.Acting.{IsEnded, IsOwn}
-use Rattle.craft_session.specs.Asks.{Reply, Language, completed_rows}
+use Rattle.craft_session.specs.Asks.{Reply, Language, completed_rows, denied}
 use Rattle.craft_session.specs.Happenings.{unit, units_in}
 use Rattle.craft_session.specs.Walks.{own, entry, ChangeReply, Serves}
 use Rattle.craft_session.specs.Runs.{Walk, Run, begins, responds, waits}
-use Rattle.craft_session.specs.Plain.{At, Limit, Makes, Judges, Replies, Responds}
+use Rattle.craft_session.specs.Plain.{At, Limit, Makes, Decides, Judges, Replies, Responds}
 use Rattle.craft_session.specs.Laws.{standing}
 use Rattle.craft_session.proofs.Streams.{units_in-append, units_in-quiet}
 
@@ -54,15 +54,23 @@ stands_still t h e s z none table same =
 apart : (q : Cause) → IsLimit q → IsFault q → ⊥
 apart q l f = elim l [ inl a ↦ elim f [ inl b ↦ (let e = sym a ∙ b in cc) | inr b ↦ (let e = sym a ∙ b in cc) ] | inr a ↦ elim f [ inl b ↦ (let e = sym a ∙ b in cc) | inr b ↦ (let e = sym a ∙ b in cc) ] ]
 
-module _ (r : Rules) (h : List Entry) (s z : SessionUser) (op : Op) (reply : Reply) (same : z ≡ s) where
+module _ (r : Rules) (faulty : Type 0) (h : List Entry) (s z : SessionUser) (op : Op) (reply : Reply) (same : z ≡ s) where
   abbrev t : Board
   t = table_after r.table h
 
   -- by a verdict that is known
-  by_verdict : (v : Option (Result Change Cause)) (b : At) → verdict t op ≡ v → Judges r.limit (standing r.table h s) v reply b → Judges r.limit (standing r.table h s) (verdict t op) reply b
-  by_verdict v b is j = subst (λ (x : Option (Result Change Cause)). Judges r.limit (standing r.table h s) x reply b) (sym is) j
+  by_verdict : (v : Option (Result Change Cause)) (b : At) → verdict t op ≡ v → Decides r.limit (standing r.table h s) v reply b → Judges r.limit faulty (standing r.table h s) (verdict t op) reply b
+  by_verdict v b is j = inl (subst (λ (x : Option (Result Change Cause)). Decides r.limit (standing r.table h s) x reply b) (sym is) j)
 
-  judged : (o : Outcome) → ChangeReply o reply → IsEnded o → Fits r h (entry own op o) → Judges r.limit (standing r.table h s) (verdict t op) reply (standing r.table (h ++ entry own op o ∷ []) z)
+  limited : (q : Cause) → reply ≡ denied q → IsLimit q → Fits r h (entry own op (Failed q)) → Judges r.limit faulty (standing r.table h s) (verdict t op) reply (standing r.table (h ++ entry own op (Failed q) ∷ []) z)
+  limited q is limit fits = elim fits.step.0 [
+    | inl x ↦ (let g : Grants t op x.1.0 = x.1.1 in let met = fits.limit x.1.0 g in
+        by_verdict (Some (Ok x.1.0)) _ g.says
+        (Some q, subst (λ (y : Option Cause). r.limit (changes_of h) x.1.0 y) (elim met.2 [ inl f ↦ absurd (apart q limit f) | inr m ↦ m ]) met.1, (is, stands_still r.table h (entry own op (Failed q)) s z refl fits.step.1 same)))
+    | inr x ↦ absurd (apart q limit x.0)
+  ]
+
+  judged : (o : Outcome) → ChangeReply o reply → IsEnded faulty o → Fits r h (entry own op o) → Judges r.limit faulty (standing r.table h s) (verdict t op) reply (standing r.table (h ++ entry own op o ∷ []) z)
   judged (Done c) is ended fits =
       let met = fits.limit c fits.step.0 in
       let e = entry own op (Done c) in
@@ -73,11 +81,9 @@ module _ (r : Rules) (h : List Entry) (s z : SessionUser) (op : Op) (reply : Rep
       )
   judged (Denied q) is ended fits =
       by_verdict (Some (Err q)) _ fits.step.0.says (is, stands_still r.table h (entry own op (Denied q)) s z refl fits.step.1 same)
-  judged (Failed q) is ended fits = elim fits.step.0 [
-    | inl limited ↦ (let g : Grants t op limited.1.0 = limited.1.1 in let met = fits.limit limited.1.0 g in
-        by_verdict (Some (Ok limited.1.0)) _ g.says
-        (Some q, subst (λ (x : Option Cause). r.limit (changes_of h) limited.1.0 x) (elim met.2 [ inl f ↦ absurd (apart q ended f) | inr m ↦ m ]) met.1, (is, stands_still r.table h (entry own op (Failed q)) s z refl fits.step.1 same)))
-    | inr fault ↦ absurd (apart q ended fault.0)
+  judged (Failed q) is ended fits = elim ended [
+    | inl limit ↦ limited q is limit fits
+    | inr fault ↦ inr (fault.0, is ∙ ap denied fault.1, stands_still r.table h (entry own op (Failed q)) s z refl fits.step.1 same)
   ]
   judged Answered is ended fits = absurd is
   judged (Restarted c) is ended fits = absurd is
@@ -88,63 +94,81 @@ no_entries : (t : Board) (h es : List Entry) (s z : SessionUser) → es ≡ [] �
 no_entries t h es s z none same = ap (λ (x : List Entry). standing t (h ++ x) z) none ∙ ap (λ (x : List Entry). standing t x z) (append-nil h) ∙ ap (λ (x : SessionUser). standing t h x) same
 
 -- what an ask takes of a legal history is what the plain session does
-pub served : (r : Rules) (past h es : List Entry) (s z : SessionUser) (a : Ask) (reply : Reply) → Serves own (table_after r.table past) h s a es reply z → IsLegal r ((past ++ h) ++ es) → AllByRecursion IsOwn (h ++ es)
-    → Replies r.limit (standing r.table (past ++ h) s) a reply (standing r.table ((past ++ h) ++ es) z)
-served r past h es s z (Refused q) reply x legal alone = (x.1, no_entries r.table (past ++ h) es s z x.0 x.2)
-served r past h es s z (LogsIn u) reply x legal alone = (x.1, no_entries r.table (past ++ h) es u z x.0 x.2)
-served r past h es s z LogsOut reply x legal alone = (x.1, no_entries r.table (past ++ h) es Nobody z x.0 x.2)
-served r past h es s z Greets reply x legal alone = (x.1, no_entries r.table (past ++ h) es s z x.0 x.2)
-served r past h es s z (Lists which) reply x legal alone =
+pub served : (r : Rules) (faulty : Type 0) (past h es : List Entry) (s z : SessionUser) (a : Ask) (reply : Reply) → Serves own (table_after r.table past) h s a es reply z → IsLegal r ((past ++ h) ++ es) → AllByRecursion (IsOwn faulty) (h ++ es)
+    → Replies r.limit faulty (standing r.table (past ++ h) s) a reply (standing r.table ((past ++ h) ++ es) z)
+served r faulty past h es s z (Refused q) reply x legal alone = (x.1, no_entries r.table (past ++ h) es s z x.0 x.2)
+served r faulty past h es s z (LogsIn u) reply x legal alone = (x.1, no_entries r.table (past ++ h) es u z x.0 x.2)
+served r faulty past h es s z LogsOut reply x legal alone = (x.1, no_entries r.table (past ++ h) es Nobody z x.0 x.2)
+served r faulty past h es s z Greets reply x legal alone = (x.1, no_entries r.table (past ++ h) es s z x.0 x.2)
+served r faulty past h es s z (Lists which) reply x legal alone =
     let e = entry own (Rows which) Answered in (
       x.1 ∙ ap (λ (b : Board). completed_rows (rows b which)) (sym (table_append r.table past h)),
       ap (λ (y : List Entry). standing r.table ((past ++ h) ++ y) z) x.0 ∙ stands_still r.table (past ++ h) e s z refl (table_more r.table (past ++ h) e) x.2,
     )
-served r past h es s z (Changes op) reply x legal alone =
+served r faulty past h es s z (Changes op) reply x legal alone =
     let one = x.0 in
     let e = entry own op one.0 in
-    subst (λ (y : List Entry). Replies r.limit (standing r.table (past ++ h) s) (Changes op) reply (standing r.table ((past ++ h) ++ y) z)) (sym one.1)
-    (judged r (past ++ h) s z op reply x.1 one.0 one.2
-    (each_last IsOwn h e (subst (λ (y : List Entry). AllByRecursion IsOwn (h ++ y)) one.1 alone)).ended
+    subst (λ (y : List Entry). Replies r.limit faulty (standing r.table (past ++ h) s) (Changes op) reply (standing r.table ((past ++ h) ++ y) z)) (sym one.1)
+    (judged r faulty (past ++ h) s z op reply x.1 one.0 one.2
+    (each_last (IsOwn faulty) h e (subst (λ (y : List Entry). AllByRecursion (IsOwn faulty) (h ++ y)) one.1 alone)).ended
     (legal_last r [] (past ++ h) e (subst (λ (y : List Entry). IsLegal r ((past ++ h) ++ y)) one.1 legal)))
 
-module _ {U M : Type 0} (l : Language U M) (limit : Limit) where
-  pub responds_more : (a b next : At) (us : List U) (ms : List M) (u : U) (m : M) (out : List ℕ) (reply : Reply) → Responds l limit a us ms out b → Replies limit b (l.asks b.user u) reply next
-      → Responds l limit a (us ++ u ∷ []) (ms ++ m ∷ []) (out ++ l.response m u reply) next
+module _ {U M : Type 0} (l : Language U M) (limit : Limit) (faulty : Type 0) where
+  pub responds_more : (a b next : At) (us : List U) (ms : List M) (u : U) (m : M) (out : List ℕ) (reply : Reply) → Responds l limit faulty a us ms out b → Replies limit faulty b (l.asks b.user u) reply next
+      → Responds l limit faulty a (us ++ u ∷ []) (ms ++ m ∷ []) (out ++ l.response m u reply) next
   responds_more a b next [] [] u m out reply (none, is) replies =
-      (reply, next, [], subst (λ (x : At). Replies limit x (l.asks x.user u) reply next) is replies, ap (λ (o : List ℕ). o ++ l.response m u reply) none ∙ sym (append-nil (l.response m u reply)), (refl, refl))
+      (reply, next, [], subst (λ (x : At). Replies limit faulty x (l.asks x.user u) reply next) is replies, ap (λ (o : List ℕ). o ++ l.response m u reply) none ∙ sym (append-nil (l.response m u reply)), (refl, refl))
   responds_more a b next [] (n ∷ ms) u m out reply x replies = absurd x
   responds_more a b next (v ∷ us) [] u m out reply x replies = absurd x
   responds_more a b next (v ∷ us) (n ∷ ms) u m out reply (r, mid, rest, first, is, more) replies =
       (r, mid, rest ++ l.response m u reply, first, ap (λ (o : List ℕ). o ++ l.response m u reply) is ∙ append_assoc (l.response n v r) rest (l.response m u reply), responds_more mid b next us ms u m rest reply more replies)
 
-module _ {U M : Type 0} (l : Language U M) (r : Rules) (past : List Entry) where
+module _ {U M : Type 0} (l : Language U M) (r : Rules) (faulty : Type 0) (past : List Entry) where
   abbrev IsPlayed : Walk U M → Type 0
-  IsPlayed w = Responds l r.limit (standing r.table past Nobody) (units_in w.happenings) w.moments (w.earlier ++ w.latest) (standing r.table (past ++ w.history) w.user)
+  IsPlayed w = Responds l r.limit faulty (standing r.table past Nobody) (units_in w.happenings) w.moments (w.earlier ++ w.latest) (standing r.table (past ++ w.history) w.user)
 
-  pub played : (w : Walk U M) → Run l own (table_after r.table past) w → IsLegal r (past ++ w.history) → AllByRecursion IsOwn w.history → IsPlayed w
+  pub played : (w : Walk U M) → Run l own (table_after r.table past) w → IsLegal r (past ++ w.history) → AllByRecursion (IsOwn faulty) w.history → IsPlayed w
   played _ begins legal alone = (refl, ap (λ (x : List Entry). standing r.table x Nobody) (append-nil past))
   played _ (waits w run) legal alone =
-      subst (λ (us : List U). Responds l r.limit (standing r.table past Nobody) us w.moments ((w.earlier ++ w.latest) ++ []) (standing r.table (past ++ w.history) w.user)) (sym (units_in-quiet w.happenings))
-      (subst (λ (out : List ℕ). Responds l r.limit (standing r.table past Nobody) (units_in w.happenings) w.moments out (standing r.table (past ++ w.history) w.user)) (sym (append-nil (w.earlier ++ w.latest)))
+      subst (λ (us : List U). Responds l r.limit faulty (standing r.table past Nobody) us w.moments ((w.earlier ++ w.latest) ++ []) (standing r.table (past ++ w.history) w.user)) (sym (units_in-quiet w.happenings))
+      (subst (λ (out : List ℕ). Responds l r.limit faulty (standing r.table past Nobody) (units_in w.happenings) w.moments out (standing r.table (past ++ w.history) w.user)) (sym (append-nil (w.earlier ++ w.latest)))
       (played w run legal alone))
   played _ (responds w u m es reply s serves run) legal alone =
       let legal_at : IsLegal r ((past ++ w.history) ++ es) = subst (λ (x : List Entry). IsLegal r x) (sym (append_assoc past w.history es)) legal in
-      let before = played w run (legal_so_far r (past ++ w.history) es legal_at) (each_front IsOwn w.history es alone) in
-      let here = served r past w.history es w.user s (l.asks w.user u) reply serves legal_at alone in
-      let more = responds_more l r.limit (standing r.table past Nobody) (standing r.table (past ++ w.history) w.user) (standing r.table ((past ++ w.history) ++ es) s) (units_in w.happenings) w.moments u m (w.earlier ++ w.latest) reply before here in
-      subst (λ (us : List U). Responds l r.limit (standing r.table past Nobody) us (w.moments ++ m ∷ []) ((w.earlier ++ w.latest) ++ l.response m u reply) (standing r.table (past ++ (w.history ++ es)) s)) (sym (units_in-append w.happenings (unit u ∷ [])))
-      (subst (λ (x : List Entry). Responds l r.limit (standing r.table past Nobody) (units_in w.happenings ++ u ∷ []) (w.moments ++ m ∷ []) ((w.earlier ++ w.latest) ++ l.response m u reply) (standing r.table x s)) (append_assoc past w.history es) more)
+      let before = played w run (legal_so_far r (past ++ w.history) es legal_at) (each_front (IsOwn faulty) w.history es alone) in
+      let here = served r faulty past w.history es w.user s (l.asks w.user u) reply serves legal_at alone in
+      let more = responds_more l r.limit faulty (standing r.table past Nobody) (standing r.table (past ++ w.history) w.user) (standing r.table ((past ++ w.history) ++ es) s) (units_in w.happenings) w.moments u m (w.earlier ++ w.latest) reply before here in
+      subst (λ (us : List U). Responds l r.limit faulty (standing r.table past Nobody) us (w.moments ++ m ∷ []) ((w.earlier ++ w.latest) ++ l.response m u reply) (standing r.table (past ++ (w.history ++ es)) s)) (sym (units_in-append w.happenings (unit u ∷ [])))
+      (subst (λ (x : List Entry). Responds l r.limit faulty (standing r.table past Nobody) (units_in w.happenings ++ u ∷ []) (w.moments ++ m ∷ []) ((w.earlier ++ w.latest) ++ l.response m u reply) (standing r.table x s)) (append_assoc past w.history es) more)
 
   -- so far, and the reply to one unit more
-  pub played_so_far : (w : Walk U M) (es : List Entry) → Run l own (table_after r.table past) w → IsLegal r (past ++ (w.history ++ es)) → AllByRecursion IsOwn w.history → IsPlayed w
+  pub played_so_far : (w : Walk U M) (es : List Entry) → Run l own (table_after r.table past) w → IsLegal r (past ++ (w.history ++ es)) → AllByRecursion (IsOwn faulty) w.history → IsPlayed w
   played_so_far w es run legal alone = played w run (legal_so_far r (past ++ w.history) es (subst (λ (x : List Entry). IsLegal r x) (sym (append_assoc past w.history es)) legal)) alone
 
-  pub replied : (w : Walk U M) (u : U) (es : List Entry) (reply : Reply) (s : SessionUser) → Serves own (table_after r.table past) w.history w.user (l.asks w.user u) es reply s → IsLegal r (past ++ (w.history ++ es)) → AllByRecursion IsOwn (w.history ++ es)
-      → Replies r.limit (standing r.table (past ++ w.history) w.user) (l.asks w.user u) reply (standing r.table ((past ++ w.history) ++ es) s)
-  replied w u es reply s serves legal alone = served r past w.history es w.user s (l.asks w.user u) reply serves (subst (λ (x : List Entry). IsLegal r x) (sym (append_assoc past w.history es)) legal) alone
+  pub replied : (w : Walk U M) (u : U) (es : List Entry) (reply : Reply) (s : SessionUser) → Serves own (table_after r.table past) w.history w.user (l.asks w.user u) es reply s → IsLegal r (past ++ (w.history ++ es)) → AllByRecursion (IsOwn faulty) (w.history ++ es)
+      → Replies r.limit faulty (standing r.table (past ++ w.history) w.user) (l.asks w.user u) reply (standing r.table ((past ++ w.history) ++ es) s)
+  replied w u es reply s serves legal alone = served r faulty past w.history es w.user s (l.asks w.user u) reply serves (subst (λ (x : List Entry). IsLegal r x) (sym (append_assoc past w.history es)) legal) alone
 
 pub each_before : {X : Type 0} (P : X → Type 0) (xs ys : List X) → AllByRecursion P (xs ++ ys) → AllByRecursion P xs
 each_before P xs ys a = each_front P xs ys a
+
+-- what a fault may license, a weaker one may
+judges_within : (limit : Limit) (F G : Type 0) → (F → G) → (a b : At) (v : Option (Result Change Cause)) (r : Reply) → Judges limit F a v r b → Judges limit G a v r b
+judges_within limit F G f a b v r j = elim j [ inl d ↦ inl d | inr y ↦ inr (f y.0, y.1, y.2) ]
+
+replies_within : (limit : Limit) (F G : Type 0) → (F → G) → (a b : At) (k : Ask) (r : Reply) → Replies limit F a k r b → Replies limit G a k r b
+replies_within limit F G f a b (Refused q) r x = x
+replies_within limit F G f a b (LogsIn u) r x = x
+replies_within limit F G f a b LogsOut r x = x
+replies_within limit F G f a b Greets r x = x
+replies_within limit F G f a b (Lists which) r x = x
+replies_within limit F G f a b (Changes op) r x = judges_within limit F G f a b (verdict a.table op) r x
+
+pub responds_within : {U M : Type 0} (l : Language U M) (limit : Limit) (F G : Type 0) → (F → G) → (a b : At) (us : List U) (ms : List M) (out : List ℕ) → Responds l limit F a us ms out b → Responds l limit G a us ms out b
+responds_within l limit F G f a b [] [] out x = x
+responds_within l limit F G f a b [] (m ∷ ms) out x = absurd x
+responds_within l limit F G f a b (u ∷ us) [] out x = absurd x
+responds_within l limit F G f a b (u ∷ us) (m ∷ ms) out (r, n, rest, here, is, more) = (r, n, rest, replies_within limit F G f a n (l.asks a.user u) r here, is, responds_within l limit F G f n b us ms rest more)
 
 -- The plain session is one
 module _ {U M : Type 0} (l : Language U M) (limit : Limit) (once : (cs : List Change) (x : Change) (m n : Option Cause) → limit cs x m → limit cs x n → m ≡ n) where
@@ -155,12 +179,15 @@ module _ {U M : Type 0} (l : Language U M) (limit : Limit) (once : (cs : List Ch
   made_once a b d c None r q x y = (x.0 ∙ sym y.0, x.1 ∙ sym y.1)
   made_once a b d c (Some p) r q x y = (x.0 ∙ sym y.0, x.1 ∙ sym y.1)
 
-  judged_once : (a b d : At) (v : Option (Result Change Cause)) (r q : Reply) → Judges limit a v r b → Judges limit a v q d → Same r q b d
-  judged_once a b d (Some (Ok c)) r q (m, met, x) (n, other, y) = made_once a b d c m r q x (subst (λ (k : Option Cause). Makes a c k q d) (once a.changes c n m other met) y)
-  judged_once a b d (Some (Err p)) r q x y = (x.0 ∙ sym y.0, x.1 ∙ sym y.1)
-  judged_once a b d None r q x y = absurd x
+  decided_once : (a b d : At) (v : Option (Result Change Cause)) (r q : Reply) → Decides limit a v r b → Decides limit a v q d → Same r q b d
+  decided_once a b d (Some (Ok c)) r q (m, met, x) (n, other, y) = made_once a b d c m r q x (subst (λ (k : Option Cause). Makes a c k q d) (once a.changes c n m other met) y)
+  decided_once a b d (Some (Err p)) r q x y = (x.0 ∙ sym y.0, x.1 ∙ sym y.1)
+  decided_once a b d None r q x y = absurd x
 
-  replied_once : (a b d : At) (k : Ask) (r q : Reply) → Replies limit a k r b → Replies limit a k q d → Same r q b d
+  judged_once : (a b d : At) (v : Option (Result Change Cause)) (r q : Reply) → Judges limit ⊥ a v r b → Judges limit ⊥ a v q d → Same r q b d
+  judged_once a b d v r q x y = elim x [ inl i ↦ elim y [ inl j ↦ decided_once a b d v r q i j | inr j ↦ absurd j.0 ] | inr i ↦ absurd i.0 ]
+
+  replied_once : (a b d : At) (k : Ask) (r q : Reply) → Replies limit ⊥ a k r b → Replies limit ⊥ a k q d → Same r q b d
   replied_once a b d (Refused p) r q x y = (x.0 ∙ sym y.0, x.1 ∙ sym y.1)
   replied_once a b d (LogsIn u) r q x y = (x.0 ∙ sym y.0, x.1 ∙ sym y.1)
   replied_once a b d LogsOut r q x y = (x.0 ∙ sym y.0, x.1 ∙ sym y.1)
@@ -168,11 +195,11 @@ module _ {U M : Type 0} (l : Language U M) (limit : Limit) (once : (cs : List Ch
   replied_once a b d (Lists which) r q x y = (x.0 ∙ sym y.0, x.1 ∙ sym y.1)
   replied_once a b d (Changes op) r q x y = judged_once a b d (verdict a.table op) r q x y
 
-  pub responses_once : (a b c : At) (us : List U) (ms : List M) (out other : List ℕ) → Responds l limit a us ms out b → Responds l limit a us ms other c → (out ≡ other) × (b ≡ c)
+  pub responses_once : (a b c : At) (us : List U) (ms : List M) (out other : List ℕ) → Responds l limit ⊥ a us ms out b → Responds l limit ⊥ a us ms other c → (out ≡ other) × (b ≡ c)
   responses_once a b c [] [] out other x y = (x.0 ∙ sym y.0, x.1 ∙ sym y.1)
   responses_once a b c [] (m ∷ ms) out other x y = absurd x
   responses_once a b c (u ∷ us) [] out other x y = absurd x
   responses_once a b c (u ∷ us) (m ∷ ms) out other (r, n, rest, here, is, more) (q, k, last, there, says, also) =
       let one = replied_once a n k (l.asks a.user u) r q here there in
-      let next = responses_once n b c us ms rest last more (subst (λ (x : At). Responds l limit x us ms last c) (sym one.1) also) in
+      let next = responses_once n b c us ms rest last more (subst (λ (x : At). Responds l limit ⊥ x us ms last c) (sym one.1) also) in
       (is ∙ ap₂ (λ (x : Reply) (o : List ℕ). l.response m u x ++ o) one.0 next.0 ∙ sym says, next.1)

@@ -1,44 +1,88 @@
 -- The program's words, what it writes, and its status.
-use Rattle.std.specs.Prelude.{◌≡◌, ◌≢◌, ◌↔◌, ◌^◌, ℕ, ◌==◌, ◌⊎◌, Bool, false, not, ◌&&◌, if◌then◌else◌, List, [], ◌∷◌, ◌++◌, Option, Some, None, codes, IsTrue}
+use Rattle.std.specs.Prelude.{◌≡◌, ◌≢◌, ◌↔◌, ◌^◌, ◌+◌, ◌≤◌, ◌<◌, ℕ, length, decimal, flat_map, ◌==◌, ◌⊎◌, Bool, false, not, ◌&&◌, if◌then◌else◌, List, [], ◌∷◌, ◌++◌, Option, Some, None, codes, IsTrue}
 use Rattle.std.specs.Str.{bytes_eq}
+use Rattle.std.specs.List.{AllByRecursion}
 use Rattle.dxc_causes.specs.Causes.{Rose, Counted}
 use Rattle.dxc_outside.specs.declared.clock.Moment.{Moment}
 use Rattle.dxc_outside.specs.Items.{Item, bytes}
-use Rattle.dxc_outside.specs.Links.{LinkState, Exchanged}
+use Rattle.dxc_outside.specs.Links.{LinkState, Exchanged, IsSent}
 use Rattle.dxc_outside.specs.Openings.{OpenerState, IsShelfPart}
+use Rattle.dxc_model.specs.declared.user.SessionUser.{SessionUser}
 use Rattle.dxc_model.specs.declared.user.SessionUser.TheVariants.{Nobody}
-use Rattle.dxc_model.specs.Equipment.{empty_table}
+use Rattle.dxc_model.specs.declared.entry.Entry.{Entry}
+use Rattle.dxc_model.specs.declared.entry.Outcome.TheVariants.{Cut}
+use Rattle.dxc_model.specs.Histories.{IsLegal}
 use Rattle.tl1_text.specs.Units.{Input, IsStream}
 use Rattle.shelf_file.specs.declared.fault.ShelfFault.TheVariants as fault
 use Rattle.shelf_file.specs.Contents.{Contents, IsShelf}
 use Rattle.shelf_file.specs.Checks.{IsFirstFault}
 use Rattle.craft_session.specs.declared.run.Status.{Status}
-use Rattle.craft_session.specs.declared.run.Status.TheVariants.{Done, BadWords, BadShelf, CannotOpen, NoMemory, Link, Stopped, Spent}
+use Rattle.craft_session.specs.declared.run.Status.TheVariants.{Done, BadWords, BadShelf, BadJournal, Disk, CannotOpen, NoMemory, Link, Stopped, Spent}
 use Rattle.craft_session.specs.declared.end.SessionEnd.{SessionEnd}
 use Rattle.craft_session.specs.declared.end.SessionEnd.TheVariants.{End, ReadFault, WriteFault, Stopped as SessionStopped, Spent as SessionSpent}
-use Rattle.craft_session.specs.Happenings.{bytes_in}
+use Rattle.craft_session.specs.Happenings.{Happens, bytes_in, unit, units_in}
 use Rattle.craft_session.specs.Meanings.{language}
 use Rattle.craft_session.specs.Moments.{Gives}
 use Rattle.dxc_model.specs.declared.op.Op.{Op}
 use Rattle.dxc_model.specs.Steps.{IsUnderWay}
-use Rattle.xc_recovery.specs.Folds.{none_folded}
-use Rattle.xc_core.specs.States.{LimitBehind, StandsFor, opening}
-use Rattle.craft_session.specs.Seats.{Seat}
+use Rattle.dxc_num.specs.Dimensions.{Dimensions}
+use Rattle.dxc_disk.specs.Disks.{DiskState, IsSound, Spends}
+use Rattle.dxc_model.specs.declared.conn.Conn.{Conn}
+use Rattle.dxc_outside.specs.declared.send.Sent.{Sent}
+use Rattle.dxc_outside.specs.declared.send.Sent.TheVariants.{Whole, Cut as Sent_cut}
+use Rattle.fabric_words.specs.Seats.{FabricId}
+use Rattle.journal_core.specs.declared.fault.JournalWhy.{JournalWhy}
+use Rattle.journal_core.specs.declared.fault.JournalWhy.TheVariants as why
+use Rattle.tl1_answer.specs.Texts.{with_conn}
+use Rattle.xc_core.specs.declared.fault.OpenFault.{OpenFault}
+use Rattle.xc_core.specs.declared.fault.OpenFault.TheVariants as fault_of
+use Rattle.xc_core.specs.Openings.{Fails, IsOpening}
+use Rattle.dxc_model.specs.declared.op.Selection.TheVariants.{All}
+use Rattle.dxc_model.specs.Tables.{rows}
+use Rattle.xc_core.specs.declared.state.Home.{Home}
+use Rattle.xc_core.specs.declared.state.Home.TheVariants.{In, Out}
+use Rattle.xc_core.specs.States.{LimitBehind, Opening, StandsFor, faults_in, rules_of}
+use Rattle.craft_session.specs.declared.run.JournalBad.TheVariants.{Header, Record}
+use Rattle.craft_session.specs.declared.run.Mode.{Mode}
+use Rattle.craft_session.specs.declared.run.Mode.TheVariants.{Script, Check}
+use Rattle.craft_session.specs.declared.run.Line.{Line as WordsLine}
+use Rattle.craft_session.specs.Seats.{Seat, IsUnsound, disk_in, room_of}
 use Rattle.craft_session.specs.declared.ask.Ask.TheVariants.{Changes}
 use Rattle.craft_session.specs.Asks.{Reply}
-use Rattle.craft_session.specs.Plain.{At, Limit, Replies, Responds}
+use Rattle.craft_session.specs.Acting.{IsOwn}
+use Rattle.craft_session.specs.Walks.{Serves, entry, own}
+use Rattle.craft_session.specs.Runs.{Run, Walk}
+use Rattle.craft_session.specs.Plain.{At, Replies, Responds}
 
 -- a word that begins with a dash
 abbrev pub is_dashed : List ℕ → Bool
 is_dashed [] = false
 is_dashed (c ∷ cs) = c == 45
 
--- the shelf file's name in the words `script SHELF`
-abbrev pub shelf_named : List (List ℕ) → Option (List ℕ)
-shelf_named [] = None
-shelf_named (mode ∷ []) = None
-shelf_named (mode ∷ name ∷ []) = if bytes_eq mode (codes "script") && not (is_dashed name) then Some name else None
-shelf_named (mode ∷ name ∷ other ∷ more) = None
+-- what the program is asked to do, with the names of shelf file and journal
+pub record Line : Type 0 where
+  pub mode : Mode
+  pub shelf : List ℕ
+  pub journal : List ℕ
+
+abbrev pub mode_in : List ℕ → Option Mode
+mode_in word = if bytes_eq word (codes "script") then Some Script else (if bytes_eq word (codes "check") then Some Check else None)
+
+abbrev pub line_with : List ℕ → List ℕ → Option Mode → Option Line
+line_with shelf journal None = None
+line_with shelf journal (Some m) = Some (record { mode = m; shelf = shelf; journal = journal })
+
+-- a line of the program, by its names
+abbrev pub named_line : WordsLine → Line
+named_line l = record { mode = l.mode; shelf = l.shelf.now; journal = l.journal.now }
+
+-- the line of the words `script SHELF JOURNAL` or `check SHELF JOURNAL`
+abbrev pub line_in : List (List ℕ) → Option Line
+line_in [] = None
+line_in (mode ∷ []) = None
+line_in (mode ∷ shelf ∷ []) = None
+line_in (mode ∷ shelf ∷ journal ∷ []) = if not (is_dashed shelf) && not (is_dashed journal) then line_with shelf journal (mode_in mode) else None
+line_in (mode ∷ shelf ∷ journal ∷ other ∷ more) = None
 
 abbrev pub status_of : SessionEnd → Status
 status_of End = Done
@@ -47,110 +91,164 @@ status_of WriteFault = Link
 status_of SessionStopped = Stopped
 status_of SessionSpent = Spent
 
+abbrev pub status_of_check : Sent → Status
+status_of_check Whole = Done
+status_of_check Sent_cut = Link
+
 -- the number that the process ends with
 abbrev pub number_of : Status → ℕ
 number_of Done = 0
 number_of BadWords = 2
 number_of (BadShelf f) = 3
+number_of (BadJournal f) = 4
+number_of Disk = 5
 number_of CannotOpen = 6
 number_of NoMemory = 8
 number_of Link = 9
 number_of Stopped = 10
 number_of Spent = 11
 
--- where a session on a shelf begins: no connections, the shelf's equipped modules, nobody logged in
-abbrev pub opened : Contents → At
-opened s = record { table = empty_table s.shape s.equipped; changes = []; user = Nobody }
+-- the status of a controller that didn't start
+abbrev pub status_of_why : JournalWhy → Status
+status_of_why (why.BadHeader bytes) = BadJournal (Header bytes)
+status_of_why why.Disk = Disk
 
--- the limits of its changes, on a new fabric
-abbrev pub limit_on : Contents → Limit
-limit_on s = LimitBehind (none_folded s.shape s.equipped) 0
+abbrev pub status_of_fault : {D : Type 0} → OpenFault D → Status
+status_of_fault (fault_of.Journal f) = status_of_why f.why
+status_of_fault (fault_of.BadRecord i) = BadJournal (Record i)
+status_of_fault (fault_of.Disk d) = Disk
+status_of_fault fault_of.NoMemory = NoMemory
+status_of_fault fault_of.Stopped = Stopped
 
--- each unit of the bytes read was answered, with the next moment, by the plain session on one table
-pub record Answered (clock_told : Type 0) (c d : List Moment) (s : Contents) (items : List Item) (out : List ℕ) : Type 0 where
-  pub units : List Input
-  pub rest : List ℕ
-  pub moments : List Moment
-  pub now : At
-  pub read : IsStream (bytes_in items) units rest
-  pub gave : clock_told → Gives c d moments
-  pub responds : Responds (language s) (limit_on s) (opened s) units moments out now
+-- where a session begins on what the journal came to, with nobody logged in
+abbrev pub opened : Opening → At
+opened o = record { table = o.first.fold.table; changes = []; user = Nobody }
 
--- the units before the last were answered, and of the last one's response a part was written
-pub record AnsweredInPart (clock_told : Type 0) (c d : List Moment) (s : Contents) (items : List Item) (out : List ℕ) : Type 0 where
-  pub units : List Input
-  pub last : Input
-  pub moments : List Moment
-  pub moment : Moment
-  pub now : At
-  pub after : At
-  pub reply : Reply
-  pub earlier : List ℕ
-  pub part : List ℕ
-  pub missing : List ℕ
-  pub read : IsStream (bytes_in items) (units ++ last ∷ []) []
-  pub gave : clock_told → Gives c d (moments ++ moment ∷ [])
-  pub responds : Responds (language s) (limit_on s) (opened s) units moments earlier now
-  pub replies : Replies (limit_on s) now ((language s).asks now.user last) reply after
-  pub split : (language s).response moment last reply ≡ part ++ missing
-  pub out_is : out ≡ earlier ++ part
+-- A legal history of this session's entries alone, after so many commands; where the disk that was handed out has room for them, at most as
+-- many of its operations failed by the disk as its margin was.
+pub record IsOwnHistory (o : Opening) (disk : DiskState) (commands : ℕ) (h : List Entry) : Type 0 where
+  pub legal : IsLegal (rules_of o) h
+  pub alone : AllByRecursion (IsOwn (IsUnsound disk commands)) h
+  pub few : room_of commands < disk.room → faults_in h ≤ disk.margin
 
--- the units before the last were answered, and a stop cut the last, a changing command, which has no response
-pub record AnsweredToStop (clock_told : Type 0) (c d : List Moment) (s : Contents) (items : List Item) (out : List ℕ) : Type 0 where
-  pub units : List Input
-  pub last : Input
-  pub moments : List Moment
-  pub now : At
-  pub op : Op
-  pub read : IsStream (bytes_in items) (units ++ last ∷ []) []
-  pub gave : clock_told → Gives c d moments
-  pub responds : Responds (language s) (limit_on s) (opened s) units moments out now
-  pub asked : (language s).asks now.user last ≡ Changes op
-  pub under_way : IsUnderWay now.table op
+module _ (clock_told : Type 0) (c d : List Moment) (s : Contents) (o : Opening) (disk : DiskState) where
+  -- A run over such a history; and each unit of the bytes read was answered, with the next moment, by the plain session on one table.
+  pub record Answered (items : List Item) (out : List ℕ) : Type 0 where
+    pub walk : Walk Input Moment
+    pub rest : List ℕ
+    pub now : At
+    pub happened : Happens items walk.happenings rest
+    pub read : IsStream (bytes_in items) (units_in walk.happenings) rest
+    pub gave : clock_told → Gives c d walk.moments
+    pub run : Run (language s) own o.first.fold.table walk
+    pub history : IsOwnHistory o disk (length walk.moments) walk.history
+    pub written : out ≡ walk.earlier ++ walk.latest
+    pub responds : Responds (language s) (LimitBehind o.first) (IsUnsound disk (length walk.moments)) (opened o) (units_in walk.happenings) walk.moments out now
 
--- all that was read was answered
-pub record WroteAll (told clock_told : Type 0) (k l : LinkState) (c d : List Moment) (s : Contents) : Type 0 where
-  pub items : List Item
-  pub out : List ℕ
-  pub exchanged : Exchanged told k l items out
-  pub answered : Answered clock_told c d s items out
+  -- the units before the last were answered, and of the last one's response a part was written
+  pub record AnsweredInPart (items : List Item) (out : List ℕ) : Type 0 where
+    pub before : Walk Input Moment
+    pub last : Input
+    pub moment : Moment
+    pub reply : Reply
+    pub entries : List Entry
+    pub user : SessionUser
+    pub now : At
+    pub after : At
+    pub part : List ℕ
+    pub missing : List ℕ
+    pub happened : Happens items (before.happenings ++ unit last ∷ []) []
+    pub read : IsStream (bytes_in items) (units_in before.happenings ++ last ∷ []) []
+    pub gave : clock_told → Gives c d (before.moments ++ moment ∷ [])
+    pub run : Run (language s) own o.first.fold.table before
+    pub serves : Serves own o.first.fold.table before.history before.user ((language s).asks before.user last) entries reply user
+    pub history : IsOwnHistory o disk (length before.moments + 1) (before.history ++ entries)
+    pub responds : Responds (language s) (LimitBehind o.first) (IsUnsound disk (length before.moments + 1)) (opened o) (units_in before.happenings) before.moments (before.earlier ++ before.latest) now
+    pub replies : Replies (LimitBehind o.first) (IsUnsound disk (length before.moments + 1)) now ((language s).asks now.user last) reply after
+    pub split : (language s).response moment last reply ≡ part ++ missing
+    pub written : out ≡ (before.earlier ++ before.latest) ++ part
 
--- a write failed, and the bytes ahead, read behind the unit in hand, were dropped
-pub record WroteInPart (told clock_told : Type 0) (k l : LinkState) (c d : List Moment) (s : Contents) : Type 0 where
-  pub items : List Item
-  pub ahead : List ℕ
-  pub out : List ℕ
-  pub exchanged : Exchanged told k l (items ++ bytes ahead) out
-  pub answered : AnsweredInPart clock_told c d s items out
-  pub rose : Rose k.write_faults l.write_faults
+  -- the units before the last were answered, and a stop cut the last, a changing command, which has no response
+  pub record AnsweredToStop (items : List Item) (out : List ℕ) : Type 0 where
+    pub before : Walk Input Moment
+    pub last : Input
+    pub op : Op
+    pub now : At
+    pub happened : Happens items (before.happenings ++ unit last ∷ []) []
+    pub read : IsStream (bytes_in items) (units_in before.happenings ++ last ∷ []) []
+    pub gave : clock_told → Gives c d before.moments
+    pub run : Run (language s) own o.first.fold.table before
+    pub history : IsOwnHistory o disk (length before.moments) before.history
+    pub cut : IsLegal (rules_of o) (before.history ++ entry own op Cut ∷ [])
+    pub written : out ≡ before.earlier ++ before.latest
+    pub responds : Responds (language s) (LimitBehind o.first) (IsUnsound disk (length before.moments)) (opened o) (units_in before.happenings) before.moments out now
+    pub asked : (language s).asks now.user last ≡ Changes op
+    pub under_way : IsUnderWay now.table op
 
--- a stop came, and the bytes ahead were dropped
-pub record WroteToStop (told clock_told : Type 0) (k l : LinkState) (c d : List Moment) (s : Contents) : Type 0 where
-  pub items : List Item
-  pub ahead : List ℕ
-  pub out : List ℕ
-  pub exchanged : Exchanged told k l (items ++ bytes ahead) out
-  pub answered : AnsweredToStop clock_told c d s items out
+  module _ (told : Type 0) (k l : LinkState) where
+    -- all that was read was answered
+    pub record WroteAll : Type 0 where
+      pub items : List Item
+      pub out : List ℕ
+      pub exchanged : Exchanged told k l items out
+      pub answered : Answered items out
 
--- what was written, by the status
-abbrev pub Wrote : (told clock_told : Type 0) (k l : LinkState) (c d : List Moment) (s : Contents) (status : Status) → Type 0
-Wrote told clock_told k l c d s status = WroteAll told clock_told k l c d s ⊎ (((status ≡ Link) × WroteInPart told clock_told k l c d s) ⊎ ((status ≡ Stopped) × WroteToStop told clock_told k l c d s))
+    -- a write failed, and the bytes ahead, read behind the unit in hand, were dropped
+    pub record WroteInPart : Type 0 where
+      pub items : List Item
+      pub ahead : List ℕ
+      pub out : List ℕ
+      pub exchanged : Exchanged told k l (items ++ bytes ahead) out
+      pub answered : AnsweredInPart items out
+      pub rose : Rose k.write_faults l.write_faults
 
--- a place on the shelf whose state stands for no entry, on a fabric of its own
-pub record IsOpened (s : Contents) (place : Seat) : Type 0 where
-  pub shelf : place.shelf ≡ s
-  pub stands : StandsFor (opening s place.fabric) place.state []
+    -- a stop came, and the bytes ahead were dropped
+    pub record WroteToStop : Type 0 where
+      pub items : List Item
+      pub ahead : List ℕ
+      pub out : List ℕ
+      pub exchanged : Exchanged told k l (items ++ bytes ahead) out
+      pub answered : AnsweredToStop items out
 
--- one session on a shelf, from a table with no connections, and the status by its end; so many stops were before and after it
-pub record IsScript (told clock_told : Type 0) (k l : LinkState) (c d : List Moment) (stops later : ℕ) (s : Contents) (status : Status) : Type 0 where
-  pub wrote : Wrote told clock_told k l c d s status
-  pub all_written : status ≡ Done → WroteAll told clock_told k l c d s
-  pub ended : (status ≡ Done) ↔ IsTrue l.ended
-  pub cause : status ≡ Link → Rose k.read_faults l.read_faults ⊎ Rose k.write_faults l.write_faults
-  pub stopped : status ≡ Stopped → Rose stops later
-  pub unstopped : status ≢ Stopped → later ≡ stops
-  pub spent : status ≡ Spent → Counted k.reads l.reads (2 ^ 32)
-  pub else_spent : status ≢ Done → status ≢ Link → status ≢ Stopped → status ≡ Spent
+    -- what was written, by the status
+    abbrev pub Wrote : Status → Type 0
+    Wrote status = WroteAll ⊎ (((status ≡ Link) × WroteInPart) ⊎ ((status ≡ Stopped) × WroteToStop))
+
+    -- one session, and the status by its end; so many stops were before and after it
+    pub record IsScript (stops later : ℕ) (status : Status) : Type 0 where
+      pub wrote : Wrote status
+      pub all_written : status ≡ Done → WroteAll
+      pub ended : (status ≡ Done) ↔ IsTrue l.ended
+      pub cause : status ≡ Link → Rose k.read_faults l.read_faults ⊎ Rose k.write_faults l.write_faults
+      pub stopped : status ≡ Stopped → Rose stops later
+      pub unstopped : status ≢ Stopped → later ≡ stops
+      pub spent : status ≡ Spent → Counted k.reads l.reads (2 ^ 32)
+      pub else_spent : status ≢ Done → status ≢ Link → status ≢ Stopped → status ≡ Spent
+
+-- a row of the table, without its quotes, and its end
+abbrev pub row_line : Dimensions → Conn → List ℕ
+row_line d x = with_conn [] d x ++ 10 ∷ []
+
+-- how many records the journal of a Provisioner counts
+abbrev pub records_at : {D : Type 0} → Home D → ℕ
+records_at (In p) = p.journal.1.count
+records_at Out = 0
+
+-- a line with the number of records
+abbrev pub count_line : ℕ → List ℕ
+count_line records = codes "RECORDS " ++ decimal records ++ 10 ∷ []
+
+-- each row of a table, and how many records led to it
+abbrev pub listing : Dimensions → List Conn → ℕ → List ℕ
+listing d rows records = flat_map (row_line d) rows ++ count_line records
+
+-- the rows of the table were written with the number of records, or a part of them where a write failed; nothing was read
+pub record IsCheck (s : Contents) (o : Opening) (told clock_told : Type 0) (k l : LinkState) (c d : List Moment) (stops later : ℕ) (status : Status) : Type 0 where
+  pub sent : Sent
+  pub wrote : IsSent told k l sent (listing s.shape (rows o.first.fold.table All) (length o.first.records))
+  pub status_is : status ≡ status_of_check sent
+  pub clock : d ≡ c
+  pub gate : later ≡ stops
 
 -- where the opener tells what it holds, these bytes are the file's, as far as they are read
 abbrev pub IsFile : (told : Type 0) (o : OpenerState) (name file : List ℕ) → Type 0
@@ -169,24 +267,61 @@ NoShelf told o p name Done = ⊥
 NoShelf told o p name BadWords = ⊥
 NoShelf told o p name Link = ⊥
 NoShelf told o p name Stopped = ⊥
+NoShelf told o p name (BadJournal f) = ⊥
+NoShelf told o p name Disk = ⊥
 NoShelf told o p name Spent = ⊥
 
--- nothing was read or written, and no gate was asked
-pub record IsUntouched (k l : LinkState) (c d : List Moment) (stops later : ℕ) : Type 0 where
+-- nothing was read or written
+pub record IsUntouched (k l : LinkState) (c d : List Moment) : Type 0 where
   pub link : l ≡ k
   pub clock : d ≡ c
-  pub gate : later ≡ stops
 
--- memory was wanting, or one session on the shelf
-abbrev pub IsRunOn : (told clock_told : Type 0) (k l : LinkState) (c d : List Moment) (stops later : ℕ) (s : Contents) → Status → Type 0
-IsRunOn told clock_told k l c d stops later s status = (status ≡ NoMemory × IsUntouched k l c d stops later) ⊎ IsScript told clock_told k l c d stops later s status
+-- what was done on what the journal came to
+abbrev pub IsDone : Mode → (s : Contents) (o : Opening) (disk : DiskState) (told clock_told : Type 0) (k l : LinkState) (c d : List Moment) (stops later : ℕ) → Status → Type 0
+IsDone Script s o disk told clock_told k l c d stops later status = IsScript clock_told c d s o disk told k l stops later status
+IsDone Check s o disk told clock_told k l c d stops later status = IsCheck s o told clock_told k l c d stops later status
 
--- no shelf and why, or a session on the shelf that the file of this name describes
-abbrev pub IsRunOf : (opener_told told clock_told : Type 0) (o p : OpenerState) (k l : LinkState) (c d : List Moment) (stops later : ℕ) (name : List ℕ) → Status → Type 0
-IsRunOf opener_told told clock_told o p k l c d stops later name status =
-    (NoShelf opener_told o p name status × IsUntouched k l c d stops later) ⊎ ((s : Contents) × HasShelf opener_told o name s × IsRunOn told clock_told k l c d stops later s status)
+module _ {D : Type 0} (disk_told : Type 0) (state : D → DiskState) where
+  -- why the controller didn't start on this disk
+  pub record NotStarted (disk : D) (s : Contents) (stops later : ℕ) (status : Status) : Type 0 where
+    pub fault : OpenFault D
+    pub is : status ≡ status_of_fault fault
+    pub why : disk_told → Fails state (state disk) s.shape fault
+    pub disk_failed : status ≡ Disk → IsSound 131_079 (state disk) → ⊥
+    pub stopped : status ≡ Stopped → Rose stops later
 
--- what the program did, by the shelf file's name in its words
-abbrev pub IsRun : (opener_told told clock_told : Type 0) (o p : OpenerState) (k l : LinkState) (c d : List Moment) (stops later : ℕ) → Option (List ℕ) → Status → Type 0
-IsRun opener_told told clock_told o p k l c d stops later None status = (p ≡ o) × IsUntouched k l c d stops later
-IsRun opener_told told clock_told o p k l c d stops later (Some name) status = IsRunOf opener_told told clock_told o p k l c d stops later name status
+  -- it started on what the disk's journal came to
+  pub record IsStarted (disk : D) (s : Contents) (o : Opening) : Type 0 where
+    pub fabric : FabricId
+    pub opening : IsOpening disk_told (state disk).reads_as s fabric o
+
+  -- a place on the shelf whose state stands for no entry behind what the disk's journal came to, on a fabric of its own
+  pub record IsOpened (disk : D) (s : Contents) (place : Seat D) : Type 0 where
+    pub shelf : place.shelf ≡ s
+    pub opening : Opening
+    pub is : IsOpening disk_told (state disk).reads_as s place.fabric opening
+    pub stands : StandsFor disk_told state opening place.state []
+    pub faults : opening.faults ≡ (disk_in state place.state).faults
+    pub later : (state disk).faults ≤ (disk_in state place.state).faults
+    pub spends : Spends 131_079 (state disk) (disk_in state place.state)
+
+  -- on the disk that was handed out
+  abbrev pub IsRunOn : Mode → (disk : D) (s : Contents) (told clock_told : Type 0) (k l : LinkState) (c d : List Moment) (stops later : ℕ) → Status → Type 0
+  IsRunOn mode disk s told clock_told k l c d stops later status =
+      (NotStarted disk s stops later status × IsUntouched k l c d) ⊎ ((o : Opening) × IsStarted disk s o × IsDone mode s o (state disk) told clock_told k l c d stops later status)
+
+  -- no journal and why, or a run on the disk of that name
+  abbrev pub IsRunOf : (opener_told : Type 0) (n m : OpenerState) (at : List ℕ → Option D) (journal : List ℕ) (mode : Mode) (s : Contents) (told clock_told : Type 0) (k l : LinkState) (c d : List Moment) (stops later : ℕ) → Status → Type 0
+  IsRunOf opener_told n m at journal mode s told clock_told k l c d stops later status =
+      (((status ≡ NoMemory) ⊎ ((status ≡ CannotOpen) × Rose n.faults m.faults)) × IsUntouched k l c d × (later ≡ stops))
+      ⊎ ((disk : D) × (opener_told → at journal ≡ Some disk) × IsRunOn mode disk s told clock_told k l c d stops later status)
+
+  -- no shelf and why, or a run on the shelf that the file of this name describes
+  abbrev pub IsRunBy : (opener_told : Type 0) (n m : OpenerState) (at : List ℕ → Option D) (line : Line) (told clock_told : Type 0) (k l : LinkState) (c d : List Moment) (stops later : ℕ) → Status → Type 0
+  IsRunBy opener_told n m at line told clock_told k l c d stops later status =
+      (NoShelf opener_told n m line.shelf status × IsUntouched k l c d × (later ≡ stops)) ⊎ ((s : Contents) × HasShelf opener_told n line.shelf s × IsRunOf opener_told n m at line.journal line.mode s told clock_told k l c d stops later status)
+
+  -- what the program did, by its words
+  abbrev pub IsRun : (opener_told : Type 0) (n m : OpenerState) (at : List ℕ → Option D) → Option Line → (told clock_told : Type 0) (k l : LinkState) (c d : List Moment) (stops later : ℕ) → Status → Type 0
+  IsRun opener_told n m at None told clock_told k l c d stops later status = (m ≡ n) × IsUntouched k l c d × (later ≡ stops)
+  IsRun opener_told n m at (Some line) told clock_told k l c d stops later status = IsRunBy opener_told n m at line told clock_told k l c d stops later status

@@ -12,6 +12,7 @@ ghost use Rattle.craft_session.specs.Acting.{ActedIs};
 
 use crate::ask::{Acted, Ask};
 use crate::change::{Changed, change};
+use dxc_disk::Disk;
 use dxc_model::{Conn, Selection, SessionUser, Table};
 use dxc_outside::Gate;
 use fabric_words::Fabric;
@@ -19,8 +20,8 @@ use std::sync::Wait;
 use xc_core::State;
 
 /// Does what was asked; the rows of a listing stand in `rows` then. None: the gate stopped.
-pub fn act<G: Gate, R: Wait>(
-    state: &mut State,
+pub fn act<D: Disk + Drop, G: Gate, R: Wait>(
+    state: &mut State<D>,
     fabric: &Fabric,
     user: &mut SessionUser,
     rows: &mut Vec<Conn>,
@@ -30,9 +31,9 @@ pub fn act<G: Gate, R: Wait>(
 ) -> Option<Acted>
     requires room { ports state.old.table.shape ≤ vec_capacity rows.old }
     requires apt { IsAptAsk state.old.table.shape ask }
-    requires seated { IsSeated fabric.now state.old }
-    ensures acts { (o : Opening) → (h : List Entry) → StandsFor o state.old h → ActedIs o h user.old ask result rows.new.items user.new state.new }
-    ensures seated { IsSeated fabric.now state.new }
+    requires seated { IsSeated D.told D.state fabric.now state.old }
+    ensures acts { (o : Opening) → (h : List Entry) → StandsFor D.told D.state o state.old h → ActedIs D.told D.state o h user.old ask result rows.new.items user.new state.old state.new }
+    ensures seated { IsSeated D.told D.state fabric.now state.new }
     ensures listed { result ≡ Some Acted.Listed → AllByRecursion (IsOfShape state.old.table.shape) rows.new.items }
     ensures user { user.new ≡ user_after user.old ask }
     ensures shape { state.new.table.shape ≡ state.old.table.shape }
@@ -65,7 +66,7 @@ pub fn act<G: Gate, R: Wait>(
 }
 
 /// Gives the connections of the selection, whose ports are of the shape.
-fn list(table: &Table, selection: Selection, rows: &mut Vec<Conn>)
+pub fn list(table: &Table, selection: Selection, rows: &mut Vec<Conn>)
     requires { ports table.now.shape ≤ vec_capacity rows.old }
     ensures rows { rows.new.items ≡ rows_of table.now selection }
     ensures shape { AllByRecursion (IsOfShape table.now.shape) rows.new.items }

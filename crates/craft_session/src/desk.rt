@@ -6,6 +6,7 @@ ghost use Rattle.craft_session.specs.Asks.{is_known};
 ghost use Rattle.tl1_text.specs.Reading.{Holds, hand};
 
 use arrayvec::ArrayVec;
+use dxc_disk::Disk;
 use dxc_model::{Conn, SessionUser};
 use fabric_words::Fabric;
 use shelf_file::Shelf;
@@ -16,10 +17,10 @@ use xc_core::State;
 
 /// All that serves a unit: the shelf, the fabric and the state, who is logged in, the reader, and the buffers of an answer.
 #[derive(Drop)]
-pub struct Desk {
+pub struct Desk<D: Disk> {
     pub shelf: Arc<Shelf>,
     pub fabric: Arc<Fabric>,
-    pub state: State,
+    pub state: State<D>,
     pub user: SessionUser,
     pub reader: UnitReader,
     pub answer: Answer,
@@ -30,7 +31,7 @@ pub struct Desk {
     ghost room: { ports state.table.shape ≤ vec_capacity rows },
 }
 
-impl Desk {
+impl<D: Disk + Drop> Desk<D> {
     ghost use Rattle.std.specs.Prelude.{[]};
 
     /// Begins a session: nobody is logged in, and what another left unread of a unit is dropped.

@@ -12,7 +12,7 @@ pub fn runs_are_played()
     ensures { ArePlayed }
 {}
 
-/// The plain session is one: the units and the moments determine what it writes.
+/// The plain session is one: on a sound disk what the journal came to, the units and the moments determine what it writes.
 pub fn responses_are_one()
     ensures { AreResponsesOnce }
 {}

@@ -4,6 +4,7 @@
 mod act;
 mod ask;
 mod change;
+mod check;
 mod desk;
 mod end;
 pub mod laws;
@@ -17,5 +18,5 @@ mod tests;
 
 pub use end::SessionEnd;
 pub use place::Place;
-pub use run::{Status, dxc_run};
+pub use run::{JournalBad, Status, dxc_run};
 pub use session::serve_session;

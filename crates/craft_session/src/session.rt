@@ -21,6 +21,7 @@ use crate::end::{Progress, SessionEnd};
 use crate::meaning::ask_of;
 use crate::place::Place;
 use crate::say::{add_lines, code_of};
+use dxc_disk::Disk;
 use dxc_model::Cause;
 use dxc_outside::{Clock, Gate, Got, Link, Sent, write_all};
 use std::sync::Wait;
@@ -30,8 +31,8 @@ const READS: u64 = 1 << 32;
 
 /// Serves the link, until it ends or fails, the gate stops, or 2^32 reads were made. It waits for frames that stand in the way of a
 /// circuit's move. It takes no memory.
-pub fn serve_session<K: Link, C: Clock, G: Gate, R: Wait>(
-    place: &mut Place,
+pub fn serve_session<K: Link, C: Clock, G: Gate, D: Disk + Drop, R: Wait>(
+    place: &mut Place<D>,
     link: &mut K,
     clock: &mut C,
     gate: &mut G,
@@ -39,7 +40,7 @@ pub fn serve_session<K: Link, C: Clock, G: Gate, R: Wait>(
 ) -> SessionEnd
     ensures shelf { place.new.shelf ≡ place.old.shelf }
     ensures fabric { place.new.fabric ≡ place.old.fabric }
-    ensures session { (b : Beginning) → StandsAt b [] place.old.state → IsServed (language place.old.shelf) K.told C.told (K.state link.old) (K.state link.new) (C.coming clock.old) (C.coming clock.new) b place.new.state result }
+    ensures session { (b : Beginning D) → b.state ≡ place.old.state → StandsAt D.told D.state b [] place.old.state → IsServed (language place.old.shelf) D.told D.state K.told C.told (K.state link.old) (K.state link.new) (C.coming clock.old) (C.coming clock.new) b place.new.state result }
     ensures end { (result ≡ SessionEnd.End) ↔ IsTrue (K.state link.new).ended }
     ensures all_read { K.told → result ≡ SessionEnd.End → (K.state link.new).left ≡ [] }
     ensures read_fault { result ≡ SessionEnd.ReadFault → Rose (K.state link.old).read_faults (K.state link.new).read_faults }
@@ -52,8 +53,8 @@ pub fn serve_session<K: Link, C: Clock, G: Gate, R: Wait>(
     serve(&mut place.desk, &mut place.piece, link, clock, gate, rt)
 }
 
-fn serve<K: Link, C: Clock, G: Gate, R: Wait>(
-    desk: &mut Desk,
+fn serve<K: Link, C: Clock, G: Gate, D: Disk + Drop, R: Wait>(
+    desk: &mut Desk<D>,
     piece: &mut [u8],
     link: &mut K,
     clock: &mut C,
@@ -63,11 +64,11 @@ fn serve<K: Link, C: Clock, G: Gate, R: Wait>(
     requires room { 0 < length piece.old }
     requires nothing_read { Holds [] (hand desk.old.reader) }
     requires nobody { desk.old.user ≡ Nobody }
-    requires seated { IsSeated (arc_value desk.old.fabric) desk.old.state }
+    requires seated { IsSeated D.told D.state (arc_value desk.old.fabric) desk.old.state }
     ensures shelf { desk.new.shelf ≡ desk.old.shelf }
     ensures fabric { desk.new.fabric ≡ desk.old.fabric }
-    ensures seated { IsSeated (arc_value desk.new.fabric) desk.new.state }
-    ensures session { (b : Beginning) → StandsAt b [] desk.old.state → IsServed (language (arc_value desk.old.shelf)) K.told C.told (K.state link.old) (K.state link.new) (C.coming clock.old) (C.coming clock.new) b desk.new.state result }
+    ensures seated { IsSeated D.told D.state (arc_value desk.new.fabric) desk.new.state }
+    ensures session { (b : Beginning D) → b.state ≡ desk.old.state → StandsAt D.told D.state b [] desk.old.state → IsServed (language (arc_value desk.old.shelf)) D.told D.state K.told C.told (K.state link.old) (K.state link.new) (C.coming clock.old) (C.coming clock.new) b desk.new.state result }
     ensures end { (result ≡ SessionEnd.End) ↔ IsTrue (K.state link.new).ended }
     ensures all_read { K.told → result ≡ SessionEnd.End → (K.state link.new).left ≡ [] }
     ensures read_fault { result ≡ SessionEnd.ReadFault → Rose (K.state link.old).read_faults (K.state link.new).read_faults }
@@ -92,21 +93,21 @@ fn serve<K: Link, C: Clock, G: Gate, R: Wait>(
 }
 
 /// Answers the units that end in the piece.
-fn serve_piece<K: Link, C: Clock, G: Gate, R: Wait>(
-    desk: &mut Desk,
+fn serve_piece<K: Link, C: Clock, G: Gate, D: Disk + Drop, R: Wait>(
+    desk: &mut Desk<D>,
     link: &mut K,
     clock: &mut C,
     gate: &mut G,
     rt: &R,
     piece: &[u8],
 ) -> Progress
-    requires seated { IsSeated (arc_value desk.old.fabric) desk.old.state }
+    requires seated { IsSeated D.told D.state (arc_value desk.old.fabric) desk.old.state }
     ensures shelf { desk.new.shelf ≡ desk.old.shelf }
     ensures fabric { desk.new.fabric ≡ desk.old.fabric }
-    ensures seated { IsSeated (arc_value desk.new.fabric) desk.new.state }
+    ensures seated { IsSeated D.told D.state (arc_value desk.new.fabric) desk.new.state }
     ensures link { Writes K.told (K.state link.old) (K.state link.new) }
-    ensures goes { (k : LinkState) → (c : List Moment) → (b : Beginning) → Stands (language (arc_value desk.old.shelf)) K.told C.told k (K.state link.old) c (C.coming clock.old) b (now desk.old) More desk.old.reader piece.now
-        → Goes (language (arc_value desk.old.shelf)) K.told C.told k (K.state link.new) c (C.coming clock.new) b (now desk.new) result desk.new.reader [] }
+    ensures goes { (k : LinkState) → (c : List Moment) → (b : Beginning D) → Stands (language (arc_value desk.old.shelf)) D.told D.state K.told C.told k (K.state link.old) c (C.coming clock.old) b (now desk.old) More desk.old.reader piece.now
+        → Goes (language (arc_value desk.old.shelf)) D.told D.state K.told C.told k (K.state link.new) c (C.coming clock.new) b (now desk.new) result desk.new.reader [] }
     ensures stopped { result ≡ Progress.Stopped → Rose (G.stops gate.old) (G.stops gate.new) }
     ensures unstopped { result ≢ Progress.Stopped → G.stops gate.new ≡ G.stops gate.old }
 {
@@ -123,8 +124,8 @@ fn serve_piece<K: Link, C: Clock, G: Gate, R: Wait>(
 }
 
 /// Answers the unit that ended, if one did.
-fn serve_unit<K: Link, C: Clock, G: Gate, R: Wait>(
-    desk: &mut Desk,
+fn serve_unit<K: Link, C: Clock, G: Gate, D: Disk + Drop, R: Wait>(
+    desk: &mut Desk<D>,
     link: &mut K,
     clock: &mut C,
     gate: &mut G,
@@ -132,14 +133,14 @@ fn serve_unit<K: Link, C: Clock, G: Gate, R: Wait>(
     kind: UnitKind,
 ) -> Progress
     requires short { kind ≡ UnitKind.Whole → length desk.old.reader.kept ≤ 2047 }
-    requires seated { IsSeated (arc_value desk.old.fabric) desk.old.state }
+    requires seated { IsSeated D.told D.state (arc_value desk.old.fabric) desk.old.state }
     ensures shelf { desk.new.shelf ≡ desk.old.shelf }
     ensures fabric { desk.new.fabric ≡ desk.old.fabric }
-    ensures seated { IsSeated (arc_value desk.new.fabric) desk.new.state }
+    ensures seated { IsSeated D.told D.state (arc_value desk.new.fabric) desk.new.state }
     ensures reader { desk.new.reader ≡ desk.old.reader }
     ensures link { Writes K.told (K.state link.old) (K.state link.new) }
-    ensures goes { (k : LinkState) → (c : List Moment) → (b : Beginning) → (ahead : List ℕ) → Stands (language (arc_value desk.old.shelf)) K.told C.told k (K.state link.old) c (C.coming clock.old) b (now desk.old) kind desk.old.reader ahead
-        → Goes (language (arc_value desk.old.shelf)) K.told C.told k (K.state link.new) c (C.coming clock.new) b (now desk.new) result desk.old.reader ahead }
+    ensures goes { (k : LinkState) → (c : List Moment) → (b : Beginning D) → (ahead : List ℕ) → Stands (language (arc_value desk.old.shelf)) D.told D.state K.told C.told k (K.state link.old) c (C.coming clock.old) b (now desk.old) kind desk.old.reader ahead
+        → Goes (language (arc_value desk.old.shelf)) D.told D.state K.told C.told k (K.state link.new) c (C.coming clock.new) b (now desk.new) result desk.old.reader ahead }
     ensures stopped { result ≡ Progress.Stopped → Rose (G.stops gate.old) (G.stops gate.new) }
     ensures unstopped { result ≢ Progress.Stopped → G.stops gate.new ≡ G.stops gate.old }
 {
@@ -158,8 +159,8 @@ fn serve_unit<K: Link, C: Clock, G: Gate, R: Wait>(
 }
 
 /// Does what was asked, and writes the response with the next moment. Where the gate stops there is no response.
-fn answer<K: Link, C: Clock, G: Gate, R: Wait>(
-    desk: &mut Desk,
+fn answer<K: Link, C: Clock, G: Gate, D: Disk + Drop, R: Wait>(
+    desk: &mut Desk<D>,
     link: &mut K,
     clock: &mut C,
     gate: &mut G,
@@ -169,13 +170,13 @@ fn answer<K: Link, C: Clock, G: Gate, R: Wait>(
 ) -> Progress
     requires apt { IsAptAsk desk.old.state.table.shape ask }
     requires known { is_known (length (arc_value desk.old.shelf).users) (user_after desk.old.user ask) ≡ true }
-    requires seated { IsSeated (arc_value desk.old.fabric) desk.old.state }
+    requires seated { IsSeated D.told D.state (arc_value desk.old.fabric) desk.old.state }
     ensures shelf { desk.new.shelf ≡ desk.old.shelf }
     ensures fabric { desk.new.fabric ≡ desk.old.fabric }
-    ensures seated { IsSeated (arc_value desk.new.fabric) desk.new.state }
+    ensures seated { IsSeated D.told D.state (arc_value desk.new.fabric) desk.new.state }
     ensures reader { desk.new.reader ≡ desk.old.reader }
     ensures link { Writes K.told (K.state link.old) (K.state link.new) }
-    ensures answered { IsAnswered (arc_value desk.old.shelf) K.told C.told (K.state link.old) (K.state link.new) (C.coming clock.old) (C.coming clock.new) tag ask (now desk.old) (now desk.new) result }
+    ensures answered { IsAnswered D.told D.state (arc_value desk.old.shelf) K.told C.told (K.state link.old) (K.state link.new) (C.coming clock.old) (C.coming clock.new) tag ask (now desk.old) (now desk.new) result }
     ensures stopped { result ≡ Progress.Stopped → Rose (G.stops gate.old) (G.stops gate.new) }
     ensures unstopped { result ≢ Progress.Stopped → G.stops gate.new ≡ G.stops gate.old }
 {
@@ -195,8 +196,8 @@ fn answer<K: Link, C: Clock, G: Gate, R: Wait>(
 }
 
 /// Writes the response of what was done with the next moment.
-fn say<K: Link, C: Clock>(
-    desk: &mut Desk,
+fn say<K: Link, C: Clock, D: Disk + Drop>(
+    desk: &mut Desk<D>,
     link: &mut K,
     clock: &mut C,
     tag: Option<Ctag>,

@@ -1,10 +1,12 @@
 // Sessions over fakes in memory. Expected bytes are written out from the message format.
-ghost use Rattle.std.specs.Prelude.{◌≤◌};
+ghost use Rattle.std.specs.Prelude.{◌≤◌, ◌<◌};
 ghost use Rattle.dxc_outside.specs.Moments.{IsMoment};
 
+mod journalled;
 mod registers;
 
-use crate::{Status, dxc_run};
+use crate::{JournalBad, Status, dxc_run};
+use dxc_disk::MemDisk;
 use dxc_outside::{AlwaysGo, Gate, MemClock, MemGate, MemLink, MemOpener, Moment, Name};
 use shelf_file::{ShelfFault, ShelfKey};
 use std::alloc::Global;
@@ -56,6 +58,8 @@ salt = \"61\"
 digest = \"ba7816bf8f01cfea414140de5dae2223b00361a396177a9cb410ff61f20015ad\"
 ";
 
+const SCRIPT: [&str; 3] = ["script", "shelf.toml", "office.journal"];
+
 const HEADER: &[u8] = b"\r\n\n   DXC1 26-03-01 12:00:00\r\n";
 
 const ANNA: Said = (b"ACT-USER::ANNA:0A::bc;", b"M  0A COMPLD\r\n;");
@@ -90,15 +94,26 @@ fn line(alloc: Global, words: &[&str]) -> Result<Vec<Name>, Fail> {
     Ok(names)
 }
 
-/// An opener that holds this file as `shelf.toml`.
-fn opener(alloc: Global, shelf: &[u8], failing: &[u64]) -> Result<MemOpener, Fail> {
+/// An opener that holds this file as `shelf.toml`, and a disk of this journal as `office.journal`, whose calls of these numbers fail.
+fn opener(
+    alloc: Global,
+    shelf: &[u8],
+    journal: &[u8],
+    failing: &[u64],
+    disk_failing: &[u64],
+) -> Result<MemOpener, Fail> {
     let mut shelves = Vec::new(alloc);
     let name = Name::of(String::from_str(alloc, "shelf.toml")?);
     shelves.push((name, shelf.to_vec(alloc)?))?;
-    Ok(MemOpener::new(alloc, failing.to_vec(alloc)?).with_shelves(shelves))
+    let mut journals = Vec::new(alloc);
+    let name = Name::of(String::from_str(alloc, "office.journal")?);
+    let disk = MemDisk::new(alloc, journal.to_vec(alloc)?, disk_failing.to_vec(alloc)?)?;
+    journals.push((name, disk))?;
+    let opener = MemOpener::new(alloc, failing.to_vec(alloc)?);
+    Ok(opener.with_shelves(shelves).with_journals(journals))
 }
 
-/// Runs `script shelf.toml` on the input, cut into pieces of these sizes, with these calls of the terminal failing.
+/// Runs `script shelf.toml office.journal` with a new journal on the input, cut into pieces of these sizes, with these calls of the terminal failing.
 fn run(
     rt: &impl Wait,
     alloc: Global,
@@ -107,10 +122,10 @@ fn run(
     sizes: &[usize],
     failing: &[u64],
 ) -> Result<(Status, MemLink), Fail> {
-    run_by(rt, alloc, shelf, input, sizes, failing, &mut AlwaysGo)
+    run_by(rt, alloc, shelf, input, sizes, failing, &[], &mut AlwaysGo)
 }
 
-/// The same by a gate.
+/// The same by a gate, with these calls of the journal's disk failing.
 fn run_by<G: Gate>(
     rt: &impl Wait,
     alloc: Global,
@@ -118,6 +133,7 @@ fn run_by<G: Gate>(
     input: &[u8],
     sizes: &[usize],
     failing: &[u64],
+    disk_failing: &[u64],
     gate: &mut G,
 ) -> Result<(Status, MemLink), Fail> {
     let mut link = MemLink::new(
@@ -129,8 +145,8 @@ fn run_by<G: Gate>(
     let mut moments = Vec::new(alloc);
     moments.push(noon(0))?;
     let mut clock = MemClock::new(moments);
-    let words = line(alloc, &["script", "shelf.toml"])?;
-    let mut files = opener(alloc, shelf, &[])?;
+    let words = line(alloc, &SCRIPT)?;
+    let mut files = opener(alloc, shelf, &[], &[], disk_failing)?;
     let status = dxc_run(alloc, &words, &mut files, &mut link, &mut clock, gate, rt);
     Ok((status, link))
 }
@@ -408,8 +424,8 @@ fn each_response_takes_the_next_moment(rt: HostRuntime) -> Result<(), Fail> {
     moments.push(noon(7))?;
     moments.push(noon(59))?;
     let mut clock = MemClock::new(moments);
-    let words = line(alloc, &["script", "shelf.toml"])?;
-    let mut files = opener(alloc, SHELF, &[])?;
+    let words = line(alloc, &SCRIPT)?;
+    let mut files = opener(alloc, SHELF, &[], &[], &[])?;
     let status = dxc_run(
         alloc,
         &words,
@@ -437,6 +453,7 @@ fn status_of<R: Abort + Wait>(
     alloc: Global,
     words: &[&str],
     shelf: &[u8],
+    journal: &[u8],
     failing: &[u64],
 ) -> Result<Status, Fail> {
     let mut link = MemLink::new(
@@ -447,7 +464,7 @@ fn status_of<R: Abort + Wait>(
     );
     let mut clock = MemClock::new(Vec::new(alloc));
     let names = line(alloc, words)?;
-    let mut files = opener(alloc, shelf, failing)?;
+    let mut files = opener(alloc, shelf, journal, failing, &[])?;
     let status = dxc_run(
         alloc,
         &names,
@@ -463,18 +480,20 @@ fn status_of<R: Abort + Wait>(
 
 #[test]
 fn other_words_are_no_line(rt: HostRuntime) -> Result<(), Fail> {
-    let lines: [&[&str]; 7] = [
+    let lines: [&[&str]; 9] = [
         &[],
         &["script"],
-        &["script", "shelf.toml", "1"],
-        &["Script", "shelf.toml"],
-        &["script", "-shelf.toml"],
+        &["script", "shelf.toml"],
+        &["script", "shelf.toml", "office.journal", "1"],
+        &["Script", "shelf.toml", "office.journal"],
+        &["script", "-shelf.toml", "office.journal"],
+        &["check", "shelf.toml", "-office.journal"],
         &["script", "--help"],
         &["--help"],
     ];
     for words in lines {
         assert_eq!(rt;
-            status_of(&rt, rt.alloc(), words, SHELF, &[])?,
+            status_of(&rt, rt.alloc(), words, SHELF, &[], &[])?,
             Status::BadWords
         );
     }
@@ -483,7 +502,7 @@ fn other_words_are_no_line(rt: HostRuntime) -> Result<(), Fail> {
 
 #[test]
 fn a_shelf_that_cannot_be_had_is_told(rt: HostRuntime) -> Result<(), Fail> {
-    let words: &[&str] = &["script", "shelf.toml"];
+    let words: &[&str] = &SCRIPT;
     let twice: &[u8] = b"sid = \"DXC1\"
 modules = 2
 slots = 1
@@ -503,18 +522,25 @@ digest = \"ba7816bf8f01cfea414140de5dae2223b00361a396177a9cb410ff61f20015ad\"
         key: ShelfKey::Sid,
         user: 0,
     });
-    assert_eq!(rt; status_of(&rt, rt.alloc(), words, twice, &[])?, two_users);
+    assert_eq!(rt;
+        status_of(&rt, rt.alloc(), words, twice, &[], &[])?,
+        two_users
+    );
     assert_eq!(rt; two_users.number(), 3u8);
-    assert_eq!(rt; status_of(&rt, rt.alloc(), words, b"", &[])?, no_name);
+    assert_eq!(rt; status_of(&rt, rt.alloc(), words, b"", &[], &[])?, no_name);
     assert_eq!(rt;
-        status_of(&rt, rt.alloc(), words, SHELF, &[0])?,
+        status_of(&rt, rt.alloc(), words, SHELF, &[], &[0])?,
         Status::CannotOpen
     );
-    let other: &[&str] = &["script", "other.toml"];
-    assert_eq!(rt;
-        status_of(&rt, rt.alloc(), other, SHELF, &[])?,
-        Status::CannotOpen
-    );
+    for other in [
+        ["script", "other.toml", "office.journal"],
+        ["script", "shelf.toml", "other.journal"],
+    ] {
+        assert_eq!(rt;
+            status_of(&rt, rt.alloc(), &other, SHELF, &[], &[])?,
+            Status::CannotOpen
+        );
+    }
     Ok(())
 }
 
@@ -581,10 +607,10 @@ const CHAIN: [Said; 6] = [
     (b"ENT-CRS-T0::DS0-1-2,DS0-1-1:1;", b"M  1 COMPLD\r\n;"),
 ];
 
-/// The responses that were written when the gate was asked so often: an entry of one join asks before each of its three writes
-/// and before its end.
+/// The responses that were written when the gate was asked so often: an entry of one join asks before it is journalled, before
+/// each of its three writes and before its end.
 fn answered_at(asked: u64) -> usize {
-    let joins = asked / 4;
+    let joins = asked / 5;
     if joins < 4 { joins as usize + 1 } else { 5 }
 }
 
@@ -592,11 +618,11 @@ fn answered_at(asked: u64) -> usize {
 fn a_stop_at_each_place_ends_the_session(rt: HostRuntime) -> Result<(), Fail> {
     let alloc = rt.alloc();
     let (input, _) = session(alloc, &CHAIN)?;
-    for asked in 0..35u64 {
+    for asked in 0..40u64 {
         let mut stops = Vec::new(alloc);
         stops.push(asked)?;
         let mut gate = MemGate::new(stops);
-        let (status, link) = run_by(&rt, alloc, THREE, &input, &[], &[], &mut gate)?;
+        let (status, link) = run_by(&rt, alloc, THREE, &input, &[], &[], &[], &mut gate)?;
         let answered = CHAIN.get(..answered_at(asked)).ok_or("responses")?;
         let (_, output) = session(alloc, answered)?;
         assert_eq!(rt; status, Status::Stopped);
@@ -604,11 +630,180 @@ fn a_stop_at_each_place_ends_the_session(rt: HostRuntime) -> Result<(), Fail> {
         assert_eq!(rt; link.output(), output.as_slice());
     }
     let mut stops = Vec::new(alloc);
-    stops.push(35)?;
+    stops.push(40)?;
     let mut gate = MemGate::new(stops);
-    let (status, link) = run_by(&rt, alloc, THREE, &input, &[], &[], &mut gate)?;
+    let (status, link) = run_by(&rt, alloc, THREE, &input, &[], &[], &[], &mut gate)?;
     let (_, output) = session(alloc, &CHAIN)?;
     assert_eq!(rt; status, Status::Done);
     assert_eq!(rt; link.output(), output.as_slice());
+    Ok(())
+}
+
+/// An entry's record is appended by four calls of the disk: a write and a sync of the body, and of the seal.
+#[test]
+fn each_fault_of_an_append_is_told(rt: HostRuntime) -> Result<(), Fail> {
+    let alloc = rt.alloc();
+    let failed: &[u8] = b"M  1 DENY\r\n   SROF\r\n   /* JOURNAL WRITE FAILED */\r\n;";
+    let (input, told) = session(alloc, &[ANNA, (ENTER, failed), ENTRY])?;
+    let (_, untold) = session(
+        alloc,
+        &[
+            ANNA,
+            ENTRY,
+            (ENTER, b"M  1 DENY\r\n   SNVS\r\n   /* SIDE IN USE */\r\n;"),
+        ],
+    )?;
+    let mut faults = 0u64;
+    let mut opening = 0u64;
+    for call in 0..40u64 {
+        let (status, link) = run_by(&rt, alloc, SHELF, &input, &[], &[], &[call], &mut AlwaysGo)?;
+        if status == Status::Disk {
+            opening = opening.saturating_add(1);
+            assert_eq!(rt; link.output(), b"".as_slice());
+        } else if link.output() == told.as_slice() {
+            faults = faults.saturating_add(1);
+        } else {
+            assert_eq!(rt; status, Status::Done);
+            assert_eq!(rt; link.output(), untold.as_slice());
+        }
+    }
+    assert!(rt; opening > 0);
+    assert_eq!(rt; faults, 4u64);
+    Ok(())
+}
+
+/// A journal has room for 65,536 changes.
+#[test]
+fn a_full_journal_is_told(rt: HostRuntime) -> Result<(), Fail> {
+    let alloc = rt.alloc();
+    let mut input = b"ACT-USER::ANNA:0A::bc;".to_vec(alloc)?;
+    for _ in 0..32_768u16 {
+        input.extend_from_slice(ENTER)?;
+        input.extend_from_slice(b"DLT-CRS-T0::DS0-1-1,DS0-2-1:4;")?;
+    }
+    input.extend_from_slice(ENTER)?;
+    let (status, link) = run(&rt, alloc, SHELF, &input, &[], &[])?;
+    assert_eq!(rt; status, Status::Done);
+    // The response to ANNA has 45 bytes, each COMPLD of a change 44.
+    let last = link.output().get(45 + 65_536 * 44..).ok_or("responses")?;
+    let told: Said = (ENTER, b"M  1 DENY\r\n   SSRE\r\n   /* JOURNAL FULL */\r\n;");
+    let (_, wanted) = session(alloc, &[told])?;
+    assert_eq!(rt; last, wanted.as_slice());
+    Ok(())
+}
+
+#[test]
+fn a_journal_of_another_shape_is_refused(rt: HostRuntime) -> Result<(), Fail> {
+    let mut header = [0u8; 32];
+    header[..8].copy_from_slice(b"\xa5DXCJRNL");
+    header[8] = 1;
+    header[11] = 3;
+    header[13] = 1;
+    let mut journal = header.to_vec(rt.alloc())?;
+    journal.push(0)?;
+    let status = status_of(&rt, rt.alloc(), &SCRIPT, SHELF, &journal, &[])?;
+    assert_eq!(rt; status, Status::BadJournal(JournalBad::Header(header)));
+    assert_eq!(rt; status.number(), 4u8);
+    Ok(())
+}
+
+/// A journal of two modules of one slot with one record, of the entry DS0-1-1 to DS0-2-1 on middle 0.
+fn one_entry() -> [u8; 65] {
+    let mut file = [0u8; 65];
+    file[..9].copy_from_slice(b"\xa5DXCJRNL\x01");
+    file[11] = 2;
+    file[13] = 1;
+    file[21] = 3;
+    file[32..40].copy_from_slice(b"\xa5\x01\x00\x00\x00\x01\x00\x01");
+    file
+}
+
+/// What `check` answers and writes of a journal of two modules of one slot.
+fn audit(rt: &impl Wait, alloc: Global, journal: &[u8]) -> Result<(Status, MemLink), Fail> {
+    let mut files = opener(alloc, SHELF, journal, &[], &[])?;
+    let mut link = MemLink::new(
+        Vec::new(alloc),
+        Vec::new(alloc),
+        Vec::new(alloc),
+        Vec::new(alloc),
+    );
+    let mut clock = MemClock::new(Vec::new(alloc));
+    let words = line(alloc, &["check", "shelf.toml", "office.journal"])?;
+    let status = dxc_run(
+        alloc,
+        &words,
+        &mut files,
+        &mut link,
+        &mut clock,
+        &mut AlwaysGo,
+        rt,
+    );
+    Ok((status, link))
+}
+
+const NO_RECORD: &[u8] = b"RECORDS 0\n";
+
+const ONE_RECORD: &[u8] = b"DS0-1-1,DS0-2-1:1WAY\nRECORDS 1\n";
+
+/// The first 32 bytes.
+fn header_of(file: &[u8]) -> [u8; 32] {
+    let mut header = [0u8; 32];
+    if let Some(front) = file.get(..32) {
+        header.copy_from_slice(front);
+    }
+    header
+}
+
+/// A file that was cut: one of at most a byte is new, one that ends in its header is refused, and a record counts once it is whole.
+fn is_cut_as_told<R: Abort + Wait>(rt: &R, alloc: Global, length: usize) -> Result<(), Fail> {
+    let file = one_entry();
+    let cut = file.get(..length).ok_or("a front")?;
+    let (status, link) = audit(rt, alloc, cut)?;
+    if length < 2 || length > 32 {
+        assert_eq!(rt; status, Status::Done);
+        let written = if length < 64 { NO_RECORD } else { ONE_RECORD };
+        assert_eq!(rt; link.output(), written);
+    } else {
+        assert_eq!(rt; status.number(), 4u8);
+        assert_eq!(rt; link.output(), b"".as_slice());
+    }
+    Ok(())
+}
+
+#[test]
+fn a_journal_may_be_cut_at_each_byte(rt: HostRuntime) -> Result<(), Fail> {
+    for length in 0usize..66 {
+        is_cut_as_told(&rt, rt.alloc(), length)?;
+    }
+    Ok(())
+}
+
+/// A file with a bit changed: in the header it is refused, but where other modules are equipped the record makes no change; an
+/// unsealed record doesn't count; any other byte of it counts; and the byte behind the records is unsealed still.
+fn is_changed_as_told<R: Abort + Wait>(rt: &R, alloc: Global, at: usize) -> Result<(), Fail>
+    requires { at < 65 }
+{
+    let mut file = one_entry();
+    file[at] ^= 1;
+    let (status, link) = audit(rt, alloc, &file)?;
+    let header = Status::BadJournal(JournalBad::Header(header_of(&file)));
+    let record = Status::BadJournal(JournalBad::Record(0));
+    let (wanted, written) = match at {
+        21 => (record, b"".as_slice()),
+        0..=31 => (header, b"".as_slice()),
+        32 => (Status::Done, NO_RECORD),
+        33..=63 => (record, b"".as_slice()),
+        _ => (Status::Done, ONE_RECORD),
+    };
+    assert_eq!(rt; status, wanted);
+    assert_eq!(rt; link.output(), written);
+    Ok(())
+}
+
+#[test]
+fn each_byte_of_a_journal_counts(rt: HostRuntime) -> Result<(), Fail> {
+    for at in 0usize..65 {
+        is_changed_as_told(&rt, rt.alloc(), at)?;
+    }
     Ok(())
 }

@@ -9,9 +9,13 @@ use std::{env, io};
 
 const HELP: &str = "dxc: the controller of a digital cross-connect
 
-  dxc script SHELF    one session: TL1 on standard input, answers on standard output
-  dxc --help          this text
-  dxc --version       the version
+  dxc script SHELF JOURNAL    one session: TL1 on standard input, answers on standard output
+  dxc check SHELF JOURNAL     the connections that the journal comes to, and how many records it has
+  dxc --help                  this text
+  dxc --version               the version
+
+JOURNAL is the name of the journal, which is made where there is none. Every change is in it before it is answered, and a
+start takes it up again.
 
 SHELF is the name of a shelf file, which tells the element's name, its shape and its users:
 
@@ -26,8 +30,8 @@ SHELF is the name of a shelf file, which tells the element's name, its shape and
   salt = \"61\"          # at most 32 bytes, in hexadecimal
   digest = \"..\"        # SHA-256 of the salt's bytes and the PID, in hexadecimal
 
-Status: 0 done, 2 words not understood, 3 shelf file refused, 6 cannot open, 8 no memory, 9 terminal failed,
-10 stopped, 11 read limit reached.
+Status: 0 done, 2 words not understood, 3 shelf file refused, 4 journal refused, 5 journal disk failed, 6 cannot open,
+8 no memory, 9 terminal failed, 10 stopped, 11 read limit reached.
 ";
 
 const VERSION: &str = "dxc 0.1.0\n";
@@ -82,6 +86,8 @@ fn fault_text(status: Status) -> &'static str {
         Status::Done => "",
         Status::BadWords => "dxc: words not understood\n",
         Status::BadShelf(_) => "dxc: shelf file refused\n",
+        Status::BadJournal(_) => "dxc: journal refused\n",
+        Status::Disk => "dxc: journal disk failed\n",
         Status::CannotOpen => "dxc: cannot open\n",
         Status::NoMemory => "dxc: no memory\n",
         Status::Link => "dxc: terminal failed\n",

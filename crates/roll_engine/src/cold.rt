@@ -1,5 +1,5 @@
 //! All legs of a matrix, joined one by one on a fabric that has none.
-ghost use Rattle.std.specs.Prelude.{◌≡◌, ◌≢◌, ◌≤◌, ℕ};
+ghost use Rattle.std.specs.Prelude.{◌≡◌, ◌≢◌, ◌≤◌, ℕ, []};
 ghost use Rattle.dxc_causes.specs.Causes.{Rose};
 ghost use Rattle.roll_engine.specs.Stages.{IsAtRestOn};
 ghost use Rattle.roll_engine.specs.Answers.{Advances};
@@ -27,6 +27,7 @@ pub fn advance_cold<G: Gate>(
     ensures advances { Advances mover.old.fabric.size (left_of matrix.now rolling.old) (left_of matrix.now rolling.new) mover.old.mover mover.new.mover }
     ensures cold { IsColdAt mover.old.fabric.size matrix.now rolling.new mover.new.mover }
     ensures done { result ≡ Advance.Done → IsAtRestOn mover.old.fabric.size matrix.now mover.new.mover }
+    ensures all { result ≡ Advance.Done → left_of matrix.now rolling.new ≡ [] }
     ensures joins { (f : ℕ) → result ≢ Advance.InFrame f }
     ensures stopped { result ≡ Advance.Stopped → Rose (G.stops gate.old) (G.stops gate.new) }
     ensures unstopped { result ≢ Advance.Stopped → G.stops gate.new ≡ G.stops gate.old }

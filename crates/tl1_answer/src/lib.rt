@@ -8,7 +8,7 @@ mod message;
 mod text;
 
 pub use answer::{Answer, Code, Fits};
-pub use text::{change_text, row_text};
+pub use text::{change_text, conn_text, row_text};
 
 #[cfg(test)]
 mod tests;

@@ -1,5 +1,5 @@
 // The texts of rows and changes.
-ghost use Rattle.std.specs.Prelude.{◌≡◌, ◌≤◌, ◌+◌, ◌++◌, length};
+ghost use Rattle.std.specs.Prelude.{◌≡◌, ◌≤◌, ◌+◌, ◌++◌, [], length};
 ghost use Rattle.arrayvec.specs.ArrayVec.{array_vec_len};
 ghost use Rattle.tl1_answer.specs.Texts.{IsOfShape, IsChangeOf, cct_text as text_of_cct, with_conn, row_text as text_of_row, change_text as text_of_change};
 
@@ -18,6 +18,16 @@ pub fn row_text(shape: Shape, conn: &Conn, out: &mut ArrayVec<u8, 128>)
     append(out, b"\"");
     append_conn(shape, conn, out);
     append(out, b"\"");
+}
+
+/// Clears `out`, and writes a connection: `FROM,TO:CCT` without quotes.
+pub fn conn_text(shape: Shape, conn: &Conn, out: &mut ArrayVec<u8, 128>)
+    requires { IsOfShape shape conn.now }
+    ensures text { out.new.items ≡ with_conn [] shape conn.now }
+    ensures short { array_vec_len out.new ≤ 38 }
+{
+    out.clear();
+    append_conn(shape, conn, out);
 }
 
 /// Clears `out`, and writes a change as the command that makes it, such as `"ENT-CRS-T0:FROM,TO:CCT"`, with the quotes.

@@ -1,6 +1,7 @@
+pub mod Moves
 pub mod Reckoning
 pub mod Granting
-pub mod Standing
+pub mod Journalling
 pub mod Rolling
+pub mod Standing
 pub mod Opened
-pub mod Moves

@@ -1,6 +1,9 @@
 pub mod Reckonings
+pub mod Journals
+pub mod Keeping
 pub mod Provisioners
 pub mod Begins
 pub mod Finishes
 pub mod States
+pub mod Openings
 pub mod Laws

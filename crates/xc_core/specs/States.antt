@@ -1,56 +1,71 @@
 -- When a state stands for a history.
-use Rattle.std.specs.Prelude.{◌≡◌, ◌⊎◌, ℕ, ◌+◌, List, length, Option}
+use Rattle.std.specs.Prelude.{◌≡◌, ◌⊎◌, ℕ, ◌+◌, ◌≤◌, min, List, [], ◌∷◌, Option, Some}
+use Rattle.dxc_causes.specs.Causes.{last}
+use Rattle.dxc_disk.specs.Disks.{DiskState}
 use Rattle.dxc_model.specs.declared.cause.Cause.{Cause}
+use Rattle.dxc_model.specs.declared.cause.Cause.TheVariants.{DiskFault}
+use Rattle.dxc_model.specs.declared.op.Op.{Op}
 use Rattle.dxc_model.specs.declared.op.Change.{Change}
+use Rattle.dxc_model.specs.declared.entry.Outcome.{Outcome}
+use Rattle.dxc_model.specs.declared.entry.Outcome.TheVariants.{Failed}
 use Rattle.dxc_model.specs.declared.entry.Entry.{Entry}
-use Rattle.dxc_model.specs.Histories.{Rules, IsLegal, IsStopped, IsRestartDue, changes_of}
-use Rattle.fabric_words.specs.Seats.{FabricId}
-use Rattle.shelf_file.specs.Contents.{Contents}
-use Rattle.xc_recovery.specs.Folds.{Folded, none_folded}
+use Rattle.dxc_model.specs.Histories.{Rules, Lasts, IsLegal, IsDoubtful, IsSettling, IsStopped, IsRestartDue, changes_of}
+use Rattle.xc_recovery.specs.Replays.{ComesTo}
 use Rattle.xc_core.specs.declared.provisioner.Provisioner.{Provisioner}
 use Rattle.xc_core.specs.declared.state.Home.{Home}
 use Rattle.xc_core.specs.declared.state.Home.TheVariants.{In, Out}
 use Rattle.xc_core.specs.declared.state.State.{State}
-use Rattle.xc_core.specs.Reckonings.{Meets, ReckonsTo}
-use Rattle.xc_core.specs.Provisioners.{IsHome, IsHalted}
+use Rattle.xc_core.specs.Reckonings.{Past, Meets, ReckonsTo}
+use Rattle.xc_core.specs.Provisioners.{Ground, IsHome, IsHalted, ground_of}
 
--- where a history begins: the fabric; table, colouring and number of switches; and how many changes were counted before it
+-- where a history begins: fabric and journal, what stood behind it, and the disk's count of faults
 pub record Opening : Type 0 where
-  pub fabric : FabricId
-  pub first : Folded
-  pub changes : ℕ
+  pub ground : Ground
+  pub first : Past
+  pub faults : ℕ
 
--- on a new fabric: no connection, the shelf's equipped modules
-abbrev pub opening : Contents → FabricId → Opening
-opening shelf fabric = record { fabric = fabric; first = none_folded shelf.shape shelf.equipped; changes = 0 }
-
--- how many changes are counted behind these
-abbrev pub counted : Opening → List Change → ℕ
-counted o cs = o.changes + length cs
-
--- the limit of a change, behind the changes so far, where n were counted before them
-abbrev pub LimitBehind : Folded → ℕ → List Change → Change → Option Cause → Type 0
-LimitBehind first n cs c met = (f : Folded) × ReckonsTo first cs f × Meets f (n + length cs) c met
-
-abbrev pub LimitIs : Opening → List Change → Change → Option Cause → Type 0
-LimitIs o = LimitBehind o.first o.changes
+-- the limit of a change, behind the changes so far
+abbrev pub LimitBehind : Past → List Change → Change → Option Cause → Type 0
+LimitBehind first cs c met = (b : Past) × ReckonsTo first cs b × Meets b c met
 
 abbrev pub rules_of : Opening → Rules
-rules_of o = record { table = o.first.table; limit = LimitIs o }
+rules_of o = record { table = o.first.fold.table; limit = LimitBehind o.first }
 
--- at home the Provisioner is ready, and no stop stands last; or it is halted, and a restart is due
-abbrev pub IsReadyOrHalted : Folded → ℕ → List Entry → Provisioner → Type 0
-IsReadyOrHalted f n h p = (IsHome f n p × (IsStopped h → ⊥)) ⊎ (IsHalted f n p × IsRestartDue h)
+-- a stop or a fault of the disk ended the operation, and nothing settled it since
+abbrev pub IsUnsettled : List Entry → Op → Type 0
+IsUnsettled h op = Lasts (λ e. IsDoubtful e × (e.op ≡ op)) IsSettling h
 
--- a session that took it brings it home before it gives the state back
-abbrev pub HomeIs : Opening → Folded → List Entry → Home → Type 0
-HomeIs o f h (In p) = (p.mover.fabric ≡ o.fabric) × IsReadyOrHalted f (counted o (changes_of h)) h p
-HomeIs o f h Out = ⊥
+-- how many operations failed by a fault of the disk
+abbrev pub fault_in : Outcome → ℕ
+fault_in (Failed DiskFault) = 1
+fault_in _ = 0
 
--- the state is that after the history
-pub record StandsFor (o : Opening) (s : State) (h : List Entry) : Type 0 where
-  pub now : Folded
-  pub reckoned : ReckonsTo o.first (changes_of h) now
-  pub table : s.table ≡ now.table
-  pub legal : IsLegal (rules_of o) h
-  pub home : HomeIs o now h s.home
+abbrev pub faults_in : List Entry → ℕ
+faults_in [] = 0
+faults_in (e ∷ es) = fault_in e.outcome + faults_in es
+
+module _ {D : Type 0} (told : Type 0) (state : D → DiskState) where
+  -- at home the Provisioner is ready, and no stop stands last; or it is halted, and a restart is due
+  abbrev pub IsReadyOrHalted : Past → List Entry → Provisioner D → Type 0
+  IsReadyOrHalted b h p = (IsHome told state b p × (IsStopped h → ⊥)) ⊎ (IsHalted told state b p × IsRestartDue h)
+
+  pub record IsHomeAfter (o : Opening) (b : Past) (h : List Entry) (p : Provisioner D) : Type 0 where
+    pub ground : ground_of p ≡ o.ground
+    pub stage : IsReadyOrHalted b h p
+    pub doubt : (op : Op) → p.doubt ≡ Some op → IsUnsettled h op
+    -- each such failure was a fault that the disk counted
+    pub faults : min (o.faults + faults_in h) last ≤ (state p.journal.0).faults
+
+  -- a session that took it brings it home before it gives the state back
+  abbrev pub HomeIs : Opening → Past → List Entry → Home D → Type 0
+  HomeIs o b h (In p) = IsHomeAfter o b h p
+  HomeIs o b h Out = ⊥
+
+  -- the state is that after the history
+  pub record StandsFor (o : Opening) (s : State D) (h : List Entry) : Type 0 where
+    pub now : Past
+    pub reckoned : ReckonsTo o.first (changes_of h) now
+    pub folded : ComesTo o.ground.shape o.ground.equipped now.records now.fold.table now.fold.colours now.fold.work
+    pub table : s.table ≡ now.fold.table
+    pub legal : IsLegal (rules_of o) h
+    pub home : HomeIs o now h s.home

@@ -1,39 +1,85 @@
 //! How a controller starts.
-ghost use Rattle.std.specs.Prelude.{◌≡◌, [], IfOk};
+ghost use Rattle.std.specs.Prelude.{◌≡◌, ◌≤◌, ℕ, List, length, IfErr, IfNone, IfOk, IfSome};
+ghost use Rattle.dxc_causes.specs.Causes.{HasCause, Rose};
+ghost use Rattle.dxc_disk.specs.Disks.{IsSound, Leaves, Spends};
 ghost use Rattle.fabric_core.specs.State.{new_mover};
-ghost use Rattle.xc_core.specs.States.{StandsFor, opening};
+ghost use Rattle.journal_core.specs.Records.{BeginsWith, stands};
+ghost use Rattle.journal_core.specs.Books.{Keeps};
+ghost use Rattle.paull_matrix.specs.Colourings.{IsProperColouring};
+ghost use Rattle.roll_plan.specs.Works.{switches_in};
+ghost use Rattle.roll_engine.specs.Stages.{IsAtRestOn};
+ghost use Rattle.roll_engine.specs.Cold.{joins_of};
+ghost use Rattle.xc_core.specs.Openings.{Begins, Fails, IsDiskErr, IsOpening, LeavesOpened, disk_of};
+ghost use Rattle.xc_core.specs.States.{Opening};
 
+use crate::fault::OpenFault;
 use crate::provisioner::Provisioner;
 use crate::state::{Home, State};
 use dxc_causes::NoMemory;
+use dxc_disk::Disk;
 use dxc_model::Table;
+use dxc_outside::Gate;
 use fabric_words::{Fabric, MoverSeat};
+use journal_core::Journal;
 use paull_matrix::Matrix;
+use roll_engine::cold::advance_cold;
+use roll_engine::{Advance, Rolling};
 use shelf_file::Shelf;
 use std::alloc::Global;
+use xc_recovery::{ReplayFault, replay};
 
 /// The controller's core.
 pub struct Core;
 
 impl Core {
-    /// A state with no connections and the shelf's equipped modules, on a new fabric of the shelf's shape.
-    pub fn open(
+    /// The state that the disk's journal stands for, on a new fabric of the shelf's shape, with each leg joined at its middle. In a new
+    /// file a journal of the shelf's equipped modules is made.
+    ///
+    /// Memory is taken first. It takes at most 131,079 of the disk's room.
+    pub fn open<D: Disk + Drop, G: Gate>(
         alloc: Global,
         shelf: &Shelf,
+        disk: D,
         mover: MoverSeat,
         fabric: &Fabric,
-    ) -> Result<State, NoMemory>
+        gate: &mut G,
+    ) -> Result<State<D>, OpenFault<D>>
         requires new { mover ≡ record { fabric = fabric.now; mover = new_mover fabric.now.size } }
         requires shape { fabric.now.size.shape ≡ shelf.now.shape }
-        ensures { IfOk result (λ s. StandsFor (opening shelf.now fabric.now) s []) }
+        ensures ok { IfOk result (λ s. (o : Opening) × IsOpening D.told (D.state disk).reads_as shelf.now fabric.now o × Begins D.told D.state o s) }
+        ensures fails { D.told → IfErr result (Fails D.state (D.state disk) shelf.now.shape) }
+        ensures any_moment { D.told → IfSome (disk_of result) (λ d. LeavesOpened shelf.now (D.state disk) (D.state d)) }
+        // What was acknowledged stays: each image begins with the records with which all of them began.
+        ensures prefix { D.told → (records : List (List ℕ)) → Leaves (D.state disk) (λ c. BeginsWith records (stands c)) → IfSome (disk_of result) (λ d. Keeps (D.state disk) (D.state d) records) }
+        ensures cause { IfSome (disk_of result) (λ d. HasCause (D.state disk).faults (D.state d).faults (IsDiskErr result)) }
+        ensures room { IfSome (disk_of result) (λ d. Spends 131079 (D.state disk) (D.state d)) }
+        ensures sound { IsSound 131079 (D.state disk) → IsDiskErr result → ⊥ }
+        ensures stopped { IfErr result (λ e. e ≡ OpenFault.Stopped → Rose (G.stops gate.old) (G.stops gate.new)) }
+        ensures unstopped { IfOk result (λ s. G.stops gate.new ≡ G.stops gate.old) }
+        ensures later { G.stops gate.old ≤ G.stops gate.new }
     {
-        // Its clause tells that the fabric's size is within the limits.
-        let _phase = mover.phase();
         let shape = shelf.shape();
-        let table = Table::new(alloc, shape, shelf.equipped())?;
-        let matrix = Matrix::new(alloc, shape)?;
+        let Ok(mut table) = Table::new(alloc, shape, shelf.equipped()) else {
+            return Err(OpenFault::NoMemory);
+        };
+        let Ok(mut matrix) = Matrix::new(alloc, shape) else {
+            return Err(OpenFault::NoMemory);
+        };
+        let mut journal = match Journal::open(disk, shape, shelf.equipped()) {
+            Ok(journal) => journal,
+            Err(fault) => return Err(OpenFault::Journal(fault)),
+        };
+        match replay(&mut journal, &mut matrix, &mut table) {
+            Ok(_) => {}
+            Err(ReplayFault::BadRecord(i)) => return Err(OpenFault::BadRecord(i)),
+            Err(ReplayFault::Disk) => return Err(OpenFault::Disk(journal.close())),
+        }
+        let Some(mover) = join_all(&matrix, fabric, mover, gate) else {
+            return Err(OpenFault::Stopped);
+        };
         let p = Provisioner {
             matrix,
+            journal,
             mover,
             doubt: None,
             changes: 0,
@@ -43,5 +89,31 @@ impl Core {
             table,
             home: Home::In(p),
         })
+    }
+}
+
+// Joins all legs of the matrix on a new fabric. None: the gate stopped.
+fn join_all<G: Gate>(
+    matrix: &Matrix,
+    fabric: &Fabric,
+    mover: MoverSeat,
+    gate: &mut G,
+) -> Option<MoverSeat>
+    requires own { mover.fabric ≡ fabric.now }
+    requires new { mover.mover ≡ new_mover fabric.now.size }
+    requires shape { matrix.now.shape ≡ fabric.now.size.shape }
+    requires proper { IsProperColouring matrix.now }
+    ensures joined { IfSome result (λ m. (m.fabric ≡ fabric.now) × IsAtRestOn fabric.now.size matrix.now m.mover × (length m.mover.log ≡ switches_in (joins_of matrix.now))) }
+    ensures stopped { IfNone result (Rose (G.stops gate.old) (G.stops gate.new)) }
+    ensures unstopped { IfSome result (λ m. G.stops gate.new ≡ G.stops gate.old) }
+    ensures later { G.stops gate.old ≤ G.stops gate.new }
+{
+    // Its clause tells that the fabric's size is within the limits.
+    let _phase = mover.phase();
+    let mut mover = mover;
+    let mut rolling = Rolling::cold();
+    match advance_cold(matrix, fabric, &mut mover, &mut rolling, gate) {
+        Advance::Done => Some(mover),
+        Advance::InFrame(_) | Advance::Stopped => None,
     }
 }

@@ -1,13 +1,14 @@
 //! The state of the controller: the table, and the Provisioner where nobody has it.
-ghost use Rattle.std.specs.Prelude.{◌≡◌, ◌+◌, ℕ, [], IfNone, IfSome};
+ghost use Rattle.std.specs.Prelude.{◌≡◌, [], IfNone, IfSome};
 ghost use Rattle.dxc_model.specs.declared.op.Change.{Change};
 ghost use Rattle.dxc_model.specs.declared.op.Op.{Op};
-ghost use Rattle.xc_recovery.specs.Folds.{Folded};
 ghost use Rattle.roll_engine.specs.Rollings.{rest_of};
-ghost use Rattle.xc_core.specs.Provisioners.{Rolls};
+ghost use Rattle.xc_core.specs.Reckonings.{Past};
+ghost use Rattle.xc_core.specs.Provisioners.{Rolls, ground_of};
 ghost use Rattle.xc_core.specs.Finishes.{Finishes};
 
 use crate::provisioner::Provisioner;
+use dxc_disk::Disk;
 use dxc_model::{Change, Table};
 use paull_chain::apply_work;
 use roll_engine::Rolling;
@@ -15,24 +16,24 @@ use std::mem;
 
 /// Where the Provisioner is.
 #[derive(Drop)]
-pub enum Home {
-    In(Provisioner),
+pub enum Home<D: Disk> {
+    In(Provisioner<D>),
     /// A session has it, and makes a change with it.
     Out,
 }
 
 /// What stands for the history of the element's changes.
 #[derive(Drop)]
-pub struct State {
+pub struct State<D: Disk> {
     pub table: Table,
-    pub home: Home,
+    pub home: Home<D>,
 }
 
-impl State {
+impl<D: Disk + Drop> State<D> {
     ghost use Rattle.xc_core.specs.declared.state.Home.TheVariants.{In, Out};
 
     /// Takes the Provisioner, where it is home.
-    pub fn take_out(&mut self) -> Option<Provisioner>
+    pub fn take_out(&mut self) -> Option<Provisioner<D>>
         ensures state { self.new ≡ record self.old { home = Out } }
         ensures found { IfSome result (λ p. self.old.home ≡ In p) }
         ensures none { IfNone result (self.old.home ≡ Out) }
@@ -44,7 +45,7 @@ impl State {
     }
 
     /// Gives the Provisioner home.
-    pub fn bring_home(&mut self, p: Provisioner)
+    pub fn bring_home(&mut self, p: Provisioner<D>)
         ensures { self.new ≡ record self.old { home = In p } }
     {
         self.home = Home::In(p);
@@ -53,12 +54,13 @@ impl State {
 
 /// Makes the change in the table and in the matrix, once all its register writes are made, and answers it. The Provisioner is
 /// the one of the `begin` that planned it, and isn't home.
-pub fn finish(state: &mut State, p: &mut Provisioner, rolling: Rolling) -> Change
-    requires rolls { (f : Folded) × (n : ℕ) × (op : Op) × (c : Change) × Rolls f n op c p.old rolling × (f.table ≡ state.old.table) }
+pub fn finish<D: Disk>(state: &mut State<D>, p: &mut Provisioner<D>, rolling: Rolling) -> Change
+    requires rolls { (b : Past) × (op : Op) × (c : Change) × Rolls D.told D.state b op c p.old rolling × (b.fold.table ≡ state.old.table) }
     requires done { rest_of rolling ≡ [] }
-    ensures fabric { p.new.mover.fabric ≡ p.old.mover.fabric }
+    ensures ground { ground_of p.new ≡ ground_of p.old }
+    ensures journal { p.new.journal ≡ p.old.journal }
     ensures home { state.new.home ≡ state.old.home }
-    ensures finishes { (f : Folded) → (n : ℕ) → (op : Op) → (c : Change) → Rolls f n op c p.old rolling → f.table ≡ state.old.table → Finishes f n c rolling state.new.table p.new result }
+    ensures finishes { (b : Past) → (op : Op) → (c : Change) → Rolls D.told D.state b op c p.old rolling → b.fold.table ≡ state.old.table → Finishes D.told D.state b c rolling state.new.table p.new result }
 {
     let Some(op) = p.doubt else { unreachable!() };
     let Ok(change) = state.table.verdict(&op) else {

@@ -8,13 +8,14 @@ ghost use Rattle.dxc_model.specs.Operations.{ArePorts, IsApt};
 ghost use Rattle.fabric_core.specs.State.{new_worker};
 ghost use Rattle.fabric_core.specs.Working.{IsOwn};
 ghost use Rattle.fabric_words.specs.Places.{IsRegInside};
-ghost use Rattle.xc_recovery.specs.Folds.{Folded};
+ghost use Rattle.xc_core.specs.Reckonings.{Past};
 ghost use Rattle.xc_core.specs.Provisioners.{IsHome, Rolls};
 
 use super::{ANNA, CHAIN, Said, THREE, noon, session};
 use crate::end::SessionEnd;
 use crate::place::Place;
 use crate::session::serve_session;
+use dxc_disk::{Disk, MemDisk};
 use dxc_model::{Cct, Conn, Op, Table};
 use dxc_num::{Middle, Port, Reg, Shape};
 use dxc_outside::{AlwaysGo, MemClock, MemGate, MemLink};
@@ -55,23 +56,30 @@ const CHAINED: [u64; 24] = [
     1, 2, 0, 0, 1, 0, 1, 2, 0, 3, 1, 0, 1, 2, 3, 0, 0, 0, 2050, 769, 1537, 1794, 1026, 0,
 ];
 
+/// A new disk.
+fn disk(alloc: Global) -> Result<MemDisk, Fail> {
+    Ok(MemDisk::new(alloc, Vec::new(alloc), Vec::new(alloc))?)
+}
+
 /// A place on a new fabric of the shelf's shape, and the seat of the fabric's only worker.
-fn open(alloc: Global, file: &[u8]) -> Result<(Place, WorkerSeat), Fail>
+fn open<D: Disk + Drop>(alloc: Global, file: &[u8], disk: D) -> Result<(Place<D>, WorkerSeat), Fail>
     ensures { IfOk result (λ t. t.1.reader ≡ record { fabric = t.0.fabric; worker = new_worker 0 }) }
 {
     let shelf = Arc::new(alloc, shelf_of(alloc, file).ok().ok_or("a shelf")?)?;
     let (fabric, mover, mut seats) = Fabric::new(alloc, shelf.shape(), 1)?;
     let seat = seats.remove(0);
-    let state = Core::open(alloc, &shelf, mover, &fabric)?;
+    let Ok(state) = Core::open(alloc, &shelf, disk, mover, &fabric, &mut AlwaysGo) else {
+        return Err(Fail::from("no state"));
+    };
     let fabric = Arc::new(alloc, fabric)?;
     Ok((Place::new(alloc, shelf, fabric, state)?, seat))
 }
 
 /// Serves a session of these units.
-fn serve<R: Abort + Wait>(
+fn serve<D: Disk + Drop, R: Abort + Wait>(
     rt: &R,
     alloc: Global,
-    place: &mut Place,
+    place: &mut Place<D>,
     said: &[Said],
 ) -> Result<(), Fail>
     ensures { place.new.fabric ≡ place.old.fabric }
@@ -88,10 +96,13 @@ fn serve<R: Abort + Wait>(
 }
 
 /// The fabric of a place, what is left of its state, and its Provisioner.
-fn take_apart(rt: &impl Abort, place: Place) -> (Arc<Fabric>, State, Provisioner)
+fn take_apart<D: Disk + Drop>(
+    rt: &impl Abort,
+    place: Place<D>,
+) -> (Arc<Fabric>, State<D>, Provisioner<D>)
     ensures fabric { arc_value result.0 ≡ place.fabric }
     ensures own { result.2.mover.fabric ≡ arc_value result.0 }
-    ensures home { (f : Folded) × (n : ℕ) × IsHome f n result.2 × (f.table ≡ result.1.table) }
+    ensures home { (b : Past) × IsHome D.told D.state b result.2 × (b.fold.table ≡ result.1.table) }
 {
     let desk = place.desk;
     let fabric = desk.fabric;
@@ -130,11 +141,11 @@ fn register(shape: Shape, at: u16) -> Reg {
 }
 
 /// The words of all registers.
-fn words(
+fn words<D: Disk>(
     rt: &impl Abort,
     alloc: Global,
     fabric: &Fabric,
-    p: &mut Provisioner,
+    p: &mut Provisioner<D>,
 ) -> Result<Vec<u64>, Fail>
     requires { p.old.mover.fabric ≡ fabric.now }
 {
@@ -158,7 +169,7 @@ fn leaves<R: Abort + Wait>(
     wanted: &[u64],
     switches: u64,
 ) -> Result<(), Fail> {
-    let (mut place, _seat) = open(alloc, file)?;
+    let (mut place, _seat) = open(alloc, file, disk(alloc)?)?;
     serve(rt, alloc, &mut place, said)?;
     let (fabric, _state, mut p) = take_apart(rt, place);
     assert_eq!(rt; words(rt, alloc, &fabric, &mut p)?.as_slice(), wanted);
@@ -192,16 +203,16 @@ fn is_own(fabric: &Fabric, seat: &WorkerSeat, output: Port) -> bool
 }
 
 /// Plans an entry that the table has to grant.
-fn plan(
+fn plan<D: Disk>(
     rt: &impl Abort,
-    p: &mut Provisioner,
+    p: &mut Provisioner<D>,
     table: &Table,
     conn: Conn,
     gate: &mut MemGate,
 ) -> Rolling
-    requires home { (f : Folded) × (n : ℕ) × IsHome f n p.old × (f.table ≡ table.now) }
+    requires home { (b : Past) × IsHome D.told D.state b p.old × (b.fold.table ≡ table.now) }
     ensures fabric { p.new.mover.fabric ≡ p.old.mover.fabric }
-    ensures rolls { (f : Folded) × (n : ℕ) × (op : Op) × (c : Change) × Rolls f n op c p.new result }
+    ensures rolls { (b : Past) × (op : Op) × (c : Change) × Rolls D.told D.state b op c p.new result }
 {
     assert!(rt; are_ports(table.shape(), conn));
     match begin(p, table, &Op::Enter(conn), gate) {
@@ -211,16 +222,16 @@ fn plan(
 }
 
 /// Makes the writes that may be made, and tells with the answer how often the gate was asked so far.
-fn go_on(
-    p: &mut Provisioner,
+fn go_on<D: Disk>(
+    p: &mut Provisioner<D>,
     fabric: &Fabric,
     rolling: &mut Rolling,
     gate: &mut MemGate,
 ) -> (Advance, u64)
     requires own { p.old.mover.fabric ≡ fabric.now }
-    requires rolls { (f : Folded) × (n : ℕ) × (op : Op) × (c : Change) × Rolls f n op c p.old rolling.old }
+    requires rolls { (b : Past) × (op : Op) × (c : Change) × Rolls D.told D.state b op c p.old rolling.old }
     ensures fabric { p.new.mover.fabric ≡ p.old.mover.fabric }
-    ensures rolls { (f : Folded) × (n : ℕ) × (op : Op) × (c : Change) × Rolls f n op c p.new rolling.new }
+    ensures rolls { (b : Past) × (op : Op) × (c : Change) × Rolls D.told D.state b op c p.new rolling.new }
 {
     let answer = drive(p, fabric, rolling, gate);
     (answer, gate.asked())
@@ -229,7 +240,7 @@ fn go_on(
 #[test]
 fn a_frame_that_read_the_old_word_is_waited_for(rt: HostRuntime) -> Result<(), Fail> {
     let alloc = rt.alloc();
-    let (mut place, mut seat) = open(alloc, THREE)?;
+    let (mut place, mut seat) = open(alloc, THREE, disk(alloc)?)?;
     serve(&rt, alloc, &mut place, CHAIN.get(..5).ok_or("units")?)?;
     let (fabric, state, mut p) = take_apart(&rt, place);
     let mut gate = MemGate::new(Vec::new(alloc));
@@ -245,13 +256,14 @@ fn a_frame_that_read_the_old_word_is_waited_for(rt: HostRuntime) -> Result<(), F
     let mut rolling = plan(&rt, &mut p, &state.table, fifth, &mut gate);
     let (answer, asked) = go_on(&mut p, &fabric, &mut rolling, &mut gate);
     assert_eq!(&rt; answer, Advance::InFrame(1));
-    assert_eq!(&rt; asked, 3);
+    // Once before its record, and before each write.
+    assert_eq!(&rt; asked, 4);
     assert_eq!(&rt; seat.load_mid(&fabric), 2);
     assert_eq!(&rt; seat.load_in(&fabric), 1);
     seat.end_frame(&fabric);
     let (answer, asked) = go_on(&mut p, &fabric, &mut rolling, &mut gate);
     assert_eq!(&rt; answer, Advance::Done);
-    assert_eq!(&rt; asked, 18);
+    assert_eq!(&rt; asked, 19);
     assert_eq!(&rt;
         words(&rt, alloc, &fabric, &mut p)?.as_slice(),
         CHAINED.as_slice()

@@ -9,8 +9,8 @@ use Rattle.craft_session.proofs.Answering.{answered_by}
 use Rattle.craft_session.proofs.session.answer.Goals as goal
 
 pub returns-in-Some-clause-answered : goal.returns-in-Some-clause-answered
-returns-in-Some-clause-answered g c = answered_by _ _ _ _ _ _ _ _ _ _ _ c.say.result _ c.of.ensures
-    (subst (λ (n : Now). IsSaidOf (arc_value c.args.desk.now.shelf) g.K.Link.told g.C.Clock.told (g.K.Link.state c.args.link.now) (g.K.Link.state c.say.new.link) (g.C.Clock.coming c.args.clock.now) (g.C.Clock.coming c.say.new.clock) c.say.result c.args.tag c.args.ask (now c.args.desk.now) n)
+returns-in-Some-clause-answered g c = answered_by _ _ _ _ _ _ _ _ _ _ _ _ _ c.say.result _ c.of.ensures
+    (subst (λ (n : Now _). IsSaidOf g.D.Disk.told g.D.Disk.state (arc_value c.args.desk.now.shelf) g.K.Link.told g.C.Clock.told (g.K.Link.state c.args.link.now) (g.K.Link.state c.say.new.link) (g.C.Clock.coming c.args.clock.now) (g.C.Clock.coming c.say.new.clock) c.say.result c.args.tag c.args.ask (now c.args.desk.now) n)
     (sym c.say.ensures.now) (record { reply = reply_of c.in-Some.acted c.act-acted.new.rows.items; said = c.say.ensures.said; acts = λ o h st. c.in-Some.ensures.acts o h st }))
 
 pub returns-in-None-clause-answered : goal.returns-in-None-clause-answered

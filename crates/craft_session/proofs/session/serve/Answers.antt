@@ -11,7 +11,7 @@ loop-init g c = record {
   shelf = refl;
   fabric = refl;
   seated = c.requires.seated;
-  stands = λ b st. stands_none _ _ _ _ _ _ _ _ st c.requires.nobody c.requires.nothing_read;
+  stands = λ b same st. stands_none _ _ _ _ _ _ _ _ _ _ same st c.requires.nobody c.requires.nothing_read;
   gate = refl;
   counted = record { reached = omega arith; no_more = omega arith };
   not_ended = λ lt. absurd (omega (arith, lt));
@@ -29,18 +29,18 @@ returns-in-Stopped-clause-end g c =
     search rules
 
 pub returns-in-Cut-clause-session : goal.returns-in-Cut-clause-session
-returns-in-Cut-clause-session g c = λ b st.
-    (_, goes_cut_is _ _ _ _ _ _ _ _ _ _ _ _ c.in-Cut.is (moved_whole arc_value _ _ _ _ _ _ _ _ _ _ _ _ _ _ c.loop.invariant.shelf c.serve_piece.ensures.goes _ _ b (stands_piece _ _ _ _ _ _ _ _ _ _ _ _ _ _ (c.loop.invariant.stands b st) c.in-Bytes.ensures (grind (arith, common_steps)))))
+returns-in-Cut-clause-session g c = λ b same st.
+    (_, goes_cut_is _ _ _ _ _ _ _ _ _ _ _ _ _ _ c.in-Cut.is (moved_whole _ _ arc_value _ _ _ _ _ _ _ _ _ _ _ _ _ _ c.loop.invariant.shelf c.serve_piece.ensures.goes _ _ b (stands_piece _ _ _ _ _ _ _ _ _ _ _ _ _ _ _ _ (c.loop.invariant.stands b same st) c.in-Bytes.ensures (grind (arith, common_steps)))))
 
 pub returns-in-Stopped-clause-session : goal.returns-in-Stopped-clause-session
-returns-in-Stopped-clause-session g c = λ b st.
-    (_, goes_stopped_is _ _ _ _ _ _ _ _ _ _ _ _ c.in-Stopped.is (moved_whole arc_value _ _ _ _ _ _ _ _ _ _ _ _ _ _ c.loop.invariant.shelf c.serve_piece.ensures.goes _ _ b (stands_piece _ _ _ _ _ _ _ _ _ _ _ _ _ _ (c.loop.invariant.stands b st) c.in-Bytes.ensures (grind (arith, common_steps)))))
+returns-in-Stopped-clause-session g c = λ b same st.
+    (_, goes_stopped_is _ _ _ _ _ _ _ _ _ _ _ _ _ _ c.in-Stopped.is (moved_whole _ _ arc_value _ _ _ _ _ _ _ _ _ _ _ _ _ _ c.loop.invariant.shelf c.serve_piece.ensures.goes _ _ b (stands_piece _ _ _ _ _ _ _ _ _ _ _ _ _ _ _ _ (c.loop.invariant.stands b same st) c.in-Bytes.ensures (grind (arith, common_steps)))))
 
 pub returns-in-End-clause-session : goal.returns-in-End-clause-session
-returns-in-End-clause-session g c = λ b st. (_, served_nothing _ _ _ _ _ _ _ _ _ _ _ _ _ (c.loop.invariant.stands b st) c.in-End.ensures refl)
+returns-in-End-clause-session g c = λ b same st. (_, served_nothing _ _ _ _ _ _ _ _ _ _ _ _ _ _ _ (c.loop.invariant.stands b same st) c.in-End.ensures refl)
 
 pub returns-in-Failed-clause-session : goal.returns-in-Failed-clause-session
-returns-in-Failed-clause-session g c = λ b st. (_, served_nothing _ _ _ _ _ _ _ _ _ _ _ _ _ (c.loop.invariant.stands b st) c.in-Failed.ensures refl)
+returns-in-Failed-clause-session g c = λ b same st. (_, served_nothing _ _ _ _ _ _ _ _ _ _ _ _ _ _ _ (c.loop.invariant.stands b same st) c.in-Failed.ensures refl)
 
 pub loop-preserved : goal.loop-preserved
 loop-preserved g c =
@@ -49,7 +49,7 @@ loop-preserved g c =
         shelf = w.serve_piece.ensures.shelf ∙ c.loop.invariant.shelf;
         fabric = w.serve_piece.ensures.fabric ∙ c.loop.invariant.fabric;
         seated = w.serve_piece.ensures.seated;
-        stands = λ b st. goes_on_is _ _ _ _ _ _ _ _ _ _ _ _ w.in-On.is (moved_whole arc_value _ _ _ _ _ _ _ _ _ _ _ _ _ _ c.loop.invariant.shelf w.serve_piece.ensures.goes _ _ b (stands_piece _ _ _ _ _ _ _ _ _ _ _ _ _ _ (c.loop.invariant.stands b st) w.in-Bytes.ensures (grind (arith, common_steps))));
+        stands = λ b same st. goes_on_is _ _ _ _ _ _ _ _ _ _ _ _ _ _ w.in-On.is (moved_whole _ _ arc_value _ _ _ _ _ _ _ _ _ _ _ _ _ _ c.loop.invariant.shelf w.serve_piece.ensures.goes _ _ b (stands_piece _ _ _ _ _ _ _ _ _ _ _ _ _ _ _ _ (c.loop.invariant.stands b same st) w.in-Bytes.ensures (grind (arith, common_steps))));
         gate = w.serve_piece.ensures.unstopped (λ is. let no = sym w.in-On.is ∙ is in cc) ∙ c.loop.invariant.gate;
         counted = rw w.serve_piece.ensures.link.wrote.reads (counted_more _ _ _ _ c.loop.invariant.counted w.in-Bytes.ensures.reads);
         not_ended = λ _. w.serve_piece.ensures.link.wrote.ended ∙ w.in-Bytes.ensures.ended;
@@ -59,7 +59,7 @@ loop-preserved g c =
         shelf = c.loop.invariant.shelf;
         fabric = c.loop.invariant.fabric;
         seated = c.loop.invariant.seated;
-        stands = λ b st. stands_quiet _ _ _ _ _ _ _ _ _ _ _ _ (c.loop.invariant.stands b st) w.in-Quiet.ensures;
+        stands = λ b same st. stands_quiet _ _ _ _ _ _ _ _ _ _ _ _ _ _ (c.loop.invariant.stands b same st) w.in-Quiet.ensures;
         gate = c.loop.invariant.gate;
         counted = counted_more _ _ _ _ c.loop.invariant.counted w.in-Quiet.ensures.reads;
         not_ended = λ _. w.in-Quiet.ensures.ended;
@@ -68,10 +68,10 @@ loop-preserved g c =
     ]
 
 pub returns-in-Cut-clause-write_fault : goal.returns-in-Cut-clause-write_fault
-returns-in-Cut-clause-write_fault g c = λ is. let seat = c.requires.seated in (returns-in-Cut-clause-session g c (begins_at seat.0 seat.1) (stands_begun seat.0 seat.1 _ seat.3)).1.rose
+returns-in-Cut-clause-write_fault g c = λ is. let seat = c.requires.seated in (returns-in-Cut-clause-session g c (begins_at seat.0 seat.1 c.args.desk.now.state) refl (stands_begun _ _ seat.0 seat.1 _ seat.3)).1.rose
 
 pub returns-in-Failed-clause-read_fault : goal.returns-in-Failed-clause-read_fault
 returns-in-Failed-clause-read_fault g c = λ is.
     let seat = c.requires.seated in
-    let s = c.loop.invariant.stands (begins_at seat.0 seat.1) (stands_begun seat.0 seat.1 _ seat.3) in
+    let s = c.loop.invariant.stands (begins_at seat.0 seat.1 c.args.desk.now.state) refl (stands_begun _ _ seat.0 seat.1 _ seat.3) in
     omega (arith, s.exchanged.read_later, c.in-Failed.ensures.cause.cause refl)

@@ -15,8 +15,8 @@ invariant-loop g l =
     record {
       shelf : l.desk.shelf ≡ l.fn.desk.shelf;
       fabric : l.desk.fabric ≡ l.fn.desk.fabric;
-      seated : IsSeated (arc_value l.desk.fabric) l.desk.state;
-      stands : (b : Beginning) → StandsAt b [] l.fn.desk.state → Stands (language (arc_value l.fn.desk.shelf)) g.K.Link.told g.C.Clock.told (state l.fn.link) (state l.link) (coming l.fn.clock) (coming l.clock) b (now l.desk) More l.desk.reader [];
+      seated : IsSeated g.D.Disk.told g.D.Disk.state (arc_value l.desk.fabric) l.desk.state;
+      stands : (b : Beginning g.row.D.Denot) → b.state ≡ l.fn.desk.state → StandsAt g.D.Disk.told g.D.Disk.state b [] l.fn.desk.state → Stands (language (arc_value l.fn.desk.shelf)) g.D.Disk.told g.D.Disk.state g.K.Link.told g.C.Clock.told (state l.fn.link) (state l.link) (coming l.fn.clock) (coming l.clock) b (now l.desk) More l.desk.reader [];
       gate : g.G.Gate.stops l.gate ≡ g.G.Gate.stops l.fn.gate;
       counted : Counted (state l.fn.link).reads (state l.link).reads l.counter;
       not_ended : 0 < l.counter → (state l.link).ended ≡ false;

@@ -20,8 +20,8 @@ loop-at-preserved g c =
       link = writes_more _ _ _ _ c.loop-at.invariant.link c.serve_unit.ensures.link;
       gate = c.serve_unit.ensures.unstopped (λ is. let no = sym c.in-On.is ∙ is in cc) ∙ c.loop-at.invariant.gate;
       within = omega (arith, c.feed-fed.ensures.within, ap length offer, length-drop at piece, c.loop-at.invariant.within);
-      stands = λ k c0 b s. rw c.serve_unit.ensures.reader (goes_on_is _ _ _ _ _ _ _ _ _ _ _ _ c.in-On.is
-          (moved arc_value _ _ _ _ _ _ _ _ _ _ _ _ _ c.loop-at.invariant.shelf c.serve_unit.ensures.goes k c0 b _ (stands_on _ _ _ _ _ _ _ _ _ _ piece _ at _ _ (c.loop-at.invariant.stands k c0 b s) offer c.feed-fed.ensures.fed)));
+      stands = λ k c0 b s. rw c.serve_unit.ensures.reader (goes_on_is _ _ _ _ _ _ _ _ _ _ _ _ _ _ c.in-On.is
+          (moved _ _ arc_value _ _ _ _ _ _ _ _ _ _ _ _ _ c.loop-at.invariant.shelf c.serve_unit.ensures.goes k c0 b _ (stands_on _ _ _ _ _ _ _ _ _ _ _ _ piece _ at _ _ (c.loop-at.invariant.stands k c0 b s) offer c.feed-fed.ensures.fed)));
     }
 
 pub returns-in_default-clause-link : goal.returns-in_default-clause-link
@@ -31,5 +31,5 @@ pub returns-in_default-clause-goes : goal.returns-in_default-clause-goes
 returns-in_default-clause-goes g c = λ k c0 b s.
     let piece : List ℕ = c.args.piece.now in
     let at : ℕ = c.loop-at.at in
-    goes_ended_is _ _ _ _ _ _ _ _ _ _ _ _ _ _ (λ is. c.in_default.not-On is)
-    (moved arc_value _ _ _ _ _ _ _ _ _ _ _ _ _ c.loop-at.invariant.shelf c.serve_unit.ensures.goes k c0 b _ (stands_on _ _ _ _ _ _ _ _ _ _ piece _ at _ _ (c.loop-at.invariant.stands k c0 b s) (take_rest piece at) c.feed-fed.ensures.fed))
+    goes_ended_is _ _ _ _ _ _ _ _ _ _ _ _ _ _ _ _ (λ is. c.in_default.not-On is)
+    (moved _ _ arc_value _ _ _ _ _ _ _ _ _ _ _ _ _ c.loop-at.invariant.shelf c.serve_unit.ensures.goes k c0 b _ (stands_on _ _ _ _ _ _ _ _ _ _ _ _ piece _ at _ _ (c.loop-at.invariant.stands k c0 b s) (take_rest piece at) c.feed-fed.ensures.fed))

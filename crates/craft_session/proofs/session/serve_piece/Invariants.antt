@@ -17,12 +17,12 @@ invariant-loop-at g l =
     record {
       shelf : l.desk.shelf ≡ l.fn.desk.shelf;
       fabric : l.desk.fabric ≡ l.fn.desk.fabric;
-      seated : IsSeated (arc_value l.desk.fabric) l.desk.state;
+      seated : IsSeated g.D.Disk.told g.D.Disk.state (arc_value l.desk.fabric) l.desk.state;
       link : Writes g.K.Link.told (state l.fn.link) (state l.link);
       gate : g.G.Gate.stops l.gate ≡ g.G.Gate.stops l.fn.gate;
       within : l.at ≤ length l.piece;
-      stands : (k : LinkState) (c : List Moment) (b : Beginning) → Stands tongue g.K.Link.told g.C.Clock.told k (state l.fn.link) c (coming l.fn.clock) b (now l.fn.desk) More l.fn.desk.reader l.piece
-          → Stands tongue g.K.Link.told g.C.Clock.told k (state l.link) c (coming l.clock) b (now l.desk) More l.desk.reader (drop l.at l.piece);
+      stands : (k : LinkState) (c : List Moment) (b : Beginning g.row.D.Denot) → Stands tongue g.D.Disk.told g.D.Disk.state g.K.Link.told g.C.Clock.told k (state l.fn.link) c (coming l.fn.clock) b (now l.fn.desk) More l.fn.desk.reader l.piece
+          → Stands tongue g.D.Disk.told g.D.Disk.state g.K.Link.told g.C.Clock.told k (state l.link) c (coming l.clock) b (now l.desk) More l.desk.reader (drop l.at l.piece);
     }
 
 abbrev pub decreases-loop-at : goal.decreases-loop-at

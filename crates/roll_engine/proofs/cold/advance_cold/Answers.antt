@@ -33,6 +33,7 @@ returns-in_default g c =
       advances = way.advances;
       cold = way.cold;
       done = λ e. absurd (c.in_default.not-Done e);
+      all = λ e. absurd (c.in_default.not-Done e);
       joins = λ f e. no_frame z k r' (rest_of r) m m' f way.cold
           (subst (λ (a : Advance). AnswerIs z (rest_of r) (rest_of r') m m' a) e (subst (λ (u : FabricId). AnswerIs u.size (rest_of r) (rest_of r') m m' c.advance.result) i.fabric c.advance.ensures.answer));
       stopped = λ e. subst (λ (n : ℕ). Rose n (g.G.Gate.stops c.advance.new.gate)) i.unstopped (c.advance.ensures.stopped e);
@@ -53,6 +54,7 @@ returns-then-not-join_next g c =
       advances = way.advances;
       cold = way.cold;
       done = λ e. cold_done z k c.join_next.new.self c.advance.new.mover.mover way.cold c.if-not-join_next.ensures.none;
+      all = λ e. c.if-not-join_next.ensures.none;
       joins = λ f e. cc;
       stopped = λ e. absurd (not_stopped e);
       unstopped = λ e. same;
