@@ -10,8 +10,6 @@ mod limit;
 mod opening;
 mod provisioner;
 mod state;
-#[cfg(test)]
-mod tests;
 
 pub use beginning::{Begun, begin};
 pub use fault::OpenFault;
