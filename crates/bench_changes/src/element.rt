@@ -5,9 +5,10 @@ ghost use Rattle.fabric_core.specs.State.{new_worker};
 ghost use Rattle.bench_changes.specs.Elements.{IsReady};
 
 use anyhow::{Context, Result, bail, ensure};
+use dxc_disk::MemDisk;
 use dxc_model::{Cct, Conn, Op};
 use dxc_num::{Leg, Shape};
-use dxc_outside::Gate;
+use dxc_outside::{AlwaysGo, Gate};
 use fabric_words::{Fabric, WorkerSeat};
 use roll_engine::Advance;
 use shelf_file::{Shelf, shelf_of};
@@ -15,12 +16,15 @@ use std::alloc::Global;
 use std::sync::Arc;
 use xc_core::{Begun, Core, Provisioner, State, begin, drive, finish};
 
-/// A cross-connect without sessions: its registers, its table, and the Provisioner that changes both.
+/// What the opening of a journal takes of its disk's room, and the most that its 65,536 records take.
+const ROOM: usize = 131_079 + 65_536 * 40;
+
+/// A cross-connect without sessions: its registers, its table, and the Provisioner that changes both, over a journal in memory.
 #[derive(Drop)]
 pub struct Element {
     pub fabric: Arc<Fabric>,
-    pub state: State,
-    pub p: Provisioner,
+    pub state: State<MemDisk>,
+    pub p: Provisioner<MemDisk>,
 }
 
 /// A shelf of this shape with all modules equipped.
@@ -44,9 +48,12 @@ pub fn open(alloc: Global, shape: Shape) -> Result<(Element, WorkerSeat)>
         .ok()
         .context("no memory")?;
     let seat = seats.remove(0);
-    let mut state = Core::open(alloc, &shelf, mover, &fabric)
+    let disk = MemDisk::with_room(alloc, Vec::new(alloc), Vec::new(alloc), ROOM)
         .ok()
         .context("no memory")?;
+    let mut state = Core::open(alloc, &shelf, disk, mover, &fabric, &mut AlwaysGo)
+        .ok()
+        .context("no journal")?;
     let p = state.take_out().context("no Provisioner")?;
     ensure!(!p.halted(), "halted");
     let fabric = Arc::new(alloc, fabric)?;

@@ -3,6 +3,9 @@
 //! Without a word it makes a thousand random changes of small networks, with a frame between any two register writes, and then two
 //! rounds of each kind of entries and deletions. With a number it makes so many rounds and tells their time; a second number is
 //! that of the modules of the only shape to be measured, and a third word the kind: `direct` or `chains`.
+//!
+//! The journal is in memory. It has at most 65,536 records, one a change, and a round of chains makes four changes: so there are at
+//! most 16,000 rounds.
 #![tactic(auto)]
 
 mod carrier;
@@ -19,7 +22,7 @@ use crate::element::open;
 use crate::rounds::Kind;
 use crate::row::Row;
 use crate::walk::walk_at_random;
-use anyhow::{Context, Result};
+use anyhow::{Context, Result, ensure};
 use dxc_num::Shape;
 use std::alloc::Global;
 use std::env;
@@ -32,6 +35,9 @@ const SMALL: [(u16, u16); 2] = [(3, 2), (8, 4)];
 const MODULES: [u16; 3] = [8, 16, 32];
 
 const SLOTS: u16 = 32;
+
+/// With these rounds, and with what leads to them, no journal is full.
+const MOST_ROUNDS: u32 = 16_000;
 
 fn measured<R: Clock>(
     rt: &R,
@@ -78,6 +84,10 @@ fn main(rt: HostRuntime) -> Result<()> {
     let count = number(words.nth(1))?;
     let modules = number(words.next())?;
     let kinds = kinds(words.next());
+    ensure!(
+        count.unwrap_or(0) <= MOST_ROUNDS,
+        "more than {MOST_ROUNDS} rounds"
+    );
     if count.is_none() {
         for (modules, slots) in SMALL {
             let shape = Shape::new(modules, slots).context("no such shape")?;
