@@ -79,6 +79,30 @@ fn kinds(word: Option<String>) -> &'static [Kind] {
     }
 }
 
+// The random walks, a line each.
+fn walk_small<R: Print>(rt: &R, alloc: Global) -> Result<()> {
+    for (modules, slots) in SMALL {
+        let shape = Shape::new(modules, slots).context("no such shape")?;
+        println!(rt; "{}", walk_at_random(alloc, shape)?)?;
+    }
+    Ok(())
+}
+
+// A shape's rounds, a line each kind.
+fn measure<R: Print + Clock>(
+    rt: &R,
+    alloc: Global,
+    wide: u16,
+    kinds: &[Kind],
+    count: Option<u32>,
+) -> Result<()> {
+    let shape = Shape::new(wide, SLOTS).context("no such shape")?;
+    for kind in kinds {
+        println!(rt; "{}", measured(rt, alloc, shape, *kind, count)?)?;
+    }
+    Ok(())
+}
+
 fn main(rt: HostRuntime) -> Result<()> {
     let mut words = env::args(&rt)?;
     let count = number(words.nth(1))?;
@@ -89,17 +113,11 @@ fn main(rt: HostRuntime) -> Result<()> {
         "more than {MOST_ROUNDS} rounds"
     );
     if count.is_none() {
-        for (modules, slots) in SMALL {
-            let shape = Shape::new(modules, slots).context("no such shape")?;
-            println!(rt; "{}", walk_at_random(rt.alloc(), shape)?)?;
-        }
+        walk_small(&rt, rt.alloc())?;
     }
     for wide in MODULES {
         if modules.is_none() || modules == Some(wide as u32) {
-            let shape = Shape::new(wide, SLOTS).context("no such shape")?;
-            for kind in kinds {
-                println!(rt; "{}", measured(&rt, rt.alloc(), shape, *kind, count)?)?;
-            }
+            measure(&rt, rt.alloc(), wide, kinds, count)?;
         }
     }
     Ok(())
