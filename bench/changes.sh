@@ -1,8 +1,9 @@
 #!/bin/sh
 # Entries with their deletions per second, for direct joins and for the longest chains, and instructions where valgrind is there. A
-# round of chains has a chained entry and a direct one. A word says how many rounds are timed.
+# round of chains has a chained entry and a direct one. The journal is in memory, so no time is a disk's. A word says how many rounds
+# are timed: at most 16000, since a journal has 65,536 records, one a change, and a round of chains makes four changes.
 cd "$(dirname "$0")/../crates/bench_changes" || exit 1
-rounds=${1:-100000}
+rounds=${1:-10000}
 made=$(mktemp -d) && trap 'rm -r "$made"' EXIT
 rt run >"$made/once.txt" || exit 1
 cmp "$made/once.txt" stdout || exit 1

@@ -68,10 +68,13 @@ impl Carrier {
 impl Gate for Carrier {
     ghost stops = { λ _. 0 };
 
-    fn pass(&mut self, _place: GatePlace) -> Pass1 {
+    fn pass(&mut self, place: GatePlace) -> Pass1 {
         self.carry();
-        if let Some(leg) = self.leaving.take() {
-            self.legs.set(leg.output, None);
+        // The journal is called first, while the leg still carries.
+        if place == GatePlace::Register {
+            if let Some(leg) = self.leaving.take() {
+                self.legs.set(leg.output, None);
+            }
         }
         Pass1::Go
     }

@@ -3,6 +3,9 @@
 //! Without a word it makes a thousand random changes of small networks, with a frame between any two register writes, and then two
 //! rounds of each kind of entries and deletions. With a number it makes so many rounds and tells their time; a second number is
 //! that of the modules of the only shape to be measured, and a third word the kind: `direct` or `chains`.
+//!
+//! The journal is in memory. It has at most 65,536 records, one a change, and a round of chains makes four changes: so there are at
+//! most 16,000 rounds.
 #![tactic(auto)]
 
 mod carrier;
@@ -19,7 +22,7 @@ use crate::element::open;
 use crate::rounds::Kind;
 use crate::row::Row;
 use crate::walk::walk_at_random;
-use anyhow::{Context, Result};
+use anyhow::{Context, Result, ensure};
 use dxc_num::Shape;
 use std::alloc::Global;
 use std::env;
@@ -32,6 +35,9 @@ const SMALL: [(u16, u16); 2] = [(3, 2), (8, 4)];
 const MODULES: [u16; 3] = [8, 16, 32];
 
 const SLOTS: u16 = 32;
+
+/// With these rounds, and with what leads to them, no journal is full.
+const MOST_ROUNDS: u32 = 16_000;
 
 fn measured<R: Clock>(
     rt: &R,
@@ -73,23 +79,45 @@ fn kinds(word: Option<String>) -> &'static [Kind] {
     }
 }
 
+// The random walks, a line each.
+fn walk_small<R: Print>(rt: &R, alloc: Global) -> Result<()> {
+    for (modules, slots) in SMALL {
+        let shape = Shape::new(modules, slots).context("no such shape")?;
+        println!(rt; "{}", walk_at_random(alloc, shape)?)?;
+    }
+    Ok(())
+}
+
+// A shape's rounds, a line each kind.
+fn measure<R: Print + Clock>(
+    rt: &R,
+    alloc: Global,
+    wide: u16,
+    kinds: &[Kind],
+    count: Option<u32>,
+) -> Result<()> {
+    let shape = Shape::new(wide, SLOTS).context("no such shape")?;
+    for kind in kinds {
+        println!(rt; "{}", measured(rt, alloc, shape, *kind, count)?)?;
+    }
+    Ok(())
+}
+
 fn main(rt: HostRuntime) -> Result<()> {
     let mut words = env::args(&rt)?;
     let count = number(words.nth(1))?;
     let modules = number(words.next())?;
     let kinds = kinds(words.next());
+    ensure!(
+        count.unwrap_or(0) <= MOST_ROUNDS,
+        "more than {MOST_ROUNDS} rounds"
+    );
     if count.is_none() {
-        for (modules, slots) in SMALL {
-            let shape = Shape::new(modules, slots).context("no such shape")?;
-            println!(rt; "{}", walk_at_random(rt.alloc(), shape)?)?;
-        }
+        walk_small(&rt, rt.alloc())?;
     }
     for wide in MODULES {
         if modules.is_none() || modules == Some(wide as u32) {
-            let shape = Shape::new(wide, SLOTS).context("no such shape")?;
-            for kind in kinds {
-                println!(rt; "{}", measured(&rt, rt.alloc(), shape, *kind, count)?)?;
-            }
+            measure(&rt, rt.alloc(), wide, kinds, count)?;
         }
     }
     Ok(())

@@ -100,20 +100,20 @@ fn take_turn(element: &mut Element, carrier: &mut Carrier, turn: Turn) -> Result
     requires { IsReady element.old }
     ensures { IfOk result (λ _. IsReady element.new) }
 {
-    let is_entry = match turn {
+    match turn {
         Turn::Enter(leg) => {
             enter(element, leg, carrier)?;
             carrier.join(leg);
-            true
+            carrier.carry();
+            Ok(true)
         }
         Turn::Delete(leg) => {
             carrier.part(leg);
             delete(element, leg, carrier)?;
-            false
+            carrier.carry();
+            Ok(false)
         }
-    };
-    carrier.carry();
-    Ok(is_entry)
+    }
 }
 
 // Makes all changes. How many of them were entries.
