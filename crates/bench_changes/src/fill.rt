@@ -24,10 +24,7 @@ fn between(shape: Shape, from: (u16, u16), to: (u16, u16)) -> Leg
 pub fn layer_leg(shape: Shape, layer: u16, row: u16) -> Leg
     requires { (layer < shape.slots) × (row < shape.modules) }
 {
-    let to = (
-        (row + layer) % shape.modules(),
-        (layer + 1) % shape.slots(),
-    );
+    let to = ((row + layer) % shape.modules(), (layer + 1) % shape.slots());
     between(shape, (row, layer), to)
 }
 

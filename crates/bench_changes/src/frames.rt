@@ -72,12 +72,7 @@ impl Frames {
     pub fn carry(&mut self) {
         if self.count < FRAMES {
             fill(&mut self.input, self.count);
-            carry_frame(
-                &self.fabric,
-                &mut self.seat,
-                &self.input,
-                &mut self.output,
-            );
+            carry_frame(&self.fabric, &mut self.seat, &self.input, &mut self.output);
             self.count += 1;
         }
     }
