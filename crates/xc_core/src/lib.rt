@@ -10,6 +10,8 @@ mod limit;
 mod opening;
 mod provisioner;
 mod state;
+#[cfg(test)]
+mod tests;
 
 pub use beginning::{Begun, begin};
 pub use fault::OpenFault;
