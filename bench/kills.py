@@ -17,6 +17,8 @@ import time
 TOP = os.path.dirname(os.path.dirname(os.path.abspath(__file__)))
 PROGRAM = os.path.join(TOP, "crates", "dxc", "out", "dxc")
 MODULES, SLOTS = 3, 4
+# More than a run comes to before it is killed, on most disks.
+CHANGES = 1_200
 SHELF = f"""sid = "DXC1"
 modules = {MODULES}
 slots = {SLOTS}
@@ -51,11 +53,11 @@ def listing(table, records):
 
 def killed_run(rng, shelf, journal, table, records):
     """Table and number of records that the journal has after a run that was killed."""
-    made = list(commands(rng, table, 400))
+    made = list(commands(rng, table, CHANGES))
     child = subprocess.Popen([PROGRAM, "script", shelf, journal], stdin=subprocess.PIPE, stdout=subprocess.PIPE)
     child.stdin.write(("ACT-USER::ANNA:1::bc;" + "".join(text for text, _ in made)).encode())
     child.stdin.flush()
-    time.sleep(rng.uniform(0, 0.15))
+    time.sleep(rng.uniform(0, 0.12))
     child.kill()
     written = child.stdout.read().decode()
     child.wait()
