@@ -1,10 +1,15 @@
+pub mod Askings
+pub mod Callers
 pub mod Fakes
 pub mod Files
 pub mod Frames
 pub mod Holdings
 pub mod Items
 pub mod Links
+pub mod Listeners
 pub mod Moments
 pub mod Openings
 pub mod Pieces
+pub mod Spawners
+pub mod Threads
 pub mod Utc
