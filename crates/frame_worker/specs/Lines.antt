@@ -30,6 +30,14 @@ carried WriteFault n = n + 1
 carried Stopped n = n
 carried Spent n = n
 
+-- how often the gate was asked, where n frames were written: once before each frame that was carried, and once more where the end came in place of a frame
+abbrev pub askings : LinesEnd → ℕ → ℕ
+askings End n = n + 1
+askings ReadFault n = n + 1
+askings WriteFault n = n + 1
+askings Stopped n = n + 1
+askings Spent n = n
+
 -- n frames were read, carried and written in order, and then came an end
 pub record IsRun (z : Size) (told : Type 0) (n : ℕ) (end : LinesEnd) (old new : LinesState) (v v' : Worker) : Type 0 where
   pub input : List ℕ

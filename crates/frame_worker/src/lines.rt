@@ -1,8 +1,8 @@
-ghost use Rattle.std.specs.Prelude.{◌≡◌, ◌≢◌, ◌<◌, ◌≤◌, ◌⊎◌, ◌↔◌, ◌^◌, ℕ, [], length, true, Some, MatchOption};
+ghost use Rattle.std.specs.Prelude.{◌≡◌, ◌≢◌, ◌<◌, ◌≤◌, ◌⊎◌, ◌↔◌, ◌^◌, ℕ, [], ◌∷◌, length, replicate, true, Some, MatchOption};
 ghost use Rattle.dxc_causes.specs.Causes.{Rose, HasCause};
 ghost use Rattle.dxc_num.specs.Dimensions.{ports};
 ghost use Rattle.fabric_core.specs.Working.{CanBegin};
-ghost use Rattle.frame_worker.specs.Lines.{IsRun};
+ghost use Rattle.frame_worker.specs.Lines.{IsRun, askings};
 
 use crate::carry::carry_frame;
 use dxc_outside::{Frame, Gate, GatePlace, Lines, Pass1, Put};
@@ -40,7 +40,7 @@ pub fn run_lines<N: Lines, G: Gate>(
     requires unused { seat.old.reader.worker.frame ≡ 0 }
     requires room { (length input.old ≡ ports fabric.now.size.shape) × (length output.old ≡ ports fabric.now.size.shape) }
     ensures fabric { seat.new.reader.fabric ≡ seat.old.reader.fabric }
-    ensures run { (n : ℕ) × IsRun fabric.now.size N.told n result (N.state lines.old) (N.state lines.new) seat.old.reader.worker seat.new.reader.worker × ((result ≡ LinesEnd.Spent) ↔ (n ≡ 2 ^ 61)) }
+    ensures run { (n : ℕ) × IsRun fabric.now.size N.told n result (N.state lines.old) (N.state lines.new) seat.old.reader.worker seat.new.reader.worker × ((result ≡ LinesEnd.Spent) ↔ (n ≡ 2 ^ 61)) × G.asked gate.old gate.new (replicate (askings result n) GatePlace.Frame) }
     ensures end { result ≡ LinesEnd.End → (N.state lines.new).ended ≡ true }
     ensures said_end { (N.state lines.new).ended ≡ true → (result ≡ LinesEnd.End) ⊎ ((N.state lines.old).ended ≡ true) }
     ensures all_read { N.told → result ≡ LinesEnd.End → (N.state lines.new).left ≡ [] }
@@ -85,6 +85,7 @@ fn run_frame<N: Lines, G: Gate>(
     ensures read_faults { HasCause (N.state lines.old).read_faults (N.state lines.new).read_faults (result ≡ Some LinesEnd.ReadFault) }
     ensures write_faults { HasCause (N.state lines.old).write_faults (N.state lines.new).write_faults (result ≡ Some LinesEnd.WriteFault) }
     ensures stops { HasCause (G.stops gate.old) (G.stops gate.new) (result ≡ Some LinesEnd.Stopped) }
+    ensures asked { G.asked gate.old gate.new (GatePlace.Frame ∷ []) }
 {
     if gate.pass(GatePlace::Frame) == Pass1::Stop {
         return Some(LinesEnd::Stopped);

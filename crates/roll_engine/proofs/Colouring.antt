@@ -8,8 +8,8 @@ use Rattle.dxc_num.specs.Dimensions.{Dimensions, leg_between}
 use Rattle.roll_plan.specs.declared.op.Move.{Move}
 use Rattle.roll_plan.specs.declared.op.LegOp.{LegOp}
 use Rattle.roll_plan.specs.declared.op.LegOp.TheVariants.{Join, Part, Shift}
-use Rattle.roll_plan.specs.Works.{move_writes, moves_writes, join_writes, op_writes, ops_writes, switches_in}
-use Rattle.paull_matrix.specs.Colourings.{CanPlace, Colouring, IsProperColouring, IsUnused, route_at, with_leg}
+use Rattle.roll_plan.specs.Works.{move_writes, moves_writes, join_writes, part_writes, op_writes, ops_writes, switches_in}
+use Rattle.paull_matrix.specs.Colourings.{CanPlace, Colouring, Holds, IsProperColouring, IsUnused, route_at, with_leg, without_leg}
 use Rattle.paull_chain.specs.Works.{moved, after, after_op, after_ops, AreValidMoves, IsValidOp, AreValidOps}
 use Rattle.paull_chain.proofs.Undoing.{after_proper}
 use Rattle.paull_chain.proofs.Planned.{after_shape}
@@ -42,7 +42,7 @@ leads_none d c = record { goes = λ us last. last; after = refl }
 move_leads : (c : Colouring) (v : Move) (vs : List Move) → IsProperColouring c → AreValidMoves (v ∷ vs) c → Leads c.shape (move_writes v) c.routes (moved v c).routes
 move_leads c v vs p h =
     let old : after_switch v.leg (route_at c v.leg.output.0) ≡ Old v.leg v.from = ap (after_switch v.leg) h.0 in record {
-      goes = λ us last. ((refl, record { inside = (p.inside v.leg v.from.0 h.0).0; middle = h.1; free = h.2; may_go = inl (v.from.0, h.0) }), (refl, (refl, (old, (refl, last)))));
+      goes = λ us last. ((refl, record { inside = (p.inside v.leg v.from.0 h.0).0; middle = h.1; free = h.2; may_go = inl (v.from.0, h.0) }), (refl, (refl, (inl old, (inl refl, last)))));
       after = refl;
     }
 
@@ -67,12 +67,15 @@ join_leads c l k h =
       after = e;
     }
 
+pub part_leads : (c : Colouring) (l : Leg) (k : Middle) → Holds c l k.0 → Leads c.shape (part_writes l k) c.routes (without_leg l c).routes
+part_leads c l k h = record { goes = λ us last. ((refl, h), (inl refl, (inl refl, last))); after = refl }
+
 op_leads : (op : LegOp) (c : Colouring) → IsProperColouring c → IsValidOp c op → Leads c.shape (op_writes op) c.routes (after_op op c).routes
 op_leads (Join l choice moves) c p h =
     let b : Colouring = after moves.items c in
     leads_on c.shape (moves_writes moves.items) (join_writes l choice.middle) c.routes b.routes (after_op (Join l choice moves) c).routes (moves_lead moves.items c p h.0)
     (subst (λ (d : Dimensions). Leads d (join_writes l choice.middle) b.routes (with_leg l choice.middle.0 b).routes) (after_shape moves.items c) (join_leads b l choice.middle h.1))
-op_leads (Part l k) c p h = record { goes = λ us last. ((refl, h), (refl, (refl, last))); after = refl }
+op_leads (Part l k) c p h = part_leads c l k h
 op_leads (Shift moves) c p h = moves_lead moves.items c p h
 
 ops_lead : (ops : List LegOp) (c : Colouring) → IsProperColouring c → AreValidOps c ops → Leads c.shape (ops_writes ops) c.routes (after_ops ops c).routes

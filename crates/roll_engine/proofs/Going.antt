@@ -1,6 +1,8 @@
 -- A loop over the writes that are left.
-use Rattle.std.proofs.Common.{◌≡◌, ◌≢◌, ℕ, zero, suc, ◌+◌, List, [], ◌∷◌, ◌++◌, drop, sym, refl, ap, ap₂, ◌∙◌, subst, arith, Option, Some, None, length-append, append_assoc}
+use Rattle.std.proofs.Common.{◌≡◌, ◌≢◌, ℕ, zero, suc, ◌+◌, List, [], ◌∷◌, ◌++◌, drop, sym, refl, ap, ap₂, ◌∙◌, subst, ⊎_elim, arith, Option, Some, None, length-append, append_assoc}
 use Rattle.std.specs.Prelude.{slice_get}
+use Rattle.dxc_num.specs.declared.port.Leg.{Leg}
+use Rattle.dxc_num.specs.declared.port.Middle.{Middle}
 use Rattle.dxc_num.specs.declared.register.RegWrite.{RegWrite}
 use Rattle.dxc_num.specs.declared.register.WriteKind.{WriteKind}
 use Rattle.dxc_num.specs.declared.register.WriteKind.TheVariants.{ClearMid}
@@ -8,9 +10,10 @@ use Rattle.roll_plan.specs.declared.work.Work.{Work}
 use Rattle.roll_plan.specs.Works.{write, writes_of}
 use Rattle.fabric_core.specs.declared.size.Size.{Size}
 use Rattle.fabric_core.specs.declared.mover.Mover.{Mover}
+use Rattle.fabric_core.specs.declared.phase.Phase.TheVariants.{MidSet, Old}
 use Rattle.roll_engine.specs.Rollings.{RollingAt, rest_of}
 use Rattle.roll_engine.specs.Writes.{Looks, Makes}
-use Rattle.roll_engine.specs.Courses.{Course, GoesByKind, IsReady, course_of}
+use Rattle.roll_engine.specs.Courses.{Course, GoesByKind, IsOld, IsReady, course_of}
 use Rattle.roll_engine.specs.Answers.{GoesOn, IsSeen, IsInFrame}
 use Rattle.roll_engine.proofs.Looking.{seen_looks}
 use Rattle.roll_engine.proofs.Running.{runs_look, runs_more}
@@ -69,14 +72,17 @@ ready_next z r w m at h = subst (λ (ws : List RegWrite). IsReady z ws m) (rest_
 pub ready_step : (z : Size) (r : RollingAt) (w : RegWrite) (m : Mover) → slice_get (writes_of r.work) r.step ≡ Some w → IsReady z (rest_of r) m → IsReady z (w ∷ []) m
 ready_step z r w m at h = ready_first z w (rest_of (next r)) m (ready_next z r w m at h)
 
+not_both : (l a : Leg) (k b : Middle) → MidSet l k ≡ Old a b → ⊥
+not_both l a k b e = cc
+
 -- the answer where a frame was seen
-pub in_frame : (z : Size) (old r : RollingAt) (w : RegWrite) (m a m' : Mover) (f : ℕ) → GoesOn z old r m a → slice_get (writes_of r.work) r.step ≡ Some w → IsReady z (rest_of r) a → (w.kind ≡ ClearMid) × IsSeen z a m' f → IsInFrame z (rest_of old) (rest_of r) m m' f
-in_frame z old r w m a m' f h at ready (clears, seen) =
+pub in_frame : (z : Size) (old r : RollingAt) (w : RegWrite) (m a m' : Mover) (f : ℕ) → GoesOn z old r m a → slice_get (writes_of r.work) r.step ≡ Some w → IsReady z (rest_of r) a → (w.kind ≡ ClearMid) × IsOld a.phase × IsSeen z a m' f → IsInFrame z (rest_of old) (rest_of r) m m' f
+in_frame z old r w m a m' f h at ready (clears, left_path, seen) =
     let goes : GoesByKind ClearMid z.shape w.leg w.middle (course_of a) = subst (λ (t : WriteKind). GoesByKind t z.shape w.leg w.middle (course_of a)) clears (ready_next z r w a at ready).goes.0 in
     let looks = seen_looks z a m' f seen in record {
       leg = w.leg;
       old = w.middle;
-      phase = ap (λ (c : Course). c.phase) (course_looks z looks.0 a m' looks.1) ∙ goes;
+      phase = ap (λ (c : Course). c.phase) (course_looks z looks.0 a m' looks.1) ∙ ⊎_elim (λ (e : a.phase ≡ Old w.leg w.middle). e) (λ (e : a.phase ≡ MidSet w.leg w.middle). absurd (not_both w.leg left_path.0 w.middle left_path.1 (sym e ∙ left_path.2))) goes;
       later = rest_of (next r);
       next = rest_some r w at ∙ ap (λ (t : WriteKind). write t w.leg w.middle ∷ rest_of (next r)) clears;
       reached = a;

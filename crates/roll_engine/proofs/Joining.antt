@@ -57,7 +57,7 @@ can_join d xs rs n w p =
     other v q h e = let low = (first_route xs (Some w ∷ rs) (suc n) v.output.0 (record { input = record { 0 = v.input.0 }; middle = record { 0 = q } }) h).0 in let same : v.output.0 ≡ length xs = ap (λ (x : Leg). x.output.0) e in omega arith
 
 -- one item more at the end of a list
-one_more : (xs ys : List (Option Route)) (o : Option Route) → (xs ++ o ∷ []) ++ ys ≡ xs ++ o ∷ ys
+pub one_more : (xs ys : List (Option Route)) (o : Option Route) → (xs ++ o ∷ []) ++ ys ≡ xs ++ o ∷ ys
 one_more xs ys o = append_assoc xs (o ∷ []) ys
 
 one_longer : (xs : List (Option Route)) (o : Option Route) → length (xs ++ o ∷ []) ≡ length xs + 1
@@ -104,10 +104,6 @@ clear_left [] zero h = h
 clear_left [] (suc t) h = h
 clear_left (w ∷ ws) zero h = h
 clear_left (w ∷ ws) (suc t) h = clear_left ws t h.2
-
-pub clear_front : (us vs : List RegWrite) → ClearNothing (us ++ vs) → ClearNothing us
-clear_front [] vs h = tt
-clear_front (u ∷ us) vs h = (h.0, h.1, clear_front us vs h.2)
 
 pub clear_kept : (ws : List RegWrite) (y : Port) → ClearNothing ws → AreKept ws y
 clear_kept [] y h = tt

@@ -6,5 +6,8 @@ pub mod Colouring
 pub mod Wording
 pub mod Joining
 pub mod ColdRolling
+pub mod Parting
+pub mod Leading
 pub mod Outputs
 pub mod UnderWay
+pub mod Asking

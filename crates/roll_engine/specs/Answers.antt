@@ -1,10 +1,12 @@
 -- What a call of `advance` says.
-use Rattle.std.specs.Prelude.{◌≡◌, ◌≢◌, ℕ, ◌+◌, ◌<◌, ◌%◌, List, [], ◌∷◌, ◌++◌, length}
+use Rattle.std.specs.Prelude.{◌≡◌, ◌≢◌, ℕ, ◌+◌, ◌-◌, ◌<◌, ◌%◌, List, [], ◌∷◌, ◌++◌, length, replicate}
 use Rattle.dxc_num.specs.declared.port.Leg.{Leg}
 use Rattle.dxc_num.specs.declared.port.Middle.{Middle}
 use Rattle.dxc_num.specs.declared.register.RegWrite.{RegWrite}
 use Rattle.dxc_num.specs.declared.register.WriteKind.TheVariants.{ClearMid}
 use Rattle.roll_plan.specs.Works.{write}
+use Rattle.dxc_outside.specs.declared.gate.GatePlace.{GatePlace}
+use Rattle.dxc_outside.specs.declared.gate.GatePlace.TheVariants.{Register}
 use Rattle.fabric_core.specs.declared.size.Size.{Size}
 use Rattle.fabric_core.specs.declared.mover.Mover.{Mover}
 use Rattle.fabric_core.specs.declared.phase.Phase.TheVariants.{Old}
@@ -13,6 +15,7 @@ use Rattle.fabric_core.specs.State.{looks_of}
 use Rattle.fabric_core.specs.Moving.{looked}
 use Rattle.roll_engine.specs.declared.answer.Advance.{Advance}
 use Rattle.roll_engine.specs.declared.answer.Advance.TheVariants as answer
+use Rattle.roll_engine.specs.Courses.{IsOld}
 use Rattle.roll_engine.specs.Rollings.{RollingAt, rest_of}
 use Rattle.roll_engine.specs.declared.answer.Step.{Step}
 use Rattle.roll_engine.specs.declared.answer.Step.TheVariants as step
@@ -63,5 +66,21 @@ AnswerIs z before left m m' answer.Stopped = left ≢ []
 -- what came of one write
 abbrev pub StepIs : Size → RegWrite → Mover → Mover → Step → Type 0
 StepIs z w m m' step.Made = (fs : List (ℕ × ℕ)) × (a : Mover) × Looks z fs m a × Makes z w a m'
-StepIs z w m m' (step.InFrame f) = (w.kind ≡ ClearMid) × IsSeen z m m' f
+StepIs z w m m' (step.InFrame f) = (w.kind ≡ ClearMid) × IsOld m.phase × IsSeen z m m' f
 StepIs z w m m' step.Stopped = (fs : List (ℕ × ℕ)) × Looks z fs m m'
+
+-- where the gate was asked at one write: before it, unless a frame stood in its way
+abbrev pub asked_at_step : Step → List GatePlace
+asked_at_step step.Made = Register ∷ []
+asked_at_step (step.InFrame f) = []
+asked_at_step step.Stopped = Register ∷ []
+
+-- how often the gate was asked, where so many writes were made: once before each of them, and once more where it stopped
+abbrev pub askings : ℕ → Advance → ℕ
+askings n answer.Done = n
+askings n (answer.InFrame f) = n
+askings n answer.Stopped = n + 1
+
+-- where the gate was asked in a call, of which the writes that were left before and are left now are told
+abbrev pub asked_at : List RegWrite → List RegWrite → Advance → List GatePlace
+asked_at before left a = replicate (askings (length before - length left) a) Register

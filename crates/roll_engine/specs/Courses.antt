@@ -34,14 +34,14 @@ pub record CanBegin (c : Colouring) (l : Leg) (k : Middle) : Type 0 where
   pub free : IsFreeFor c l k.0
   pub may_go : IsHeld c l ⊎ IsUnused c l
 
--- when a write may come next
+-- when a write may come next; a path is cleared where it was left, and where it is half built
 abbrev pub GoesByKind : WriteKind → Dimensions → Leg → Middle → Course → Type 0
 GoesByKind kind.SetIn d l k c = (c.phase ≡ Rest) × CanBegin (colouring_of d c.legs) l k
 GoesByKind kind.SetMid d l k c = c.phase ≡ InSet l k
 GoesByKind kind.SwitchOut d l k c = c.phase ≡ MidSet l k
 GoesByKind kind.ClearOut d l k c = (c.phase ≡ Rest) × Holds (colouring_of d c.legs) l k.0
-GoesByKind kind.ClearMid d l k c = c.phase ≡ Old l k
-GoesByKind kind.ClearIn d l k c = c.phase ≡ Freed l k
+GoesByKind kind.ClearMid d l k c = (c.phase ≡ Old l k) ⊎ (c.phase ≡ MidSet l k)
+GoesByKind kind.ClearIn d l k c = (c.phase ≡ Freed l k) ⊎ (c.phase ≡ InSet l k)
 
 -- and where it leads
 abbrev pub gone_by_kind : WriteKind → Leg → Middle → Course → Course

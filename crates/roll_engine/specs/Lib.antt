@@ -6,4 +6,5 @@ pub mod Answers
 pub mod Staying
 pub mod Allowed
 pub mod Cold
+pub mod Leading
 pub mod UnderWay

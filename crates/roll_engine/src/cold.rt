@@ -1,9 +1,10 @@
-//! All legs of a matrix, joined one by one on a fabric that has none.
-ghost use Rattle.std.specs.Prelude.{◌≡◌, ◌≢◌, ◌≤◌, ℕ, []};
+//! All legs of a matrix, joined one by one on a fabric on which first all others are parted.
+ghost use Rattle.std.specs.Prelude.{◌≡◌, ◌≢◌, ◌≤◌, ℕ};
 ghost use Rattle.dxc_causes.specs.Causes.{Rose};
 ghost use Rattle.roll_engine.specs.Stages.{IsAtRestOn};
-ghost use Rattle.roll_engine.specs.Answers.{Advances};
-ghost use Rattle.roll_engine.specs.Cold.{IsColdAt, left_of};
+ghost use Rattle.roll_engine.specs.Answers.{Advances, AnswerIs, asked_at};
+ghost use Rattle.roll_engine.specs.Cold.{IsCold, IsColdAt, left_of};
+ghost use Rattle.roll_engine.specs.Leading.{IsColdLeading};
 
 use crate::answer::Advance;
 use crate::rolling::Rolling;
@@ -12,8 +13,9 @@ use dxc_outside::Gate;
 use fabric_words::{Fabric, MoverSeat};
 use paull_matrix::Matrix;
 
-/// Makes the writes of a cold rolling of this matrix that are left: the joins of its legs in order of output, each by `advance`. No
-/// frame stands in the way of a join. After a stop it may be called again.
+/// Makes the writes of a cold rolling that are left, each work by `advance`: the end of the path that the mover was about, the parts of
+/// the legs that stand, in order of output, and the joins of this matrix's legs, in order of output. It doesn't wait: where a frame or
+/// the gate stands in the way it answers, and may be called again. No frame stands in the way of joins.
 pub fn advance_cold<G: Gate>(
     matrix: &Matrix,
     fabric: &Fabric,
@@ -22,23 +24,26 @@ pub fn advance_cold<G: Gate>(
     gate: &mut G,
 ) -> Advance
     requires own { mover.old.fabric ≡ fabric.now }
-    requires cold { IsColdAt mover.old.fabric.size matrix.now rolling.old mover.old.mover }
+    requires leading { IsColdLeading mover.old.fabric.size matrix.now rolling.old mover.old.mover }
     ensures fabric { mover.new.fabric ≡ mover.old.fabric }
-    ensures advances { Advances mover.old.fabric.size (left_of matrix.now rolling.old) (left_of matrix.now rolling.new) mover.old.mover mover.new.mover }
-    ensures cold { IsColdAt mover.old.fabric.size matrix.now rolling.new mover.new.mover }
+    ensures advances { Advances mover.old.fabric.size (left_of matrix.now mover.old.mover rolling.old) (left_of matrix.now mover.new.mover rolling.new) mover.old.mover mover.new.mover }
+    ensures leading { IsColdLeading mover.old.fabric.size matrix.now rolling.new mover.new.mover }
+    ensures kept { IsCold rolling.old → IsCold rolling.new }
+    ensures answer { AnswerIs mover.old.fabric.size (left_of matrix.now mover.old.mover rolling.old) (left_of matrix.now mover.new.mover rolling.new) mover.old.mover mover.new.mover result }
     ensures done { result ≡ Advance.Done → IsAtRestOn mover.old.fabric.size matrix.now mover.new.mover }
-    ensures all { result ≡ Advance.Done → left_of matrix.now rolling.new ≡ [] }
-    ensures joins { (f : ℕ) → result ≢ Advance.InFrame f }
+    ensures cold { IsColdAt mover.old.fabric.size matrix.now rolling.old mover.old.mover → IsColdAt mover.old.fabric.size matrix.now rolling.new mover.new.mover }
+    ensures joins { IsColdAt mover.old.fabric.size matrix.now rolling.old mover.old.mover → (f : ℕ) → result ≢ Advance.InFrame f }
     ensures stopped { result ≡ Advance.Stopped → Rose (G.stops gate.old) (G.stops gate.new) }
     ensures unstopped { result ≢ Advance.Stopped → G.stops gate.new ≡ G.stops gate.old }
     ensures later { G.stops gate.old ≤ G.stops gate.new }
+    ensures asked { G.asked gate.old gate.new (asked_at (left_of matrix.now mover.old.mover rolling.old) (left_of matrix.now mover.new.mover rolling.new) result) }
 {
     loop {
         match advance(fabric, mover, rolling, gate) {
             Advance::Done => {}
             answer => return answer,
         }
-        if !rolling.join_next(matrix) {
+        if !rolling.take_next(matrix, fabric, mover) {
             return Advance::Done;
         }
     }

@@ -1,5 +1,6 @@
 //! What holds at every step of a run of writes.
 ghost use Rattle.roll_engine.specs.Cold.{IsColdBegun, IsColdDone, IsColdSpared};
+ghost use Rattle.roll_engine.specs.Leading.{IsLeadingBegun, IsLedByJoins, IsLedToRest, IsSwitchedByJoins};
 ghost use Rattle.roll_engine.specs.Staying.{IsAlwaysAllowed, IsAlwaysEstablished, IsAlwaysMidway, IsAlwaysSpared, IsBegunAtRest, IsDetermined, IsDoneAtRest, IsNewAtRest, IsReadyMidway, IsSwitchCounted};
 ghost use Rattle.roll_engine.specs.UnderWay.{IsBegun, IsDoneUnderWay, IsReadyUnderWay, IsTakenOn};
 
@@ -87,4 +88,24 @@ pub fn cold_done()
 /// Each leg that was established stays so at every step of a cold rolling.
 pub fn cold_spared()
     ensures { IsColdSpared }
+{}
+
+/// Wherever the registers are, the writes of a cold rolling that begins there lead to any proper colouring.
+pub fn leading_begun()
+    ensures { IsLeadingBegun }
+{}
+
+/// They make a switch for each join, and no other.
+pub fn leading_switches()
+    ensures { IsSwitchedByJoins }
+{}
+
+/// Joins on a fabric that had no legs lead to their colouring.
+pub fn joins_lead()
+    ensures { IsLedByJoins }
+{}
+
+/// Where no write is left, the registers are at rest on the colouring.
+pub fn leading_done()
+    ensures { IsLedToRest }
 {}

@@ -3,6 +3,7 @@ ghost use Rattle.std.specs.Prelude.{◌≡◌};
 ghost use Rattle.dxc_num.specs.declared.register.WriteKind.TheVariants.{ClearMid};
 ghost use Rattle.fabric_core.specs.Moving.{AllPassed};
 ghost use Rattle.roll_engine.specs.Allowed.{CanMake};
+ghost use Rattle.roll_engine.specs.Courses.{IsOld};
 ghost use Rattle.roll_engine.specs.Writes.{Makes};
 
 use dxc_num::{RegWrite, WriteKind};
@@ -12,7 +13,7 @@ use fabric_words::{Fabric, MoverSeat};
 pub(crate) fn make(fabric: &Fabric, mover: &mut MoverSeat, write: RegWrite)
     requires own { mover.old.fabric ≡ fabric.now }
     requires can { CanMake mover.old.fabric.size.shape write mover.old.mover }
-    requires passed { write.kind ≡ ClearMid → AllPassed mover.old.fabric.size mover.old.mover }
+    requires passed { write.kind ≡ ClearMid → IsOld mover.old.mover.phase → AllPassed mover.old.fabric.size mover.old.mover }
     ensures own { mover.new.fabric ≡ fabric.now }
     ensures made { Makes mover.old.fabric.size write mover.old.mover mover.new.mover }
 {

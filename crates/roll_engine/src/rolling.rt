@@ -1,24 +1,30 @@
-ghost use Rattle.std.specs.Prelude.{◌≡◌, ◌+◌, ◌^◌, ◌<◌, ◌↔◌, [], IsTrue};
+ghost use Rattle.std.specs.Prelude.{◌≡◌, ◌+◌, ◌^◌, ◌<◌, ◌↔◌, [], IsTrue, drop};
 
 use arrayvec::ArrayVec;
-use dxc_num::Port;
-use roll_plan::Work;
+use dxc_num::{Leg, Middle, Port};
+use fabric_words::Phase;
+use roll_plan::{LegOp, Work};
 use std::marker::Model;
 
 mod joins;
+mod next;
+mod parts;
 
 /// What comes behind the work in hand.
 #[derive(Clone, Copy, Debug, PartialEq, Eq)]
 pub enum Behind {
     /// Nothing.
     Nothing,
+    /// The parts of the legs that stand, from this output on, and then the joins of all legs of a matrix.
+    PartsFrom(Port),
     /// The joins of a matrix's legs, from this output on.
     JoinsFrom(Port),
 }
 
 /// A work whose writes are being made, in order, and how many of them are made.
 ///
-/// A cold one is of all legs of a matrix, joined one by one on a fabric without legs: it has the join of one leg in hand.
+/// A cold one clears the path that the mover is about, parts each leg that stands, and joins each leg of a matrix, one by one: it has the
+/// part or the join of one leg in hand.
 #[derive(Debug, Drop)]
 pub struct Rolling {
     work: Work,
@@ -35,8 +41,10 @@ impl Model for Rolling {
 }
 
 impl Rolling {
-    ghost use Rattle.roll_engine.specs.declared.rolling.Behind.TheVariants.{Nothing, JoinsFrom};
-    ghost use Rattle.roll_engine.specs.Cold.{IsCold, cold_start};
+    ghost use Rattle.roll_plan.specs.Works.{part_writes};
+    ghost use Rattle.roll_engine.specs.declared.rolling.Behind.TheVariants.{Nothing, PartsFrom};
+    ghost use Rattle.roll_engine.specs.Rollings.{rest_of};
+    ghost use Rattle.roll_engine.specs.Cold.{IsCold, IsColdFrom, cold_start};
 
     /// The work, of which so many writes are made.
     pub fn of(work: Work, step: usize) -> Rolling
@@ -49,7 +57,7 @@ impl Rolling {
         }
     }
 
-    /// All legs of a matrix, none of which is joined.
+    /// All legs of a matrix, none of which is joined, on a fabric without legs.
     pub fn cold() -> Rolling
         ensures { result ≡ cold_start }
     {
@@ -62,11 +70,39 @@ impl Rolling {
         }
     }
 
+    /// All legs of a matrix, none of which is joined, on a fabric with any legs, where the mover is in this phase.
+    pub fn cold_from(phase: Phase) -> Rolling
+        ensures { IsColdFrom phase result }
+    {
+        match phase {
+            Phase::Rest => Rolling {
+                behind: Behind::PartsFrom(Port(0)),
+                ..Rolling::cold()
+            },
+            Phase::InSet { leg, to } => Rolling::clearing(leg, to, 2),
+            Phase::MidSet { leg, to } => Rolling::clearing(leg, to, 1),
+            Phase::Old { leg, old } => Rolling::clearing(leg, old, 1),
+            Phase::Freed { leg, old } => Rolling::clearing(leg, old, 2),
+        }
+    }
+
+    // The clearing of a path as a part of which so many writes are made, and then the parts of all legs that stand.
+    fn clearing(leg: Leg, middle: Middle, made: usize) -> Rolling
+        ensures ends { rest_of result ≡ drop made (part_writes leg middle) }
+        ensures behind { result.behind ≡ PartsFrom (record { 0 = 0 }) }
+    {
+        Rolling {
+            work: Work::of(LegOp::Part { leg, middle }),
+            step: made,
+            behind: Behind::PartsFrom(Port(0)),
+        }
+    }
+
     /// Whether it is a cold one.
     pub fn is_cold(&self) -> bool
         ensures { IsTrue result ↔ IsCold self.now }
     {
-        matches!(self.behind, Behind::JoinsFrom(_))
+        self.behind != Behind::Nothing
     }
 
     /// The work in hand.

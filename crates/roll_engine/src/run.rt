@@ -8,7 +8,7 @@ ghost use Rattle.fabric_core.specs.Moving.{AllPassed};
 ghost use Rattle.roll_engine.specs.Writes.{Looks};
 ghost use Rattle.roll_engine.specs.Courses.{IsOld, IsReady};
 ghost use Rattle.roll_engine.specs.Rollings.{rest_of};
-ghost use Rattle.roll_engine.specs.Answers.{AnswerIs, GoesOn, IsSeen, StepIs};
+ghost use Rattle.roll_engine.specs.Answers.{AnswerIs, GoesOn, IsSeen, StepIs, asked_at, asked_at_step};
 
 use crate::answer::{Advance, Step};
 use crate::looks::look_all;
@@ -27,7 +27,7 @@ fn clear_way(fabric: &Fabric, mover: &mut MoverSeat, kind: WriteKind) -> Option<
     ensures ruled { IsMoverRuled mover.old.fabric.size mover.old.mover }
     ensures looks { (fs : List (ℕ × ℕ)) × Looks mover.old.fabric.size fs mover.old.mover mover.new.mover }
     ensures passed { IfNone result (kind ≡ ClearMid → IsOld mover.old.mover.phase → AllPassed mover.old.fabric.size mover.new.mover) }
-    ensures seen { IfSome result (λ f. (kind ≡ ClearMid) × IsSeen mover.old.fabric.size mover.old.mover mover.new.mover f) }
+    ensures seen { IfSome result (λ f. (kind ≡ ClearMid) × IsOld mover.old.mover.phase × IsSeen mover.old.fabric.size mover.old.mover mover.new.mover f) }
 {
     match (kind, mover.phase()) {
         (WriteKind::ClearMid, Phase::Old { .. }) => look_all(fabric, mover),
@@ -44,6 +44,7 @@ fn step_on<G: Gate>(fabric: &Fabric, mover: &mut MoverSeat, write: RegWrite, gat
     ensures stopped { result ≡ Step.Stopped → Rose (G.stops gate.old) (G.stops gate.new) }
     ensures unstopped { result ≢ Step.Stopped → G.stops gate.new ≡ G.stops gate.old }
     ensures later { G.stops gate.old ≤ G.stops gate.new }
+    ensures asked { G.asked gate.old gate.new (asked_at_step result) }
 {
     if let Some(frame) = clear_way(fabric, mover, write.kind) {
         return Step::InFrame(frame);
@@ -74,6 +75,7 @@ pub fn advance<G: Gate>(
     ensures stopped { result ≡ Advance.Stopped → Rose (G.stops gate.old) (G.stops gate.new) }
     ensures unstopped { result ≢ Advance.Stopped → G.stops gate.new ≡ G.stops gate.old }
     ensures later { G.stops gate.old ≤ G.stops gate.new }
+    ensures asked { G.asked gate.old gate.new (asked_at (rest_of rolling.old) (rest_of rolling.new) result) }
 {
     while let Some(write) = write_at_step(rolling.work(), rolling.step()) {
         match step_on(fabric, mover, write, gate) {

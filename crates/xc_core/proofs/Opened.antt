@@ -1,6 +1,7 @@
 -- A start of the controller: the disk's journal, its replay, and the joins of all legs.
-use Rattle.std.proofs.Common.{◌≡◌, ◌≢◌, ◌⊎◌, inl, inr, ⊎_elim, ℕ, ◌+◌, ◌<◌, ◌≤◌, ◌^◌, true, false, List, [], ◌∷◌, ◌++◌, length, Option, Some, None, Result, Ok, Err, refl, sym, ◌∙◌, ap, subst, arith}
-use Rattle.std.specs.Prelude.{slice_index}
+use Rattle.std.proofs.Common.{◌≡◌, ◌≢◌, ◌⊎◌, inl, inr, ⊎_elim, ℕ, ◌-◌, ◌<◌, ◌≤◌, ◌^◌, append-nil, length-append, true, false, List, [], ◌++◌, length, None, Result, Ok, Err, refl, sym, ◌∙◌, ap, subst, arith}
+use Rattle.std.specs.Prelude.{replicate, slice_index}
+use Rattle.std.proofs.lemmas.List.{length-replicate, length-take}
 use Rattle.std.proofs.lemmas.Bool.Decides.{leb_tells}
 use Rattle.dxc_num.specs.Dimensions.{Dimensions, IsInLimits, ports}
 use Rattle.dxc_disk.specs.Disks.{DiskState, IsDisk, IsSettled, LeavesOnly, Looks}
@@ -23,6 +24,8 @@ use Rattle.journal_core.specs.Opens.{Finds, Founds, IsRefused, OpensNew, OpensOl
 use Rattle.journal_core.proofs.HeaderSteps.{equipment_below, header_equipment}
 use Rattle.paull_matrix.specs.Colourings.{Colouring, IsProperColouring, no_legs}
 use Rattle.roll_plan.specs.declared.op.LegOp.{LegOp}
+use Rattle.roll_plan.specs.declared.work.Work.{Work}
+use Rattle.dbchg_reports.specs.Recent.{Recent, no_changes}
 use Rattle.roll_plan.specs.Works.{switches_in}
 use Rattle.roll_engine.specs.Rollings.{RollingAt}
 use Rattle.roll_engine.specs.Stages.{IsAtRestOn}
@@ -32,7 +35,6 @@ use Rattle.roll_engine.proofs.Colouring.{new_at_rest}
 use Rattle.roll_engine.proofs.ColdRolling.{cold_begun}
 use Rattle.roll_engine.proofs.Running.{switch_counted, switches_join}
 use Rattle.shelf_file.specs.Contents.{Contents}
-use Rattle.xc_recovery.specs.Placings.{IsPlaced}
 use Rattle.xc_recovery.specs.declared.fault.ReplayFault.TheVariants.{BadRecord}
 use Rattle.xc_recovery.specs.Folds.{Folded, IsFold, none_folded}
 use Rattle.xc_recovery.specs.Replays.{ComesTo, Replays}
@@ -41,11 +43,15 @@ use Rattle.xc_recovery.proofs.Once.{folds_once}
 use Rattle.xc_recovery.proofs.Replaying.{folded}
 use Rattle.xc_core.specs.declared.provisioner.Provisioner.{Provisioner}
 use Rattle.xc_core.specs.declared.state.Home.TheVariants.{In}
+use Rattle.xc_core.specs.declared.origin.Origin.{Origin}
 use Rattle.xc_core.specs.declared.state.State.{State}
 use Rattle.xc_core.specs.Reckonings.{Past}
 use Rattle.xc_core.specs.Journals.{IsAtHome}
-use Rattle.xc_core.specs.Provisioners.{IsHome, ground_of}
-use Rattle.xc_core.specs.States.{Opening, StandsFor}
+use Rattle.xc_core.specs.declared.second.Second.{Second}
+use Rattle.xc_core.specs.Provisioners.{HasRoom, ground_of}
+use Rattle.roll_engine.proofs.Joining.{few_switches}
+use Rattle.xc_core.proofs.Pasts.{none_held}
+use Rattle.xc_core.specs.States.{IsFoldOf, Opening, StandsFor, opening_at, opening_of, recorded}
 use Rattle.xc_core.specs.Openings.{Begins, HasBadRecord, IsOpening, LeavesOpened}
 use Rattle.xc_core.proofs.Granting.{few_ports}
 
@@ -63,11 +69,11 @@ cold_from_new i m c r own new sized shape proper start =
     subst (λ (x : RollingAt). IsColdAt z c x m.mover) (sym start) (cold_begun z c m.mover proper same rest (omega (arith, none, few, number)))
 
 -- once it has nothing left each leg was switched once
-pub switched_once : (z : Size) (i : FabricId) (c : Colouring) (r s : RollingAt) (m m' : Mover) → m ≡ new_mover i.size → r ≡ cold_start → Advances z (left_of c r) (left_of c s) m m' → left_of c s ≡ [] → length m'.log ≡ switches_in (joins_of c)
+pub switched_once : (z : Size) (i : FabricId) (c : Colouring) (r s : RollingAt) (m m' : Mover) → m ≡ new_mover i.size → r ≡ cold_start → Advances z (left_of c m r) (left_of c m' s) m m' → left_of c m' s ≡ [] → length m'.log ≡ switches_in (joins_of c)
 switched_once z i c r s m m' new start a none =
     let counted = switch_counted z a.writes m m' a.runs in
     let joined = switches_join a.writes [] in
-    let split : joins_of c ≡ a.writes ++ [] = ap (left_of c) (sym start) ∙ a.split ∙ ap (λ xs. a.writes ++ xs) none in
+    let split : joins_of c ≡ a.writes ++ [] = ap (left_of c m) (sym start) ∙ a.split ∙ ap (λ xs. a.writes ++ xs) none in
     let whole = ap switches_in split in
     let empty : length m.log ≡ 0 = ap (λ (x : Mover). length x.log) new in
     omega (arith, counted, joined, whole, empty)
@@ -141,12 +147,31 @@ seated d e records t c ops is = let s = folds_seated d (none_folded d e) (folded
 pub replayed_shape : (d : Dimensions) (e : ℕ) (records : List (List ℕ)) (t : Board) (c : Colouring) (ops : List LegOp) → ComesTo d e records t c ops → c.shape ≡ d
 replayed_shape d e records t c ops is = let s = seated d e records t c ops is in s.placed.shape ∙ s.shape
 
+-- the records that a journal lists, of which only the number counts where its disk doesn't tell
+recorded_number : (book : Book) (file : List ℕ) → length (recorded book file) ≡ book.count
+recorded_number book file =
+    let few = length-take book.count (stands file) in
+    let whole = length-append (listed book file) (replicate (book.count - length (listed book file)) []) in
+    let rest = length-replicate {A = List ℕ} (book.count - length (listed book file)) [] in
+    omega (arith, few, whole, rest)
+
+recorded_is : (book : Book) (file : List ℕ) → book.count ≡ length (listed book file) → recorded book file ≡ listed book file
+recorded_is book file counts =
+    ap (λ (n : ℕ). listed book file ++ replicate n []) (let e : book.count - length (listed book file) ≡ 0 = omega (arith, counts) in e) ∙ append-nil (listed book file)
+
 -- The state that stands for no entry. The disk was a at the start, b when the journal was opened, and the journal is j after its replay.
-module _ {D : Type 0} (told : Type 0) (state : D → DiskState) (shelf : Contents) (fabric : FabricId) (a b : DiskState) (book : Book) (j : D × Book) (t : Board) (c : Colouring) (ops : List LegOp) (v : MoverAt) where
+module _ {D : Type 0} (told : Type 0) (state : D → DiskState) (shelf : Contents) (fabric : FabricId) (a b : DiskState) (book : Book) (j : D × Book) (t : Board) (c : Colouring) (last : Work) (v : MoverAt) (origin : Origin D) (reports : Recent) (spent number_read : ℕ) (second : Second) where
   abbrev at_home : Provisioner D
-  at_home = record { matrix = c; journal = j; mover = v; doubt = None; changes = 0; halted = false }
+  at_home = record { matrix = c; journal = j; mover = v; doubt = None; changes = 0; halted = false; spent = spent; first_records = number_read; second = second }
+
+  abbrev begun : State D
+  begun = record { table = t; reports = reports; home = In at_home; origin = origin }
 
   module _
+      (fresh : reports ≡ no_changes)
+      (table_kept : origin.table.value ≡ t)
+      (provisioner_kept : origin.provisioner.value ≡ at_home)
+      (last_kept : origin.last.value ≡ last)
       (old : told → (IsNew a.reads_as → ⊥) → OpensOld shelf.shape a b (Ok book))
       (new : told → IsNew a.reads_as → OpensNew shelf.shape shelf.equipped a b (Ok book))
       (shape : book.shape ≡ shelf.shape)
@@ -157,77 +182,126 @@ module _ {D : Type 0} (told : Type 0) (state : D → DiskState) (shelf : Content
       (records : List (List ℕ))
       (number : length records ≡ book.count)
       (read : told → records ≡ listed book b.reads_as)
-      (comes : ComesTo book.shape book.equipped records t c ops)
+      (comes : ComesTo book.shape book.equipped records t c last.ops.items)
       (own : v.fabric ≡ fabric)
       (fits : fabric.size.shape ≡ shelf.shape)
       (rest : IsAtRestOn fabric.size c v.mover)
-      (joins : length v.mover.log ≡ switches_in (joins_of c)) where
+      (joins : length v.mover.log ≡ switches_in (joins_of c))
+      (spent_is : spent ≡ length v.mover.log)
+      (number_is : number_read ≡ j.1.count)
+      (room : HasRoom shelf.shape second) where
     abbrev first : Past
-    first = record { fold = folded t c ops (length v.mover.log); records = records; changes = 0 }
+    first = record { fold = folded t c last.ops.items (length v.mover.log); records = recorded j.1 (state j.0).reads_as; changes = 0 }
 
     abbrev opening : Opening
-    opening = record { ground = ground_of at_home; first = first; faults = (state j.0).faults }
+    opening = record { site = ground_of at_home; first = first; faults = (state j.0).faults; margin = (state j.0).margin; room = (state j.0).room }
+
+    opening_is : opening_of state begun ≡ opening
+    opening_is = λ k. opening_at state (table_kept k) (provisioner_kept k) (last_kept k)
 
     -- the journal was well kept when it was opened
     was_kept : told → IsKept b book
     was_kept x = ⊎_elim (λ n. (new x n).founds.0.kept) (λ not. (old x not).finds.0.kept) (new_or_old a.reads_as)
 
+    -- what was read is what the journal lists
+    records_are : told → records ≡ first.records
+    records_are x = read x ∙ sym (λ k. listed (same k) ((looks x).same k)) ∙ sym (recorded_is j.1 (state j.0).reads_as (kept x (was_kept x)).counts)
+
     journal_home : IsAtHome told (state j.0) j.1 first None
     journal_home = record {
       keeps = record {
-        counts = ap (λ (x : Book). x.count) same ∙ sym number;
         kept = λ x. kept x (was_kept x);
-        lists = λ x. (λ k. listed (same k) ((looks x).same k)) ∙ sym (read x);
+        lists = λ x. sym (recorded_is j.1 (state j.0).reads_as (kept x (was_kept x)).counts);
       };
       doubts = λ marked. absurd (let e : true ≡ false = sym marked ∙ ap (λ (x : Book). x.to_mend) same ∙ whole in cc);
     }
 
-    comes_home : ComesTo j.1.shape j.1.equipped records t c ops
-    comes_home = subst (λ (x : Book). ComesTo x.shape x.equipped records t c ops) (sym same) comes
+    fold_home : IsFoldOf told (ground_of at_home) first
+    fold_home = record {
+      read = records;
+      number = number ∙ ap (λ (x : Book). x.count) (sym same) ∙ sym (recorded_number j.1 (state j.0).reads_as);
+      same = records_are;
+      comes = subst (λ (x : Book). ComesTo x.shape x.equipped records t c last.ops.items) (sym same) comes;
+    }
 
     is_opening : IsOpening told a.reads_as shelf fabric opening
     is_opening = record {
       limits = subst IsInLimits fits rest.sized.shape;
       fabric_is = own;
       shape = ap (λ (x : Book). x.shape) same ∙ shape;
-      made = λ x n. (ap (λ (y : Book). y.equipped) same ∙ (new x n).founds.1, read x ∙ (new x n).founds.2);
-      found = λ x not. let f = (old x not).finds in (subst (λ (y : Book). IsGood shelf.shape y.equipped a.reads_as) (sym same) f.1, read x ∙ f.2);
-      folded = subst (λ (d : Dimensions). ComesTo d j.1.equipped records t c ops) (ap (λ (x : Book). x.shape) same ∙ shape) comes_home;
+      made = λ x n. (ap (λ (y : Book). y.equipped) same ∙ (new x n).founds.1, sym (records_are x) ∙ read x ∙ (new x n).founds.2);
+      found = λ x not. let f = (old x not).finds in (subst (λ (y : Book). IsGood shelf.shape y.equipped a.reads_as) (sym same) f.1, sym (records_are x) ∙ read x ∙ f.2);
+      folded = fold_home;
       switches = joins;
       changes = refl;
     }
 
-    stands_opened : StandsFor told state opening (record { table = t; home = In at_home }) []
+    few_joined : length v.mover.log ≤ 2 ^ 48
+    few_joined =
+        let few = few_switches 0 c.routes in
+        let size = (seated book.shape book.equipped records t c last.ops.items comes).placed.colouring.size in
+        let ports_few = few_ports c.shape (subst IsInLimits (sym rest.shape) rest.sized.shape) in
+        omega (arith, few, size, ports_few, joins)
+
+    stands_opened : StandsFor told state opening begun []
     stands_opened = record {
       now = first;
       reckoned = refl;
-      folded = comes_home;
+      folded = fold_home;
       table = refl;
+      reports = fresh;
       legal = tt;
-      home = record {
-        ground = refl;
-        stage = inl (
-          record {
-            ready = refl;
-            matrix = refl;
-            placed = (seated book.shape book.equipped records t c ops comes).placed;
-            registers = subst (λ (i : FabricId). IsAtRestOn i.size c v.mover) (sym own) rest;
-            switches = refl;
-            changes = refl;
-            journal = journal_home;
-          },
-          never_lasts IsCut IsRestarted [] tt,
-        );
-        doubt = λ op asked. absurd cc;
-        faults = omega arith;
-      };
+      turns = tt;
+      paid = λ enough. omega arith;
+      astray = λ t. tt;
+      home = (
+        refl,
+        record {
+          ground = refl;
+          stage = inl (
+            record {
+              ready = refl;
+              past = record {
+                matrix = refl;
+                placed = (seated book.shape book.equipped records t c last.ops.items comes).placed;
+                spent = spent_is;
+                few = few_joined;
+                changes = refl;
+                number = let counted = recorded_number j.1 (state j.0).reads_as in omega (arith, counted, number_is);
+                doubts = none_held first;
+                shape = (seated book.shape book.equipped records t c last.ops.items comes).shape ∙ sym (ap (λ (x : Book). x.shape) same);
+                room = subst (λ (d : Dimensions). HasRoom d second) (sym (ap (λ (x : Book). x.shape) same ∙ shape)) room;
+              };
+              registers = subst (λ (i : FabricId). IsAtRestOn i.size c v.mover) (sym own) rest;
+              switches = refl;
+              counted = sym (recorded_number j.1 (state j.0).reads_as);
+              journal = journal_home;
+            },
+            never_lasts IsCut IsRestarted [] tt,
+          );
+          doubt = λ op asked. absurd cc;
+          faults = omega arith;
+          spends = λ enough. record { room = omega arith; margin = omega arith };
+        },
+      );
     }
 
     was_settled : told → IsSettled b
     was_settled x = ⊎_elim (λ n. (new x n).founds.0.settled) (λ not. (old x not).finds.0.settled) (new_or_old a.reads_as)
 
-    pub opened : (o : Opening) × IsOpening told a.reads_as shelf fabric o × Begins told state o (record { table = t; home = In at_home })
-    opened = (opening, is_opening, record { stands = stands_opened; disk = j.0; is_home = refl; faults = refl; settled = λ x. looks_settled b (state j.0) (looks x) (was_settled x) })
+    pub opened : IsOpening told a.reads_as shelf fabric (opening_of state begun) × Begins told state begun
+    opened = (
+      subst (λ (o : Opening). IsOpening told a.reads_as shelf fabric o) (sym opening_is) is_opening,
+      record {
+        stands = subst (λ (o : Opening). StandsFor told state o begun []) (sym opening_is) stands_opened;
+        disk = j.0;
+        is_home = refl;
+        faults = ap (λ (o : Opening). o.faults) opening_is;
+        margin = ap (λ (o : Opening). o.margin) opening_is;
+        room = ap (λ (o : Opening). o.room) opening_is;
+        settled = λ x. looks_settled b (state j.0) (looks x) (was_settled x);
+      },
+    )
 
 -- a header has one equipment
 header_once : (d : Dimensions) (e f : ℕ) → IsInLimits d → IsEquipment d e → IsEquipment d f → header d e ≡ header d f → e ≡ f
@@ -236,11 +310,13 @@ header_once d e f limits fits also same =
     sym (header_equipment d e (header d e) refl (equipment_below d e few fits)) ∙ header_equipment d f (header d e) same (equipment_below d f few also)
 
 -- a file, a shelf and a fabric have one opening
-pub openings_once : (told : Type 0) → told → (file : List ℕ) (shelf : Contents) (fabric other : FabricId) (o p : Opening) → IsOpening told file shelf fabric o → IsOpening told file shelf other p → (o.ground.equipped ≡ p.ground.equipped) × (o.first ≡ p.first)
+pub openings_once : (told : Type 0) → told → (file : List ℕ) (shelf : Contents) (fabric other : FabricId) (o p : Opening) → IsOpening told file shelf fabric o → IsOpening told file shelf other p → (o.site.equipped ≡ p.site.equipped) × (o.first ≡ p.first)
 openings_once told x file shelf fabric other o p a b =
     let same = ⊎_elim (λ n. one_made n) (λ not. one_found not) (new_or_old file) in
-    let fold = folds_once (none_folded shelf.shape o.ground.equipped) (folded o.first.fold.table o.first.fold.colours o.first.fold.work a.folded.0) (folded p.first.fold.table p.first.fold.colours p.first.fold.work b.folded.0) o.first.records (none_seated shelf.shape o.ground.equipped).placed.colouring
-    a.folded.1 (subst (λ (w : ℕ × List (List ℕ)). IsFold shelf.shape w.0 w.1 (folded p.first.fold.table p.first.fold.colours p.first.fold.work b.folded.0)) (λ k. (sym same.0 k, sym same.1 k)) b.folded.1) in
+    let mine = comes_at o a in
+    let other_one = comes_at p b in
+    let fold = folds_once (none_folded shelf.shape o.site.equipped) (folded o.first.fold.table o.first.fold.colours o.first.fold.work mine.0) (folded p.first.fold.table p.first.fold.colours p.first.fold.work other_one.0) o.first.records (none_seated shelf.shape o.site.equipped).placed.colouring
+    mine.1 (subst (λ (w : ℕ × List (List ℕ)). IsFold shelf.shape w.0 w.1 (folded p.first.fold.table p.first.fold.colours p.first.fold.work other_one.0)) (λ k. (sym same.0 k, sym same.1 k)) other_one.1) in
     let colours = ap (λ (f : Folded). f.colours) fold in
     let switches = a.switches ∙ ap (λ (c : Colouring). switches_in (joins_of c)) colours ∙ sym b.switches in
     let changes = a.changes ∙ sym b.changes in (
@@ -248,8 +324,11 @@ openings_once told x file shelf fabric other o p a b =
       λ k. record { fold = record { table = (fold k).table; colours = (fold k).colours; work = (fold k).work; switches = switches k }; records = same.1 k; changes = changes k },
     )
   where
-    one_made : IsNew file → (o.ground.equipped ≡ p.ground.equipped) × (o.first.records ≡ p.first.records)
+    comes_at : {i : FabricId} (q : Opening) → IsOpening told file shelf i q → ComesTo shelf.shape q.site.equipped q.first.records q.first.fold.table q.first.fold.colours q.first.fold.work
+    comes_at q is = subst (λ (w : Dimensions × List (List ℕ)). ComesTo w.0 q.site.equipped w.1 q.first.fold.table q.first.fold.colours q.first.fold.work) (λ k. (is.shape k, is.folded.same x k)) is.folded.comes
+
+    one_made : IsNew file → (o.site.equipped ≡ p.site.equipped) × (o.first.records ≡ p.first.records)
     one_made n = ((a.made x n).0 ∙ sym (b.made x n).0, (a.made x n).1 ∙ sym (b.made x n).1)
 
-    one_found : (IsNew file → ⊥) → (o.ground.equipped ≡ p.ground.equipped) × (o.first.records ≡ p.first.records)
-    one_found not = (header_once shelf.shape o.ground.equipped p.ground.equipped a.limits (a.found x not).0.fits (b.found x not).0.fits (sym (a.found x not).0.header_is ∙ (b.found x not).0.header_is), (a.found x not).1 ∙ sym (b.found x not).1)
+    one_found : (IsNew file → ⊥) → (o.site.equipped ≡ p.site.equipped) × (o.first.records ≡ p.first.records)
+    one_found not = (header_once shelf.shape o.site.equipped p.site.equipped a.limits (a.found x not).0.fits (b.found x not).0.fits (sym (a.found x not).0.header_is ∙ (b.found x not).0.header_is), (a.found x not).1 ∙ sym (b.found x not).1)

@@ -2,8 +2,17 @@ pub mod Reckonings
 pub mod Journals
 pub mod Keeping
 pub mod Provisioners
+pub mod Restarts
+pub mod Drives
+pub mod Beside
+pub mod Recoveries
+pub mod Endings
 pub mod Begins
 pub mod Finishes
 pub mod States
+pub mod Seeing
+pub mod Coding
+pub mod Turns
+pub mod Askings
 pub mod Openings
 pub mod Laws

@@ -1,28 +1,66 @@
 -- When a state stands for a history.
-use Rattle.std.specs.Prelude.{◌≡◌, ◌⊎◌, ℕ, ◌+◌, ◌≤◌, min, List, [], ◌∷◌, Option, Some}
+use Rattle.std.specs.Prelude.{◌≡◌, ◌⊎◌, ℕ, ◌+◌, ◌-◌, ◌≢◌, ◌≤◌, ◌<◌, min, List, [], ◌∷◌, ◌++◌, length, replicate, Option, Some, None}
+use Rattle.std.specs.List.{AllByRecursion}
 use Rattle.dxc_causes.specs.Causes.{last}
 use Rattle.dxc_disk.specs.Disks.{DiskState}
 use Rattle.dxc_model.specs.declared.cause.Cause.{Cause}
-use Rattle.dxc_model.specs.declared.cause.Cause.TheVariants.{DiskFault}
+use Rattle.dxc_model.specs.declared.cause.Cause.TheVariants.{DiskFault, JournalAstray}
 use Rattle.dxc_model.specs.declared.op.Op.{Op}
 use Rattle.dxc_model.specs.declared.op.Change.{Change}
 use Rattle.dxc_model.specs.declared.entry.Outcome.{Outcome}
-use Rattle.dxc_model.specs.declared.entry.Outcome.TheVariants.{Failed}
+use Rattle.dxc_model.specs.declared.entry.Outcome.TheVariants.{Done, Denied, Failed, Answered, Restarted, Cut, Taken}
 use Rattle.dxc_model.specs.declared.entry.Entry.{Entry}
-use Rattle.dxc_model.specs.Histories.{Rules, Lasts, IsLegal, IsDoubtful, IsSettling, IsStopped, IsRestartDue, changes_of}
+use Rattle.dxc_model.specs.Histories.{Rules, Lasts, IsLegal, IsDoubtful, IsSettling, IsStopped, IsRestartDue, KeepsTurns, holder, changes_of}
+use Rattle.dbchg_reports.specs.Recent.{recent_of}
+use Rattle.dxc_model.specs.Tables.{Board}
+use Rattle.roll_plan.specs.declared.work.Work.{Work}
+use Rattle.journal_core.specs.declared.book.Book.{Book}
+use Rattle.journal_core.specs.Books.{listed}
 use Rattle.xc_recovery.specs.Replays.{ComesTo}
 use Rattle.xc_core.specs.declared.provisioner.Provisioner.{Provisioner}
+use Rattle.xc_core.specs.declared.origin.Origin.{Origin}
 use Rattle.xc_core.specs.declared.state.Home.{Home}
 use Rattle.xc_core.specs.declared.state.Home.TheVariants.{In, Out}
 use Rattle.xc_core.specs.declared.state.State.{State}
 use Rattle.xc_core.specs.Reckonings.{Past, Meets, ReckonsTo}
-use Rattle.xc_core.specs.Provisioners.{Ground, IsHome, IsHalted, ground_of}
+use Rattle.xc_core.specs.Provisioners.{Ground, IsHome, ground_of}
+use Rattle.xc_core.specs.Restarts.{IsHalted}
 
--- where a history begins: fabric and journal, what stood behind it, and the disk's count of faults
+-- where a history begins: fabric and journal, what stood behind it, and of the journal's disk the count of faults, the margin and the room
 pub record Opening : Type 0 where
-  pub ground : Ground
+  pub site : Ground
   pub first : Past
   pub faults : ℕ
+  pub margin : ℕ
+  pub room : ℕ
+
+-- the records that a journal lists; of a disk that doesn't tell its content only their number counts
+abbrev pub recorded : Book → List ℕ → List (List ℕ)
+recorded book file = listed book file ++ replicate (book.count - length (listed book file)) []
+
+-- the opening that is kept as snapshots of table, Provisioner and last work
+abbrev pub opening_at : {D : Type 0} → (D → DiskState) → Board → Provisioner D → Work → Opening
+opening_at state t p w = record {
+  site = ground_of p;
+  first = record {
+    fold = record { table = t; colours = p.matrix; work = w.ops.items; switches = length p.mover.mover.log };
+    records = recorded p.journal.1 (state p.journal.0).reads_as;
+    changes = 0;
+  };
+  faults = (state p.journal.0).faults;
+  margin = (state p.journal.0).margin;
+  room = (state p.journal.0).room;
+}
+
+abbrev pub opening_in : {D : Type 0} → (D → DiskState) → Origin D → Opening
+opening_in state o = opening_at state o.table.value o.provisioner.value o.last.value
+
+-- the opening that a state keeps
+abbrev pub opening_of : {D : Type 0} → (D → DiskState) → State D → Opening
+opening_of state s = opening_in state s.origin
+
+abbrev pub with_home : {D : Type 0} → Home D → State D → State D
+with_home x s = record s { home = x }
 
 -- the limit of a change, behind the changes so far
 abbrev pub LimitBehind : Past → List Change → Change → Option Cause → Type 0
@@ -44,28 +82,79 @@ abbrev pub faults_in : List Entry → ℕ
 faults_in [] = 0
 faults_in (e ∷ es) = fault_in e.outcome + faults_in es
 
+-- the most of a disk's room that an operation takes before its entry: 40 for a change, 3 and 131,078 for a restart
+abbrev pub most_room : ℕ
+most_room = 131_081
+
+-- what an operation took at most; one that is under way is counted at its end
+abbrev pub cost : Outcome → ℕ
+cost (Done c) = most_room
+cost (Denied q) = most_room
+cost (Failed q) = most_room
+cost Answered = 0
+cost (Restarted c) = most_room
+cost Cut = most_room
+cost Taken = 0
+
+abbrev pub room_in : List Entry → ℕ
+room_in [] = 0
+room_in (e ∷ es) = cost e.outcome + room_in es
+
+-- what is left of the room and the margin that a disk had: each fault lowers the margin
+pub record IsLeftOf (o : Opening) (taken : ℕ) (s : DiskState) : Type 0 where
+  pub room : o.room ≤ s.room + taken
+  pub margin : s.faults + s.margin ≤ o.faults + o.margin
+
+-- where the room was enough
+abbrev pub SpendsOf : Opening → ℕ → DiskState → Type 0
+SpendsOf o taken s = taken ≤ o.room → IsLeftOf o taken s
+
+-- where the disk's room was more than enough, as many operations failed by it as its margin was at most
+abbrev pub IsPaid : Opening → List Entry → Type 0
+IsPaid o h = room_in h < o.room → faults_in h ≤ o.margin
+
+-- no operation failed because the journal reads otherwise than it was written
+abbrev pub IsNeverAstray : List Entry → Type 0
+IsNeverAstray h = AllByRecursion (λ e. e.outcome ≢ Failed JournalAstray) h
+
+-- There are records as the disk gave them that come to table and colouring; where it tells its content, these.
+pub record IsFoldOf (told : Type 0) (g : Ground) (b : Past) : Type 0 where
+  pub read : List (List ℕ)
+  pub number : length read ≡ length b.records
+  pub same : told → read ≡ b.records
+  pub comes : ComesTo g.shape g.equipped read b.fold.table b.fold.colours b.fold.work
+
 module _ {D : Type 0} (told : Type 0) (state : D → DiskState) where
   -- at home the Provisioner is ready, and no stop stands last; or it is halted, and a restart is due
   abbrev pub IsReadyOrHalted : Past → List Entry → Provisioner D → Type 0
   IsReadyOrHalted b h p = (IsHome told state b p × (IsStopped h → ⊥)) ⊎ (IsHalted told state b p × IsRestartDue h)
 
   pub record IsHomeAfter (o : Opening) (b : Past) (h : List Entry) (p : Provisioner D) : Type 0 where
-    pub ground : ground_of p ≡ o.ground
+    pub ground : ground_of p ≡ o.site
     pub stage : IsReadyOrHalted b h p
     pub doubt : (op : Op) → p.doubt ≡ Some op → IsUnsettled h op
     -- each such failure was a fault that the disk counted
     pub faults : min (o.faults + faults_in h) last ≤ (state p.journal.0).faults
+    pub spends : SpendsOf o (room_in h) (state p.journal.0)
 
-  -- a session that took it brings it home before it gives the state back
+  -- the Provisioner is out where a place took it and hasn't brought it home; then nothing is said of it
   abbrev pub HomeIs : Opening → Past → List Entry → Home D → Type 0
-  HomeIs o b h (In p) = IsHomeAfter o b h p
-  HomeIs o b h Out = ⊥
+  HomeIs o b h (In p) = (holder None h ≡ None) × IsHomeAfter o b h p
+  HomeIs o b h Out = (t : Entry) × (holder None h ≡ Some t)
 
   -- the state is that after the history
   pub record StandsFor (o : Opening) (s : State D) (h : List Entry) : Type 0 where
     pub now : Past
     pub reckoned : ReckonsTo o.first (changes_of h) now
-    pub folded : ComesTo o.ground.shape o.ground.equipped now.records now.fold.table now.fold.colours now.fold.work
+    pub folded : IsFoldOf told o.site now
     pub table : s.table ≡ now.fold.table
+    pub reports : s.reports ≡ recent_of (changes_of h)
     pub legal : IsLegal (rules_of o) h
+    pub turns : KeepsTurns None h
+    pub paid : IsPaid o h
+    pub astray : told → IsNeverAstray h
     pub home : HomeIs o now h s.home
+
+  -- it stands for the history from its own opening on
+  abbrev pub Stands : State D → List Entry → Type 0
+  Stands s h = StandsFor (opening_of state s) s h

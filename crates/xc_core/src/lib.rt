@@ -4,17 +4,24 @@
 
 mod beginning;
 mod fault;
+mod inside;
 mod keep;
 pub mod laws;
 mod limit;
 mod opening;
+mod origin;
 mod provisioner;
+mod recovery;
+pub mod restarts;
+mod resuming;
+mod second;
 mod state;
-#[cfg(test)]
-mod tests;
+pub mod turns;
 
 pub use beginning::{Begun, begin};
 pub use fault::OpenFault;
 pub use opening::Core;
-pub use provisioner::{Provisioner, drive, halt};
+pub use origin::Origin;
+pub use provisioner::{Provisioner, drive, halt, settle};
+pub use recovery::{Recovered, end_recovery, recover};
 pub use state::{Home, State, finish};

@@ -1,5 +1,5 @@
 //! How a controller starts.
-ghost use Rattle.std.specs.Prelude.{◌≡◌, ◌≤◌, ℕ, List, length, IfErr, IfNone, IfOk, IfSome};
+ghost use Rattle.std.specs.Prelude.{◌≡◌, ◌≤◌, ℕ, List, length, replicate, IfErr, IfNone, IfOk, IfSome};
 ghost use Rattle.dxc_causes.specs.Causes.{HasCause, Rose};
 ghost use Rattle.dxc_disk.specs.Disks.{IsSound, Leaves, Spends};
 ghost use Rattle.fabric_core.specs.State.{new_mover};
@@ -9,12 +9,17 @@ ghost use Rattle.paull_matrix.specs.Colourings.{IsProperColouring};
 ghost use Rattle.roll_plan.specs.Works.{switches_in};
 ghost use Rattle.roll_engine.specs.Stages.{IsAtRestOn};
 ghost use Rattle.roll_engine.specs.Cold.{joins_of};
+ghost use Rattle.dxc_outside.specs.declared.gate.GatePlace.TheVariants.{Register};
+ghost use Rattle.xc_core.specs.Askings.{OpenAsked};
 ghost use Rattle.xc_core.specs.Openings.{Begins, Fails, IsDiskErr, IsOpening, LeavesOpened, disk_of};
-ghost use Rattle.xc_core.specs.States.{Opening};
+ghost use Rattle.xc_core.specs.States.{opening_of};
 
 use crate::fault::OpenFault;
+use crate::origin::Origin;
 use crate::provisioner::Provisioner;
+use crate::second::Second;
 use crate::state::{Home, State};
+use dbchg_reports::Reports;
 use dxc_causes::NoMemory;
 use dxc_disk::Disk;
 use dxc_model::Table;
@@ -46,7 +51,7 @@ impl Core {
     ) -> Result<State<D>, OpenFault<D>>
         requires new { mover ≡ record { fabric = fabric.now; mover = new_mover fabric.now.size } }
         requires shape { fabric.now.size.shape ≡ shelf.now.shape }
-        ensures ok { IfOk result (λ s. (o : Opening) × IsOpening D.told (D.state disk).reads_as shelf.now fabric.now o × Begins D.told D.state o s) }
+        ensures ok { IfOk result (λ s. IsOpening D.told (D.state disk).reads_as shelf.now fabric.now (opening_of D.state s) × Begins D.told D.state s) }
         ensures fails { D.told → IfErr result (Fails D.state (D.state disk) shelf.now.shape) }
         ensures any_moment { D.told → IfSome (disk_of result) (λ d. LeavesOpened shelf.now (D.state disk) (D.state d)) }
         // What was acknowledged stays: each image begins with the records with which all of them began.
@@ -57,6 +62,7 @@ impl Core {
         ensures stopped { IfErr result (λ e. e ≡ OpenFault.Stopped → Rose (G.stops gate.old) (G.stops gate.new)) }
         ensures unstopped { IfOk result (λ s. G.stops gate.new ≡ G.stops gate.old) }
         ensures later { G.stops gate.old ≤ G.stops gate.new }
+        ensures asked { OpenAsked D.state (G.asked gate.old gate.new) result }
     {
         let shape = shelf.shape();
         let Ok(mut table) = Table::new(alloc, shape, shelf.equipped()) else {
@@ -65,18 +71,26 @@ impl Core {
         let Ok(mut matrix) = Matrix::new(alloc, shape) else {
             return Err(OpenFault::NoMemory);
         };
+        let Ok(reports) = Reports::new(alloc) else {
+            return Err(OpenFault::NoMemory);
+        };
+        let Ok(second) = Second::new(alloc, shape, shelf.equipped()) else {
+            return Err(OpenFault::NoMemory);
+        };
         let mut journal = match Journal::open(disk, shape, shelf.equipped()) {
             Ok(journal) => journal,
             Err(fault) => return Err(OpenFault::Journal(fault)),
         };
-        match replay(&mut journal, &mut matrix, &mut table) {
-            Ok(_) => {}
+        let last = match replay(&mut journal, &mut matrix, &mut table) {
+            Ok(last) => last,
             Err(ReplayFault::BadRecord(i)) => return Err(OpenFault::BadRecord(i)),
             Err(ReplayFault::Disk) => return Err(OpenFault::Disk(journal.close())),
-        }
+        };
         let Some(mover) = join_all(&matrix, fabric, mover, gate) else {
             return Err(OpenFault::Stopped);
         };
+        let spent = mover.switches();
+        let first_records = journal.count();
         let p = Provisioner {
             matrix,
             journal,
@@ -84,10 +98,16 @@ impl Core {
             doubt: None,
             changes: 0,
             halted: false,
+            spent,
+            first_records,
+            second,
         };
+        let origin = Origin::of(&table, &p, &last);
         Ok(State {
             table,
+            reports,
             home: Home::In(p),
+            origin,
         })
     }
 }
@@ -107,6 +127,8 @@ fn join_all<G: Gate>(
     ensures stopped { IfNone result (Rose (G.stops gate.old) (G.stops gate.new)) }
     ensures unstopped { IfSome result (λ m. G.stops gate.new ≡ G.stops gate.old) }
     ensures later { G.stops gate.old ≤ G.stops gate.new }
+    ensures asked { IfSome result (λ m. G.asked gate.old gate.new (replicate (length (joins_of matrix.now)) Register)) }
+    ensures asked_till { IfNone result ((n : ℕ) × G.asked gate.old gate.new (replicate n Register)) }
 {
     // Its clause tells that the fabric's size is within the limits.
     let _phase = mover.phase();

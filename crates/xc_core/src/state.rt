@@ -6,13 +6,17 @@ ghost use Rattle.roll_engine.specs.Rollings.{rest_of};
 ghost use Rattle.xc_core.specs.Reckonings.{Past};
 ghost use Rattle.xc_core.specs.Provisioners.{Rolls, ground_of};
 ghost use Rattle.xc_core.specs.Finishes.{Finishes};
+ghost use Rattle.dbchg_reports.specs.Recent.{with_one};
 
+use crate::origin::Origin;
 use crate::provisioner::Provisioner;
+use dbchg_reports::Reports;
 use dxc_disk::Disk;
-use dxc_model::{Change, Table};
+use dxc_model::{Change, Entry, Table};
 use paull_chain::apply_work;
 use roll_engine::Rolling;
 use std::mem;
+use turnstile::Sequential;
 
 /// Where the Provisioner is.
 #[derive(Drop)]
@@ -26,7 +30,29 @@ pub enum Home<D: Disk> {
 #[derive(Drop)]
 pub struct State<D: Disk> {
     pub table: Table,
+    pub reports: Reports,
     pub home: Home<D>,
+    pub origin: Origin<D>,
+}
+
+impl<D: Disk> Sequential for State<D> {
+    type Entry = Entry;
+
+    ghost use Rattle.xc_core.specs.States.{Opening, Stands, opening_of};
+    ghost use Rattle.xc_core.specs.Seeing.{entry_coded, place_of};
+    ghost use Rattle.xc_core.specs.Coding.{opening_coded};
+
+    ghost Opening = { Opening };
+
+    ghost opening = { opening_of D.state };
+
+    ghost number = { place_of };
+
+    ghost stands = { Stands D.told D.state };
+
+    ghost opening_code = { opening_coded };
+
+    ghost entry_code = { entry_coded };
 }
 
 impl<D: Disk + Drop> State<D> {
@@ -57,9 +83,10 @@ impl<D: Disk + Drop> State<D> {
 pub fn finish<D: Disk>(state: &mut State<D>, p: &mut Provisioner<D>, rolling: Rolling) -> Change
     requires rolls { (b : Past) × (op : Op) × (c : Change) × Rolls D.told D.state b op c p.old rolling × (b.fold.table ≡ state.old.table) }
     requires done { rest_of rolling ≡ [] }
+    requires counted { state.old.reports.newest ≡ p.old.changes }
     ensures ground { ground_of p.new ≡ ground_of p.old }
     ensures journal { p.new.journal ≡ p.old.journal }
-    ensures home { state.new.home ≡ state.old.home }
+    ensures state { state.new ≡ record state.old { table = state.new.table; reports = with_one result state.old.reports } }
     ensures finishes { (b : Past) → (op : Op) → (c : Change) → Rolls D.told D.state b op c p.old rolling → b.fold.table ≡ state.old.table → Finishes D.told D.state b c rolling state.new.table p.new result }
 {
     let Some(op) = p.doubt else { unreachable!() };
@@ -68,7 +95,9 @@ pub fn finish<D: Disk>(state: &mut State<D>, p: &mut Provisioner<D>, rolling: Ro
     };
     apply_work(&mut p.matrix, rolling.work());
     state.table.take(change);
+    state.reports.push(change);
     p.changes += 1;
+    p.spent = p.mover.switches();
     p.doubt = None;
     change
 }

@@ -1,11 +1,12 @@
-//! The next join of a cold rolling.
+//! The joins of a cold rolling.
 ghost use Rattle.std.specs.Prelude.{◌≡◌, ◌<◌, ◌≤◌, ◌+◌, ◌^◌, [], IfSome, MatchOption};
 ghost use Rattle.std.specs.Bool.{OnTrue, OnFalse};
 ghost use Rattle.dxc_num.specs.Dimensions.{IsPort, leg_between, ports};
 ghost use Rattle.roll_plan.specs.Works.{join_writes};
 ghost use Rattle.paull_matrix.specs.Colourings.{route_at};
 ghost use Rattle.roll_engine.specs.Rollings.{rest_of};
-ghost use Rattle.roll_engine.specs.Cold.{IsNextLeg, joins_behind, left_of, next_output};
+ghost use Rattle.fabric_core.specs.declared.mover.Mover.{Mover};
+ghost use Rattle.roll_engine.specs.Cold.{IsNextLeg, joins_behind, left_of};
 
 use crate::rolling::{Behind, Rolling};
 use dxc_num::{Leg, Middle, Port, Route};
@@ -65,16 +66,12 @@ impl Rolling {
         }
     }
 
-    /// Takes the join of the matrix's next leg in hand. False: none is left.
-    pub(crate) fn join_next(&mut self, matrix: &Matrix) -> bool
-        requires { rest_of self.old ≡ [] }
-        ensures same { left_of matrix.now self.new ≡ left_of matrix.now self.old }
-        ensures more { OnTrue result ((next_output self.old.behind < next_output self.new.behind) × (next_output self.new.behind ≤ ports matrix.now.shape)) }
-        ensures none { OnFalse result (left_of matrix.now self.new ≡ []) }
+    // Takes the join of the matrix's first leg from this output on in hand. False: there is none.
+    pub(super) fn take_join(&mut self, matrix: &Matrix, from: Port) -> bool
+        ensures taken { OnTrue result ((m : Mover) → left_of matrix.now m self.new ≡ joins_behind matrix.now from.0) }
+        ensures behind { OnTrue result ((next : Port) × (self.new.behind ≡ JoinsFrom next) × (from.0 < next.0) × (next.0 ≤ ports matrix.now.shape)) }
+        ensures none { OnFalse result ((self.new ≡ self.old) × (joins_behind matrix.now from.0 ≡ [])) }
     {
-        let Behind::JoinsFrom(from) = self.behind else {
-            return false;
-        };
         match next_leg(matrix, from) {
             Some((output, route)) => {
                 *self = Rolling::joining(output, route);

@@ -1,7 +1,20 @@
-use Rattle.std.proofs.Common.{rules, ◌+◌, arith, refl, ⊎_elim}
-use Rattle.frame_worker.specs.declared.lines.LinesEnd.TheVariants.{End, Spent}
+use Rattle.std.proofs.Common.{rules, ◌≡◌, ◌≢◌, ℕ, ◌+◌, List, [], ◌∷◌, replicate, arith, sym, refl, subst, ⊎_elim}
+use Rattle.std.proofs.lemmas.List.{replicate_more}
+use Rattle.dxc_outside.specs.declared.gate.GatePlace.{GatePlace}
+use Rattle.dxc_outside.specs.declared.gate.GatePlace.TheVariants as place
+use Rattle.frame_worker.specs.declared.lines.LinesEnd.{LinesEnd}
+use Rattle.frame_worker.specs.declared.lines.LinesEnd.TheVariants.{End, ReadFault, WriteFault, Stopped, Spent}
+use Rattle.frame_worker.specs.Lines.{askings}
 use Rattle.frame_worker.proofs.Running.{run_more, counted}
 use Rattle.frame_worker.proofs.lines.run_lines.Goals as goal
+
+-- an end that came in place of a frame, or behind its carrying, took one asking more
+one_asked : (e : LinesEnd) (n : ℕ) → e ≢ Spent → askings e (n + 0) ≡ n + 1
+one_asked End n other = omega arith
+one_asked ReadFault n other = omega arith
+one_asked WriteFault n other = omega arith
+one_asked Stopped n other = omega arith
+one_asked Spent n other = absurd (other refl)
 
 pub returns-in-Some-clause-run : goal.returns-in-Some-clause-run
 returns-in-Some-clause-run g c =
@@ -10,6 +23,9 @@ returns-in-Some-clause-run g c =
       run_more c.args.fabric.now.size g.N.Lines.told n 0 e (g.N.Lines.state c.args.lines.now) (g.N.Lines.state c.loop.lines) (g.N.Lines.state c.run_frame.new.lines) c.args.seat.now.reader.worker c.loop.seat.reader.worker c.run_frame.new.seat.reader.worker (counted e n 0)
           c.loop.invariant.run ended.1,
       ((λ spent. absurd (ended.0 spent)), (λ all. absurd (omega arith))),
+      subst (λ (k : ℕ). g.G.Gate.asked c.args.gate.now c.run_frame.new.gate (replicate k place.Frame)) (sym (one_asked e n ended.0))
+          (subst (λ (places : List GatePlace). g.G.Gate.asked c.args.gate.now c.run_frame.new.gate places) (replicate_more n place.Frame)
+          (g.G.Gate.asked_on c.args.gate.now c.loop.gate c.run_frame.new.gate (replicate n place.Frame) (place.Frame ∷ []) c.loop.invariant.asked c.run_frame.ensures.asked)),
     )
 
 pub loop-preserved : goal.loop-preserved
@@ -24,4 +40,6 @@ loop-preserved g c =
       read_faults = omega arith;
       write_faults = omega arith;
       stops = omega arith;
+      asked = subst (λ (places : List GatePlace). g.G.Gate.asked c.args.gate.now c.run_frame.new.gate places) (replicate_more n place.Frame)
+          (g.G.Gate.asked_on c.args.gate.now c.loop.gate c.run_frame.new.gate (replicate n place.Frame) (place.Frame ∷ []) i.asked c.run_frame.ensures.asked);
     }

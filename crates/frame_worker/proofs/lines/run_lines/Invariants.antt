@@ -1,4 +1,5 @@
-use Rattle.std.proofs.Common.{◌≡◌, ◌≤◌, true}
+use Rattle.std.proofs.Common.{◌≡◌, ◌≤◌, replicate, true}
+use Rattle.dxc_outside.specs.declared.gate.GatePlace.TheVariants as place
 use Rattle.frame_worker.specs.Lines.{IsRun}
 use Rattle.frame_worker.specs.declared.lines.LinesEnd.TheVariants.{Spent}
 use Rattle.frame_worker.proofs.lines.run_lines.Given as goal
@@ -11,4 +12,5 @@ invariant-loop g l = record {
   read_faults : (g.N.Lines.state l.initial.lines).read_faults ≤ (g.N.Lines.state l.lines).read_faults;
   write_faults : (g.N.Lines.state l.initial.lines).write_faults ≤ (g.N.Lines.state l.lines).write_faults;
   stops : g.G.Gate.stops l.initial.gate ≤ g.G.Gate.stops l.gate;
+  asked : g.G.Gate.asked l.initial.gate l.gate (replicate l.counter place.Frame);
 }

@@ -1,15 +1,19 @@
-use Rattle.std.proofs.Common.{◌≡◌, ◌-◌}
+use Rattle.std.proofs.Common.{◌≡◌}
 use Rattle.dxc_num.specs.Dimensions.{ports}
-use Rattle.roll_engine.specs.Cold.{next_output}
-use Rattle.roll_engine.proofs.ColdRolling.{IsOnWay}
+use Rattle.roll_engine.specs.declared.answer.Advance.TheVariants.{Done}
+use Rattle.roll_engine.specs.Answers.{asked_at}
+use Rattle.roll_engine.specs.Cold.{IsCold, left_of, outputs_left}
+use Rattle.roll_engine.proofs.Leading.{IsOnWay}
 use Rattle.roll_engine.proofs.cold.advance_cold.Given as goal
 
 abbrev pub invariant-loop-answer : goal.invariant-loop-answer
 invariant-loop-answer g l = record {
   fabric : l.mover.fabric ≡ l.fn.mover.fabric;
   way : IsOnWay l.fn.mover.fabric.size l.matrix l.fn.rolling l.rolling l.fn.mover.mover l.mover.mover;
+  kept : IsCold l.fn.rolling → IsCold l.rolling;
   unstopped : g.G.Gate.stops l.gate ≡ g.G.Gate.stops l.fn.gate;
+  asked : g.G.Gate.asked l.fn.gate l.gate (asked_at (left_of l.matrix l.fn.mover.mover l.fn.rolling) (left_of l.matrix l.mover.mover l.rolling) Done);
 }
 
 abbrev pub decreases-loop-answer : goal.decreases-loop-answer
-decreases-loop-answer g l = ports l.matrix.shape - next_output l.rolling.behind
+decreases-loop-answer g l = outputs_left (ports l.matrix.shape) l.rolling.behind

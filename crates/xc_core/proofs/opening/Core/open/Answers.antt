@@ -1,4 +1,4 @@
-use Rattle.std.proofs.Common.{◌≡◌, ℕ, Err, Ok, ap, refl, subst, sym, ◌∙◌}
+use Rattle.std.proofs.Common.{ℕ, Err, Ok, subst, sym, ◌∙◌}
 use Rattle.dxc_disk.proofs.LookSteps.{looks_same}
 use Rattle.dxc_num.specs.Dimensions.{Dimensions}
 use Rattle.journal_core.specs.Records.{BeginsWith, stands}
@@ -6,6 +6,7 @@ use Rattle.journal_core.specs.Books.{Keeps, listed}
 use Rattle.journal_core.specs.Opens.{IsRefused, OpensNew, OpensOld}
 use Rattle.xc_recovery.specs.declared.fault.ReplayFault.{ReplayFault}
 use Rattle.xc_recovery.specs.Replays.{Replays}
+use Rattle.xc_core.specs.Provisioners.{HasRoom}
 use Rattle.xc_core.specs.Openings.{HasBadRecord, LeavesOpened}
 use Rattle.xc_core.proofs.Opened.{bad_header, bad_record, leaves_opened, looked_on, opened, replayed_shape}
 use Rattle.xc_core.proofs.opening.Core.open.Goals as goal
@@ -14,7 +15,7 @@ pub returns-in-Err-clause-fails : goal.returns-in-Err-clause-fails
 returns-in-Err-clause-fails g c told bytes is =
     let a = g.D.Disk.state c.args.disk in
     let b = g.D.Disk.state c.in-Err.fault.disk in
-    let refused = bad_header c.shape-shape.result c.equipped-2.result a b c.in-Err.fault.why bytes is (c.in-Err.ensures.old told) (c.in-Err.ensures.is_new told) in
+    let refused = bad_header c.shape-shape.result c.equipped-3.result a b c.in-Err.fault.why bytes is (c.in-Err.ensures.old told) (c.in-Err.ensures.is_new told) in
     (refused.0, subst (λ (d : Dimensions). IsRefused d a b bytes) c.shape-shape.ensures refused.1)
 
 pub returns-in-Err-BadRecord-clause-fails : goal.returns-in-Err-BadRecord-clause-fails
@@ -23,7 +24,7 @@ returns-in-Err-BadRecord-clause-fails g c told =
     let j = c.in-Ok-open.journal in
     let b = g.D.Disk.state j.0 in
     let bad = subst (λ (e : ReplayFault). Replays j.1.shape j.1.equipped (listed j.1 b.reads_as) (Err e) c.replay.new.table c.replay.new.matrix) c.in-Err-BadRecord.field-0-is (c.in-Err-BadRecord.ensures.told told) in
-    let refused = bad_record c.shape-shape.result c.equipped-2.result a b j.1 c.in-Err-BadRecord.i c.replay.new.table c.replay.new.matrix (c.in-Ok-open.ensures.old told) (c.in-Ok-open.ensures.is_new told) bad in
+    let refused = bad_record c.shape-shape.result c.equipped-3.result a b j.1 c.in-Err-BadRecord.i c.replay.new.table c.replay.new.matrix (c.in-Ok-open.ensures.old told) (c.in-Ok-open.ensures.is_new told) bad in
     (refused.0, subst (λ (d : Dimensions). HasBadRecord a.reads_as d c.in-Err-BadRecord.i) c.shape-shape.ensures refused.1)
 
 pub returns-in-Err-Disk-clause-prefix : goal.returns-in-Err-Disk-clause-prefix
@@ -52,11 +53,11 @@ returns-clause-ok g c =
     let b = g.D.Disk.state j.0 in
     let read = c.in-Ok-replay.ensures.read in
     let joined = c.in-Some.ensures.joined in
-    opened g.D.Disk.told g.D.Disk.state shelf c.args.fabric.now a b j.1 c.replay.new.journal c.replay.new.table c.replay.new.matrix _ c.in-Some.mover
+    opened g.D.Disk.told g.D.Disk.state shelf c.args.fabric.now a b j.1 c.replay.new.journal c.replay.new.table c.replay.new.matrix _ c.in-Some.mover c.of-origin.result c.in-Ok-new-2.reports c.switches-spent.result c.count-first_records.result c.in-Ok-new-3.second c.in-Ok-new-2.ensures c.of-origin.ensures.table c.of-origin.ensures.provisioner c.of-origin.ensures.last
     (λ told old. subst (λ (d : Dimensions). OpensOld d a b (Ok j.1)) c.shape-shape.ensures (c.in-Ok-open.ensures.old told old))
-    (λ told new. subst (λ (w : Dimensions × ℕ). OpensNew w.0 w.1 a b (Ok j.1)) (λ k. (c.shape-shape.ensures k, c.equipped-2.ensures.value k)) (c.in-Ok-open.ensures.is_new told new))
+    (λ told new. subst (λ (w : Dimensions × ℕ). OpensNew w.0 w.1 a b (Ok j.1)) (λ k. (c.shape-shape.ensures k, c.equipped-3.ensures.value k)) (c.in-Ok-open.ensures.is_new told new))
     (c.in-Ok-open.ensures.whole.0 ∙ c.shape-shape.ensures)
-    c.in-Ok-open.ensures.whole.1 c.replay.ensures.same c.replay.ensures.looks c.replay.ensures.kept read.0 read.1 read.2 read.3 joined.0 c.requires.shape joined.1 joined.2
+    c.in-Ok-open.ensures.whole.1 c.replay.ensures.same c.replay.ensures.looks c.replay.ensures.kept read.0 read.1 read.2 read.3 joined.0 c.requires.shape joined.1 joined.2 c.switches-spent.ensures c.count-first_records.ensures (subst (λ (d : Dimensions). HasRoom d c.in-Ok-new-3.second) c.shape-shape.ensures c.in-Ok-new-3.ensures)
 
 pub returns-in-Err-clause-any_moment : goal.returns-in-Err-clause-any_moment
 returns-in-Err-clause-any_moment g c told =
@@ -64,7 +65,7 @@ returns-in-Err-clause-any_moment g c told =
     let b = g.D.Disk.state c.in-Err.fault.disk in
     leaves_opened c.args.shelf.now a b b (Err c.in-Err.fault.why) (g.met.D.Disk.is_disk c.in-Err.fault.disk told)
     (λ old. subst (λ (d : Dimensions). OpensOld d a b (Err c.in-Err.fault.why)) c.shape-shape.ensures (c.in-Err.ensures.old told old))
-    (λ new. subst (λ (w : Dimensions × ℕ). OpensNew w.0 w.1 a b (Err c.in-Err.fault.why)) (λ k. (c.shape-shape.ensures k, c.equipped-2.ensures.value k)) (c.in-Err.ensures.is_new told new))
+    (λ new. subst (λ (w : Dimensions × ℕ). OpensNew w.0 w.1 a b (Err c.in-Err.fault.why)) (λ k. (c.shape-shape.ensures k, c.equipped-3.ensures.value k)) (c.in-Err.ensures.is_new told new))
     (looks_same b)
 
 pub returns-in-Err-Disk-clause-any_moment : goal.returns-in-Err-Disk-clause-any_moment
@@ -75,7 +76,7 @@ returns-in-Err-Disk-clause-any_moment g c told =
     subst (λ (d : g.row.D.Denot). LeavesOpened c.args.shelf.now a (g.D.Disk.state d)) (sym c.close.ensures)
     (leaves_opened c.args.shelf.now a b (g.D.Disk.state c.replay.new.journal.0) (Ok j.1) (g.met.D.Disk.is_disk j.0 told)
     (λ old. subst (λ (d : Dimensions). OpensOld d a b (Ok j.1)) c.shape-shape.ensures (c.in-Ok-open.ensures.old told old))
-    (λ new. subst (λ (w : Dimensions × ℕ). OpensNew w.0 w.1 a b (Ok j.1)) (λ k. (c.shape-shape.ensures k, c.equipped-2.ensures.value k)) (c.in-Ok-open.ensures.is_new told new))
+    (λ new. subst (λ (w : Dimensions × ℕ). OpensNew w.0 w.1 a b (Ok j.1)) (λ k. (c.shape-shape.ensures k, c.equipped-3.ensures.value k)) (c.in-Ok-open.ensures.is_new told new))
     (c.replay.ensures.looks told))
 
 pub returns-clause-any_moment : goal.returns-clause-any_moment
@@ -85,5 +86,8 @@ returns-clause-any_moment g c told =
     let b = g.D.Disk.state j.0 in
     leaves_opened c.args.shelf.now a b (g.D.Disk.state c.replay.new.journal.0) (Ok j.1) (g.met.D.Disk.is_disk j.0 told)
     (λ old. subst (λ (d : Dimensions). OpensOld d a b (Ok j.1)) c.shape-shape.ensures (c.in-Ok-open.ensures.old told old))
-    (λ new. subst (λ (w : Dimensions × ℕ). OpensNew w.0 w.1 a b (Ok j.1)) (λ k. (c.shape-shape.ensures k, c.equipped-2.ensures.value k)) (c.in-Ok-open.ensures.is_new told new))
+    (λ new. subst (λ (w : Dimensions × ℕ). OpensNew w.0 w.1 a b (Ok j.1)) (λ k. (c.shape-shape.ensures k, c.equipped-3.ensures.value k)) (c.in-Ok-open.ensures.is_new told new))
     (c.replay.ensures.looks told)
+
+pub returns-in-Err-Disk-clause-asked : goal.returns-in-Err-Disk-clause-asked
+returns-in-Err-Disk-clause-asked g c = g.G.Gate.unasked c.args.gate.now

@@ -1,0 +1,222 @@
+-- A history that is one entry longer.
+use Rattle.std.specs.Prelude.{nat_lt, nat_le, min, if◌then◌else◌, option_to_list}
+use Rattle.std.proofs.Common.{◌≡◌, ◌≢◌, ℕ, ◌+◌, ◌≤◌, ◌<◌, ◌^◌, arith, Bool, true, false, cond, List, [], ◌∷◌, ◌++◌, length, length-append, append-nil, append_assoc, Option, Some, None, refl, sym, ◌∙◌, ap, subst, inl, inr}
+use Rattle.std.proofs.lemmas.Bool.Decides.{eqb_tells}
+use Rattle.dxc_causes.specs.Causes.{Rose, last}
+use Rattle.dxc_disk.specs.Disks.{CountsOn, DiskState, IsSpent, Spends}
+use Rattle.dxc_num.specs.Dimensions.{IsInLimits}
+use Rattle.dxc_model.specs.declared.op.Op.{Op}
+use Rattle.dxc_model.specs.declared.op.Change.{Change}
+use Rattle.dxc_model.specs.declared.cause.Cause.{Cause}
+use Rattle.dxc_model.specs.declared.cause.Cause.TheVariants.{JournalAstray, JournalFull, SwitchLimit}
+use Rattle.dxc_model.specs.declared.entry.Outcome.TheVariants.{Done, Denied, Failed, Answered, Restarted, Cut, Taken}
+use Rattle.dxc_model.specs.declared.entry.Entry.{Entry}
+use Rattle.dxc_model.specs.Verdicts.{Grants}
+use Rattle.dxc_model.specs.Steps.{IsLimit, made}
+use Rattle.dxc_model.specs.Histories.{Lasts, KeepsTurns, WaitsFor, IsCut, IsDoubtful, IsRestarted, IsSettling, changes_of, holder, holder_after}
+use Rattle.dxc_model.proofs.Growth.{changes_append}
+use Rattle.dxc_model.proofs.Lists.{each_more}
+use Rattle.dxc_model.proofs.Lasting.{lasts_before, lasts_more}
+use Rattle.roll_plan.specs.declared.op.LegOp.{LegOp}
+use Rattle.roll_plan.specs.Works.{ops_writes, switches_in}
+use Rattle.xc_recovery.specs.LegTasks.{tasks}
+use Rattle.xc_recovery.specs.ChangeWorks.{WorksPlanned}
+use Rattle.turnstile.specs.Turning.{Each}
+use Rattle.xc_journal.specs.Spelling.{spelling}
+use Rattle.xc_recovery.specs.ChangeWorks.{choices_in}
+use Rattle.xc_core.specs.Reckonings.{Past, changed, limit_by, most_records}
+use Rattle.xc_core.specs.Provisioners.{Ground}
+use Rattle.xc_core.specs.Begins.{IsOverLimit}
+use Rattle.xc_core.specs.States.{Opening, IsFoldOf, IsNeverAstray, IsPaid, SpendsOf, IsUnsettled, cost, fault_in, faults_in, room_in}
+use Rattle.xc_core.specs.Seeing.{entry}
+use Rattle.xc_core.proofs.Reckoning.{comes_on}
+
+-- nothing but a change makes the list of changes longer
+pub changes_same : (h : List Entry) (e : Entry) → made e.outcome ≡ None → changes_of (h ++ e ∷ []) ≡ changes_of h
+changes_same h e none = changes_append h (e ∷ []) ∙ ap (λ (o : Option Change). changes_of h ++ (option_to_list o ++ [])) none ∙ append-nil (changes_of h)
+
+pub changes_one : (h : List Entry) (e : Entry) (c : Change) → made e.outcome ≡ Some c → changes_of (h ++ e ∷ []) ≡ changes_of h ++ c ∷ []
+changes_one h e c one = changes_append h (e ∷ []) ∙ ap (λ (o : Option Change). changes_of h ++ (option_to_list o ++ [])) one
+
+-- a limit is that of the journal, or of the switch numbers
+limit_pick : (q : Cause) (a b d : Bool) → Some q ≡ (if a then Some JournalFull else if b then Some SwitchLimit else if d then Some SwitchLimit else None) → IsLimit q
+limit_pick q true b d is = inl cc
+limit_pick q false true d is = inr cc
+limit_pick q false false true is = inr cc
+limit_pick q false false false is = absurd cc
+
+limit_is : (q : Cause) (r s n : ℕ) → Some q ≡ limit_by r s n → IsLimit q
+limit_is q r s n is = limit_pick q (nat_le most_records r) (nat_lt (2 ^ 48) s) (nat_le (2 ^ 48) n) is
+
+pub over_limit : (b : Past) (op : Op) (q : Cause) → IsOverLimit b op q → IsLimit q
+over_limit b op q over = limit_is q (length b.records) (b.fold.switches + switches_in (ops_writes over.2.ops)) b.changes over.2.limit
+
+-- one entry more
+pub faults_more : (h : List Entry) (e : Entry) → faults_in (h ++ e ∷ []) ≡ faults_in h + fault_in e.outcome
+faults_more [] e = omega arith
+faults_more (x ∷ xs) e = let more = faults_more xs e in omega (arith, more)
+
+-- the disk counted no fault of an operation, or one
+pub same_faults : (first before now : ℕ) (h : List Entry) (e : Entry) → fault_in e.outcome ≡ 0 → min (first + faults_in h) last ≤ before → before ≤ now → min (first + faults_in (h ++ e ∷ [])) last ≤ now
+same_faults first before now h e none was later = let more = faults_more h e in omega (arith, more, none, was, later)
+
+pub one_fault : (first before now : ℕ) (h : List Entry) (e : Entry) → fault_in e.outcome ≡ 1 → min (first + faults_in h) last ≤ before → Rose before now → min (first + faults_in (h ++ e ∷ [])) last ≤ now
+one_fault first before now h e one was rose = let more = faults_more h e in omega (arith, more, one, was, rose)
+
+pub limit_no_fault : (q : Cause) → IsLimit q → fault_in (Failed q) ≡ 0
+limit_no_fault q l = elim l [ inl is ↦ ap (λ (x : Cause). fault_in (Failed x)) is | inr is ↦ ap (λ (x : Cause). fault_in (Failed x)) is ]
+
+-- what was asked for is unsettled still behind an entry that doesn't settle it
+pub unsettled_more : (h : List Entry) (e : Entry) (op : Op) → (IsSettling e → ⊥) → IsUnsettled h op → IsUnsettled (h ++ e ∷ []) op
+unsettled_more h e op not was = lasts_more (λ x. IsDoubtful x × (x.op ≡ op)) IsSettling h e was not
+
+pub denied_settles_not : (own : ℕ) (op : Op) (q : Cause) → IsSettling (entry own op (Denied q)) → ⊥
+denied_settles_not own op q s = elim s [ inl x ↦ (let y : Denied q ≡ Done x.0 = x.1 in cc) | inr x ↦ (let y = x.1 in cc) ]
+
+pub failed_settles_not : (own : ℕ) (op : Op) (q : Cause) → IsSettling (entry own op (Failed q)) → ⊥
+failed_settles_not own op q s = elim s [ inl x ↦ (let y : Failed q ≡ Done x.0 = x.1 in cc) | inr x ↦ (let y = x.1 in cc) ]
+
+pub cut_settles_not : (own : ℕ) (op : Op) → IsSettling (entry own op Cut) → ⊥
+cut_settles_not own op s = elim s [ inl x ↦ (let y : Cut ≡ Done x.0 = x.1 in cc) | inr x ↦ (let y = x.1 in cc) ]
+
+pub taken_settles_not : (own : ℕ) (op : Op) → IsSettling (entry own op Taken) → ⊥
+taken_settles_not own op s = elim s [ inl x ↦ (let y : Taken ≡ Done x.0 = x.1 in cc) | inr x ↦ (let y = x.1 in cc) ]
+
+pub answered_settles_not : (own : ℕ) (op : Op) → IsSettling (entry own op Answered) → ⊥
+answered_settles_not own op s = elim s [ inl x ↦ (let y : Answered ≡ Done x.0 = x.1 in cc) | inr x ↦ (let y = x.1 in cc) ]
+
+pub room_more : (h : List Entry) (e : Entry) → room_in (h ++ e ∷ []) ≡ room_in h + cost e.outcome
+room_more [] e = omega arith
+room_more (x ∷ xs) e = let more = room_more xs e in omega (arith, more)
+
+-- an entry that calls nothing
+pub paid_same : (o : Opening) (h : List Entry) (e : Entry) → fault_in e.outcome ≡ 0 → cost e.outcome ≡ 0 → IsPaid o h → IsPaid o (h ++ e ∷ [])
+paid_same o h e none free was enough =
+    let room = room_more h e in
+    let faults = faults_more h e in
+    let few = was (omega (arith, enough, room, free)) in
+    omega (arith, few, faults, none)
+
+-- what the disk at home has counted
+pub paid_counted : (o : Opening) (h : List Entry) (s : DiskState) → CountsOn s → min (o.faults + faults_in h) last ≤ s.faults → SpendsOf o (room_in h) s → IsPaid o h
+paid_counted o h s on counted spends enough =
+    let left = spends (omega (arith, enough)) in
+    let some : 0 < s.room = omega (arith, enough, left.room) in
+    let below = on some in
+    let margin = left.margin in
+    omega (arith, counted, below, margin)
+
+pub spends_one : (o : Opening) (n m : ℕ) (s t : DiskState) → SpendsOf o n s → Spends m s t → SpendsOf o (n + m) t
+spends_one o n m s t was spent enough =
+    let first = was (omega (arith, enough)) in
+    let next : IsSpent m s t = spent (omega (arith, enough, first.room)) in
+    record { room = omega (arith, first.room, next.room); margin = omega (arith, first.margin, next.margin) }
+
+pub spends_at : (o : Opening) (n m : ℕ) (s : DiskState) → n ≡ m → SpendsOf o n s → SpendsOf o m s
+spends_at o n m s same was = subst (λ (k : ℕ). SpendsOf o k s) same was
+
+-- a place that hasn't the Provisioner may read
+pub waits_reading : (own : ℕ) (op : Op) (o : Option Entry) → ((t : Entry) → o ≡ Some t → t.place ≢ own) → WaitsFor o (entry own op Answered)
+waits_reading own op None rests = tt
+waits_reading own op (Some t) rests = inl ((λ same. rests t refl (sym same)), refl)
+
+-- and who has it has it still
+pub held_still : (own : ℕ) (op : Op) (o : Option Entry) → ((t : Entry) → o ≡ Some t → t.place ≢ own) → holder_after o (entry own op Answered) ≡ o
+held_still own op None rests = refl
+held_still own op (Some t) rests = elim (eqb_tells own t.place) [ inl same ↦ absurd (rests t refl (sym same.1)) | inr other ↦ ap (λ b. cond b None (Some t)) other.0 ]
+
+-- its place brings it home
+pub brought : (own : ℕ) (op : Op) (e : Entry) → e.place ≡ own → holder_after (Some (entry own op Taken)) e ≡ None
+brought own op e is = elim (eqb_tells e.place own) [ inl same ↦ ap (λ b. cond b None (Some (entry own op Taken))) same.0 | inr other ↦ absurd (other.1 is) ]
+
+pub not_brought : (own : ℕ) (op : Op) (e : Entry) → e.place ≢ own → holder_after (Some (entry own op Taken)) e ≡ Some (entry own op Taken)
+not_brought own op e not = elim (eqb_tells e.place own) [ inl same ↦ absurd (not same.1) | inr other ↦ ap (λ b. cond b None (Some (entry own op Taken))) other.0 ]
+
+-- the record of the next change makes it, so what the disk gave goes on
+pub fold_on : (told : Type 0) (g : Ground) (b : Past) (op : Op) (c : Change) (ops : List LegOp) → IsInLimits b.fold.table.shape → IsFoldOf told g b → Grants b.fold.table op c → WorksPlanned b.fold.colours (tasks c) ops → IsFoldOf told g (changed b c ops)
+fold_on told g b op c ops limits f granted planned =
+    let bytes = spelling c (choices_in ops) in
+    let count = f.number in
+    let one = length-append f.read (bytes ∷ []) in
+    let other = length-append b.records (bytes ∷ []) in
+    record {
+      read = f.read ++ bytes ∷ [];
+      number = omega (arith, count, one, other);
+      same = λ t. ap (λ (l : List (List ℕ)). l ++ bytes ∷ []) (f.same t);
+      comes = comes_on g.shape g.equipped (record b { records = f.read }) op c ops limits f.comes granted planned;
+    }
+
+-- turns behind a history
+pub turns_behind : (o : Option Entry) (h g : List Entry) → KeepsTurns o (h ++ g) → KeepsTurns (holder o h) g
+turns_behind o [] g k = k
+turns_behind o (e ∷ es) g k = turns_behind (holder_after o e) es g k.1
+
+-- histories joined
+pub holder_append : (o : Option Entry) (h g : List Entry) → holder o (h ++ g) ≡ holder (holder o h) g
+holder_append o [] g = refl
+holder_append o (e ∷ es) g = holder_append (holder_after o e) es g
+
+faults_append : (h g : List Entry) → faults_in (h ++ g) ≡ faults_in h + faults_in g
+faults_append [] g = omega arith
+faults_append (e ∷ es) g = let more = faults_append es g in omega (arith, more)
+
+room_append : (h g : List Entry) → room_in (h ++ g) ≡ room_in h + room_in g
+room_append [] g = omega arith
+room_append (e ∷ es) g = let more = room_append es g in omega (arith, more)
+
+-- entries that only read
+abbrev pub AreReads : List Entry → Type 0
+AreReads later = Each (λ e. e.outcome ≡ Answered) later
+
+reads_none : (later : List Entry) → AreReads later → (changes_of later ≡ []) × (faults_in later ≡ 0) × (room_in later ≡ 0)
+reads_none [] reads = (refl, refl, refl)
+reads_none (e ∷ es) reads =
+    let rest = reads_none es reads.1 in
+    let fault : fault_in e.outcome ≡ 0 = ap fault_in reads.0 in
+    let free : cost e.outcome ≡ 0 = ap cost reads.0 in
+    let faults = rest.1 in
+    let room = rest.2 in
+    (ap (λ (o : Option Change). option_to_list o ++ changes_of es) (ap made reads.0) ∙ rest.0, omega (arith, fault, faults), omega (arith, free, room))
+
+pub reads_changes : (h later : List Entry) → AreReads later → changes_of (h ++ later) ≡ changes_of h
+reads_changes h later reads = changes_append h later ∙ ap (λ (cs : List Change). changes_of h ++ cs) (reads_none later reads).0 ∙ append-nil (changes_of h)
+
+pub reads_faults : (h later : List Entry) → AreReads later → faults_in (h ++ later) ≡ faults_in h
+reads_faults h later reads = let whole = faults_append h later in let none = (reads_none later reads).1 in omega (arith, whole, none)
+
+pub reads_room : (h later : List Entry) → AreReads later → room_in (h ++ later) ≡ room_in h
+reads_room h later reads = let whole = room_append h later in let none = (reads_none later reads).2 in omega (arith, whole, none)
+
+-- what lasts, lasts on while others read, and nothing begins to last
+pub lasts_reading : (P Q : Entry → Type 0) → ((e : Entry) → e.outcome ≡ Answered → ¬ Q e) → (h later : List Entry) → AreReads later → Lasts P Q h → Lasts P Q (h ++ later)
+lasts_reading P Q not h [] reads l = subst (λ (g : List Entry). Lasts P Q g) (sym (append-nil h)) l
+lasts_reading P Q not h (e ∷ es) reads l = subst (λ (g : List Entry). Lasts P Q g) (append_assoc h (e ∷ []) es) (lasts_reading P Q not (h ++ e ∷ []) es reads.1 (lasts_more P Q h e l (not e reads.0)))
+
+pub lasted_reading : (P Q : Entry → Type 0) → ((e : Entry) → e.outcome ≡ Answered → ¬ P e) → (h later : List Entry) → AreReads later → Lasts P Q (h ++ later) → Lasts P Q h
+lasted_reading P Q not h [] reads l = subst (λ (g : List Entry). Lasts P Q g) (append-nil h) l
+lasted_reading P Q not h (e ∷ es) reads l = lasts_before P Q h e (lasted_reading P Q not (h ++ e ∷ []) es reads.1 (subst (λ (g : List Entry). Lasts P Q g) (sym (append_assoc h (e ∷ []) es)) l)) (not e reads.0)
+
+pub answered_not_cut : (e : Entry) → e.outcome ≡ Answered → ¬ IsCut e
+answered_not_cut e answered cut = let y : Answered ≡ Cut = sym answered ∙ cut in cc
+
+pub answered_not_restarted : (e : Entry) → e.outcome ≡ Answered → ¬ IsRestarted e
+answered_not_restarted e answered x = let y : Answered ≡ Restarted x.0 = sym answered ∙ x.1 in cc
+
+pub answered_not_settling : (e : Entry) → e.outcome ≡ Answered → ¬ IsSettling e
+answered_not_settling e answered s = elim s [ inl x ↦ (let y : Answered ≡ Done x.0 = sym answered ∙ x.1 in cc) | inr x ↦ answered_not_restarted e answered x ]
+
+-- while a place has the Provisioner others only read
+pub others_read : (own : ℕ) (op : Op) (later : List Entry) → Each (λ e. e.place ≢ own) later → KeepsTurns (Some (entry own op Taken)) later → AreReads later × (holder (Some (entry own op Taken)) later ≡ Some (entry own op Taken))
+others_read own op [] others turns = (tt, refl)
+others_read own op (e ∷ es) others turns =
+    let answered : e.outcome ≡ Answered = elim turns.0 [ inl x ↦ x.1 | inr x ↦ absurd (others.0 x.0) ] in
+    let still = not_brought own op e others.0 in
+    let rest = others_read own op es others.1 (subst (λ (x : Option Entry). KeepsTurns x es) still turns.1) in
+    ((answered, rest.0), ap (λ (x : Option Entry). holder x es) still ∙ rest.1)
+
+-- none is astray
+pub limit_not_astray : (q : Cause) → IsLimit q → Failed q ≢ Failed JournalAstray
+limit_not_astray q l x = elim l [ inl is ↦ (let y : Failed JournalFull ≡ Failed JournalAstray = ap Failed (sym is) ∙ x in cc) | inr is ↦ (let y : Failed SwitchLimit ≡ Failed JournalAstray = ap Failed (sym is) ∙ x in cc) ]
+
+pub astray_more : (told : Type 0) (h : List Entry) (e : Entry) → (told → IsNeverAstray h) → (told → e.outcome ≢ Failed JournalAstray) → told → IsNeverAstray (h ++ e ∷ [])
+astray_more told h e never not t = each_more (λ x. x.outcome ≢ Failed JournalAstray) h e (never t) (not t)

@@ -1,0 +1,39 @@
+-- What a Provisioner keeps of the changes, where only a part of it has changed.
+use Rattle.std.proofs.Common.{◌≡◌, ℕ, Bool, Option, Some, None, List, sym, ◌∙◌, subst}
+use Rattle.dxc_model.specs.declared.op.Op.{Op}
+use Rattle.dxc_num.specs.Dimensions.{Dimensions}
+use Rattle.fabric_words.specs.Seats.{MoverAt}
+use Rattle.journal_core.specs.declared.book.Book.{Book}
+use Rattle.xc_core.specs.declared.provisioner.Provisioner.{Provisioner}
+use Rattle.xc_core.specs.Journals.{IsRecordOf}
+use Rattle.xc_core.specs.Provisioners.{HasRoom, KeepsPast, MayBeHeld, with_halt}
+use Rattle.xc_core.specs.Reckonings.{Past}
+
+abbrev pub with_journal : {D : Type 0} → Provisioner D → D × Book → Option Op → Provisioner D
+with_journal p j doubt = record p { journal = j; doubt = doubt }
+
+pub none_held : (b : Past) → MayBeHeld b None
+none_held b op asked = absurd (let e : None ≡ Some op = asked in cc)
+
+pub one_held : (b : Past) (op : Op) (bytes : List ℕ) → IsRecordOf b op bytes → MayBeHeld b (Some op)
+one_held b op bytes is x asked = (bytes, subst (λ (y : Op). IsRecordOf b y bytes) (let e : Some op ≡ Some x = asked in cc) is)
+
+module _ {D : Type 0} (b : Past) (p : Provisioner D) (k : KeepsPast b p) where
+  pub past_moved : (m : MoverAt) → KeepsPast b (record p { mover = m })
+  past_moved m = record { matrix = k.matrix; placed = k.placed; spent = k.spent; few = k.few; changes = k.changes; number = k.number; doubts = k.doubts; shape = k.shape; room = k.room }
+
+  pub past_marked : (h : Bool) → KeepsPast b (with_halt h p)
+  past_marked h = record { matrix = k.matrix; placed = k.placed; spent = k.spent; few = k.few; changes = k.changes; number = k.number; doubts = k.doubts; shape = k.shape; room = k.room }
+
+  pub past_with : (j : D × Book) (doubt : Option Op) → j.1.shape ≡ p.journal.1.shape → MayBeHeld b doubt → KeepsPast b (with_journal p j doubt)
+  past_with j doubt same held = record {
+    matrix = k.matrix;
+    placed = k.placed;
+    spent = k.spent;
+    few = k.few;
+    changes = k.changes;
+    number = k.number;
+    doubts = held;
+    shape = k.shape ∙ sym same;
+    room = subst (λ (d : Dimensions). HasRoom d p.second) (sym same) k.room;
+  }

@@ -1,0 +1,210 @@
+-- A state whose Provisioner waited for a restart, or was asked for one, an entry later: a lemma for each outcome of a restart.
+use Rattle.std.specs.Prelude.{min}
+use Rattle.std.proofs.Common.{◌≡◌, ◌≢◌, ℕ, ◌+◌, ◌≤◌, ◌⊎◌, List, [], ◌∷◌, ◌++◌, Option, Some, None, refl, sym, ◌∙◌, ap, subst, inl, inr}
+use Rattle.dxc_causes.specs.Causes.{Rose, last}
+use Rattle.dxc_disk.specs.Disks.{CountsOn, DiskState, Spends}
+use Rattle.dxc_num.specs.Dimensions.{IsInLimits}
+use Rattle.dbchg_reports.specs.Recent.{recent_of, with_one}
+use Rattle.dbchg_reports.proofs.Keeping.{recent_more}
+use Rattle.dxc_model.specs.declared.op.Op.{Op}
+use Rattle.dxc_model.specs.declared.op.Op.TheVariants.{Restart}
+use Rattle.dxc_model.specs.declared.op.Change.{Change}
+use Rattle.dxc_model.specs.declared.cause.Cause.{Cause}
+use Rattle.dxc_model.specs.declared.cause.Cause.TheVariants.{DiskFault, JournalAstray}
+use Rattle.dxc_model.specs.declared.entry.Outcome.TheVariants.{Failed, Restarted, Cut, Taken}
+use Rattle.dxc_model.specs.declared.entry.Entry.{Entry}
+use Rattle.dxc_model.specs.Tables.{Board}
+use Rattle.dxc_model.specs.Verdicts.{Grants, effect}
+use Rattle.dxc_model.specs.Steps.{IsDriven, IsFault}
+use Rattle.dxc_model.specs.Histories.{Fits, IsCut, IsFailedRestart, IsInDoubt, IsRestartDue, IsRestarted, IsSettling, IsDoubtful, IsStopped, KeepsLimit, KeepsTurns, changes_of, table_after}
+use Rattle.dxc_model.proofs.Growth.{fits_by, legal_more, turns_more}
+use Rattle.dxc_model.proofs.Lasting.{lasts_before, lasts_more, lasts_no_more, lasts_now}
+use Rattle.dxc_model.proofs.Verdicts.{own_verdict}
+use Rattle.roll_engine.specs.Rollings.{RollingAt}
+use Rattle.turnstile.specs.Turning.{Each}
+use Rattle.xc_recovery.specs.Placings.{IsPlaced}
+use Rattle.xc_core.specs.declared.provisioner.Provisioner.{Provisioner}
+use Rattle.xc_core.specs.declared.state.Home.TheVariants.{In, Out}
+use Rattle.xc_core.specs.declared.state.State.{State}
+use Rattle.xc_core.specs.Reckonings.{Past, ReckonsTo}
+use Rattle.xc_core.specs.Provisioners.{IsHome, ground_of}
+use Rattle.xc_core.specs.Restarts.{IsHalted, Resumes, TakesUp}
+use Rattle.xc_core.specs.Endings.{Ends, reports_with}
+use Rattle.xc_core.specs.States.{Opening, HomeIs, IsFoldOf, IsReadyOrHalted, IsUnsettled, LimitBehind, StandsFor, faults_in, most_room, rules_of, with_home}
+use Rattle.xc_core.specs.Seeing.{HasRestart, IsDueFor, entry}
+use Rattle.xc_core.proofs.Away.{comes_halted, home_now, in_now, out_moved, out_since, out_table, paid_now, read_since, waits_own}
+use Rattle.xc_core.proofs.Entries.{answered_not_restarted, answered_not_settling, astray_more, changes_one, changes_same, cut_settles_not, failed_settles_not, fold_on, lasts_reading, one_fault, taken_settles_not, unsettled_more}
+use Rattle.xc_core.proofs.Halting.{resumes_halted}
+use Rattle.xc_core.proofs.Meeting.{meets_one}
+use Rattle.xc_core.proofs.Reckoning.{reckons_more}
+use Rattle.xc_core.proofs.Recovering.{way_limits}
+use Rattle.xc_core.proofs.Standing.{IsIn, home_by, no_fault, out_of, stands_out, table_is}
+
+-- a change that a restart takes up is in doubt
+doubt_of : (t : Board) (h : List Entry) (op : Op) (c : Change) → Grants t op c → IsUnsettled h op → IsInDoubt t h c
+doubt_of t h op c granted l = record { before = l.before; entry = l.entry; behind = l.behind; whole = l.whole; has = (l.has.0, subst (λ (x : Op). Grants t x c) (sym l.has.1) granted); lasting = l.lasting }
+
+-- a restart is due still behind an entry that isn't one
+due_more : (asked : Op) (h : List Entry) (e : Entry) → (IsRestarted e → ⊥) → IsDueFor asked h → IsDueFor asked (h ++ e ∷ [])
+due_more asked h e not due = elim due [ inl is ↦ inl is | inr lasts ↦ inr (lasts_more (λ x. IsCut x ⊎ IsFailedRestart x) IsRestarted h e lasts not) ]
+
+-- and behind one that is a restart that failed
+due_now : (own : ℕ) (asked : Op) (q : Cause) (h : List Entry) → IsDueFor asked h → IsRestartDue (h ++ entry own asked (Failed q) ∷ [])
+due_now own asked q h due = elim due [
+  | inl is ↦ lasts_now (λ x. IsCut x ⊎ IsFailedRestart x) IsRestarted h (entry own asked (Failed q)) (inr (is, (q, refl)))
+  | inr lasts ↦ lasts_more (λ x. IsCut x ⊎ IsFailedRestart x) IsRestarted h (entry own asked (Failed q)) lasts (λ x. let y : Failed q ≡ Restarted x.0 = x.1 in cc)
+]
+
+module _ {D : Type 0} (told : Type 0) (state : D → DiskState) where
+  module _ (o : Opening) (s : State D) (h : List Entry) (st : StandsFor told state o s h) where
+    -- what a turn finds that takes the Provisioner for a restart
+    pub found_stage : (p : Provisioner D) → s.home ≡ In p → IsReadyOrHalted told state st.now h p
+    found_stage p is = let at : HomeIs told state o st.now h (In p) = subst (HomeIs told state o st.now h) is st.home in at.1.stage
+
+    -- p is what calls left of the Provisioner q, which was home
+    module _ (q p : Provisioner D) (was : IsIn told state o h q) (ground : ground_of p ≡ ground_of q) (later : (state q.journal.0).faults ≤ (state p.journal.0).faults) (spent : Spends most_room (state q.journal.0) (state p.journal.0))
+        (kept : (x : Op) → p.doubt ≡ Some x → q.doubt ≡ Some x) (own : ℕ) where
+      -- the rest of the last record's work is found, and the turn ends with it
+      pub restart_taken : StandsFor told state o (with_home Out s) (h ++ entry own Restart Taken ∷ [])
+      restart_taken = stands_out told state o s h st q p was ground later spent Restart own (fits_by (rules_of o) h (entry own Restart Taken) (table_after o.first.fold.table h, (inl refl, refl)) (λ c granted. absurd granted.apt) tt)
+
+      pub has_restart : (asked : Op) → IsDueFor asked h → (lacking : Option Change) (g : Past) (r : RollingAt) → Resumes told state st.now lacking g p r → HasRestart told state o own asked (h ++ entry own Restart Taken ∷ []) p r
+      has_restart asked due lacking g r resumes = record {
+        out = out_of told state o s h st q p was ground later spent Restart own;
+        lacking = lacking;
+        behind = g;
+        resumes = resumes;
+        doubt = λ x here. unsettled_more h (entry own Restart Taken) x (taken_settles_not own Restart) (was.doubt x (kept x here));
+        due = due_more asked h (entry own Restart Taken) (λ x. let y : Taken ≡ Restarted x.0 = x.1 in cc) due;
+      }
+
+      module _ (counts : CountsOn (state p.journal.0)) where
+        -- a stop came in it
+        pub restart_stopped : IsHalted told state st.now p → StandsFor told state o (with_home (In p) s) (h ++ entry own Restart Cut ∷ [])
+        restart_stopped halted =
+            let e = entry own Restart Cut in
+            home_by told state o s h st q p was ground later spent counts e refl refl refl (fits_by (rules_of o) h e (table_after o.first.fold.table h, (inl refl, refl)) (λ c granted. absurd granted.apt) tt)
+            (λ t x. let y : Cut ≡ Failed JournalAstray = x in cc) (no_fault told state o s h st q p was ground later spent e refl)
+            (inr (halted, lasts_now (λ x. IsCut x ⊎ IsFailedRestart x) IsRestarted h e (inl refl)))
+            (λ x here. unsettled_more h e x (cut_settles_not own Restart) (was.doubt x (kept x here)))
+
+        -- it failed: the operation that asked for it is entered so
+        module _ (asked : Op) (driven : IsDriven asked) (cause : Cause) (fault : IsFault cause) where
+          limits_fault : IsPlaced st.now.fold.table st.now.fold.colours → (c : Change) → Grants (table_after o.first.fold.table h) asked c → (met : Option Cause) × LimitBehind o.first (changes_of h) c met × KeepsLimit met (Failed cause)
+          limits_fault placed c granted =
+              let back : Grants st.now.fold.table asked c = subst (λ (t : Board). Grants t asked c) (sym (table_is told state o s h st) ∙ st.table) granted in
+              let m = meets_one st.now asked c placed back in
+              (m.0, (st.now, st.reckoned, m.1), inl fault)
+
+          failed_home : IsPlaced st.now.fold.table st.now.fold.colours → (told → cause ≢ JournalAstray) → min (o.faults + faults_in (h ++ entry own asked (Failed cause) ∷ [])) last ≤ (state p.journal.0).faults → IsReadyOrHalted told state st.now (h ++ entry own asked (Failed cause) ∷ []) p
+              → StandsFor told state o (with_home (In p) s) (h ++ entry own asked (Failed cause) ∷ [])
+          failed_home placed not_astray faults stage =
+              let e = entry own asked (Failed cause) in
+              home_by told state o s h st q p was ground later spent counts e refl refl refl (fits_by (rules_of o) h e (table_after o.first.fold.table h, (inr (fault, driven), refl)) (limits_fault placed) tt)
+              (λ t x. not_astray t (let y : Failed cause ≡ Failed JournalAstray = x in cc)) faults stage
+              (λ x here. unsettled_more h e x (failed_settles_not own asked cause) (was.doubt x (kept x here)))
+
+          pub restart_failed : IsDueFor asked h → IsHalted told state st.now p → (told → cause ≢ JournalAstray) → min (o.faults + faults_in (h ++ entry own asked (Failed cause) ∷ [])) last ≤ (state p.journal.0).faults
+              → StandsFor told state o (with_home (In p) s) (h ++ entry own asked (Failed cause) ∷ [])
+          restart_failed due halted not_astray faults = failed_home halted.past.placed not_astray faults (inr (halted, due_now own asked cause h due))
+
+          -- before it, so that the Provisioner is home as it was
+          pub restart_unsettled : IsHome told state st.now p → (IsStopped h → ⊥) → (told → cause ≢ JournalAstray) → min (o.faults + faults_in (h ++ entry own asked (Failed cause) ∷ [])) last ≤ (state p.journal.0).faults
+              → StandsFor told state o (with_home (In p) s) (h ++ entry own asked (Failed cause) ∷ [])
+          restart_unsettled home unstopped not_astray faults = failed_home home.past.placed not_astray faults (inl (home, λ stopped. unstopped (lasts_before IsCut IsRestarted h (entry own asked (Failed cause)) stopped (λ x. let y : Failed cause ≡ Cut = x in cc))))
+
+      -- the disk counted its fault, or the journal is astray
+      pub rose_now : (asked : Op) → Rose (state q.journal.0).faults (state p.journal.0).faults → min (o.faults + faults_in (h ++ entry own asked (Failed DiskFault) ∷ [])) last ≤ (state p.journal.0).faults
+      rose_now asked rose = one_fault o.faults (state q.journal.0).faults (state p.journal.0).faults h (entry own asked (Failed DiskFault)) refl was.faults rose
+
+      pub astray_now : (asked : Op) → min (o.faults + faults_in (h ++ entry own asked (Failed JournalAstray) ∷ [])) last ≤ (state p.journal.0).faults
+      astray_now asked = no_fault told state o s h st q p was ground later spent (entry own asked (Failed JournalAstray)) refl
+
+  -- a place that took the Provisioner for a restart finds all else as it was
+  pub restart_since : (o : Opening) (own : ℕ) (asked : Op) (h later : List Entry) (p : Provisioner D) → Each (λ e. e.place ≢ own) later → KeepsTurns None (h ++ later) → (r : RollingAt) → HasRestart told state o own asked h p r → HasRestart told state o own asked (h ++ later) p r
+  restart_since o own asked h later p others turns r t =
+      let reads = read_since told state o own Restart h later p others turns t.out in
+      record {
+        out = out_since told state o own Restart h later p others turns t.out;
+        lacking = t.lacking;
+        behind = t.behind;
+        resumes = t.resumes;
+        doubt = λ op here. lasts_reading (λ x. IsDoubtful x × (x.op ≡ op)) IsSettling answered_not_settling h later reads (t.doubt op here);
+        due = elim t.due [ inl is ↦ inl is | inr due ↦ inr (lasts_reading (λ x. IsCut x ⊎ IsFailedRestart x) IsRestarted answered_not_restarted h later reads due) ];
+      }
+
+  -- the engine took the rest of the work on
+  pub restart_rolls : (o : Opening) (own : ℕ) (asked : Op) (h : List Entry) (p q : Provisioner D) (r s : RollingAt) → HasRestart told state o own asked h p r → ground_of q ≡ ground_of p → q.journal ≡ p.journal → q.doubt ≡ p.doubt
+      → ((b : Past) (l : Option Change) (g : Past) → Resumes told state b l g p r → Resumes told state b l g q s) → HasRestart told state o own asked h q s
+  restart_rolls o own asked h p q r s t ground journal doubt rolls = record {
+    out = out_moved told state o own Restart h p q t.out ground journal;
+    lacking = t.lacking;
+    behind = t.behind;
+    resumes = rolls t.out.now t.lacking t.behind t.resumes;
+    doubt = λ x here. t.doubt x (sym doubt ∙ here);
+    due = t.due;
+  }
+
+  -- it is brought home in a later turn
+  module _ (o : Opening) (s : State D) (h : List Entry) (st : StandsFor told state o s h) (own : ℕ) (asked : Op) (p : Provisioner D) (r : RollingAt) (t : HasRestart told state o own asked h p r) where
+    abbrev b : Past
+    b = t.out.now
+
+    halted_out : IsHalted told state b p
+    halted_out = resumes_halted told state b t.lacking t.behind p r t.resumes
+
+    -- the change that was lacking, if one was, is in table, matrix and registers
+    pub stands_restarted : (q : Provisioner D) (table : Board) (answer : Option Change) → Ends told state b t.lacking t.behind table q answer → ground_of q ≡ ground_of p → q.journal ≡ p.journal → CountsOn (state q.journal.0)
+        → StandsFor told state o (record s { table = table; reports = reports_with answer s.reports; home = In q }) (h ++ entry own Restart (Restarted answer) ∷ [])
+    stands_restarted q table answer end ground journal counts = subst (λ (x : Option Change). StandsFor told state o (record s { table = table; reports = reports_with x s.reports; home = In q }) (h ++ entry own Restart (Restarted x) ∷ [])) (sym end.change) (by t.lacking t.resumes.taken)
+      where
+        limits : IsInLimits b.fold.table.shape
+        limits = way_limits b p t.resumes.past halted_out.way
+
+        reckoned : (l : Option Change) → TakesUp b p.doubt l t.behind → ReckonsTo o.first (changes_of (h ++ entry own Restart (Restarted l) ∷ [])) t.behind
+        reckoned None taken = subst (λ (w : List Change × Past). ReckonsTo o.first w.0 w.1) (λ i. (sym (changes_same h (entry own Restart (Restarted None)) refl) i, sym taken i)) t.out.reckoned
+        reckoned (Some c) (op, here, granted, met, same) = subst (λ (w : List Change × Past). ReckonsTo o.first w.0 w.1) (λ i. (sym (changes_one h (entry own Restart (Restarted (Some c))) c refl) i, sym same i))
+            (reckons_more o.first b (changes_of h) c met.ops t.out.reckoned met.planned)
+
+        folds : (l : Option Change) → TakesUp b p.doubt l t.behind → IsFoldOf told o.site t.behind
+        folds None taken = subst (λ (x : Past). IsFoldOf told o.site x) (sym taken) t.out.folded
+        folds (Some c) (op, here, granted, met, same) = subst (λ (x : Past). IsFoldOf told o.site x) (sym same) (fold_on told o.site b op c met.ops limits t.out.folded granted met.planned)
+
+        fits : (l : Option Change) → TakesUp b p.doubt l t.behind → Fits (rules_of o) h (entry own Restart (Restarted l))
+        fits None taken = fits_by (rules_of o) h (entry own Restart (Restarted None)) (table_after o.first.fold.table h, (refl, refl)) (λ c granted. absurd granted.apt) tt
+        fits (Some c) (op, here, granted, met, same) =
+            let now : Grants (table_after o.first.fold.table h) op c = subst (λ (x : Board). Grants x op c) (out_table told state o s h st own Restart p t.out) granted in
+            fits_by (rules_of o) h (entry own Restart (Restarted (Some c))) (effect (table_after o.first.fold.table h) c, (refl, own_verdict (table_after o.first.fold.table h) op c now, refl)) (λ d x. absurd x.apt)
+            (doubt_of (table_after o.first.fold.table h) h op c now (t.doubt op here))
+
+        reports : (l : Option Change) → reports_with l s.reports ≡ recent_of (changes_of (h ++ entry own Restart (Restarted l) ∷ []))
+        reports None = st.reports ∙ ap recent_of (sym (changes_same h (entry own Restart (Restarted None)) refl))
+        reports (Some c) = ap (with_one c) st.reports ∙ recent_more (changes_of h) c ∙ ap recent_of (sym (changes_one h (entry own Restart (Restarted (Some c))) c refl))
+
+        by : (l : Option Change) → TakesUp b p.doubt l t.behind → StandsFor told state o (record s { table = table; reports = reports_with l s.reports; home = In q }) (h ++ entry own Restart (Restarted l) ∷ [])
+        by l taken =
+            let e = entry own Restart (Restarted l) in
+            record {
+              now = t.behind;
+              reckoned = reckoned l taken;
+              folded = folds l taken;
+              table = end.table_is;
+              reports = reports l;
+              legal = legal_more (rules_of o) h e st.legal (fits l taken);
+              turns = turns_more None h e st.turns (waits_own told state o s h st own Restart p t.out e refl refl tt);
+              paid = paid_now told state o s h st own Restart p t.out e q journal refl refl counts;
+              astray = astray_more told h e st.astray (λ k x. let y : Restarted l ≡ Failed JournalAstray = x in cc);
+              home = (
+                home_now told state o s h st own Restart p t.out e refl,
+                in_now told state o s h st own Restart p t.out t.behind e q ground journal refl refl
+                    (inl (end.home, lasts_no_more IsCut IsRestarted h e (λ x. let y : Restarted l ≡ Cut = x in cc) (l, refl)))
+                    (λ x here. absurd (let k : None ≡ Some x = sym end.doubt ∙ here in cc)),
+              );
+            }
+
+    -- a stop came while the work was under way
+    pub stands_restart_cut : CountsOn (state p.journal.0) → StandsFor told state o (with_home (In p) s) (h ++ entry own Restart Cut ∷ [])
+    stands_restart_cut counts =
+        let e = entry own Restart Cut in
+        comes_halted told state o s h st own Restart p t.out e p refl refl refl (fits_by (rules_of o) h e (table_after o.first.fold.table h, (inl refl, refl)) (λ c granted. absurd granted.apt) tt) refl refl counts halted_out
+        (λ x here. unsettled_more h e x (cut_settles_not own Restart) (t.doubt x here))

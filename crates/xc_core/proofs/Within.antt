@@ -1,0 +1,130 @@
+-- What a turn does with the state.
+use Rattle.std.proofs.Common.{◌≡◌, ◌≢◌, ◌≤◌, ℕ, arith, true, false, List, [], ◌∷◌, ◌++◌, refl, sym, ◌∙◌, ap, subst, inl, inr}
+use Rattle.dxc_causes.specs.Causes.{Rose}
+use Rattle.dxc_disk.specs.Disks.{CountsOn, DiskState, Spends}
+use Rattle.dxc_disk.proofs.DiskSteps.{spends_more}
+use Rattle.dxc_model.specs.declared.cause.Cause.{Cause}
+use Rattle.dxc_model.specs.declared.cause.Cause.TheVariants.{DiskFault, JournalFull, SwitchLimit, JournalAstray}
+use Rattle.dxc_model.specs.declared.op.Op.{Op}
+use Rattle.dxc_model.specs.declared.entry.Outcome.{Outcome}
+use Rattle.dxc_model.specs.declared.entry.Outcome.TheVariants as outcome
+use Rattle.dxc_model.specs.declared.entry.Entry.{Entry}
+use Rattle.dxc_model.specs.Denials.{Holds}
+use Rattle.dxc_model.specs.Tables.{Board}
+use Rattle.dxc_model.specs.Verdicts.{Refuses}
+use Rattle.dxc_model.specs.Steps.{IsLimit}
+use Rattle.dxc_model.proofs.FirstCauses.{refusals_are_first}
+use Rattle.roll_engine.specs.Rollings.{RollingAt}
+use Rattle.xc_core.specs.declared.beginning.Begun.{Begun}
+use Rattle.xc_core.specs.declared.beginning.Begun.TheVariants as begun
+use Rattle.xc_core.specs.declared.provisioner.Provisioner.{Provisioner}
+use Rattle.xc_core.specs.declared.state.Home.{Home}
+use Rattle.xc_core.specs.declared.state.Home.TheVariants.{In, Out}
+use Rattle.xc_core.specs.declared.state.State.{State}
+use Rattle.xc_core.specs.declared.turns.Took.TheVariants as took
+use Rattle.xc_core.specs.Reckonings.{Past}
+use Rattle.xc_core.specs.Provisioners.{IsHome, ground_of, with_halt}
+use Rattle.xc_core.specs.Begins.{BegunIs}
+use Rattle.xc_core.specs.States.{Opening, HomeIs, StandsFor, most_room, with_home}
+use Rattle.xc_core.specs.Seeing.{entry, refused}
+use Rattle.xc_core.specs.Turns.{TakenIs}
+use Rattle.xc_core.proofs.Entries.{over_limit}
+use Rattle.xc_core.proofs.Restarting.{found_stage}
+use Rattle.xc_core.proofs.Standing.{IsReadyAfter, has_taken, ready_home, stands_denied, stands_failed, stands_faulted, stands_held, stands_taken}
+
+-- what the table says is entered as denied
+denied_by : (t : Board) (op : Op) (q : Cause) → Holds t op q → refused q ≡ outcome.Denied q
+denied_by t op JournalFull h = absurd h
+denied_by t op SwitchLimit h = absurd h
+denied_by t op DiskFault h = absurd h
+denied_by t op JournalAstray h = absurd h
+denied_by t op _ h = refl
+
+refused_denied : (t : Board) (op : Op) (q : Cause) → Refuses t op q → refused q ≡ outcome.Denied q
+refused_denied t op q r = denied_by t op q ((refusals_are_first t op q r.apt).0 r).holds
+
+refused_not_astray : (t : Board) (op : Op) (q : Cause) → Refuses t op q → q ≢ JournalAstray
+refused_not_astray t op q r = λ is. absurd (subst (λ (x : Cause). Holds t op x) is ((refusals_are_first t op q r.apt).0 r).holds)
+
+limit_no_astray : (q : Cause) → IsLimit q → q ≢ JournalAstray
+limit_no_astray q l = elim l [ inl full ↦ (λ is. let no_limit : JournalFull ≡ JournalAstray = sym full ∙ is in cc) | inr many ↦ (λ is. let no_limit : SwitchLimit ≡ JournalAstray = sym many ∙ is in cc) ]
+
+-- and a limit as failed
+refused_limit : (q : Cause) → IsLimit q → refused q ≡ outcome.Failed q
+refused_limit q l = elim l [ inl is ↦ ap refused is ∙ sym (ap outcome.Failed is) | inr is ↦ ap refused is ∙ sym (ap outcome.Failed is) ]
+
+-- what a change takes of the room is within what an operation takes
+pub change_room : (a b : DiskState) → Spends 40 a b → Spends most_room a b
+change_room a b spent = spends_more 40 most_room a b (omega arith) spent
+
+module _ {D : Type 0} (told : Type 0) (state : D → DiskState) (counts : (d : D) → CountsOn (state d)) (o : Opening) (s : State D) (h : List Entry) (st : StandsFor told state o s h) where
+  -- nothing was done
+  pub stands_back : (x : Home D) → s.home ≡ x → StandsFor told state o (with_home x s) h
+  stands_back x is = record {
+    now = st.now;
+    reckoned = st.reckoned;
+    folded = st.folded;
+    table = st.table;
+    reports = st.reports;
+    legal = st.legal;
+    turns = st.turns;
+    paid = st.paid;
+    astray = st.astray;
+    home = subst (λ (y : Home D). HomeIs told state o st.now h y) is st.home;
+  }
+
+  -- it waits for a restart
+  pub was_halted : (own : ℕ) (op : Op) (p : Provisioner D) → s.home ≡ In p → p.halted ≡ true → TakenIs told state o own h op (with_home (In p) s) took.Halted
+  was_halted own op p is halted = elim (found_stage told state o s h st p is) [
+    | inl a ↦ absurd (let e : false ≡ true = sym a.0.ready ∙ halted in cc)
+    | inr b ↦ (stands_back (In p) is, b.1)
+  ]
+
+  module _ (p : Provisioner D) (is : s.home ≡ In p) (ready : p.halted ≡ false) where
+    -- the Provisioner that was taken may begin
+    pub may_begin : (b : Past) × IsHome told state b p × (b.fold.table ≡ s.table)
+    may_begin = (st.now, (ready_home told state o s h st p is ready).home, sym st.table)
+
+    module _ (own : ℕ) (op : Op) (q : Provisioner D) (ground : ground_of q ≡ ground_of p) (later : (state p.journal.0).faults ≤ (state q.journal.0).faults) (spent : Spends most_room (state p.journal.0) (state q.journal.0))
+        (how : Begun) (begins : (b : Past) → IsHome told state b p → b.fold.table ≡ s.table → BegunIs told state b op p q how) where
+      abbrev was : IsReadyAfter told state o st.now h p
+      was = ready_home told state o s h st p is ready
+
+      said : BegunIs told state st.now op p q how
+      said = begins st.now was.home (sym st.table)
+
+      -- its work is planned
+      pub was_planned : (r : RollingAt) → how ≡ begun.Rolling r → TakenIs told state o own h op (with_home Out s) (took.Rolling q r)
+      was_planned r how_is =
+          let x = subst (λ (y : Begun). BegunIs told state st.now op p q y) how_is said in (
+            stands_taken told state o s h st own op p q was ground later spent x.change r x.within x.rolls,
+            has_taken told state o s h st own op p q was ground later spent x.change r x.within x.rolls,
+          )
+
+      entered : (x y : Outcome) → x ≡ y → StandsFor told state o (with_home (In q) s) (h ++ entry own op y ∷ []) → StandsFor told state o (with_home (In q) s) (h ++ entry own op x ∷ [])
+      entered x y same at = subst (λ (z : Outcome). StandsFor told state o (with_home (In q) s) (h ++ entry own op z ∷ [])) (sym same) at
+
+      -- it was denied
+      pub was_denied : (cause : Cause) → how ≡ begun.Denied cause → (how ≡ begun.Denied DiskFault → Rose (state p.journal.0).faults (state q.journal.0).faults) → TakenIs told state o own h op (with_home (In q) s) (took.Denied cause)
+      was_denied cause how_is faulty =
+          let x = subst (λ (y : Begun). BegunIs told state st.now op p q y) how_is said in
+          let on = counts q.journal.0 in (
+            elim x.1 [
+              | inl same ↦ elim same.0 [
+                | inl r ↦ entered (refused cause) (outcome.Denied cause) (refused_denied st.now.fold.table op cause r) (stands_denied told state o s h st own op p q was ground later spent on cause r same.1)
+                | inr l ↦ entered (refused cause) (outcome.Failed cause) (refused_limit cause (over_limit st.now op cause l)) (stands_failed told state o s h st own op p q was ground later spent on cause l same.1)
+              ]
+              | inr fault ↦ entered (refused cause) (outcome.Failed DiskFault) (ap refused fault.0) (stands_faulted told state o s h st own op p q was ground later spent on fault.1 fault.2 (faulty (how_is ∙ ap begun.Denied fault.0)) x.0)
+            ],
+            was.unstopped,
+            elim x.1 [
+              | inl same ↦ elim same.0 [ inl r ↦ refused_not_astray st.now.fold.table op cause r | inr l ↦ limit_no_astray cause (over_limit st.now op cause l) ]
+              | inr fault ↦ (λ is. let no_fault : DiskFault ≡ JournalAstray = sym fault.0 ∙ is in cc)
+            ],
+          )
+
+      -- the gate stopped before its record was journalled
+      pub was_held : how ≡ begun.Stopped → TakenIs told state o own h op (with_home (In (with_halt true q)) s) took.Stopped
+      was_held how_is =
+          let x = subst (λ (y : Begun). BegunIs told state st.now op p q y) how_is said in
+          (stands_held told state o s h st own op p (with_halt true q) was ground later spent (counts q.journal.0) x.1 (ap (λ (y : Provisioner D). with_halt true y) x.2), was.unstopped)

@@ -1,0 +1,102 @@
+-- What a place knows of the history, and what one of its turns does to it.
+use Rattle.std.specs.Prelude.{◌≡◌, ◌≢◌, ◌⊎◌, ℕ, ◌+◌, ◌≤◌, min, List, [], ◌∷◌, ◌++◌, map, Option, Some, None}
+use Rattle.std.specs.Coded.{Coded}
+use base.Stored.{Gv}
+use Rattle.turnstile.specs.Turning.{Each}
+use Rattle.dxc_causes.specs.Causes.{last}
+use Rattle.dxc_disk.specs.Disks.{DiskState}
+use Rattle.dxc_model.specs.contracts.entry.Entry as entry_row
+use Rattle.dxc_model.specs.declared.cause.Cause.{Cause}
+use Rattle.dxc_model.specs.declared.cause.Cause.TheVariants.{DiskFault, JournalFull, SwitchLimit, JournalAstray}
+use Rattle.dxc_model.specs.declared.op.Op.{Op}
+use Rattle.dxc_model.specs.declared.op.Op.TheVariants.{Restart}
+use Rattle.dxc_model.specs.declared.op.Change.{Change}
+use Rattle.dxc_model.specs.declared.entry.Outcome.{Outcome}
+use Rattle.dxc_model.specs.declared.entry.Outcome.TheVariants.{Denied, Failed, Taken}
+use Rattle.dxc_model.specs.declared.entry.Entry.{Entry}
+use Rattle.dxc_model.specs.Histories.{IsLegal, IsRestartDue, IsStopped, KeepsTurns, holder, changes_of}
+use Rattle.roll_engine.specs.Rollings.{RollingAt}
+use Rattle.xc_core.specs.declared.provisioner.Provisioner.{Provisioner}
+use Rattle.xc_core.specs.Reckonings.{Past, Meets, ReckonsTo}
+use Rattle.xc_core.specs.Provisioners.{Rolls, ground_of}
+use Rattle.xc_core.specs.Restarts.{Resumes}
+use Rattle.xc_core.specs.States.{Opening, IsFoldOf, IsPaid, IsUnsettled, SpendsOf, faults_in, most_room, room_in, rules_of}
+
+abbrev pub entry_coded : Coded Entry
+entry_coded = entry_row.the_row.coded
+
+abbrev pub codes : List Entry → List Gv
+codes h = map entry_coded.code h
+
+abbrev pub place_of : Entry → ℕ
+place_of e = e.place
+
+abbrev pub entry : ℕ → Op → Outcome → Entry
+entry n op o = record { place = n; op = op; outcome = o }
+
+-- what is known of every history from this opening
+pub record IsHistory (o : Opening) (h : List Entry) : Type 0 where
+  pub legal : IsLegal (rules_of o) h
+  pub turns : KeepsTurns None h
+  pub paid : IsPaid o h
+
+-- the history that was seen is h
+pub record Saw (o : Opening) (seen : List Gv) (h : List Entry) : Type 0 where
+  pub codes_are : seen ≡ codes h
+  pub history : IsHistory o h
+
+-- the place hasn't got the Provisioner out
+abbrev pub Rests : ℕ → List Entry → Type 0
+Rests own h = (t : Entry) → holder None h ≡ Some t → t.place ≢ own
+
+-- behind the history stand others' entries, and then this one
+pub record Turned (o : Opening) (own : ℕ) (h : List Entry) (e : Entry) (then_seen : List Gv) : Type 0 where
+  pub later : List Entry
+  pub others : Each (λ x. x.place ≢ own) later
+  pub saw : Saw o then_seen ((h ++ later) ++ e ∷ [])
+
+-- behind it stand others' entries alone
+pub record TurnedBack (o : Opening) (own : ℕ) (h : List Entry) (then_seen : List Gv) : Type 0 where
+  pub later : List Entry
+  pub others : Each (λ x. x.place ≢ own) later
+  pub saw : Saw o then_seen (h ++ later)
+
+-- how a denied operation is entered: what the table denies is Denied, all else Failed
+abbrev pub refused : Cause → Outcome
+refused JournalFull = Failed JournalFull
+refused SwitchLimit = Failed SwitchLimit
+refused DiskFault = Failed DiskFault
+refused JournalAstray = Failed JournalAstray
+refused q = Denied q
+
+-- a restart was asked for, or is due
+abbrev pub IsDueFor : Op → List Entry → Type 0
+IsDueFor asked h = (asked ≡ Restart) ⊎ IsRestartDue h
+
+module _ {D : Type 0} (told : Type 0) (state : D → DiskState) where
+  -- a place has the Provisioner out for this operation, and all that stands behind it is as when it was taken
+  pub record IsOut (o : Opening) (own : ℕ) (op : Op) (h : List Entry) (p : Provisioner D) : Type 0 where
+    pub now : Past
+    pub reckoned : ReckonsTo o.first (changes_of h) now
+    pub folded : IsFoldOf told o.site now
+    pub held : holder None h ≡ Some (entry own op Taken)
+    pub ground : ground_of p ≡ o.site
+    pub faults : min (o.faults + faults_in h) last ≤ (state p.journal.0).faults
+    pub spends : SpendsOf o (room_in h + most_room) (state p.journal.0)
+
+  -- for a change, whose work is planned, in the journal, and under way
+  pub record HasTaken (o : Opening) (own : ℕ) (op : Op) (h : List Entry) (p : Provisioner D) (r : RollingAt) : Type 0 where
+    pub out : IsOut o own op h p
+    pub change : Change
+    pub within : Meets out.now change None
+    pub rolls : Rolls told state out.now op change p r
+    pub unstopped : IsStopped h → ⊥
+
+  -- for a restart, and the rest of the last record's work is under way; it was asked for by INIT-SYS, or by an operation that waits for it
+  pub record HasRestart (o : Opening) (own : ℕ) (asked : Op) (h : List Entry) (p : Provisioner D) (r : RollingAt) : Type 0 where
+    pub out : IsOut o own Restart h p
+    pub lacking : Option Change
+    pub behind : Past
+    pub resumes : Resumes told state out.now lacking behind p r
+    pub doubt : (op : Op) → p.doubt ≡ Some op → IsUnsettled h op
+    pub due : IsDueFor asked h

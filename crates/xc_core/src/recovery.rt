@@ -1,0 +1,249 @@
+//! How a controller goes on where a stop came in the middle of a work.
+ghost use Rattle.std.specs.Prelude.{◌≡◌, ◌≢◌, ◌≤◌, ◌<◌, ◌^◌, ◌+◌, ◌↔◌, IsTrue, ℕ, [], ◌∷◌, List, length, IfSome, IsErrOf, Option, Some, Err};
+ghost use Rattle.dxc_causes.specs.Causes.{HasCause, Rose};
+ghost use Rattle.dxc_disk.specs.Disks.{IsSound, LeavesOnly, Spends};
+ghost use Rattle.dxc_model.specs.declared.op.Change.{Change};
+ghost use Rattle.dxc_model.specs.Steps.{with_change};
+ghost use Rattle.dxc_model.specs.Verdicts.{MayTake};
+ghost use Rattle.dxc_outside.specs.declared.gate.GatePlace.TheVariants.{Journal};
+ghost use Rattle.journal_core.specs.Books.{Keeps, listed};
+ghost use Rattle.paull_matrix.specs.Colourings.{Colouring};
+ghost use Rattle.paull_chain.specs.Works.{OpsMade};
+ghost use Rattle.roll_engine.specs.Rollings.{RollingAt};
+ghost use Rattle.xc_recovery.specs.Stages.{IsLastWork};
+ghost use Rattle.xc_core.specs.Reckonings.{Past};
+ghost use Rattle.xc_core.specs.Provisioners.{ground_of};
+ghost use Rattle.xc_core.specs.Restarts.{IsHalted, IsOldOrDoubted, Rejoins, Resumes, number_with, writes_left};
+ghost use Rattle.xc_core.specs.States.{IsFoldOf};
+ghost use Rattle.xc_core.specs.Recoveries.{ReadIs, Reads, RecoveredIs, RestIs, ResumedIs};
+ghost use Rattle.xc_core.specs.Endings.{Ends, IfCold, IfWarm, reports_with, with_switches};
+ghost use Rattle.xc_core.specs.Drives.{Recovers};
+
+use crate::provisioner::Provisioner;
+use crate::second::{Given, compare};
+use crate::state::State;
+use dbchg_reports::Reports;
+use dxc_disk::{Disk, DiskFault};
+use dxc_model::{Change, Table};
+use dxc_outside::{Gate, GatePlace, Pass1};
+use fabric_words::{Fabric, MoverSeat, Phase};
+use paull_chain::{apply_work, undo_work};
+use paull_matrix::Matrix;
+use roll_engine::Rolling;
+use roll_plan::Work;
+use std::mem;
+use xc_recovery::{ReplayFault, Stage, replay, stage_of, switches_left};
+
+/// How a controller can go on.
+#[derive(Drop)]
+pub enum Recovered {
+    /// The registers are at a stage of the last record's work: its rest is to be made, and each leg goes on being carried.
+    Warm(Rolling),
+    /// They aren't, or another number of switches was made: all is to be parted and joined anew.
+    Cold(Rolling),
+    /// The record of this number is bad; or so many records were read, and they give neither what is known nor that with the change in
+    /// doubt, or are another number than belongs to it.
+    Astray(u32),
+    /// The disk failed.
+    Fault,
+    /// The gate stopped before the journal was called.
+    Stopped,
+}
+
+// The rest of a work of which so many writes are made, if so many switches will then have been made; else a cold rolling, where the mover
+// is in this phase.
+fn rest(work: Work, made: usize, phase: Phase, now: u64, switches: u64) -> Recovered
+    requires few { now ≤ 2 ^ 48 }
+    ensures { RestIs work made phase now switches result }
+{
+    if now + switches_left(&work, made) == switches {
+        Recovered::Warm(Rolling::of(work, made))
+    } else {
+        Recovered::Cold(Rolling::cold_from(phase))
+    }
+}
+
+// Where the registers are on the last record's work, which led to the matrix, if so many switches will then have been made.
+fn resume(
+    matrix: &mut Matrix,
+    mover: &mut MoverSeat,
+    fabric: &Fabric,
+    work: Work,
+    switches: u64,
+) -> Recovered
+    requires own { mover.old.fabric ≡ fabric.now }
+    requires shape { matrix.old.shape ≡ fabric.now.size.shape }
+    requires made { (before : Colouring) × IsLastWork before work.ops.items matrix.old }
+    requires few { length mover.old.mover.log ≤ 2 ^ 48 }
+    ensures matrix { matrix.new ≡ matrix.old }
+    ensures mover { mover.new ≡ mover.old }
+    ensures resumed { ResumedIs fabric.now.size mover.old.mover work.ops.items matrix.old switches result }
+{
+    undo_work(matrix, &work);
+    let stage = stage_of(fabric, mover, matrix, &work);
+    apply_work(matrix, &work);
+    match stage {
+        Stage::At(made) => rest(work, made, mover.phase(), mover.switches(), switches),
+        Stage::Strange => Recovered::Cold(Rolling::cold_from(mover.phase())),
+    }
+}
+
+// Reads the journal anew, and replays it into the second matrix and table.
+fn read<D: Disk>(p: &mut Provisioner<D>) -> Result<Work, ReplayFault>
+    requires halted { (b : Past) × IsHalted D.told D.state b p.old × IsFoldOf D.told (ground_of p.old) b }
+    ensures others { p.new ≡ record p.old { journal = p.new.journal; second = p.new.second } }
+    ensures ground { ground_of p.new ≡ ground_of p.old }
+    ensures halted { (b : Past) → IsHalted D.told D.state b p.old → IsFoldOf D.told (ground_of p.old) b → IsHalted D.told D.state b p.new }
+    ensures reads { (b : Past) → IsHalted D.told D.state b p.old → IsFoldOf D.told (ground_of p.old) b → ReadIs D.told D.state b p.new result }
+    ensures good { D.told → (i : ℕ) → result ≢ Err (ReplayFault.BadRecord i) }
+    ensures any_moment { D.told → (b : Past) → IsHalted D.told D.state b p.old → LeavesOnly (D.state p.old.journal.0) (D.state p.new.journal.0) (IsOldOrDoubted b p.old.doubt) }
+    ensures acknowledged { D.told → Keeps (D.state p.old.journal.0) (D.state p.new.journal.0) (listed p.old.journal.1 (D.state p.old.journal.0).reads_as) }
+    ensures cause { HasCause (D.state p.old.journal.0).faults (D.state p.new.journal.0).faults (IsErrOf result ReplayFault.Disk) }
+    ensures room { Spends 131078 (D.state p.old.journal.0) (D.state p.new.journal.0) }
+    ensures sound { IsSound 131078 (D.state p.old.journal.0) → IsErrOf result ReplayFault.Disk → ⊥ }
+{
+    match p.journal.reread() {
+        Ok(()) => {}
+        Err(DiskFault) => return Err(ReplayFault::Disk),
+    }
+    replay(&mut p.journal, &mut p.second.matrix, &mut p.second.table)
+}
+
+impl<D: Disk> Provisioner<D> {
+    // Whether the journal counts as many records as belong to the changes, and one more if there is one.
+    fn counts_all(&self, more: Option<Change>) -> bool
+        requires { IfSome more (λ _. self.now.changes < 2 ^ 48) }
+        ensures { IsTrue result ↔ (self.now.journal.1.count ≡ self.now.first_records + number_with self.now.changes more) }
+    {
+        let Some(since) = self.journal.count().checked_sub(self.first_records) else {
+            return false;
+        };
+        u64::from(since) == changes_with(self.changes, more)
+    }
+}
+
+// How the registers can go on with what was read.
+fn go_on<D: Disk>(p: &mut Provisioner<D>, table: &Table, fabric: &Fabric, work: Work) -> Recovered
+    requires own { p.old.mover.fabric ≡ fabric.now }
+    requires reads { (b : Past) × Reads D.told D.state b p.old work.ops.items × (b.fold.table ≡ table.now) }
+    ensures others { p.new ≡ record p.old { second = p.new.second } }
+    ensures halted { (b : Past) → Reads D.told D.state b p.old work.ops.items → b.fold.table ≡ table.now → IsHalted D.told D.state b p.new }
+    ensures recovered { (b : Past) → Reads D.told D.state b p.old work.ops.items → b.fold.table ≡ table.now → RecoveredIs D.told D.state b p.old p.new result }
+    ensures resumes { (b : Past) → Reads D.told D.state b p.old work.ops.items → b.fold.table ≡ table.now → IfWarm result (λ r. (lacking : Option Change) × (g : Past) × Resumes D.told D.state b lacking g p.new r) }
+    ensures rejoins { (b : Past) → Reads D.told D.state b p.old work.ops.items → b.fold.table ≡ table.now → IfCold result (λ r. (lacking : Option Change) × (g : Past) × Rejoins D.told D.state b lacking g p.new r) }
+    ensures astray { D.told → (i : ℕ) → result ≢ Recovered.Astray i }
+    ensures warm { D.told → (r : RollingAt) → result ≢ Recovered.Cold r }
+    ensures answered { (result ≢ Recovered.Fault) × (result ≢ Recovered.Stopped) }
+{
+    match compare(&mut p.second, &mut p.matrix, table, p.doubt, p.spent) {
+        None => Recovered::Astray(p.journal.count()),
+        Some(Given { lacking, switches }) => {
+            if !p.counts_all(lacking) {
+                return Recovered::Astray(p.journal.count());
+            }
+            p.second.lacking = lacking;
+            resume(&mut p.second.matrix, &mut p.mover, fabric, work, switches)
+        }
+    }
+}
+
+/// Reads the journal anew, and finds how the registers can go on, for a Provisioner that is halted. The table is the state's.
+///
+/// It writes no register. It takes at most 131,078 of the disk's room.
+pub fn recover<D: Disk, G: Gate>(
+    p: &mut Provisioner<D>,
+    table: &Table,
+    fabric: &Fabric,
+    gate: &mut G,
+) -> Recovered
+    requires own { p.old.mover.fabric ≡ fabric.now }
+    requires halted { (b : Past) × IsHalted D.told D.state b p.old × IsFoldOf D.told (ground_of p.old) b × (b.fold.table ≡ table.now) }
+    ensures ground { ground_of p.new ≡ ground_of p.old }
+    ensures others { p.new ≡ record p.old { journal = p.new.journal; second = p.new.second } }
+    ensures halted { (b : Past) → IsHalted D.told D.state b p.old → IsFoldOf D.told (ground_of p.old) b → b.fold.table ≡ table.now → IsHalted D.told D.state b p.new }
+    ensures recovered { (b : Past) → IsHalted D.told D.state b p.old → IsFoldOf D.told (ground_of p.old) b → b.fold.table ≡ table.now → RecoveredIs D.told D.state b p.old p.new result }
+    ensures resumes { (b : Past) → IsHalted D.told D.state b p.old → IsFoldOf D.told (ground_of p.old) b → b.fold.table ≡ table.now → IfWarm result (λ r. (lacking : Option Change) × (g : Past) × Resumes D.told D.state b lacking g p.new r) }
+    ensures rejoins { (b : Past) → IsHalted D.told D.state b p.old → IsFoldOf D.told (ground_of p.old) b → b.fold.table ≡ table.now → IfCold result (λ r. (lacking : Option Change) × (g : Past) × Rejoins D.told D.state b lacking g p.new r) }
+    // A disk that tells its content is never astray, and the registers are at a stage of what it tells.
+    ensures astray { D.told → (i : ℕ) → result ≢ Recovered.Astray i }
+    ensures warm { D.told → (r : RollingAt) → result ≢ Recovered.Cold r }
+    ensures stopped { result ≡ Recovered.Stopped → Rose (G.stops gate.old) (G.stops gate.new) }
+    ensures unstopped { result ≢ Recovered.Stopped → G.stops gate.new ≡ G.stops gate.old }
+    ensures later { G.stops gate.old ≤ G.stops gate.new }
+    ensures asked { G.asked gate.old gate.new (Journal ∷ []) }
+    ensures any_moment { D.told → (b : Past) → IsHalted D.told D.state b p.old → LeavesOnly (D.state p.old.journal.0) (D.state p.new.journal.0) (IsOldOrDoubted b p.old.doubt) }
+    ensures acknowledged { D.told → Keeps (D.state p.old.journal.0) (D.state p.new.journal.0) (listed p.old.journal.1 (D.state p.old.journal.0).reads_as) }
+    ensures fault { HasCause (D.state p.old.journal.0).faults (D.state p.new.journal.0).faults (result ≡ Recovered.Fault) }
+    ensures room { Spends 131078 (D.state p.old.journal.0) (D.state p.new.journal.0) }
+    ensures sound { IsSound 131078 (D.state p.old.journal.0) → result ≢ Recovered.Fault }
+{
+    match gate.pass(GatePlace::Journal) {
+        Pass1::Stop => return Recovered::Stopped,
+        Pass1::Go => {}
+    }
+    match read(p) {
+        Ok(work) => go_on(p, table, fabric, work),
+        Err(ReplayFault::BadRecord(i)) => Recovered::Astray(i),
+        Err(ReplayFault::Disk) => Recovered::Fault,
+    }
+}
+
+/// Takes up what the journal holds, once all register writes of a recovery are made: table and reports get the change that the table
+/// lacked, if it lacked one, which is the answer, and the Provisioner is no longer halted. It is the one of that recovery, and isn't home.
+pub fn end_recovery<D: Disk>(
+    state: &mut State<D>,
+    p: &mut Provisioner<D>,
+    rolling: Rolling,
+) -> Option<Change>
+    requires recovers { (b : Past) × (lacking : Option Change) × (g : Past) × Recovers D.told D.state b lacking g p.old rolling × (b.fold.table ≡ state.old.table) }
+    requires done { writes_left p.old rolling ≡ [] }
+    requires counted { state.old.reports.newest ≡ p.old.changes }
+    ensures ground { ground_of p.new ≡ ground_of p.old }
+    ensures journal { p.new.journal ≡ p.old.journal }
+    ensures mover { p.new.mover ≡ p.old.mover }
+    ensures state { state.new ≡ record state.old { table = state.new.table; reports = reports_with result state.old.reports } }
+    ensures ends { (b : Past) → (lacking : Option Change) → (g : Past) → Resumes D.told D.state b lacking g p.old rolling → b.fold.table ≡ state.old.table → Ends D.told D.state b lacking g state.new.table p.new result }
+    // A cold one makes other switches: it ends with as many as were made.
+    ensures ends_cold { (b : Past) → (lacking : Option Change) → (g : Past) → Rejoins D.told D.state b lacking g p.old rolling → b.fold.table ≡ state.old.table → Ends D.told D.state b lacking (with_switches (length p.old.mover.mover.log) g) state.new.table p.new result }
+{
+    mem::swap(&mut p.matrix, &mut p.second.matrix);
+    let lacking = p.second.lacking;
+    take_up(&mut state.table, lacking);
+    report(&mut state.reports, lacking);
+    p.changes = changes_with(p.changes, lacking);
+    p.spent = p.mover.switches();
+    p.doubt = None;
+    p.halted = false;
+    lacking
+}
+
+// Makes a change in the table, if there is one.
+fn take_up(table: &mut Table, lacking: Option<Change>)
+    requires { IfSome lacking (MayTake table.old) }
+    ensures { table.new ≡ with_change table.old lacking }
+{
+    if let Some(change) = lacking {
+        table.take(change);
+    }
+}
+
+// Reports a change, if there is one.
+fn report(reports: &mut Reports, lacking: Option<Change>)
+    requires { IfSome lacking (λ _. reports.old.newest < 2 ^ 48) }
+    ensures { reports.new ≡ reports_with lacking reports.old }
+{
+    if let Some(change) = lacking {
+        reports.push(change);
+    }
+}
+
+// So many changes, and one more if there is one.
+fn changes_with(changes: u64, more: Option<Change>) -> u64
+    requires { IfSome more (λ _. changes < 2 ^ 48) }
+    ensures { result ≡ number_with changes more }
+{
+    match more {
+        Some(_) => changes + 1,
+        None => changes,
+    }
+}

@@ -1,0 +1,123 @@
+//! The turns of a restart.
+ghost use Rattle.std.specs.Prelude.{◌≡◌, ◌≢◌, ◌≤◌, List, []};
+ghost use Rattle.dxc_causes.specs.Causes.{Rose};
+ghost use Rattle.dxc_model.specs.declared.entry.Entry.{Entry};
+ghost use Rattle.dxc_model.specs.declared.op.Op.{Op};
+ghost use Rattle.dxc_model.specs.Steps.{IsDriven};
+ghost use Rattle.roll_engine.specs.Rollings.{rest_of};
+ghost use Rattle.xc_core.specs.Askings.{RestartAsked};
+ghost use Rattle.xc_core.specs.Seeing.{HasRestart, Saw};
+ghost use Rattle.xc_core.specs.States.{opening_of};
+ghost use Rattle.xc_core.specs.Turns.{HasPass, RestartCutIs, RestartIs, RestartedIs, SawNoneAstray};
+
+use crate::provisioner::Provisioner;
+use crate::resuming;
+use crate::state::State;
+use dxc_disk::Disk;
+use dxc_model::{Cause, Entry, Op, Outcome};
+use dxc_outside::Gate;
+use fabric_words::Fabric;
+use roll_engine::Rolling;
+use std::sync::Wait;
+use turnstile::{Pass, Turnstile};
+
+/// What came of a turn in which a restart was to begin.
+#[derive(Drop)]
+pub enum Restarting<D: Disk> {
+    /// The place has the Provisioner, and the rest of the last record's work is found.
+    Rolling(Provisioner<D>, Rolling),
+    /// The disk failed, or the journal reads otherwise than it was written. The Provisioner is home. The entry is that of the operation
+    /// for which the restart was to be made.
+    Failed(Cause),
+    /// The gate stopped. The Provisioner is home, halted.
+    Stopped,
+    /// Another place has the Provisioner; or no restart is due any more, for an operation that isn't INIT-SYS.
+    Waits,
+}
+
+/// Begins a restart: takes the Provisioner out, settles and halts it where it isn't halted, and finds how its registers go on. `asked` is
+/// INIT-SYS, or a changing operation that found a restart due; for that one nothing is done where none is due any more.
+pub fn restart<D: Disk + Drop, G: Gate, R: Wait>(
+    pass: &mut Pass,
+    turns: &Turnstile<State<D>>,
+    fabric: &Fabric,
+    asked: &Op,
+    gate: &mut G,
+    rt: &R,
+) -> Restarting<D>
+    requires pass { HasPass turns.now pass.old }
+    requires fabric { (opening_of D.state turns.now.first).site.fabric ≡ fabric.now }
+    requires asked { IsDriven asked.now }
+    requires seen { (h : List Entry) × Saw (opening_of D.state turns.now.first) pass.old.seen h }
+    ensures pass { HasPass turns.now pass.new × (pass.new.number ≡ pass.old.number) }
+    ensures restart { (h : List Entry) → Saw (opening_of D.state turns.now.first) pass.old.seen h → RestartIs D.told D.state (opening_of D.state turns.now.first) pass.old.number h asked.now pass.new.seen result }
+    ensures astray { SawNoneAstray D.told pass.new.seen }
+    ensures stopped { result ≡ Restarting.Stopped → Rose (G.stops gate.old) (G.stops gate.new) }
+    ensures unstopped { result ≢ Restarting.Stopped → G.stops gate.new ≡ G.stops gate.old }
+    ensures later { G.stops gate.old ≤ G.stops gate.new }
+    ensures asked { RestartAsked (G.asked gate.old gate.new) result }
+{
+    let mut turn = turns.enter(pass, rt);
+    let restarting = resuming::restart(turn.state_mut(), fabric, asked, gate);
+    let place = pass.number();
+    match resuming::entry_of(&restarting, asked) {
+        Some((op, outcome)) => {
+            turns.leave(pass, turn, Entry { place, op, outcome });
+            restarting
+        }
+        None => {
+            turns.back(pass, turn);
+            restarting
+        }
+    }
+}
+
+/// Ends a restart whose writes are all made: the table takes the change that it lacked, if it lacked one, and the Provisioner is home.
+pub fn end_restart<D: Disk + Drop, R: Wait>(
+    pass: &mut Pass,
+    turns: &Turnstile<State<D>>,
+    asked: &Op,
+    p: Provisioner<D>,
+    rolling: Rolling,
+    rt: &R,
+)
+    requires pass { HasPass turns.now pass.old }
+    requires restart { (h : List Entry) × Saw (opening_of D.state turns.now.first) pass.old.seen h × HasRestart D.told D.state (opening_of D.state turns.now.first) pass.old.number asked.now h p rolling }
+    requires done { rest_of rolling ≡ [] }
+    ensures pass { HasPass turns.now pass.new × (pass.new.number ≡ pass.old.number) }
+    ensures restarted { (h : List Entry) → Saw (opening_of D.state turns.now.first) pass.old.seen h → RestartedIs (opening_of D.state turns.now.first) pass.old.number h asked.now pass.new.seen }
+    ensures astray { SawNoneAstray D.told pass.new.seen }
+{
+    let _ = asked;
+    let mut turn = turns.enter(pass, rt);
+    let lacking = resuming::end(turn.state_mut(), p, rolling);
+    let place = pass.number();
+    let op = Op::Restart;
+    let outcome = Outcome::Restarted(lacking);
+    turns.leave(pass, turn, Entry { place, op, outcome });
+}
+
+/// Brings the Provisioner home halted, after a stop in a restart.
+pub fn cut_restart<D: Disk + Drop, R: Wait>(
+    pass: &mut Pass,
+    turns: &Turnstile<State<D>>,
+    asked: &Op,
+    p: Provisioner<D>,
+    rolling: &Rolling,
+    rt: &R,
+)
+    requires pass { HasPass turns.now pass.old }
+    requires restart { (h : List Entry) × Saw (opening_of D.state turns.now.first) pass.old.seen h × HasRestart D.told D.state (opening_of D.state turns.now.first) pass.old.number asked.now h p rolling.now }
+    ensures pass { HasPass turns.now pass.new × (pass.new.number ≡ pass.old.number) }
+    ensures cut { (h : List Entry) → Saw (opening_of D.state turns.now.first) pass.old.seen h → RestartCutIs (opening_of D.state turns.now.first) pass.old.number h asked.now pass.new.seen }
+    ensures astray { SawNoneAstray D.told pass.new.seen }
+{
+    let _ = asked;
+    let _ = rolling;
+    let mut turn = turns.enter(pass, rt);
+    resuming::cut(turn.state_mut(), p);
+    let place = pass.number();
+    let op = Op::Restart;
+    let outcome = Outcome::Cut;
+    turns.leave(pass, turn, Entry { place, op, outcome });
+}

@@ -1,0 +1,137 @@
+//! What a restart does with the state within one turn.
+ghost use Rattle.std.specs.Prelude.{◌≡◌, ◌≢◌, ◌≤◌, ◌⊎◌, ◌++◌, ◌∷◌, ◌↔◌, List, [], ℕ, true, false, IsTrue, IsErr, Option, OnErr, OnOk, Some};
+ghost use Rattle.dxc_causes.specs.Causes.{HasCause, Rose};
+ghost use Rattle.dxc_disk.specs.Disks.{Spends};
+ghost use Rattle.dxc_model.specs.declared.entry.Entry.{Entry};
+ghost use Rattle.dxc_model.specs.declared.entry.Outcome.TheVariants.{Cut, Restarted};
+ghost use Rattle.dxc_model.specs.declared.op.Op.{Op};
+ghost use Rattle.dxc_model.specs.declared.op.Op.TheVariants.{Restart};
+ghost use Rattle.dxc_model.specs.Steps.{IsDriven};
+ghost use Rattle.roll_engine.specs.Rollings.{RollingAt, rest_of};
+ghost use Rattle.xc_core.specs.Reckonings.{Past};
+ghost use Rattle.xc_core.specs.Provisioners.{IsHome, ground_of};
+ghost use Rattle.xc_core.specs.Restarts.{IsHalted};
+ghost use Rattle.xc_core.specs.Askings.{RestartAsked};
+ghost use Rattle.xc_core.specs.Seeing.{HasRestart, entry};
+ghost use Rattle.xc_core.specs.States.{Opening, StandsFor};
+ghost use Rattle.xc_core.specs.Turns.{RestartingIs, restart_entry_of as entry_for};
+
+use crate::provisioner::{Provisioner, halt, settle};
+use crate::recovery::{Recovered, end_recovery, recover};
+use crate::restarts::Restarting;
+use crate::state::State;
+use dxc_disk::{Disk, DiskFault};
+use dxc_model::{Cause, Change, Op, Outcome};
+use dxc_outside::Gate;
+use fabric_words::Fabric;
+use roll_engine::Rolling;
+
+// Settles the Provisioner and halts it, where it isn't halted.
+fn make_halted<D: Disk>(p: &mut Provisioner<D>) -> Result<(), DiskFault>
+    requires home { (b : Past) × (IsHome D.told D.state b p.old ⊎ IsHalted D.told D.state b p.old) }
+    ensures ground { ground_of p.new ≡ ground_of p.old }
+    ensures halted { OnOk result ((b : Past) → IsHome D.told D.state b p.old ⊎ IsHalted D.told D.state b p.old → IsHalted D.told D.state b p.new) }
+    ensures unsettled { OnErr result ((p.old.halted ≡ false) × ((b : Past) → IsHome D.told D.state b p.old → IsHome D.told D.state b p.new)) }
+    ensures doubt { (op : Op) → p.new.doubt ≡ Some op → p.old.doubt ≡ Some op }
+    ensures cause { HasCause (D.state p.old.journal.0).faults (D.state p.new.journal.0).faults (IsErr result) }
+    ensures room { Spends 3 (D.state p.old.journal.0) (D.state p.new.journal.0) }
+{
+    if p.halted() {
+        return Ok(());
+    }
+    settle(p)?;
+    halt(p);
+    Ok(())
+}
+
+// Whether a restart is to be made for this operation: it is INIT-SYS, or the Provisioner is halted.
+fn goes_for<D: Disk>(p: &Provisioner<D>, asked: &Op) -> bool
+    ensures { IsTrue result ↔ ((p.now.halted ≡ true) ⊎ (asked.now ≡ Restart)) }
+{
+    p.halted() || matches!(asked, Op::Restart)
+}
+
+/// Takes the Provisioner out and finds how its registers go on. For an operation that isn't INIT-SYS this is done only where it is
+/// halted. Where they don't go on, it is home again.
+pub fn restart<D: Disk + Drop, G: Gate>(
+    state: &mut State<D>,
+    fabric: &Fabric,
+    asked: &Op,
+    gate: &mut G,
+) -> Restarting<D>
+    requires asked { IsDriven asked.now }
+    requires stands { (o : Opening) × (h : List Entry) × StandsFor D.told D.state o state.old h × (o.site.fabric ≡ fabric.now) }
+    ensures restarting { (o : Opening) → (own : ℕ) → (h : List Entry) → StandsFor D.told D.state o state.old h → RestartingIs D.told D.state o own h asked.now state.new result }
+    ensures origin { state.new.origin ≡ state.old.origin }
+    ensures stopped { result ≡ Restarting.Stopped → Rose (G.stops gate.old) (G.stops gate.new) }
+    ensures unstopped { result ≢ Restarting.Stopped → G.stops gate.new ≡ G.stops gate.old }
+    ensures later { G.stops gate.old ≤ G.stops gate.new }
+    ensures asked { RestartAsked (G.asked gate.old gate.new) result }
+{
+    let Some(mut p) = state.take_out() else {
+        return Restarting::Waits;
+    };
+    if !goes_for(&p, asked) {
+        state.bring_home(p);
+        return Restarting::Waits;
+    }
+    match make_halted(&mut p) {
+        Ok(()) => {}
+        Err(DiskFault) => {
+            state.bring_home(p);
+            return Restarting::Failed(Cause::DiskFault);
+        }
+    }
+    match recover(&mut p, &state.table, fabric, gate) {
+        Recovered::Warm(rolling) => Restarting::Rolling(p, rolling),
+        Recovered::Cold(_) | Recovered::Astray(_) => {
+            state.bring_home(p);
+            Restarting::Failed(Cause::JournalAstray)
+        }
+        Recovered::Fault => {
+            state.bring_home(p);
+            Restarting::Failed(Cause::DiskFault)
+        }
+        Recovered::Stopped => {
+            state.bring_home(p);
+            Restarting::Stopped
+        }
+    }
+}
+
+/// Ends the restart: the table takes the change that it lacked, if it lacked one, and the Provisioner is home and ready.
+pub fn end<D: Disk + Drop>(
+    state: &mut State<D>,
+    p: Provisioner<D>,
+    rolling: Rolling,
+) -> Option<Change>
+    requires restart { (o : Opening) × (own : ℕ) × (h : List Entry) × (asked : Op) × (o.first.changes ≡ 0) × StandsFor D.told D.state o state.old h × HasRestart D.told D.state o own asked h p rolling }
+    requires done { rest_of rolling ≡ [] }
+    ensures restarted { (o : Opening) → (own : ℕ) → (h : List Entry) → (asked : Op) → StandsFor D.told D.state o state.old h → HasRestart D.told D.state o own asked h p rolling → StandsFor D.told D.state o state.new (h ++ entry own Restart (Restarted result) ∷ []) }
+    ensures origin { state.new.origin ≡ state.old.origin }
+{
+    let mut p = p;
+    let lacking = end_recovery(state, &mut p, rolling);
+    state.bring_home(p);
+    lacking
+}
+
+/// Brings the Provisioner home, halted still.
+pub fn cut<D: Disk + Drop>(state: &mut State<D>, p: Provisioner<D>)
+    ensures cut { (o : Opening) → (own : ℕ) → (h : List Entry) → (asked : Op) → (r : RollingAt) → StandsFor D.told D.state o state.old h → HasRestart D.told D.state o own asked h p r → StandsFor D.told D.state o state.new (h ++ entry own Restart Cut ∷ []) }
+    ensures origin { state.new.origin ≡ state.old.origin }
+{
+    state.bring_home(p);
+}
+
+/// Operation and outcome of the entry with which the turn ends; None where nothing was done.
+pub fn entry_of<D: Disk>(restarting: &Restarting<D>, asked: &Op) -> Option<(Op, Outcome)>
+    ensures { result ≡ entry_for asked.now restarting.now }
+{
+    match restarting {
+        Restarting::Rolling(_, _) => Some((Op::Restart, Outcome::Taken)),
+        Restarting::Failed(cause) => Some((*asked, Outcome::Failed(*cause))),
+        Restarting::Stopped => Some((Op::Restart, Outcome::Cut)),
+        Restarting::Waits => None,
+    }
+}

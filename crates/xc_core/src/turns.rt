@@ -1,0 +1,225 @@
+//! The turns of a place: each enters, does one thing with the state, and leaves with the place's entry.
+ghost use Rattle.std.specs.Prelude.{◌≡◌, ◌≢◌, ◌≤◌, List, [], length, vec_capacity};
+ghost use Rattle.std.specs.List.{AllByRecursion};
+ghost use Rattle.dxc_causes.specs.Causes.{Rose};
+ghost use Rattle.dxc_num.specs.Dimensions.{ports};
+ghost use Rattle.dxc_model.specs.declared.entry.Entry.{Entry};
+ghost use Rattle.dxc_model.specs.Histories.{kept};
+ghost use Rattle.dxc_model.specs.Operations.{IsApt, op_of};
+ghost use Rattle.dxc_model.specs.Tables.{Board, IsOfShape, rows as rows_of};
+ghost use Rattle.roll_engine.specs.Rollings.{rest_of};
+ghost use Rattle.xc_core.specs.Askings.{asked_at_take};
+ghost use Rattle.xc_core.specs.Seeing.{HasTaken, Rests, Saw};
+ghost use Rattle.xc_core.specs.States.{opening_of};
+ghost use Rattle.xc_core.specs.Turns.{CutIs, DoneIs, HasPass, LookIs, MarkIs, RowsAre, SawNoneAstray, TookIs};
+
+use crate::inside;
+use crate::provisioner::Provisioner;
+use crate::state::State;
+use dbchg_reports::Since;
+use dxc_disk::Disk;
+use dxc_model::{Cause, Change, Conn, Entry, Op, Outcome, Selection};
+use dxc_outside::Gate;
+use roll_engine::Rolling;
+use std::sync::Wait;
+use turnstile::{Pass, Turnstile};
+
+/// What came of a turn in which a change was to begin.
+#[derive(Drop)]
+pub enum Took<D: Disk> {
+    /// The place has the Provisioner, and the change's work is planned and in the journal.
+    Rolling(Provisioner<D>, Rolling),
+    Denied(Cause),
+    /// The gate stopped. The Provisioner is home, halted.
+    Stopped,
+    /// The Provisioner is home and halted: a restart is due.
+    Halted,
+    /// Another place has the Provisioner.
+    Waits,
+}
+
+/// Takes the Provisioner out for a change.
+pub fn take<D: Disk + Drop, G: Gate, R: Wait>(
+    pass: &mut Pass,
+    turns: &Turnstile<State<D>>,
+    op: &Op,
+    gate: &mut G,
+    rt: &R,
+) -> Took<D>
+    requires pass { HasPass turns.now pass.old }
+    requires apt { IsApt (opening_of D.state turns.now.first).first.fold.table.shape op.now }
+    requires seen { (h : List Entry) × Saw (opening_of D.state turns.now.first) pass.old.seen h }
+    ensures pass { HasPass turns.now pass.new × (pass.new.number ≡ pass.old.number) }
+    ensures took { (h : List Entry) → Saw (opening_of D.state turns.now.first) pass.old.seen h → TookIs D.told D.state (opening_of D.state turns.now.first) pass.old.number h op.now pass.new.seen result }
+    ensures astray { SawNoneAstray D.told pass.new.seen }
+    ensures stopped { result ≡ Took.Stopped → Rose (G.stops gate.old) (G.stops gate.new) }
+    ensures unstopped { result ≢ Took.Stopped → G.stops gate.new ≡ G.stops gate.old }
+    ensures later { G.stops gate.old ≤ G.stops gate.new }
+    ensures asked { G.asked gate.old gate.new (asked_at_take result) }
+{
+    let mut turn = turns.enter(pass, rt);
+    let took = inside::take(turn.state_mut(), op, gate);
+    let place = pass.number();
+    match inside::outcome_of(&took) {
+        Some(outcome) => {
+            turns.leave(
+                pass,
+                turn,
+                Entry {
+                    place,
+                    op: *op,
+                    outcome,
+                },
+            );
+            took
+        }
+        None => {
+            turns.back(pass, turn);
+            took
+        }
+    }
+}
+
+/// Lets the table take the change whose writes are all made, and brings the Provisioner home.
+pub fn bring<D: Disk + Drop, R: Wait>(
+    pass: &mut Pass,
+    turns: &Turnstile<State<D>>,
+    op: &Op,
+    p: Provisioner<D>,
+    rolling: Rolling,
+    rt: &R,
+)
+    requires pass { HasPass turns.now pass.old }
+    requires taken { (h : List Entry) × Saw (opening_of D.state turns.now.first) pass.old.seen h × HasTaken D.told D.state (opening_of D.state turns.now.first) pass.old.number op.now h p rolling }
+    requires done { rest_of rolling ≡ [] }
+    ensures pass { HasPass turns.now pass.new × (pass.new.number ≡ pass.old.number) }
+    ensures done { (h : List Entry) → Saw (opening_of D.state turns.now.first) pass.old.seen h → DoneIs (opening_of D.state turns.now.first) pass.old.number h op.now pass.new.seen }
+    ensures astray { SawNoneAstray D.told pass.new.seen }
+{
+    let mut turn = turns.enter(pass, rt);
+    let change = inside::bring(turn.state_mut(), p, rolling);
+    let place = pass.number();
+    let outcome = Outcome::Done(change);
+    turns.leave(
+        pass,
+        turn,
+        Entry {
+            place,
+            op: *op,
+            outcome,
+        },
+    );
+}
+
+/// Brings the Provisioner home halted, after a stop.
+pub fn cut<D: Disk + Drop, R: Wait>(
+    pass: &mut Pass,
+    turns: &Turnstile<State<D>>,
+    op: &Op,
+    p: Provisioner<D>,
+    rolling: &Rolling,
+    rt: &R,
+)
+    requires pass { HasPass turns.now pass.old }
+    requires taken { (h : List Entry) × Saw (opening_of D.state turns.now.first) pass.old.seen h × HasTaken D.told D.state (opening_of D.state turns.now.first) pass.old.number op.now h p rolling.now }
+    ensures pass { HasPass turns.now pass.new × (pass.new.number ≡ pass.old.number) }
+    ensures cut { (h : List Entry) → Saw (opening_of D.state turns.now.first) pass.old.seen h → CutIs (opening_of D.state turns.now.first) pass.old.number h op.now pass.new.seen }
+    ensures astray { SawNoneAstray D.told pass.new.seen }
+{
+    let _ = rolling;
+    let mut turn = turns.enter(pass, rt);
+    inside::cut(turn.state_mut(), p);
+    let place = pass.number();
+    let outcome = Outcome::Cut;
+    turns.leave(
+        pass,
+        turn,
+        Entry {
+            place,
+            op: *op,
+            outcome,
+        },
+    );
+}
+
+/// Gives the connections of a selection.
+pub fn rows<D: Disk + Drop, R: Wait>(
+    pass: &mut Pass,
+    turns: &Turnstile<State<D>>,
+    selection: Selection,
+    into: &mut Vec<Conn>,
+    rt: &R,
+)
+    requires pass { HasPass turns.now pass.old }
+    requires seen { (h : List Entry) × Saw (opening_of D.state turns.now.first) pass.old.seen h × Rests pass.old.number h }
+    requires room { ports (opening_of D.state turns.now.first).first.fold.table.shape ≤ vec_capacity into.old }
+    ensures pass { HasPass turns.now pass.new × (pass.new.number ≡ pass.old.number) }
+    ensures rows { (h : List Entry) → Saw (opening_of D.state turns.now.first) pass.old.seen h → RowsAre (opening_of D.state turns.now.first) pass.old.number h selection pass.new.seen into.new.items }
+    ensures astray { SawNoneAstray D.told pass.new.seen }
+    ensures table { (t : Board) × IsOfShape t × (t.shape ≡ (opening_of D.state turns.now.first).first.fold.table.shape) × (into.new.items ≡ rows_of t selection) }
+    ensures room { vec_capacity into.new ≡ vec_capacity into.old }
+{
+    let turn = turns.enter(pass, rt);
+    let table = &turn.state().table;
+    // Its clause tells that the table's ports are of the shape.
+    let _shape = table.shape();
+    table.rows(selection, into);
+    let place = pass.number();
+    let op = Op::Rows(selection);
+    let outcome = Outcome::Answered;
+    turns.leave(pass, turn, Entry { place, op, outcome });
+}
+
+/// What a look at the changes found.
+#[derive(Clone, Copy, Debug, PartialEq, Eq)]
+pub struct Looked {
+    pub since: Since,
+    /// The number of the newest change.
+    pub newest: u64,
+}
+
+/// Gives the changes behind a number; none where that is past the newest.
+pub fn look<D: Disk + Drop, R: Wait>(
+    pass: &mut Pass,
+    turns: &Turnstile<State<D>>,
+    cursor: u64,
+    into: &mut Vec<Change>,
+    rt: &R,
+) -> Looked
+    requires pass { HasPass turns.now pass.old }
+    requires seen { (h : List Entry) × Saw (opening_of D.state turns.now.first) pass.old.seen h × Rests pass.old.number h }
+    requires room { kept ≤ vec_capacity into.old }
+    ensures pass { HasPass turns.now pass.new × (pass.new.number ≡ pass.old.number) }
+    ensures look { (h : List Entry) → Saw (opening_of D.state turns.now.first) pass.old.seen h → LookIs (opening_of D.state turns.now.first) pass.old.number h cursor pass.new.seen result into.new.items }
+    ensures astray { SawNoneAstray D.told pass.new.seen }
+    ensures few { length into.new.items ≤ result.newest }
+    ensures apt { AllByRecursion (λ c. IsApt (opening_of D.state turns.now.first).first.fold.table.shape (op_of c)) into.new.items }
+    ensures room { vec_capacity into.old ≤ vec_capacity into.new }
+{
+    let turn = turns.enter(pass, rt);
+    let reports = &turn.state().reports;
+    let newest = reports.newest();
+    let since = reports.since(cursor.min(newest), into);
+    let place = pass.number();
+    let op = Op::Look(cursor);
+    let outcome = Outcome::Answered;
+    turns.leave(pass, turn, Entry { place, op, outcome });
+    Looked { since, newest }
+}
+
+/// Gives the number of the newest change.
+pub fn mark<D: Disk + Drop, R: Wait>(pass: &mut Pass, turns: &Turnstile<State<D>>, rt: &R) -> u64
+    requires pass { HasPass turns.now pass.old }
+    requires seen { (h : List Entry) × Saw (opening_of D.state turns.now.first) pass.old.seen h × Rests pass.old.number h }
+    ensures pass { HasPass turns.now pass.new × (pass.new.number ≡ pass.old.number) }
+    ensures mark { (h : List Entry) → Saw (opening_of D.state turns.now.first) pass.old.seen h → MarkIs (opening_of D.state turns.now.first) pass.old.number h pass.new.seen result }
+    ensures astray { SawNoneAstray D.told pass.new.seen }
+{
+    let turn = turns.enter(pass, rt);
+    let newest = turn.state().reports.newest();
+    let place = pass.number();
+    let op = Op::Look(newest);
+    let outcome = Outcome::Answered;
+    turns.leave(pass, turn, Entry { place, op, outcome });
+    newest
+}
