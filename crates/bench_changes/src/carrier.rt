@@ -68,6 +68,12 @@ impl Carrier {
 impl Gate for Carrier {
     ghost stops = { λ _. 0 };
 
+    ghost asked = { λ _ _ _. Unit {0} };
+
+    ghost unasked = { λ _. tt };
+
+    ghost asked_on = { λ _ _ _ _ _ _ _. tt };
+
     fn pass(&mut self, place: GatePlace) -> Pass1 {
         self.carry();
         // The journal is called first, while the leg still carries.

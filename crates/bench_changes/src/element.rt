@@ -2,8 +2,8 @@ ghost use Rattle.std.specs.Prelude.{◌≡◌, ◌↔◌, [], IfOk, IsTrue};
 ghost use Rattle.std.specs.Arc.{arc_value};
 ghost use Rattle.dxc_model.specs.Operations.{ArePorts, IsApt};
 ghost use Rattle.fabric_core.specs.State.{new_worker};
-ghost use Rattle.xc_core.specs.States.{Opening, StandsFor};
-ghost use Rattle.bench_changes.specs.Elements.{IsReady, IsTaken};
+ghost use Rattle.fabric_words.specs.Seats.{FabricId};
+ghost use Rattle.bench_changes.specs.Elements.{IsNew, IsReady, IsTaken, Takes, entry, deletion};
 
 use anyhow::{Context, Result, bail, ensure};
 use dxc_disk::{Disk, MemDisk};
@@ -45,7 +45,7 @@ fn start<D: Disk + Drop>(
     shelf: &Shelf,
     disk: D,
 ) -> Result<(Fabric, WorkerSeat, State<D>)>
-    ensures started { IfOk result (λ t. (o : Opening) × (o.ground.fabric ≡ t.0) × StandsFor D.told D.state o t.2 []) }
+    ensures started { IfOk result (λ t. IsNew D.told D.state t.0 t.2) }
     ensures seat { IfOk result (λ t. t.1.reader ≡ record { fabric = t.0; worker = new_worker 0 }) }
 {
     let Ok((fabric, mover, mut seats)) = Fabric::new(alloc, shelf.shape(), 1) else {
@@ -60,8 +60,7 @@ fn start<D: Disk + Drop>(
 
 /// Takes the Provisioner of a controller that was started.
 fn taken<D: Disk + Drop>(state: &mut State<D>) -> Result<Provisioner<D>>
-    requires { (o : Opening) × StandsFor D.told D.state o state.old [] }
-    ensures { (o : Opening) → StandsFor D.told D.state o state.old [] → IfOk result (IsTaken D.told D.state o state.new) }
+    ensures { (f : FabricId) → IsNew D.told D.state f state.old → IfOk result (IsTaken D.told D.state f state.new) }
 {
     let p = state.take_out().context("no Provisioner")?;
     ensure!(!p.halted(), "halted");
@@ -87,7 +86,8 @@ pub fn open(alloc: Global, shape: Shape) -> Result<(Element, WorkerSeat)>
 fn change<G: Gate>(element: &mut Element, op: &Op, gate: &mut G) -> Result<()>
     requires apt { IsApt element.old.state.table.shape op.now }
     requires ready { IsReady element.old }
-    ensures { IfOk result (λ _. IsReady element.new) }
+    ensures ready { IfOk result (λ _. IsReady element.new) }
+    ensures taken { IfOk result (λ _. Takes element.old.state.table op.now element.new.state.table) }
 {
     let mut rolling = match begin(&mut element.p, &element.state.table, op, gate) {
         Begun::Rolling(rolling) => rolling,
@@ -110,7 +110,8 @@ fn are_ports(shape: Shape, leg: Leg) -> bool
 /// Enters the one-way connection of a leg. An error: it was denied, or held up.
 pub fn enter<G: Gate>(element: &mut Element, leg: Leg, gate: &mut G) -> Result<()>
     requires { IsReady element.old }
-    ensures { IfOk result (λ _. IsReady element.new) }
+    ensures ready { IfOk result (λ _. IsReady element.new) }
+    ensures taken { IfOk result (λ _. Takes element.old.state.table (entry leg) element.new.state.table) }
 {
     ensure!(are_ports(element.state.table.shape(), leg), "no two ports");
     let conn = Conn {
@@ -124,7 +125,8 @@ pub fn enter<G: Gate>(element: &mut Element, leg: Leg, gate: &mut G) -> Result<(
 /// Deletes the connection of a leg. An error: it was denied, or held up.
 pub fn delete<G: Gate>(element: &mut Element, leg: Leg, gate: &mut G) -> Result<()>
     requires { IsReady element.old }
-    ensures { IfOk result (λ _. IsReady element.new) }
+    ensures ready { IfOk result (λ _. IsReady element.new) }
+    ensures taken { IfOk result (λ _. Takes element.old.state.table (deletion leg) element.new.state.table) }
 {
     ensure!(are_ports(element.state.table.shape(), leg), "no two ports");
     let op = Op::Delete {

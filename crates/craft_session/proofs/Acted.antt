@@ -1,56 +1,112 @@
 -- What was asked was done: the entries of it.
-use Rattle.std.proofs.Common.{◌≡◌, ◌⊎◌, List, [], ◌∷◌, ◌++◌, refl, sym, ◌∙◌, ap, subst, append-nil, inl, inr}
-use Rattle.dxc_disk.specs.Disks.{DiskState}
+use Rattle.std.proofs.Common.{◌≡◌, ℕ, length, List, [], ◌∷◌, ◌++◌, append-nil, append_assoc, Some, inl, inr, refl, sym, ◌∙◌, ap, subst}
+use base.Stored.{Gv}
 use Rattle.dxc_model.specs.declared.cause.Cause.{Cause}
-use Rattle.dxc_model.specs.declared.cause.Cause.TheVariants.{DiskFault}
+use Rattle.dxc_model.specs.declared.cause.Cause.TheVariants.{DiskFault, JournalFull, SwitchLimit, JournalAstray}
 use Rattle.dxc_model.specs.declared.conn.Conn.{Conn}
 use Rattle.dxc_model.specs.declared.op.Op.{Op}
-use Rattle.dxc_model.specs.declared.op.Op.TheVariants.{Rows}
+use Rattle.dxc_model.specs.declared.op.Op.TheVariants.{Look, Restart, Rows}
 use Rattle.dxc_model.specs.declared.op.Selection.{Selection}
-use Rattle.dxc_model.specs.declared.entry.Outcome.TheVariants.{Done, Denied, Failed, Answered}
+use Rattle.dxc_model.specs.declared.entry.Outcome.{Outcome}
+use Rattle.dxc_model.specs.declared.entry.Outcome.TheVariants.{Done, Failed, Restarted, Answered}
 use Rattle.dxc_model.specs.declared.entry.Entry.{Entry}
-use Rattle.dxc_model.specs.declared.user.SessionUser.{SessionUser}
-use Rattle.dxc_model.specs.Tables.{Board, rows}
-use Rattle.dxc_model.specs.Steps.{IsLimit}
-use Rattle.xc_core.specs.declared.state.State.{State}
-use Rattle.xc_core.specs.States.{Opening, StandsFor}
-use Rattle.xc_core.proofs.Standing.{stands_listed, table_is}
+use Rattle.dxc_model.specs.Histories.{changes_of}
+use Rattle.xc_core.specs.States.{Opening}
+use Rattle.xc_core.specs.Seeing.{Saw, entry, refused}
+use Rattle.xc_core.specs.Turns.{MarkIs, RowsAre}
 use Rattle.craft_session.specs.declared.ask.Ask.{Ask}
-use Rattle.craft_session.specs.declared.ask.Ask.TheVariants.{Lists, Changes}
-use Rattle.craft_session.specs.Asks.{Reply, completed, completed_rows, denied}
-use Rattle.craft_session.specs.Seats.{IsFaulty, Went}
-use Rattle.craft_session.proofs.Changing.{went_idle}
-use Rattle.craft_session.specs.Walks.{own, entry, Serves}
+use Rattle.craft_session.specs.declared.ask.Ask.TheVariants.{Allows, Lists, Restarts, Changes}
+use Rattle.craft_session.specs.declared.attending.Attending.{Attending}
 use Rattle.craft_session.specs.declared.change.Changed.{Changed}
 use Rattle.craft_session.specs.declared.change.Changed.TheVariants as changed
-use Rattle.craft_session.specs.Changing.{ChangedIs}
-use Rattle.craft_session.specs.Acting.{Acts}
+use Rattle.craft_session.specs.Acting.{Acts, Stops}
+use Rattle.craft_session.specs.Asks.{Reply, completed, completed_rows, cursor_from, denied, restarted}
+use Rattle.craft_session.specs.Changing.{ChangedIs, MendedTo, Passed, WarmRestartIs}
+use Rattle.craft_session.specs.Walks.{ChangeReply, IsChangeAt, Mends, RestartReply, Serves, attending_after}
+use Rattle.craft_session.proofs.Changing.{others_unused}
 
-module _ {D : Type 0} (told : Type 0) (state : D → DiskState) (o : Opening) (h : List Entry) where
+-- the reply to a denied operation, however it is entered
+refused_reply : (q : Cause) → ChangeReply (refused q) (denied q)
+refused_reply JournalFull = refl
+refused_reply SwitchLimit = refl
+refused_reply DiskFault = refl
+refused_reply JournalAstray = refl
+refused_reply _ = refl
+
+module _ (o : Opening) (place : ℕ) (h : List Entry) (s : Attending) where
   -- nothing was entered
-  pub acts_nothing : (s : State D) (u z : SessionUser) (a : Ask) (r : Reply) → StandsFor told state o s h → Serves own o.first.fold.table h u a [] r z → Acts told state o h u a r z s s
-  acts_nothing s u z a r st serves = record { entries = []; serves = serves; stands = subst (λ (x : List Entry). StandsFor told state o s x) (sym (append-nil h)) st; went = went_idle told state s; alone = tt }
-
-  pub acts_listed : (s : State D) (u : SessionUser) (which : Selection) (cs : List Conn) → StandsFor told state o s h → cs ≡ rows s.table which → Acts told state o h u (Lists which) (completed_rows cs) u s s
-  acts_listed s u which cs st is = record {
-    entries = entry own (Rows which) Answered ∷ [];
-    serves = (refl, ap completed_rows (is ∙ ap (λ (b : Board). rows b which) (table_is told state o s h st)), refl);
-    stands = stands_listed told state o s h st own which;
-    went = went_idle told state s;
-    alone = (record { place = refl; ended = tt }, tt);
+  pub acts_nothing : (a : Ask) (r : Reply) (z : Attending) (seen : List Gv) → Saw o seen h → Serves place o.first.fold.table (h ++ []) a [] r → z ≡ attending_after s (length (changes_of (h ++ []))) a → Acts o place h s a r z seen
+  acts_nothing a r z seen saw serves attending = record {
+    passed = [];
+    unused = tt;
+    entries = [];
+    serves = serves;
+    attending = attending;
+    saw = subst (λ (l : List Entry). Saw o seen l) (sym (append-nil h) ∙ sym (append-nil (h ++ []))) saw;
   }
 
-  module _ (b s : State D) (went : Went state 1 b s) where
-    pub acts_done : (u : SessionUser) (op : Op) (how : Changed) → how ≡ changed.Done → ChangedIs told state o h op b s how → Acts told state o h u (Changes op) completed u b s
-    acts_done u op how is x =
-        let y = subst (λ (z : Changed). ChangedIs told state o h op b s z) is x in
-        record { entries = entry own op (Done y.0) ∷ []; serves = ((Done y.0, refl, refl), refl); stands = y.1; went = went; alone = (record { place = refl; ended = tt }, tt) }
+  pub acts_listed : (which : Selection) (seen : List Gv) (given : List Conn) → RowsAre o place h which seen given → Acts o place h s (Lists which) (completed_rows given) s seen
+  acts_listed which seen given x = record {
+    passed = x.0.later;
+    unused = others_unused place x.0.later x.0.others;
+    entries = entry place (Rows which) Answered ∷ [];
+    serves = (refl, ap completed_rows x.1);
+    attending = refl;
+    saw = x.0.saw;
+  }
 
-    acts_denied : (u : SessionUser) (op : Op) (q : Cause) → StandsFor told state o s (h ++ entry own op (Denied q) ∷ []) → Acts told state o h u (Changes op) (denied q) u b s
-    acts_denied u op q st = record { entries = entry own op (Denied q) ∷ []; serves = ((Denied q, refl, refl), refl); stands = st; went = went; alone = (record { place = refl; ended = tt }, tt) }
+  pub acts_marked : (n : ℕ) (seen : List Gv) → MarkIs o place h seen n → Acts o place h s Allows completed (record { user = s.user; watch = Some (cursor_from s.watch n) }) seen
+  acts_marked n seen x = record {
+    passed = x.0.later;
+    unused = others_unused place x.0.later x.0.others;
+    entries = entry place (Look n) Answered ∷ [];
+    serves = (ap (λ (k : ℕ). entry place (Look k) Answered ∷ []) x.1, refl);
+    attending = ap (λ (k : ℕ). record { user = s.user; watch = Some (cursor_from s.watch k) }) x.1;
+    saw = x.0.saw;
+  }
 
-    acts_failed : (u : SessionUser) (op : Op) (q : Cause) → IsLimit q ⊎ (IsFaulty state 1 b s × (q ≡ DiskFault)) → StandsFor told state o s (h ++ entry own op (Failed q) ∷ []) → Acts told state o h u (Changes op) (denied q) u b s
-    acts_failed u op q ended st = record { entries = entry own op (Failed q) ∷ []; serves = ((Failed q, refl, refl), refl); stands = st; went = went; alone = (record { place = refl; ended = ended }, tt) }
+  module _ (op : Op) (seen : List Gv) (how : Changed) (x : ChangedIs o place h op seen how) where
+    -- the operation stands behind what was mended
+    changes_by : (out : Outcome) (r : Reply) (m : MendedTo o place h (entry place op out) seen) → IsChangeAt (h ++ m.front) out → ChangeReply out r → Acts o place h s (Changes op) r s seen
+    changes_by out r m fits reply =
+        let all : h ++ [] ≡ h = append-nil h in
+        record {
+          passed = [];
+          unused = tt;
+          entries = m.front ++ entry place op out ∷ [];
+          serves = record {
+            front = m.front;
+            mends = subst (λ (l : List Entry). Mends place l m.front) (sym all) m.mends;
+            outcome = out;
+            all = refl;
+            fits = subst (λ (l : List Entry). IsChangeAt (l ++ m.front) out) (sym all) fits;
+            reply = reply;
+          };
+          attending = refl;
+          saw = subst (λ (l : List Entry). Saw o seen l) (append_assoc h m.front (entry place op out ∷ []) ∙ ap (λ (l : List Entry). l ++ (m.front ++ entry place op out ∷ [])) (sym all)) m.saw;
+        }
 
-    pub acts_refused : (u : SessionUser) (op : Op) (q : Cause) (how : Changed) → how ≡ changed.Denied q → ChangedIs told state o h op b s how → Acts told state o h u (Changes op) (denied q) u b s
-    acts_refused u op q how is x = elim (subst (λ (z : Changed). ChangedIs told state o h op b s z) is x) [ inl st ↦ acts_denied u op q st | inr st ↦ acts_failed u op q st.0 st.1 ]
+    pub acts_done : how ≡ changed.Done → Acts o place h s (Changes op) completed s seen
+    acts_done is = let y = subst (λ (z : Changed). ChangedIs o place h op seen z) is x in changes_by (Done y.0) completed y.1 y.2 refl
+
+    pub acts_refused : (q : Cause) → how ≡ changed.Denied q → Acts o place h s (Changes op) (denied q) s seen
+    acts_refused q is = let y = subst (λ (z : Changed). ChangedIs o place h op seen z) is x in changes_by (refused q) (denied q) y.0 y.1 (refused_reply q)
+
+    pub acts_stopped : how ≡ changed.Stopped → Stops o place h s (Changes op) s seen
+    acts_stopped is = elim (subst (λ (z : Changed). ChangedIs o place h op seen z) is x) [
+      | inl cut ↦ record { front = cut.0.front; stands = cut.0.mends; op = op; cuts = inl (refl, cut.1); attending = refl; saw = cut.0.saw }
+      | inr restart ↦ record { front = restart.0.front; stands = restart.0.mends; op = Restart; cuts = inr (refl, restart.1); attending = refl; saw = restart.0.saw }
+    ]
+
+  module _ (seen : List Gv) (how : Changed) (x : WarmRestartIs o place h seen how) where
+    restarts_by : (out : Outcome) (r : Reply) → Passed o place h (entry place Restart out) seen → RestartReply out r → Acts o place h s Restarts r s seen
+    restarts_by out r p reply = record { passed = p.passed; unused = p.unused; entries = entry place Restart out ∷ []; serves = (out, refl, reply); attending = refl; saw = p.saw }
+
+    pub acts_restarted : how ≡ changed.Done → Acts o place h s Restarts restarted s seen
+    acts_restarted is = let y = subst (λ (z : Changed). WarmRestartIs o place h seen z) is x in restarts_by (Restarted y.0) restarted y.1 refl
+
+    pub acts_unrestarted : (q : Cause) → how ≡ changed.Denied q → Acts o place h s Restarts (denied q) s seen
+    acts_unrestarted q is = let y = subst (λ (z : Changed). WarmRestartIs o place h seen z) is x in restarts_by (Failed q) (denied q) y refl
+
+    pub acts_cut : how ≡ changed.Stopped → Stops o place h s Restarts s seen
+    acts_cut is = let y = subst (λ (z : Changed). WarmRestartIs o place h seen z) is x in record { front = y.passed; stands = y.unused; op = Restart; cuts = refl; attending = refl; saw = y.saw }

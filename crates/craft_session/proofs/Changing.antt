@@ -1,146 +1,250 @@
--- A changing command's entry.
-use Rattle.std.proofs.Common.{◌≡◌, ◌≤◌, true, false, List, [], ◌∷◌, ◌++◌, Some, arith, refl, sym, ◌∙◌, ap, subst, inl, inr}
-use Rattle.dxc_causes.specs.Causes.{HasCause}
-use Rattle.dxc_disk.specs.Disks.{DiskState, Spends}
-use Rattle.dxc_disk.proofs.DiskSteps.{spends_none}
-use Rattle.dxc_model.specs.declared.cause.Cause.{Cause}
-use Rattle.dxc_model.specs.declared.cause.Cause.TheVariants.{DiskFault}
+-- A changing command's entries, behind those that no unit uses.
+use Rattle.std.proofs.Common.{◌≡◌, ◌≢◌, ℕ, List, [], ◌∷◌, ◌++◌, append-nil, append_assoc, Option, refl, sym, ◌∙◌, ap, subst, inl, inr}
+use base.Stored.{Gv}
+use Rattle.turnstile.specs.Turning.{Each}
+use Rattle.dxc_disk.specs.Disks.{DiskState}
+use Rattle.dxc_num.specs.Dimensions.{Dimensions}
 use Rattle.dxc_model.specs.declared.op.Op.{Op}
+use Rattle.dxc_model.specs.declared.op.Op.TheVariants.{Restart}
 use Rattle.dxc_model.specs.declared.op.Change.{Change}
-use Rattle.dxc_model.specs.declared.entry.Entry.{Entry}
+use Rattle.dxc_model.specs.declared.cause.Cause.{Cause}
+use Rattle.dxc_model.specs.declared.cause.Cause.TheVariants.{DiskFault, JournalFull, SwitchLimit, JournalAstray}
+use Rattle.dxc_model.specs.declared.entry.Outcome.{Outcome}
+use Rattle.dxc_model.specs.declared.entry.Outcome.TheVariants.{Cut, Failed, Restarted, Taken}
 use Rattle.dxc_model.specs.declared.entry.Outcome.TheVariants as outcome
-use Rattle.dxc_model.specs.Tables.{Board}
-use Rattle.dxc_model.specs.Verdicts.{effect}
-use Rattle.journal_core.specs.declared.book.Book.{Book}
+use Rattle.dxc_model.specs.Operations.{IsApt}
+use Rattle.dxc_model.specs.Steps.{IsFault}
+use Rattle.dxc_model.specs.Histories.{IsRestartDue, IsStopped}
+use Rattle.dxc_model.specs.declared.entry.Entry.{Entry}
 use Rattle.roll_engine.specs.Rollings.{RollingAt}
-use Rattle.fabric_words.specs.Seats.{FabricId}
-use Rattle.xc_recovery.proofs.Placing.{effect_shape}
 use Rattle.xc_core.specs.declared.provisioner.Provisioner.{Provisioner}
-use Rattle.xc_core.specs.declared.beginning.Begun.{Begun}
-use Rattle.xc_core.specs.declared.beginning.Begun.TheVariants as begun
-use Rattle.xc_core.specs.declared.state.Home.{Home}
-use Rattle.xc_core.specs.declared.state.Home.TheVariants.{In, Out}
-use Rattle.xc_core.specs.declared.state.State.{State}
-use Rattle.xc_core.specs.Reckonings.{Past}
-use Rattle.xc_core.specs.Provisioners.{Ground, IsHome, Rolls, ground_of, with_halt}
-use Rattle.xc_core.specs.Begins.{BegunIs}
-use Rattle.xc_core.specs.Finishes.{Finishes}
-use Rattle.xc_core.specs.Openings.{disk_home}
-use Rattle.xc_core.specs.States.{Opening, StandsFor}
-use Rattle.xc_core.proofs.Standing.{IsReadyAfter, ready_home, over_limit, stands_denied, stands_failed, stands_faulted, stands_held, stands_done, stands_cut}
+use Rattle.xc_core.specs.declared.turns.Took.{Took}
+use Rattle.xc_core.specs.declared.turns.Took.TheVariants as took
+use Rattle.xc_core.specs.States.{Opening}
+use Rattle.xc_core.specs.declared.restarts.Restarting.{Restarting}
+use Rattle.xc_core.specs.declared.restarts.Restarting.TheVariants as restarting
+use Rattle.xc_core.specs.Seeing.{HasRestart, HasTaken, IsDueFor, Saw, Turned, TurnedBack, entry, refused}
+use Rattle.xc_core.specs.Turns.{CutIs, DoneIs, RestartCutIs, RestartIs, RestartedIs, TookIs}
 use Rattle.craft_session.specs.declared.change.Changed.{Changed}
 use Rattle.craft_session.specs.declared.change.Changed.TheVariants.{Done, Denied, Stopped}
-use Rattle.craft_session.specs.Changing.{ChangedIs, HasBegun}
-use Rattle.craft_session.specs.Seats.{IsSeated, WentDisk, IsFaultyDisk, Went, disk_at, disk_in, most_room}
-use Rattle.craft_session.specs.Walks.{entry, own}
+use Rattle.craft_session.specs.declared.mend.Mended.{Mended}
+use Rattle.craft_session.specs.declared.mend.Mended.TheVariants as mended
+use Rattle.craft_session.specs.Changing.{ChangedIs, MendedBy, MendedIs, MendedTo, Passed, PassedBy, WarmRestartIs}
+use Rattle.craft_session.specs.Walks.{IsChangeAt, IsMend, IsUnused, Mends}
 
-module _ {D : Type 0} (told : Type 0) (state : D → DiskState) where
-  -- the disk of a Provisioner at home
-  pub home_disk : (h : Home D) (d : D) (P : DiskState → Type 0) → disk_home h ≡ Some d → P (state d) → P (disk_at state h)
-  home_disk (In p) d P is x = let e : p.journal.0 ≡ d = cc in subst (λ (y : D). P (state y)) (sym e) x
-  home_disk Out d P is x = cc
+pub each_append : {X : Type 0} (P : X → Type 0) (xs ys : List X) → Each P xs → Each P ys → Each P (xs ++ ys)
+each_append P [] ys a b = b
+each_append P (x ∷ xs) ys a b = (a.0, each_append P xs ys a.1 b)
 
-  -- a state that no command changed
-  pub went_idle : (s : State D) → Went state 1 s s
-  went_idle s = record { later = omega arith; spends = spends_none 40 (disk_in state s) }
+-- others' entries are used by no unit
+pub others_unused : (own : ℕ) (es : List Entry) → Each (λ e. e.place ≢ own) es → Each (IsUnused own) es
+others_unused own [] a = tt
+others_unused own (e ∷ es) a = (inl a.0, others_unused own es a.1)
 
-  module _ (s : State D) (p : Provisioner D) (is : s.home ≡ In p) (ready : p.halted ≡ false) where
-    -- the disk before a command
-    pub at_first : (P : DiskState → Type 0) → P (state p.journal.0) → P (disk_in state s)
-    at_first P x = subst (λ (h : Home D). P (disk_at state h)) (sym is) x
+-- and need no restart
+pub unused_mends : (own : ℕ) (h es : List Entry) → Each (IsUnused own) es → Mends own h es
+unused_mends own h [] a = tt
+unused_mends own h (e ∷ es) a = (inl a.0, unused_mends own (h ++ e ∷ []) es a.1)
 
-    -- one call planned on it, and the Provisioner came home with its disk
-    pub went_by : {failed : Type 0} (after : State D) (q : Provisioner D) → disk_home after.home ≡ Some q.journal.0 → HasCause (state p.journal.0).faults (state q.journal.0).faults failed → Spends most_room (state p.journal.0) (state q.journal.0) → Went state 1 s after
-    went_by after q home fault room = at_first (λ (a : DiskState). WentDisk 1 a (disk_in state after)) (home_disk after.home q.journal.0 (λ (b : DiskState). WentDisk 1 (state p.journal.0) b) home (record { later = fault.later; spends = room }))
+pub mends_join : (own : ℕ) (h f g : List Entry) → Mends own h f → Mends own (h ++ f) g → Mends own h (f ++ g)
+mends_join own h [] g m n = subst (λ (l : List Entry). Mends own l g) (append-nil h) n
+mends_join own h (e ∷ es) g m n = (m.0, mends_join own (h ++ e ∷ []) es g m.1 (subst (λ (l : List Entry). Mends own l g) (sym (append_assoc h (e ∷ []) es)) n))
 
-    -- the Provisioner that was taken may begin
-    pub may_begin : (i : FabricId) → IsSeated told state i s → (b : Past) × IsHome told state b p × (b.fold.table ≡ s.table)
-    may_begin i seat = let st = seat.3 in (st.now, (ready_home told state seat.0 s seat.1 st p is ready).home, sym st.table)
+-- an operation of the shape is no restart, so that one is due
+pub due_now : (d : Dimensions) (op : Op) (h : List Entry) → IsApt d op → IsDueFor op h → IsRestartDue h
+due_now d op h apt due = elim due [ inl restart ↦ absurd (subst (λ (x : Op). IsApt d x) restart apt) | inr x ↦ x ]
 
-    pub on_fabric : (i : FabricId) → IsSeated told state i s → p.mover.fabric ≡ i
-    on_fabric i seat = ap (λ (g : Ground). g.fabric) (ready_home told state seat.0 s seat.1 seat.3 p is ready).ground ∙ seat.2
+-- what comes of a change that no stop stood before
+change_at : (h : List Entry) (out : Outcome) → (IsStopped h → ⊥) → (out ≡ Failed JournalAstray → ⊥) → IsChangeAt h out
+change_at h out going never = record { stopped = λ x. absurd (going x); astray = λ is. absurd (never is) }
 
-    -- a call planned an operation on the state that is left
-    module _ (op : Op) (q : Provisioner D) (same : ground_of q ≡ ground_of p) (later : (state p.journal.0).faults ≤ (state q.journal.0).faults) (left : State D) (table : left.table ≡ s.table) (how : Begun) (begins : (b : Past) → IsHome told state b p → b.fold.table ≡ left.table → BegunIs told state b op p q how) where
-      module _ (o : Opening) (h : List Entry) (st : StandsFor told state o s h) where
-        abbrev taken : IsReadyAfter told state o st.now h p
-        taken = ready_home told state o s h st p is ready
+refused_astray : (q : Cause) → q ≢ JournalAstray → refused q ≡ Failed JournalAstray → ⊥
+refused_astray JournalFull not is = cc
+refused_astray SwitchLimit not is = cc
+refused_astray DiskFault not is = cc
+refused_astray JournalAstray not is = not refl
+refused_astray _ not is = cc
 
-        said : BegunIs told state st.now op p q how
-        said = begins st.now taken.home (sym st.table ∙ sym table)
+-- a fault of the journal, where a restart was due
+fault_at : (h : List Entry) (q : Cause) → IsFault q → IsRestartDue h → IsChangeAt h (Failed q)
+fault_at h q fault due = record { stopped = λ _. (q, fault, refl); astray = λ _. due }
 
-        -- it was denied
-        pub was_denied : (cause : Cause) (after : State D) → how ≡ begun.Denied cause → after ≡ record { table = left.table; home = In q } → (how ≡ begun.Denied DiskFault → IsFaultyDisk 1 (state p.journal.0) (state q.journal.0)) → ChangedIs told state o h op s after (Denied cause)
-        was_denied cause after how_is after_is faulty =
-            let x = subst (λ (y : Begun). BegunIs told state st.now op p q y) how_is said in
-            subst (λ (y : State D). ChangedIs told state o h op s y (Denied cause)) (sym after_is) (elim x.1 [
-              | inl same_as ↦ elim same_as.0 [
-                | inl r ↦ inl (stands_denied told state o s h st own op p q taken left.table table same later cause r same_as.1)
-                | inr l ↦ inr (inl (over_limit st.now op cause l), stands_failed told state o s h st own op p q taken left.table table same later cause l same_as.1)
-              ]
-              | inr fault ↦ (let f = faulty (how_is ∙ ap begun.Denied fault.0) in
-                  inr (
-                    inr (at_first (λ (a : DiskState). IsFaultyDisk 1 a (state q.journal.0)) f, fault.0),
-                    subst (λ (y : Cause). StandsFor told state o (record { table = left.table; home = In q }) (h ++ entry own op (outcome.Failed y) ∷ [])) (sym fault.0) (stands_faulted told state o s h st own op p q taken left.table table same later fault.1 fault.2 f.rose x.0),
-                  ))
-            ])
+fault_refused : (q : Cause) → IsFault q → refused q ≡ Failed q
+fault_refused q f = elim f [ inl is ↦ ap refused is ∙ sym (ap Failed is) | inr is ↦ ap refused is ∙ sym (ap Failed is) ]
 
-        -- the gate stopped before its record was journalled
-        pub was_held : (after : State D) → how ≡ begun.Stopped → after ≡ record { table = left.table; home = In (with_halt true q) } → ChangedIs told state o h op s after Stopped
-        was_held after how_is after_is =
-            let x = subst (λ (y : Begun). BegunIs told state st.now op p q y) how_is said in
-            subst (λ (y : State D). ChangedIs told state o h op s y Stopped) (sym after_is)
-            (stands_held told state o s h st own op p (with_halt true q) taken left.table table same later x.1 (ap (λ (y : Provisioner D). with_halt true y) x.2))
+module _ (o : Opening) (own : ℕ) (h : List Entry) where
+  pub passed_none : (seen : List Gv) → Saw o seen h → PassedBy o own h seen
+  passed_none seen saw = record { passed = []; unused = tt; saw = subst (λ (l : List Entry). Saw o seen l) (sym (append-nil h)) saw }
 
-        -- its work was planned
-        pub was_planned : (r : RollingAt) → how ≡ begun.Rolling r → HasBegun told state o h op left q r
-        was_planned r how_is =
-            let x = subst (λ (y : Begun). BegunIs told state st.now op p q y) how_is said in
-            record { whole = s; before = p; home_is = is; was_ready = ready; stands = st; table = table; ground = same; later = later; change = x.change; within = x.within; rolls = x.rolls }
+  abbrev pub turned_passed : (e : Entry) (seen : List Gv) → Turned o own h e seen → Passed o own h e seen
+  turned_passed e seen t = record { passed = t.later; unused = others_unused own t.later t.others; saw = t.saw }
 
-      -- and is under way
-      pub may_carry_out : (i : FabricId) → IsSeated told state i s → (r : RollingAt) → how ≡ begun.Rolling r → (b : Past) × (x : Op) × (c : Change) × Rolls told state b x c q r × (b.fold.table ≡ left.table)
-      may_carry_out i seat r how_is =
-          let b = was_planned seat.0 seat.1 seat.3 r how_is in
-          (b.stands.now, op, b.change, b.rolls, sym b.stands.table ∙ sym b.table)
+  -- one turn more that was given back
+  pub passed_back : (seen then_seen : List Gv) (b : PassedBy o own h seen) → TurnedBack o own (h ++ b.passed) then_seen → PassedBy o own h then_seen
+  passed_back seen then_seen b t = record {
+    passed = b.passed ++ t.later;
+    unused = each_append (IsUnused own) b.passed t.later b.unused (others_unused own t.later t.others);
+    saw = subst (λ (l : List Entry). Saw o then_seen l) (append_assoc h b.passed t.later) t.saw;
+  }
 
-  module _ (o : Opening) (h : List Entry) (op : Op) (s : State D) (p : Provisioner D) (r : RollingAt) (b : HasBegun told state o h op s p r) where
-    abbrev was : IsReadyAfter told state o b.stands.now h b.before
-    was = ready_home told state o b.whole h b.stands b.before b.home_is b.was_ready
+  -- an entry behind what was passed
+  abbrev pub passed_on : (e : Entry) (seen then_seen : List Gv) (b : PassedBy o own h seen) → Passed o own (h ++ b.passed) e then_seen → Passed o own h e then_seen
+  passed_on e seen then_seen b p = record {
+    passed = b.passed ++ p.passed;
+    unused = each_append (IsUnused own) b.passed p.passed b.unused p.unused;
+    saw = subst (λ (l : List Entry). Saw o then_seen (l ++ e ∷ [])) (append_assoc h b.passed p.passed) p.saw;
+  }
 
-    -- its disk is the one that the planning left
-    later_by : (x : Provisioner D) → x.journal ≡ p.journal → (state b.before.journal.0).faults ≤ (state x.journal.0).faults
-    later_by x same = subst (λ (j : D × Book). (state b.before.journal.0).faults ≤ (state j.0).faults) (sym same) b.later
+  -- the entry by which the place took the Provisioner is passed too
+  abbrev pub taken_passed : (op : Op) (seen : List Gv) → Turned o own h (entry own op Taken) seen → PassedBy o own h seen
+  taken_passed op seen t = record {
+    passed = t.later ++ entry own op Taken ∷ [];
+    unused = each_append (IsUnused own) t.later (entry own op Taken ∷ []) (others_unused own t.later t.others) (inr refl, tt);
+    saw = subst (λ (l : List Entry). Saw o seen l) (append_assoc h t.later (entry own op Taken ∷ [])) t.saw;
+  }
 
-    -- all its writes were made, and the table took it
-    pub was_done : (whole : State D) (t : RollingAt) (q x : Provisioner D) (after : State D) (table : Board) (answer : Change)
-        → ((f : Past) (y : Op) (c : Change) → Rolls told state f y c p r → Rolls told state f y c q t)
-        → ((f : Past) (y : Op) (c : Change) → Rolls told state f y c q t → f.fold.table ≡ s.table → Finishes told state f c t table x answer)
-        → ground_of x ≡ ground_of p → x.journal ≡ p.journal → after ≡ record { table = table; home = In x } → ChangedIs told state o h op whole after Done
-    was_done whole t q x after table answer goes finishes ground journal is =
-        let rolls = goes b.stands.now op b.change b.rolls in
-        let end = finishes b.stands.now op b.change rolls (sym b.stands.table ∙ sym b.table) in
-        subst (λ (y : State D). ChangedIs told state o h op whole y Done) (sym is)
-        (b.change, stands_done told state o b.whole h b.stands own op b.before x was s.table b.table (ground ∙ b.ground) (later_by x journal) b.change t.work.ops.items table (end.table_is ∙ ap (λ (y : Board). effect y b.change) (sym b.stands.table)) rolls.granted rolls.planned b.within end.home end.settled)
+  pub mended_none : (seen : List Gv) → Saw o seen h → MendedBy o own h seen
+  mended_none seen saw = record { front = []; mends = tt; saw = subst (λ (l : List Entry). Saw o seen l) (sym (append-nil h)) saw }
 
-    -- a stop came
-    pub was_stopped : (whole : State D) (t : RollingAt) (q : Provisioner D) (after : State D) → ((f : Past) (y : Op) (c : Change) → Rolls told state f y c p r → Rolls told state f y c q t) → ground_of q ≡ ground_of p → q.journal ≡ p.journal
-        → after ≡ record { table = s.table; home = In (with_halt true q) } → ChangedIs told state o h op whole after Stopped
-    was_stopped whole t q after goes ground journal is =
-        let rolls = goes b.stands.now op b.change b.rolls in
-        subst (λ (y : State D). ChangedIs told state o h op whole y Stopped) (sym is)
-        (stands_cut told state o b.whole h b.stands own op b.before (with_halt true q) was s.table b.table (ground ∙ b.ground) (later_by q journal) b.change t b.within (halted rolls) refl)
-      where
-        halted : Rolls told state b.stands.now op b.change q t → Rolls told state b.stands.now op b.change (with_halt false (with_halt true q)) t
-        halted x = record { ready = refl; matrix = x.matrix; placed = x.placed; doubt = x.doubt; granted = x.granted; planned = x.planned; journalled = x.journalled; under_way = x.under_way; switches = x.switches; changes = x.changes; few = x.few }
+  -- turns that entered nothing
+  abbrev pub mended_back : (seen then_seen : List Gv) (b : MendedBy o own h seen) → PassedBy o own (h ++ b.front) then_seen → MendedBy o own h then_seen
+  mended_back seen then_seen b p = record {
+    front = b.front ++ p.passed;
+    mends = mends_join own h b.front p.passed b.mends (unused_mends own (h ++ b.front) p.passed p.unused);
+    saw = subst (λ (l : List Entry). Saw o then_seen l) (append_assoc h b.front p.passed) p.saw;
+  }
 
-  -- the state stands for some history still
-  pub seated_after : (i : FabricId) (o : Opening) (h : List Entry) (op : Op) (whole s : State D) (how : Changed) → o.ground.fabric ≡ i → ChangedIs told state o h op whole s how → IsSeated told state i s
-  seated_after i o h op whole s Done same x = (o, _, same, x.1)
-  seated_after i o h op whole s (Denied q) same x = elim x [ inl st ↦ (o, _, same, st) | inr st ↦ (o, _, same, st.1) ]
-  seated_after i o h op whole s Stopped same x = (o, _, same, x)
+  -- a restart more
+  pub mended_more : (seen then_seen : List Gv) (b : MendedBy o own h seen) (c : Option Change) (p : Passed o own (h ++ b.front) (entry own Restart (Restarted c)) then_seen) → IsRestartDue ((h ++ b.front) ++ p.passed) → MendedBy o own h then_seen
+  mended_more seen then_seen b c p due =
+      let e = entry own Restart (Restarted c) in
+      let unused = unused_mends own (h ++ b.front) p.passed p.unused in
+      let mend : IsMend own ((h ++ b.front) ++ p.passed) e = record { mine = refl; restarts = refl; made = (c, refl); due = due } in
+      record {
+        front = b.front ++ (p.passed ++ e ∷ []);
+        mends = mends_join own h b.front (p.passed ++ e ∷ []) b.mends (mends_join own (h ++ b.front) p.passed (e ∷ []) unused (inr mend, tt));
+        saw = subst (λ (l : List Entry). Saw o then_seen l) (append_assoc (h ++ b.front) p.passed (e ∷ []) ∙ append_assoc h b.front (p.passed ++ e ∷ [])) p.saw;
+      }
 
-  -- a change keeps the shape
-  pub shape_after : (f : Past) (c : Change) (r : RollingAt) (before table : Board) (p : Provisioner D) (answer : Change) (after : State D) → f.fold.table ≡ before → Finishes told state f c r table p answer → after ≡ record { table = table; home = In p } → after.table.shape ≡ before.shape
-  shape_after f c r before table p answer after same x is =
-      ap (λ (s : State D). s.table.shape) is ∙ ap (λ (b : Board). b.shape) x.table_is ∙ effect_shape f.fold.table c ∙ ap (λ (b : Board). b.shape) same
+  -- an entry behind them
+  abbrev mended_on : (e : Entry) (seen then_seen : List Gv) (b : MendedBy o own h seen) → MendedTo o own (h ++ b.front) e then_seen → MendedTo o own h e then_seen
+  mended_on e seen then_seen b m = record {
+    front = b.front ++ m.front;
+    mends = mends_join own h b.front m.front b.mends m.mends;
+    saw = subst (λ (l : List Entry). Saw o then_seen (l ++ e ∷ [])) (append_assoc h b.front m.front) m.saw;
+  }
+
+  pub changed_on : (op : Op) (seen then_seen : List Gv) (b : MendedBy o own h seen) (how : Changed) → ChangedIs o own (h ++ b.front) op then_seen how → ChangedIs o own h op then_seen how
+  changed_on op seen then_seen b Done x = (x.0, mended_on _ seen then_seen b x.1, subst (λ (l : List Entry). IsChangeAt l (outcome.Done x.0)) (append_assoc h b.front x.1.front) x.2)
+  changed_on op seen then_seen b (Denied q) x = (mended_on _ seen then_seen b x.0, subst (λ (l : List Entry). IsChangeAt l (refused q)) (append_assoc h b.front x.0.front) x.1)
+  changed_on op seen then_seen b Stopped x = elim x [
+    | inl cut ↦ inl (mended_on _ seen then_seen b cut.0, subst (λ (l : List Entry). IsStopped l → ⊥) (append_assoc h b.front cut.0.front) cut.1)
+    | inr restart ↦ inr (mended_on _ seen then_seen b restart.0, subst IsRestartDue (append_assoc h b.front restart.0.front) restart.1)
+  ]
+
+  abbrev passed_mended : (e : Entry) (seen : List Gv) → Passed o own h e seen → MendedTo o own h e seen
+  passed_mended e seen p = record { front = p.passed; mends = unused_mends own h p.passed p.unused; saw = p.saw }
+
+  abbrev turned_mended : (e : Entry) (seen : List Gv) → Turned o own h e seen → MendedTo o own h e seen
+  turned_mended e seen t = passed_mended e seen (turned_passed e seen t)
+
+  -- the work was carried out
+  pub changed_done : (op : Op) (seen : List Gv) → DoneIs o own h op seen → ChangedIs o own h op seen Done
+  changed_done op seen x = (x.0, turned_mended (entry own op (outcome.Done x.0)) seen x.1, change_at (h ++ x.1.later) (outcome.Done x.0) x.2 (λ is. cc))
+
+  pub changed_cut : (op : Op) (seen : List Gv) → CutIs o own h op seen → ChangedIs o own h op seen Stopped
+  changed_cut op seen x = inl (turned_mended (entry own op Cut) seen x.0, x.1)
+
+  -- a restart ended, failed or was cut
+  module _ (d : Dimensions) (op : Op) (apt : IsApt d op) (seen : List Gv) where
+    pub mend_denied : (q : Cause) → MendedIs o own h op seen (mended.Denied q) → ChangedIs o own h op seen (Denied q)
+    mend_denied q x =
+        let due = due_now d op (h ++ x.0.passed) apt x.2 in
+        let m = passed_mended (entry own op (Failed q)) seen x.0 in
+        subst (λ (out : Outcome). (m : MendedTo o own h (entry own op out) seen) × IsChangeAt (h ++ m.front) out) (sym (fault_refused q x.1)) (m, fault_at (h ++ x.0.passed) q x.1 due)
+
+    pub mend_stopped : MendedIs o own h op seen mended.Stopped → ChangedIs o own h op seen Stopped
+    mend_stopped x = inr (passed_mended (entry own Restart Cut) seen x.0, due_now d op (h ++ x.0.passed) apt x.1)
+
+  -- the Provisioner was taken, and the work carried out
+  module _ {D : Type 0} (told : Type 0) (state : D → DiskState) (op : Op) (seen : List Gv) (t : Took D) (at : TookIs told state o own h op seen t) where
+    pub took_rolling : (p : Provisioner D) (r : RollingAt) → t ≡ took.Rolling p r → (turn : Turned o own h (entry own op Taken) seen) × HasTaken told state o own op ((h ++ turn.later) ++ entry own op Taken ∷ []) p r
+    took_rolling p r is = subst (λ (x : Took D). TookIs told state o own h op seen x) is at
+
+    pub took_denied : (q : Cause) → t ≡ took.Denied q → ChangedIs o own h op seen (Denied q)
+    took_denied q is =
+        let x = subst (λ (y : Took D). TookIs told state o own h op seen y) is at in
+        (turned_mended (entry own op (refused q)) seen x.0, change_at (h ++ x.0.later) (refused q) x.1 (refused_astray q x.2))
+
+    pub took_stopped : t ≡ took.Stopped → ChangedIs o own h op seen Stopped
+    took_stopped is = changed_cut op seen (subst (λ (x : Took D). TookIs told state o own h op seen x) is at)
+
+    pub took_halted : t ≡ took.Halted → TurnedBack o own h seen
+    took_halted is = (subst (λ (x : Took D). TookIs told state o own h op seen x) is at).0
+
+    pub took_back : t ≡ took.Waits → TurnedBack o own h seen
+    took_back is = subst (λ (x : Took D). TookIs told state o own h op seen x) is at
+
+  -- the turns of a restart
+  abbrev pub turned_back_passed : (seen : List Gv) → TurnedBack o own h seen → PassedBy o own h seen
+  turned_back_passed seen t = record { passed = t.later; unused = others_unused own t.later t.others; saw = t.saw }
+
+  pub mended_on_turns : (asked : Op) (seen then_seen : List Gv) (b : PassedBy o own h seen) (how : Mended) → MendedIs o own (h ++ b.passed) asked then_seen how → MendedIs o own h asked then_seen how
+  mended_on_turns asked seen then_seen b mended.Ready x = (x.0, passed_on _ seen then_seen b x.1, subst (λ (l : List Entry). IsDueFor asked l) (append_assoc h b.passed x.1.passed) x.2)
+  mended_on_turns asked seen then_seen b (mended.Denied q) x = (passed_on _ seen then_seen b x.0, x.1, subst (λ (l : List Entry). IsDueFor asked l) (append_assoc h b.passed x.0.passed) x.2)
+  mended_on_turns asked seen then_seen b mended.Stopped x = (passed_on _ seen then_seen b x.0, subst (λ (l : List Entry). IsDueFor asked l) (append_assoc h b.passed x.0.passed) x.1)
+  mended_on_turns asked seen then_seen b mended.Waits x = record {
+    passed = b.passed ++ x.passed;
+    unused = each_append (IsUnused own) b.passed x.passed b.unused x.unused;
+    saw = subst (λ (l : List Entry). Saw o then_seen l) (append_assoc h b.passed x.passed) x.saw;
+  }
+
+  pub mended_ready : (asked : Op) (seen : List Gv) → RestartedIs o own h asked seen → MendedIs o own h asked seen mended.Ready
+  mended_ready asked seen x = (x.0, turned_passed (entry own Restart (Restarted x.0)) seen x.1, x.2)
+
+  pub mended_cut : (asked : Op) (seen : List Gv) → RestartCutIs o own h asked seen → MendedIs o own h asked seen mended.Stopped
+  mended_cut asked seen x = (turned_passed (entry own Restart Cut) seen x.0, x.1)
+
+  module _ {D : Type 0} (told : Type 0) (state : D → DiskState) (asked : Op) (seen : List Gv) (t : Restarting D) (at : RestartIs told state o own h asked seen t) where
+    pub restart_rolling : (p : Provisioner D) (r : RollingAt) → t ≡ restarting.Rolling p r → (turn : Turned o own h (entry own Restart Taken) seen) × HasRestart told state o own asked ((h ++ turn.later) ++ entry own Restart Taken ∷ []) p r
+    restart_rolling p r is = subst (λ (x : Restarting D). RestartIs told state o own h asked seen x) is at
+
+    pub restart_failed : (q : Cause) → t ≡ restarting.Failed q → MendedIs o own h asked seen (mended.Denied q)
+    restart_failed q is =
+        let x = subst (λ (y : Restarting D). RestartIs told state o own h asked seen y) is at in
+        (turned_passed (entry own asked (Failed q)) seen x.0, x.1, x.2)
+
+    pub restart_stopped : t ≡ restarting.Stopped → MendedIs o own h asked seen mended.Stopped
+    restart_stopped is =
+        let x = subst (λ (y : Restarting D). RestartIs told state o own h asked seen y) is at in
+        (turned_passed (entry own Restart Cut) seen x.0, x.1)
+
+    pub restart_waits : t ≡ restarting.Waits → MendedIs o own h asked seen mended.Waits
+    restart_waits is = turned_back_passed seen (subst (λ (x : Restarting D). RestartIs told state o own h asked seen x) is at)
+
+  -- INIT-SYS: what came of it, behind turns that entered nothing
+  module _ (seen then_seen : List Gv) (b : PassedBy o own h seen) (how : Mended) (x : MendedIs o own (h ++ b.passed) Restart then_seen how) where
+    abbrev on : MendedIs o own h Restart then_seen how
+    on = mended_on_turns Restart seen then_seen b how x
+
+    pub warm_done : how ≡ mended.Ready → WarmRestartIs o own h then_seen Done
+    warm_done is = let y = subst (λ (z : Mended). MendedIs o own h Restart then_seen z) is on in (y.0, y.1)
+
+    pub warm_denied : (q : Cause) → how ≡ mended.Denied q → WarmRestartIs o own h then_seen (Denied q)
+    warm_denied q is = (subst (λ (z : Mended). MendedIs o own h Restart then_seen z) is on).0
+
+    pub warm_stopped : how ≡ mended.Stopped → WarmRestartIs o own h then_seen Stopped
+    warm_stopped is = (subst (λ (z : Mended). MendedIs o own h Restart then_seen z) is on).0
+
+    pub warm_waits : how ≡ mended.Waits → PassedBy o own h then_seen
+    warm_waits is = subst (λ (z : Mended). MendedIs o own h Restart then_seen z) is on
+
+  -- a changing command, behind restarts that were due
+  module _ (d : Dimensions) (op : Op) (apt : IsApt d op) (seen then_seen : List Gv) (b : MendedBy o own h seen) (how : Mended) (x : MendedIs o own (h ++ b.front) op then_seen how) where
+    pub mends_ready : how ≡ mended.Ready → MendedBy o own h then_seen
+    mends_ready is =
+        let y = subst (λ (z : Mended). MendedIs o own (h ++ b.front) op then_seen z) is x in
+        mended_more seen then_seen b y.0 y.1 (due_now d op ((h ++ b.front) ++ y.1.passed) apt y.2)
+
+    pub mends_wait : how ≡ mended.Waits → MendedBy o own h then_seen
+    mends_wait is = mended_back seen then_seen b (subst (λ (z : Mended). MendedIs o own (h ++ b.front) op then_seen z) is x)

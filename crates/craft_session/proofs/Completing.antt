@@ -10,16 +10,15 @@ use Rattle.dxc_model.specs.Verdicts.{judged, verdict}
 use Rattle.dxc_model.proofs.Verdicts.{none_of}
 use Rattle.xc_core.specs.States.{LimitBehind}
 use Rattle.xc_core.proofs.Reckoning.{limits_once}
-use Rattle.craft_session.specs.Plain.{At, Judges, Makes}
+use Rattle.craft_session.specs.Plain.{Judges, Makes}
 use Rattle.craft_session.specs.Laws.{CanBeEntered, EntriesAreCompleted}
 
 granted : (t : Board) (c : Conn) → CanBeEntered t c → verdict t (Enter c) ≡ Some (Ok (change.Enter c))
 granted t c h = ap (λ (o : Option Cause). judged o (Some (change.Enter c))) (none_of t (Enter c) (record { equipped = h.equipped; free = h.free; other_cct = refl; idle = refl; bare = refl; there = refl }))
 
 pub entries_completed : EntriesAreCompleted
-entries_completed o a b c r h met replies =
-    let x = subst (λ (v : Option (Result Change Cause)). Judges (LimitBehind o.first) ⊥ a v r b) (granted a.table c h) replies in
-    let j : (met : Option Cause) × LimitBehind o.first a.changes (change.Enter c) met × Makes a (change.Enter c) met r b = elim x [ inl y ↦ y | inr y ↦ absurd y.0 ] in
+entries_completed o a c r did h met replies =
+    let x = subst (λ (v : Option (Result Change Cause)). Judges (LimitBehind o.first) (λ q. ⊥) a.changes v r did) (granted a.table c h) replies in
+    let j : (met : Option Cause) × LimitBehind o.first a.changes (change.Enter c) met × Makes (change.Enter c) met r did = elim x [ inl y ↦ y | inr y ↦ absurd y.1 ] in
     let none = limits_once o.first a.changes (change.Enter c) j.0 None j.1 met in
-    let made = subst (λ (m : Option Cause). Makes a (change.Enter c) m r b) none j.2 in
-    (made.0, ap (λ (x : At). x.table) made.1)
+    subst (λ (m : Option Cause). Makes (change.Enter c) m r did) none j.2

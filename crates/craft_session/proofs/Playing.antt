@@ -1,38 +1,39 @@
 -- A run over a legal history is the plain session's.
-use Rattle.std.proofs.Common.{◌≡◌, ℕ, List, [], ◌∷◌, ◌++◌, Option, Some, None, Result, Ok, Err, refl, sym, ◌∙◌, ap, ap₂, subst, append_assoc, append-nil, inl, inr}
+use Rattle.std.specs.Prelude.{is_some, option_to_list}
 use Rattle.std.specs.List.{AllByRecursion}
-use Rattle.std.specs.Prelude.{option_to_list}
+use Rattle.std.proofs.Common.{◌≡◌, ◌⊎◌, ℕ, Bool, false, length, List, [], ◌∷◌, ◌++◌, Option, Some, None, Result, Ok, Err, refl, sym, ◌∙◌, ap, subst, append_assoc, append-nil, inl, inr}
 use Rattle.dxc_model.specs.declared.cause.Cause.{Cause}
+use Rattle.dxc_model.specs.declared.cause.Cause.TheVariants.{DiskFault}
 use Rattle.dxc_model.specs.declared.op.Op.{Op}
-use Rattle.dxc_model.specs.declared.op.Op.TheVariants.{Rows}
+use Rattle.dxc_model.specs.declared.op.Op.TheVariants.{Look, Restart, Rows}
 use Rattle.dxc_model.specs.declared.op.Change.{Change}
 use Rattle.dxc_model.specs.declared.entry.Outcome.{Outcome}
 use Rattle.dxc_model.specs.declared.entry.Outcome.TheVariants.{Done, Denied, Failed, Answered, Restarted, Cut, Taken}
 use Rattle.dxc_model.specs.declared.entry.Entry.{Entry}
-use Rattle.dxc_model.specs.declared.user.SessionUser.{SessionUser}
-use Rattle.dxc_model.specs.declared.user.SessionUser.TheVariants.{Nobody}
-use Rattle.dxc_model.specs.Tables.{Board, rows}
+use Rattle.dxc_model.specs.Tables.{Board}
 use Rattle.dxc_model.specs.Verdicts.{Grants, verdict}
-use Rattle.dxc_model.specs.Steps.{IsLimit, IsFault, made}
-use Rattle.dxc_model.specs.Histories.{Rules, Fits, GoesOn, IsLegal, changes_of, table_after}
-use Rattle.dxc_model.proofs.Growth.{changes_append, legal_so_far, table_append, table_more}
+use Rattle.dxc_model.specs.Steps.{IsFault, IsLimit, StepsTo, made, with_change}
+use Rattle.dxc_model.specs.Histories.{Fits, GoesOn, IsInDoubt, IsLegal, KeepsDoubt, Rules, changes_of, table_after}
+use Rattle.dxc_model.proofs.Growth.{changes_append, legal_so_far, table_more}
+use Rattle.xc_core.specs.Seeing.{entry}
 use Rattle.craft_session.specs.declared.ask.Ask.{Ask}
-use Rattle.craft_session.specs.declared.ask.Ask.TheVariants.{Refused, LogsIn, LogsOut, Greets, Lists, Changes}
-use Rattle.craft_session.specs.Acting.{IsEnded, IsOwn}
-use Rattle.craft_session.specs.Asks.{Reply, Language, completed_rows, denied}
-use Rattle.craft_session.specs.Happenings.{unit, units_in}
-use Rattle.craft_session.specs.Walks.{own, entry, ChangeReply, Serves}
-use Rattle.craft_session.specs.Runs.{Walk, Run, begins, responds, waits}
-use Rattle.craft_session.specs.Plain.{At, Limit, Makes, Decides, Judges, Replies, Responds}
-use Rattle.craft_session.specs.Laws.{standing}
-use Rattle.craft_session.proofs.Streams.{units_in-append, units_in-quiet}
+use Rattle.craft_session.specs.declared.ask.Ask.TheVariants.{Refused, LogsIn, LogsOut, Greets, Allows, Inhibits, Lists, Restarts, Changes}
+use Rattle.craft_session.specs.declared.attending.Attending.{Attending}
+use Rattle.craft_session.specs.Asks.{Language, Reply, denied}
+use Rattle.craft_session.specs.Happenings.{Happening, unit, quiet}
+use Rattle.craft_session.specs.Runs.{Run, Walk, begins, passes, responds, waits, looks, with_entry}
+use Rattle.craft_session.specs.Walks.{ChangeReply, IsUnused, Mends, RestartReply, Serves, attending_after, nobody}
+use Rattle.craft_session.specs.Plain.{Answers, At, Attends, Decides, Ends, Excuse, IsReport, Judges, Limit, Meanwhile, Plays, PlaysTo, Prepares, PreparesFor, Replies, Reports, Said, TakesUp, after_ask, joined, ready, silence, standing, took_up, waited, with_one}
 
 -- the last entry of a legal history fits those before it
-pub legal_last : (r : Rules) (past h : List Entry) (e : Entry) → GoesOn r past (h ++ e ∷ []) → Fits r (past ++ h) e
+legal_last : (r : Rules) (past h : List Entry) (e : Entry) → GoesOn r past (h ++ e ∷ []) → Fits r (past ++ h) e
 legal_last r past [] e goes = subst (λ (p : List Entry). Fits r p e) (sym (append-nil past)) goes.0
 legal_last r past (x ∷ xs) e goes = subst (λ (p : List Entry). Fits r p e) (append_assoc past (x ∷ []) xs) (legal_last r (past ++ x ∷ []) xs e goes.1)
 
-each_front : {X : Type 0} (P : X → Type 0) (xs ys : List X) → AllByRecursion P (xs ++ ys) → AllByRecursion P xs
+pub fits_last : (r : Rules) (h : List Entry) (e : Entry) → IsLegal r (h ++ e ∷ []) → Fits r h e
+fits_last r h e legal = legal_last r [] h e legal
+
+pub each_front : {X : Type 0} (P : X → Type 0) (xs ys : List X) → AllByRecursion P (xs ++ ys) → AllByRecursion P xs
 each_front P [] ys a = tt
 each_front P (x ∷ xs) ys a = (a.0, each_front P xs ys a.1)
 
@@ -40,166 +41,307 @@ pub each_last : {X : Type 0} (P : X → Type 0) (xs : List X) (y : X) → AllByR
 each_last P [] y a = a.0
 each_last P (x ∷ xs) y a = each_last P xs y a.1
 
-abbrev at : Board → List Change → SessionUser → At
-at t cs s = record { table = t; changes = cs; user = s }
+-- what was written
 
-at_same : (t u : Board) (cs ds : List Change) (s z : SessionUser) → t ≡ u → cs ≡ ds → s ≡ z → at t cs s ≡ at u ds z
-at_same t u cs ds s z e f g = rw (e, f, g) refl
+pub joined_nothing : {M : Type 0} (x : Said M) → joined x silence ≡ x
+joined_nothing x = λ i. record { moments = append-nil x.moments i; bytes = append-nil x.bytes i }
 
--- an entry that makes no change leaves the plain session where it was
-stands_still : (t : Board) (h : List Entry) (e : Entry) (s z : SessionUser) → made e.outcome ≡ None → table_after t (h ++ e ∷ []) ≡ table_after t h → z ≡ s → standing t (h ++ e ∷ []) z ≡ standing t h s
-stands_still t h e s z none table same =
-    at_same _ _ _ _ z s table (changes_append h (e ∷ []) ∙ ap (λ (o : Option Change). changes_of h ++ (option_to_list o ++ [])) none ∙ append-nil (changes_of h)) same
+joined_assoc : {M : Type 0} (x y z : Said M) → joined (joined x y) z ≡ joined x (joined y z)
+joined_assoc x y z = λ i. record { moments = append_assoc x.moments y.moments z.moments i; bytes = append_assoc x.bytes y.bytes z.bytes i }
 
-apart : (q : Cause) → IsLimit q → IsFault q → ⊥
+-- where the session stands behind one entry more, and behind none
+stood_on : (t : Board) (h : List Entry) (e : Entry) (z : Attending) → standing t (h ++ e ∷ []) z ≡ record { table = with_change (table_after t h) (made e.outcome); changes = changes_of h ++ option_to_list (made e.outcome); attending = z }
+stood_on t h e z =
+    let changes : changes_of (h ++ e ∷ []) ≡ changes_of h ++ option_to_list (made e.outcome) = changes_append h (e ∷ []) ∙ ap (λ (cs : List Change). changes_of h ++ cs) (append-nil (option_to_list (made e.outcome))) in
+    λ i. record { table = table_more t h e i; changes = changes i; attending = z }
+
+pub stood_still : (t : Board) (h : List Entry) (e : Entry) (z : Attending) → made e.outcome ≡ None → standing t (h ++ e ∷ []) z ≡ standing t h z
+stood_still t h e z none =
+    stood_on t h e z ∙ ap (λ (o : Option Change). record { table = with_change (table_after t h) o; changes = changes_of h ++ option_to_list o; attending = z }) none ∙ (λ i. record { table = table_after t h; changes = append-nil (changes_of h) i; attending = z })
+
+stood_there : (t : Board) (h : List Entry) (z : Attending) → standing t (h ++ []) z ≡ record { table = table_after t h; changes = changes_of h ++ []; attending = z }
+stood_there t h z = ap (λ (l : List Entry). standing t l z) (append-nil h) ∙ (λ i. record { table = table_after t h; changes = sym (append-nil (changes_of h)) i; attending = z })
+
+pub apart : (q : Cause) → IsLimit q → IsFault q → ⊥
 apart q l f = elim l [ inl a ↦ elim f [ inl b ↦ (let e = sym a ∙ b in cc) | inr b ↦ (let e = sym a ∙ b in cc) ] | inr a ↦ elim f [ inl b ↦ (let e = sym a ∙ b in cc) | inr b ↦ (let e = sym a ∙ b in cc) ] ]
 
-module _ (r : Rules) (faulty : Type 0) (h : List Entry) (s z : SessionUser) (op : Op) (reply : Reply) (same : z ≡ s) where
-  abbrev t : Board
-  t = table_after r.table h
+-- What an ask takes of a legal history is what the plain session does. Entries that no unit uses are what may happen meanwhile, and a change in
+-- doubt is one that a fault left.
+module _ (r : Rules) (own : ℕ) (excused : Excuse) (meanwhile : Meanwhile) (P : Entry → Type 0) (passed : (h : List Entry) (e : Entry) (s : Attending) → P e → IsUnused own e → meanwhile (standing r.table h s) (standing r.table (h ++ e ∷ []) s)) (excuse : (e : Entry) (q : Cause) → P e → e.outcome ≡ Failed q → IsFault q → excused q)
+    (doubts : (h : List Entry) (c : Change) → AllByRecursion P h → IsInDoubt (table_after r.table h) h c → excused DiskFault) where
+  pub record IsServing (h es : List Entry) (s : Attending) (k : Ask) (reply : Reply) : Type 0 where
+    pub before : At
+    pub prepares : PreparesFor excused meanwhile k (standing r.table h s) before
+    pub did : Option Change
+    pub replies : Replies r.limit excused before k reply did
+    pub after : standing r.table (h ++ es) (attending_after s (length (changes_of h)) k) ≡ after_ask before k did
 
-  -- by a verdict that is known
-  by_verdict : (v : Option (Result Change Cause)) (b : At) → verdict t op ≡ v → Decides r.limit (standing r.table h s) v reply b → Judges r.limit faulty (standing r.table h s) (verdict t op) reply b
-  by_verdict v b is j = inl (subst (λ (x : Option (Result Change Cause)). Decides r.limit (standing r.table h s) x reply b) (sym is) j)
+  -- the change that a restart takes up
+  takes_up : (h : List Entry) (e : Entry) (o : Option Change) → AllByRecursion P h → Fits r h e → e.outcome ≡ Restarted o → TakesUp excused (table_after r.table h) o
+  takes_up h e None all fits is = tt
+  takes_up h e (Some c) all fits is = (
+    (subst (λ (x : Outcome). StepsTo (table_after r.table h) e.op x (table_after r.table (h ++ e ∷ []))) is fits.step).1,
+    doubts h c all (subst (λ (x : Outcome). KeepsDoubt (table_after r.table h) h x) is fits.doubt),
+  )
 
-  limited : (q : Cause) → reply ≡ denied q → IsLimit q → Fits r h (entry own op (Failed q)) → Judges r.limit faulty (standing r.table h s) (verdict t op) reply (standing r.table (h ++ entry own op (Failed q) ∷ []) z)
-  limited q is limit fits = elim fits.step.0 [
-    | inl x ↦ (let g : Grants t op x.1.0 = x.1.1 in let met = fits.limit x.1.0 g in
-        by_verdict (Some (Ok x.1.0)) _ g.says
-        (Some q, subst (λ (y : Option Cause). r.limit (changes_of h) x.1.0 y) (elim met.2 [ inl f ↦ absurd (apart q limit f) | inr m ↦ m ]) met.1, (is, stands_still r.table h (entry own op (Failed q)) s z refl fits.step.1 same)))
-    | inr x ↦ absurd (apart q limit x.0)
-  ]
+  module _ (s : Attending) where
+    taken_up : (h : List Entry) (e : Entry) (o : Option Change) (z : At) → AllByRecursion P h → Fits r h e → e.outcome ≡ Restarted o → Prepares excused meanwhile (standing r.table (h ++ e ∷ []) s) z → Prepares excused meanwhile (standing r.table h s) z
+    taken_up h e None z all fits is more = subst (λ (a : At). Prepares excused meanwhile a z) (stood_still r.table h e s (ap made is)) more
+    taken_up h e (Some c) z all fits is more =
+        let there : standing r.table (h ++ e ∷ []) s ≡ with_one (standing r.table h s) c = stood_on r.table h e s ∙ ap (λ (o : Option Change). record { table = with_change (table_after r.table h) o; changes = changes_of h ++ option_to_list o; attending = s }) (ap made is) in
+        took_up (standing r.table h s) z c (takes_up h e (Some c) all fits is) (subst (λ (a : At). Prepares excused meanwhile a z) there more)
 
-  judged : (o : Outcome) → ChangeReply o reply → IsEnded faulty o → Fits r h (entry own op o) → Judges r.limit faulty (standing r.table h s) (verdict t op) reply (standing r.table (h ++ entry own op o ∷ []) z)
-  judged (Done c) is ended fits =
-      let met = fits.limit c fits.step.0 in
-      let e = entry own op (Done c) in
-      by_verdict (Some (Ok c)) (standing r.table (h ++ e ∷ []) z) fits.step.0.says (
-        None,
-        subst (λ (x : Option Cause). r.limit (changes_of h) c x) met.2 met.1,
-        (is, at_same _ _ _ _ z s fits.step.1 (changes_append h (e ∷ [])) same),
-      )
-  judged (Denied q) is ended fits =
-      by_verdict (Some (Err q)) _ fits.step.0.says (is, stands_still r.table h (entry own op (Denied q)) s z refl fits.step.1 same)
-  judged (Failed q) is ended fits = elim ended [
-    | inl limit ↦ limited q is limit fits
-    | inr fault ↦ inr (fault.0, is ∙ ap denied fault.1, stands_still r.table h (entry own op (Failed q)) s z refl fits.step.1 same)
-  ]
-  judged Answered is ended fits = absurd is
-  judged (Restarted c) is ended fits = absurd is
-  judged Cut is ended fits = absurd is
-  judged Taken is ended fits = absurd is
+    prepared : (h front : List Entry) → Mends own h front → IsLegal r (h ++ front) → AllByRecursion P (h ++ front) → Prepares excused meanwhile (standing r.table h s) (standing r.table (h ++ front) s)
+    prepared h [] mends legal all = subst (λ (l : List Entry). Prepares excused meanwhile (standing r.table h s) (standing r.table l s)) (sym (append-nil h)) (ready (standing r.table h s))
+    prepared h (e ∷ es) mends legal all =
+        let joined_is = append_assoc h (e ∷ []) es in
+        let legal_now : IsLegal r ((h ++ e ∷ []) ++ es) = subst (λ (l : List Entry). IsLegal r l) (sym joined_is) legal in
+        let all_now : AllByRecursion P ((h ++ e ∷ []) ++ es) = subst (λ (l : List Entry). AllByRecursion P l) (sym joined_is) all in
+        let fits = fits_last r h e (legal_so_far r (h ++ e ∷ []) es legal_now) in
+        let here = each_front P (h ++ e ∷ []) es all_now in
+        let end = standing r.table (h ++ e ∷ es) s in
+        let more : Prepares excused meanwhile (standing r.table (h ++ e ∷ []) s) end = subst (λ (l : List Entry). Prepares excused meanwhile (standing r.table (h ++ e ∷ []) s) (standing r.table l s)) joined_is (prepared (h ++ e ∷ []) es mends.1 legal_now all_now) in
+        elim mends.0 [
+          | inl unused ↦ waited (standing r.table h s) (standing r.table (h ++ e ∷ []) s) end (passed h e s (each_last P h e here) unused) more
+          | inr mend ↦ taken_up h e mend.made.0 end (each_front P h (e ∷ []) here) fits mend.made.1 more
+        ]
 
-no_entries : (t : Board) (h es : List Entry) (s z : SessionUser) → es ≡ [] → z ≡ s → standing t (h ++ es) z ≡ standing t h s
-no_entries t h es s z none same = ap (λ (x : List Entry). standing t (h ++ x) z) none ∙ ap (λ (x : List Entry). standing t x z) (append-nil h) ∙ ap (λ (x : SessionUser). standing t h x) same
+  module _ (h : List Entry) where
+    abbrev t : Board
+    t = table_after r.table h
 
--- what an ask takes of a legal history is what the plain session does
-pub served : (r : Rules) (faulty : Type 0) (past h es : List Entry) (s z : SessionUser) (a : Ask) (reply : Reply) → Serves own (table_after r.table past) h s a es reply z → IsLegal r ((past ++ h) ++ es) → AllByRecursion (IsOwn faulty) (h ++ es)
-    → Replies r.limit faulty (standing r.table (past ++ h) s) a reply (standing r.table ((past ++ h) ++ es) z)
-served r faulty past h es s z (Refused q) reply x legal alone = (x.1, no_entries r.table (past ++ h) es s z x.0 x.2)
-served r faulty past h es s z (LogsIn u) reply x legal alone = (x.1, no_entries r.table (past ++ h) es u z x.0 x.2)
-served r faulty past h es s z LogsOut reply x legal alone = (x.1, no_entries r.table (past ++ h) es Nobody z x.0 x.2)
-served r faulty past h es s z Greets reply x legal alone = (x.1, no_entries r.table (past ++ h) es s z x.0 x.2)
-served r faulty past h es s z (Lists which) reply x legal alone =
-    let e = entry own (Rows which) Answered in (
-      x.1 ∙ ap (λ (b : Board). completed_rows (rows b which)) (sym (table_append r.table past h)),
-      ap (λ (y : List Entry). standing r.table ((past ++ h) ++ y) z) x.0 ∙ stands_still r.table (past ++ h) e s z refl (table_more r.table (past ++ h) e) x.2,
-    )
-served r faulty past h es s z (Changes op) reply x legal alone =
-    let one = x.0 in
-    let e = entry own op one.0 in
-    subst (λ (y : List Entry). Replies r.limit faulty (standing r.table (past ++ h) s) (Changes op) reply (standing r.table ((past ++ h) ++ y) z)) (sym one.1)
-    (judged r faulty (past ++ h) s z op reply x.1 one.0 one.2
-    (each_last (IsOwn faulty) h e (subst (λ (y : List Entry). AllByRecursion (IsOwn faulty) (h ++ y)) one.1 alone)).ended
-    (legal_last r [] (past ++ h) e (subst (λ (y : List Entry). IsLegal r ((past ++ h) ++ y)) one.1 legal)))
+    module _ (op : Op) (reply : Reply) where
+      by_verdict : (v : Option (Result Change Cause)) (did : Option Change) → verdict t op ≡ v → Decides r.limit (changes_of h) v reply did → Judges r.limit excused (changes_of h) (verdict t op) reply did
+      by_verdict v did is d = inl (subst (λ (x : Option (Result Change Cause)). Decides r.limit (changes_of h) x reply did) (sym is) d)
 
-module _ {U M : Type 0} (l : Language U M) (limit : Limit) (faulty : Type 0) where
-  pub responds_more : (a b next : At) (us : List U) (ms : List M) (u : U) (m : M) (out : List ℕ) (reply : Reply) → Responds l limit faulty a us ms out b → Replies limit faulty b (l.asks b.user u) reply next
-      → Responds l limit faulty a (us ++ u ∷ []) (ms ++ m ∷ []) (out ++ l.response m u reply) next
-  responds_more a b next [] [] u m out reply (none, is) replies =
-      (reply, next, [], subst (λ (x : At). Replies limit faulty x (l.asks x.user u) reply next) is replies, ap (λ (o : List ℕ). o ++ l.response m u reply) none ∙ sym (append-nil (l.response m u reply)), (refl, refl))
-  responds_more a b next [] (n ∷ ms) u m out reply x replies = absurd x
-  responds_more a b next (v ∷ us) [] u m out reply x replies = absurd x
-  responds_more a b next (v ∷ us) (n ∷ ms) u m out reply (r, mid, rest, first, is, more) replies =
-      (r, mid, rest ++ l.response m u reply, first, ap (λ (o : List ℕ). o ++ l.response m u reply) is ∙ append_assoc (l.response n v r) rest (l.response m u reply), responds_more mid b next us ms u m rest reply more replies)
+      limited : (q : Cause) → reply ≡ denied q → IsLimit q → ((c : Change) × Grants t op c) → Fits r h (entry own op (Failed q)) → Judges r.limit excused (changes_of h) (verdict t op) reply None
+      limited q is limit g fits =
+          let met = fits.limit g.0 g.1 in
+          by_verdict (Some (Ok g.0)) None g.1.says (Some q, subst (λ (y : Option Cause). r.limit (changes_of h) g.0 y) (elim met.2 [ inl f ↦ absurd (apart q limit f) | inr m ↦ m ]) met.1, (is, refl))
 
-module _ {U M : Type 0} (l : Language U M) (r : Rules) (faulty : Type 0) (past : List Entry) where
-  abbrev IsPlayed : Walk U M → Type 0
-  IsPlayed w = Responds l r.limit faulty (standing r.table past Nobody) (units_in w.happenings) w.moments (w.earlier ++ w.latest) (standing r.table (past ++ w.history) w.user)
+      judged : (o : Outcome) → ChangeReply o reply → P (entry own op o) → Fits r h (entry own op o) → Judges r.limit excused (changes_of h) (verdict t op) reply (made o)
+      judged (Done c) is p fits =
+          let met = fits.limit c fits.step.0 in
+          by_verdict (Some (Ok c)) (Some c) fits.step.0.says (None, subst (λ (x : Option Cause). r.limit (changes_of h) c x) met.2 met.1, (is, refl))
+      judged (Denied q) is p fits = by_verdict (Some (Err q)) None fits.step.0.says (is, refl)
+      judged (Failed q) is p fits = elim fits.step.0 [ inl x ↦ limited q is x.0 x.1 fits | inr x ↦ inr (q, excuse (entry own op (Failed q)) q p refl x.0, is, refl) ]
+      judged Answered is p fits = absurd is
+      judged (Restarted c) is p fits = absurd is
+      judged Cut is p fits = absurd is
+      judged Taken is p fits = absurd is
 
-  pub played : (w : Walk U M) → Run l own (table_after r.table past) w → IsLegal r (past ++ w.history) → AllByRecursion (IsOwn faulty) w.history → IsPlayed w
-  played _ begins legal alone = (refl, ap (λ (x : List Entry). standing r.table x Nobody) (append-nil past))
-  played _ (waits w run) legal alone =
-      subst (λ (us : List U). Responds l r.limit faulty (standing r.table past Nobody) us w.moments ((w.earlier ++ w.latest) ++ []) (standing r.table (past ++ w.history) w.user)) (sym (units_in-quiet w.happenings))
-      (subst (λ (out : List ℕ). Responds l r.limit faulty (standing r.table past Nobody) (units_in w.happenings) w.moments out (standing r.table (past ++ w.history) w.user)) (sym (append-nil (w.earlier ++ w.latest)))
-      (played w run legal alone))
-  played _ (responds w u m es reply s serves run) legal alone =
-      let legal_at : IsLegal r ((past ++ w.history) ++ es) = subst (λ (x : List Entry). IsLegal r x) (sym (append_assoc past w.history es)) legal in
-      let before = played w run (legal_so_far r (past ++ w.history) es legal_at) (each_front (IsOwn faulty) w.history es alone) in
-      let here = served r faulty past w.history es w.user s (l.asks w.user u) reply serves legal_at alone in
-      let more = responds_more l r.limit faulty (standing r.table past Nobody) (standing r.table (past ++ w.history) w.user) (standing r.table ((past ++ w.history) ++ es) s) (units_in w.happenings) w.moments u m (w.earlier ++ w.latest) reply before here in
-      subst (λ (us : List U). Responds l r.limit faulty (standing r.table past Nobody) us (w.moments ++ m ∷ []) ((w.earlier ++ w.latest) ++ l.response m u reply) (standing r.table (past ++ (w.history ++ es)) s)) (sym (units_in-append w.happenings (unit u ∷ [])))
-      (subst (λ (x : List Entry). Responds l r.limit faulty (standing r.table past Nobody) (units_in w.happenings ++ u ∷ []) (w.moments ++ m ∷ []) ((w.earlier ++ w.latest) ++ l.response m u reply) (standing r.table x s)) (append_assoc past w.history es) more)
+    restarts : (o : Outcome) (s : Attending) (reply : Reply) → RestartReply o reply → AllByRecursion P h → P (entry own Restart o) → Fits r h (entry own Restart o) → Replies r.limit excused (standing r.table h s) Restarts reply (made o)
+    restarts (Done c) s reply is all p fits = absurd is
+    restarts (Denied q) s reply is all p fits = absurd is
+    restarts (Failed q) s reply is all p fits = elim fits.step.0 [
+      | inl x ↦ absurd (let g = x.1.1.says in cc)
+      | inr x ↦ inr (q, excuse (entry own Restart (Failed q)) q p refl x.0, is, refl)
+    ]
+    restarts Answered s reply is all p fits = absurd is
+    restarts (Restarted c) s reply is all p fits = inl (is, takes_up h (entry own Restart (Restarted c)) c all fits refl)
+    restarts Cut s reply is all p fits = absurd is
+    restarts Taken s reply is all p fits = absurd is
 
-  -- so far, and the reply to one unit more
-  pub played_so_far : (w : Walk U M) (es : List Entry) → Run l own (table_after r.table past) w → IsLegal r (past ++ (w.history ++ es)) → AllByRecursion (IsOwn faulty) w.history → IsPlayed w
-  played_so_far w es run legal alone = played w run (legal_so_far r (past ++ w.history) es (subst (λ (x : List Entry). IsLegal r x) (sym (append_assoc past w.history es)) legal)) alone
+    no_entries : (es : List Entry) (s : Attending) (k : Ask) (reply : Reply) → es ≡ [] → PreparesFor excused meanwhile k (standing r.table h s) (standing r.table h s) → Replies r.limit excused (standing r.table h s) k reply None → IsServing h es s k reply
+    no_entries es s k reply none prepares replies = record {
+      before = standing r.table h s;
+      prepares = prepares;
+      did = None;
+      replies = replies;
+      after = ap (λ (x : List Entry). standing r.table (h ++ x) (attending_after s (length (changes_of h)) k)) none ∙ stood_there r.table h (attending_after s (length (changes_of h)) k);
+    }
 
-  pub replied : (w : Walk U M) (u : U) (es : List Entry) (reply : Reply) (s : SessionUser) → Serves own (table_after r.table past) w.history w.user (l.asks w.user u) es reply s → IsLegal r (past ++ (w.history ++ es)) → AllByRecursion (IsOwn faulty) (w.history ++ es)
-      → Replies r.limit faulty (standing r.table (past ++ w.history) w.user) (l.asks w.user u) reply (standing r.table ((past ++ w.history) ++ es) s)
-  replied w u es reply s serves legal alone = served r faulty past w.history es w.user s (l.asks w.user u) reply serves (subst (λ (x : List Entry). IsLegal r x) (sym (append_assoc past w.history es)) legal) alone
+    one_entry : (es : List Entry) (s : Attending) (k : Ask) (reply : Reply) (op : Op) (o : Outcome) → es ≡ entry own op o ∷ [] → PreparesFor excused meanwhile k (standing r.table h s) (standing r.table h s) → Replies r.limit excused (standing r.table h s) k reply (made o) → IsServing h es s k reply
+    one_entry es s k reply op o one prepares replies = record {
+      before = standing r.table h s;
+      prepares = prepares;
+      did = made o;
+      replies = replies;
+      after = ap (λ (x : List Entry). standing r.table (h ++ x) (attending_after s (length (changes_of h)) k)) one ∙ stood_on r.table h (entry own op o) (attending_after s (length (changes_of h)) k);
+    }
 
-pub each_before : {X : Type 0} (P : X → Type 0) (xs ys : List X) → AllByRecursion P (xs ++ ys) → AllByRecursion P xs
-each_before P xs ys a = each_front P xs ys a
+  served : (h es : List Entry) (s : Attending) (k : Ask) (reply : Reply) → Serves own r.table h k es reply → IsLegal r (h ++ es) → AllByRecursion P (h ++ es) → IsServing h es s k reply
+  served h es s (Refused q) reply x legal all = no_entries h es s (Refused q) reply x.0 refl (x.1, refl)
+  served h es s (LogsIn u) reply x legal all = no_entries h es s (LogsIn u) reply x.0 refl (x.1, refl)
+  served h es s LogsOut reply x legal all = no_entries h es s LogsOut reply x.0 refl (x.1, refl)
+  served h es s Greets reply x legal all = no_entries h es s Greets reply x.0 refl (x.1, refl)
+  served h es s Allows reply x legal all = one_entry h es s Allows reply (Look (length (changes_of h))) Answered x.0 refl (x.1, refl)
+  served h es s Inhibits reply x legal all = no_entries h es s Inhibits reply x.0 refl (x.1, refl)
+  served h es s (Lists which) reply x legal all = one_entry h es s (Lists which) reply (Rows which) Answered x.0 refl (x.1, refl)
+  served h es s Restarts reply x legal all =
+      let e = entry own Restart x.0 in
+      let all_now = subst (λ (y : List Entry). AllByRecursion P (h ++ y)) x.1 all in
+      one_entry h es s Restarts reply Restart x.0 x.1 refl (restarts h x.0 s reply x.2 (each_front P h (e ∷ []) all_now) (each_last P h e all_now) (fits_last r h e (subst (λ (y : List Entry). IsLegal r (h ++ y)) x.1 legal)))
+  served h es s (Changes op) reply x legal all =
+      let e = entry own op x.outcome in
+      let g = h ++ x.front in
+      let z = attending_after s (length (changes_of h)) (Changes op) in
+      let whole : h ++ es ≡ g ++ e ∷ [] = ap (λ (y : List Entry). h ++ y) x.all ∙ sym (append_assoc h x.front (e ∷ [])) in
+      let legal_now : IsLegal r (g ++ e ∷ []) = subst (λ (y : List Entry). IsLegal r y) whole legal in
+      let all_now : AllByRecursion P (g ++ e ∷ []) = subst (λ (y : List Entry). AllByRecursion P y) whole all in
+      record {
+        before = standing r.table g s;
+        prepares = prepared s h x.front x.mends (legal_so_far r g (e ∷ []) legal_now) (each_front P g (e ∷ []) all_now);
+        did = made x.outcome;
+        replies = judged g op reply x.outcome x.reply (each_last P g e all_now) (fits_last r g e legal_now);
+        after = ap (λ (y : List Entry). standing r.table y z) whole ∙ stood_on r.table g e z;
+      }
 
--- what a fault may license, a weaker one may
-judges_within : (limit : Limit) (F G : Type 0) → (F → G) → (a b : At) (v : Option (Result Change Cause)) (r : Reply) → Judges limit F a v r b → Judges limit G a v r b
-judges_within limit F G f a b v r j = elim j [ inl d ↦ inl d | inr y ↦ inr (f y.0, y.1, y.2) ]
+-- happenings in order
+module _ {U M : Type 0} (l : Language U M) (limit : Limit) (excused : Excuse) (meanwhile : Meanwhile) (onward : (a b c : At) → meanwhile a b → meanwhile b c → meanwhile a c) where
+  attends_later : (a b c : At) (h : Happening U) (x : Said M) → meanwhile a b → Attends l limit excused meanwhile b h x c → Attends l limit excused meanwhile a h x c
+  attends_later a b c h x wait s = record { before = s.before; waited = onward a b s.before wait s.waited; response = s.response; reports = s.reports; between = s.between; answers = s.answers; reported = s.reported; says = s.says }
 
-replies_within : (limit : Limit) (F G : Type 0) → (F → G) → (a b : At) (k : Ask) (r : Reply) → Replies limit F a k r b → Replies limit G a k r b
-replies_within limit F G f a b (Refused q) r x = x
-replies_within limit F G f a b (LogsIn u) r x = x
-replies_within limit F G f a b LogsOut r x = x
-replies_within limit F G f a b Greets r x = x
-replies_within limit F G f a b (Lists which) r x = x
-replies_within limit F G f a b (Changes op) r x = judges_within limit F G f a b (verdict a.table op) r x
+  plays_wait : (a b c : At) (hs : List (Happening U)) (x : Said M) → Plays l limit excused meanwhile a hs x b → meanwhile b c → Plays l limit excused meanwhile a hs x c
+  plays_wait a b c [] x p wait = (p.0, onward a b c p.1 wait)
+  plays_wait a b c (h ∷ hs) x (first, rest, next, here, more, says) wait = (first, rest, next, here, plays_wait next b c hs rest more wait, says)
 
-pub responds_within : {U M : Type 0} (l : Language U M) (limit : Limit) (F G : Type 0) → (F → G) → (a b : At) (us : List U) (ms : List M) (out : List ℕ) → Responds l limit F a us ms out b → Responds l limit G a us ms out b
-responds_within l limit F G f a b [] [] out x = x
-responds_within l limit F G f a b [] (m ∷ ms) out x = absurd x
-responds_within l limit F G f a b (u ∷ us) [] out x = absurd x
-responds_within l limit F G f a b (u ∷ us) (m ∷ ms) out (r, n, rest, here, is, more) = (r, n, rest, replies_within limit F G f a n (l.asks a.user u) r here, is, responds_within l limit F G f n b us ms rest more)
+  plays_more : (stays : (a : At) → meanwhile a a) (a b c : At) (hs : List (Happening U)) (h : Happening U) (x y : Said M) → Plays l limit excused meanwhile a hs x b → Attends l limit excused meanwhile b h y c → Plays l limit excused meanwhile a (hs ++ h ∷ []) (joined x y) c
+  plays_more stays a b c [] h x y p s = (y, silence, c, attends_later a b c h y p.1 s, (refl, stays c), ap (λ (z : Said M). joined z y) p.0 ∙ sym (joined_nothing y))
+  plays_more stays a b c (g ∷ hs) h x y (first, rest, next, here, more, says) s = (first, joined rest y, next, here, plays_more stays next b c hs h rest y more s, ap (λ (z : Said M). joined z y) says ∙ joined_assoc first rest y)
 
--- The plain session is one
-module _ {U M : Type 0} (l : Language U M) (limit : Limit) (once : (cs : List Change) (x : Change) (m n : Option Cause) → limit cs x m → limit cs x n → m ≡ n) where
-  abbrev Same : (r q : Reply) (b c : At) → Type 0
-  Same r q b c = (r ≡ q) × (b ≡ c)
+  -- where no report is due behind it, it got all
+  ends_now : (stays : (a : At) → meanwhile a a) (a b : At) (h : Happening U) (x : Said M) (w : Option ℕ) → b.attending.watch ≡ w → Answers l limit excused meanwhile a h x b → Ends l limit excused meanwhile (is_some w) a h x b
+  ends_now stays a b h x None is s = record { before = a; waited = stays a; response = x; reports = silence; between = b; answers = s; reported = subst (λ (w : Option ℕ). Reports l limit excused meanwhile b w silence b) (sym is) (refl, refl); says = sym (joined_nothing x) }
+  ends_now stays a b h x (Some n) is s = s
 
-  made_once : (a b d : At) (c : Change) (m : Option Cause) (r q : Reply) → Makes a c m r b → Makes a c m q d → Same r q b d
-  made_once a b d c None r q x y = (x.0 ∙ sym y.0, x.1 ∙ sym y.1)
-  made_once a b d c (Some p) r q x y = (x.0 ∙ sym y.0, x.1 ∙ sym y.1)
+-- A session as it stands: nothing happened yet, or its happenings before the last were served, and the last so far
+pub record Nothing {U M : Type 0} (meanwhile : Meanwhile) (a b : At) (w : Walk U M) : Type 0 where
+  pub happenings : w.happenings ≡ []
+  pub moments : w.moments ≡ []
+  pub earlier : w.earlier ≡ []
+  pub latest : w.latest ≡ []
+  pub looked : w.due ≡ false
+  pub waited : meanwhile a b
 
-  decided_once : (a b d : At) (v : Option (Result Change Cause)) (r q : Reply) → Decides limit a v r b → Decides limit a v q d → Same r q b d
-  decided_once a b d (Some (Ok c)) r q (m, met, x) (n, other, y) = made_once a b d c m r q x (subst (λ (k : Option Cause). Makes a c k q d) (once a.changes c n m other met) y)
-  decided_once a b d (Some (Err p)) r q x y = (x.0 ∙ sym y.0, x.1 ∙ sym y.1)
-  decided_once a b d None r q x y = absurd x
+pub record Something {U M : Type 0} (l : Language U M) (limit : Limit) (excused : Excuse) (meanwhile : Meanwhile) (a b : At) (w : Walk U M) : Type 0 where
+  pub front : List (Happening U)
+  pub last : Happening U
+  pub earlier : Said M
+  pub latest : Said M
+  pub happenings : w.happenings ≡ front ++ last ∷ []
+  pub moments : w.moments ≡ earlier.moments ++ latest.moments
+  pub earlier_is : w.earlier ≡ earlier.bytes
+  pub latest_is : w.latest ≡ latest.bytes
+  pub plays : PlaysTo l limit excused meanwhile w.due a front last earlier latest b
 
-  judged_once : (a b d : At) (v : Option (Result Change Cause)) (r q : Reply) → Judges limit ⊥ a v r b → Judges limit ⊥ a v q d → Same r q b d
-  judged_once a b d v r q x y = elim x [ inl i ↦ elim y [ inl j ↦ decided_once a b d v r q i j | inr j ↦ absurd j.0 ] | inr i ↦ absurd i.0 ]
+module _ {U M : Type 0} (l : Language U M) (r : Rules) (own : ℕ) (excused : Excuse) (meanwhile : Meanwhile) (P : Entry → Type 0) (stays : (a : At) → meanwhile a a) (onward : (a b c : At) → meanwhile a b → meanwhile b c → meanwhile a c) (keeps : (a b : At) → meanwhile a b → b.attending ≡ a.attending)
+    (passed : (h : List Entry) (e : Entry) (s : Attending) → P e → IsUnused own e → meanwhile (standing r.table h s) (standing r.table (h ++ e ∷ []) s)) (excuse : (e : Entry) (q : Cause) → P e → e.outcome ≡ Failed q → IsFault q → excused q)
+    (doubts : (h : List Entry) (c : Change) → AllByRecursion P h → IsInDoubt (table_after r.table h) h c → excused DiskFault) (past : List Entry) where
+  abbrev pub start : At
+  start = standing r.table past nobody
 
-  replied_once : (a b d : At) (k : Ask) (r q : Reply) → Replies limit ⊥ a k r b → Replies limit ⊥ a k q d → Same r q b d
-  replied_once a b d (Refused p) r q x y = (x.0 ∙ sym y.0, x.1 ∙ sym y.1)
-  replied_once a b d (LogsIn u) r q x y = (x.0 ∙ sym y.0, x.1 ∙ sym y.1)
-  replied_once a b d LogsOut r q x y = (x.0 ∙ sym y.0, x.1 ∙ sym y.1)
-  replied_once a b d Greets r q x y = (x.0 ∙ sym y.0, x.1 ∙ sym y.1)
-  replied_once a b d (Lists which) r q x y = (x.0 ∙ sym y.0, x.1 ∙ sym y.1)
-  replied_once a b d (Changes op) r q x y = judged_once a b d (verdict a.table op) r q x y
+  abbrev pub here : Walk U M → At
+  here w = standing r.table w.history w.attending
 
-  pub responses_once : (a b c : At) (us : List U) (ms : List M) (out other : List ℕ) → Responds l limit ⊥ a us ms out b → Responds l limit ⊥ a us ms other c → (out ≡ other) × (b ≡ c)
-  responses_once a b c [] [] out other x y = (x.0 ∙ sym y.0, x.1 ∙ sym y.1)
-  responses_once a b c [] (m ∷ ms) out other x y = absurd x
-  responses_once a b c (u ∷ us) [] out other x y = absurd x
-  responses_once a b c (u ∷ us) (m ∷ ms) out other (r, n, rest, here, is, more) (q, k, last, there, says, also) =
-      let one = replied_once a n k (l.asks a.user u) r q here there in
-      let next = responses_once n b c us ms rest last more (subst (λ (x : At). Responds l limit ⊥ x us ms last c) (sym one.1) also) in
-      (is ∙ ap₂ (λ (x : Reply) (o : List ℕ). l.response m u x ++ o) one.0 next.0 ∙ sym says, next.1)
+  abbrev pub so_far : Walk U M → Said M
+  so_far w = record { moments = w.moments; bytes = w.earlier ++ w.latest }
+
+  abbrev pub Played : Walk U M → Type 0
+  Played w = Nothing meanwhile start (here w) w ⊎ Something l r.limit excused meanwhile start (here w) w
+
+  -- all that happened, where no report is due
+  pub all_played : (w : Walk U M) → Played w → w.due ≡ false → Plays l r.limit excused meanwhile start w.happenings (so_far w) (here w)
+  all_played w (inl x) none =
+      subst (λ (hs : List (Happening U)). Plays l r.limit excused meanwhile start hs (so_far w) (here w)) (sym x.happenings) ((λ i. record { moments = x.moments i; bytes = x.earlier i ++ x.latest i }), x.waited)
+  all_played w (inr x) none =
+      let p = x.plays in
+      let s : Attends l r.limit excused meanwhile p.before x.last x.latest p.after = subst (λ (d : Bool). Ends l r.limit excused meanwhile d p.before x.last x.latest p.after) none p.ends in
+      let all = plays_wait l r.limit excused meanwhile onward start p.after (here w) (x.front ++ x.last ∷ []) (joined x.earlier x.latest) (plays_more l r.limit excused meanwhile onward stays start p.before p.after x.front x.last x.earlier x.latest p.plays s) p.waited in
+      let says : joined x.earlier x.latest ≡ so_far w = sym (λ i. record { moments = x.moments i; bytes = x.earlier_is i ++ x.latest_is i }) in
+      subst (λ (hs : List (Happening U)). Plays l r.limit excused meanwhile start hs (so_far w) (here w)) (sym x.happenings) (subst (λ (said : Said M). Plays l r.limit excused meanwhile start (x.front ++ x.last ∷ []) said (here w)) says all)
+
+  pub played : (w : Walk U M) → Run l own r.table past w → IsLegal r w.history → AllByRecursion P w.history → Played w
+  played _ begins legal all = inl (record { happenings = refl; moments = refl; earlier = refl; latest = refl; looked = refl; waited = stays start })
+  played _ (passes w e unused run) legal all =
+      let on = passed w.history e w.attending (each_last P w.history e all) unused in
+      elim (played w run (legal_so_far r w.history (e ∷ []) legal) (each_front P w.history (e ∷ []) all)) [
+        | inl x ↦ inl (record { happenings = x.happenings; moments = x.moments; earlier = x.earlier; latest = x.latest; looked = x.looked; waited = onward start (here w) (here (with_entry e w)) x.waited on })
+        | inr x ↦ inr (record {
+          front = x.front;
+          last = x.last;
+          earlier = x.earlier;
+          latest = x.latest;
+          happenings = x.happenings;
+          moments = x.moments;
+          earlier_is = x.earlier_is;
+          latest_is = x.latest_is;
+          plays = record { before = x.plays.before; plays = x.plays.plays; after = x.plays.after; ends = x.plays.ends; waited = onward x.plays.after (here w) (here (with_entry e w)) x.plays.waited on };
+        })
+      ]
+  played _ (responds w u m es reply none serves run) legal all =
+      let k = l.asks w.attending.user u in
+      let z = attending_after w.attending (length (changes_of w.history)) k in
+      let before = all_played w (played w run (legal_so_far r w.history es legal) (each_front P w.history es all)) none in
+      let s = served r own excused meanwhile P passed excuse doubts w.history es w.attending k reply serves legal all in
+      let said : Said M = record { moments = m ∷ []; bytes = l.response m u reply } in
+      inr (record {
+        front = w.happenings;
+        last = unit u;
+        earlier = so_far w;
+        latest = said;
+        happenings = refl;
+        moments = refl;
+        earlier_is = refl;
+        latest_is = refl;
+        plays = record {
+          before = here w;
+          plays = before;
+          after = standing r.table (w.history ++ es) z;
+          ends = ends_now l r.limit excused meanwhile onward stays (here w) (standing r.table (w.history ++ es) z) (unit u) said z.watch refl (record { before = s.before; prepares = s.prepares; reply = reply; did = s.did; replies = s.replies; moment = m; says = refl; after = s.after });
+          waited = stays (standing r.table (w.history ++ es) z);
+        };
+      })
+  played _ (waits w none run) legal all =
+      let before = all_played w (played w run legal all) none in
+      inr (record {
+        front = w.happenings;
+        last = quiet;
+        earlier = so_far w;
+        latest = silence;
+        happenings = refl;
+        moments = sym (append-nil w.moments);
+        earlier_is = refl;
+        latest_is = refl;
+        plays = record { before = here w; plays = before; after = here w; ends = ends_now l r.limit excused meanwhile onward stays (here w) (here w) quiet silence w.attending.watch refl (refl, refl); waited = stays (here w) };
+      })
+  played _ (looks w cursor ms bytes due watch reported run) legal all =
+      let e = entry own (Look cursor) Answered in
+      let z : Attending = record { user = w.attending.user; watch = Some (length (changes_of w.history)) } in
+      let then = standing r.table (w.history ++ e ∷ []) z in
+      elim (played w run (legal_so_far r w.history (e ∷ []) legal) (each_front P w.history (e ∷ []) all)) [
+        | inl x ↦ absurd (let no = sym x.looked ∙ due in cc)
+        | inr x ↦ (
+            let p = x.plays in
+            let answers : Answers l r.limit excused meanwhile p.before x.last x.latest p.after = subst (λ (d : Bool). Ends l r.limit excused meanwhile d p.before x.last x.latest p.after) due p.ends in
+            let said : Said M = record { moments = ms; bytes = bytes } in
+            let watched : p.after.attending.watch ≡ Some cursor = ap (λ (s : Attending). s.watch) (sym (keeps p.after (here w) p.waited)) ∙ watch in
+            let report : IsReport l r.limit excused meanwhile p.after cursor said then = record { before = here w; waited = p.waited; reported = reported; after = stood_still r.table w.history e z refl } in
+            inr (record {
+              front = x.front;
+              last = x.last;
+              earlier = x.earlier;
+              latest = joined x.latest said;
+              happenings = x.happenings;
+              moments = ap (λ (l2 : List M). l2 ++ ms) x.moments ∙ append_assoc x.earlier.moments x.latest.moments ms;
+              earlier_is = x.earlier_is;
+              latest_is = ap (λ (l2 : List ℕ). l2 ++ bytes) x.latest_is;
+              plays = record {
+                before = p.before;
+                plays = p.plays;
+                after = then;
+                ends = record {
+                  before = p.before;
+                  waited = stays p.before;
+                  response = x.latest;
+                  reports = said;
+                  between = p.after;
+                  answers = answers;
+                  reported = subst (λ (v : Option ℕ). Reports l r.limit excused meanwhile p.after v said then) (sym watched) report;
+                  says = refl;
+                };
+                waited = stays then;
+              };
+            })
+            )
+      ]

@@ -1,256 +1,434 @@
--- What the program wrote, from what its session did.
-use Rattle.std.proofs.Common.{◌≡◌, ◌≢◌, ◌≤◌, ◌<◌, ◌+◌, ◌*◌, arith, length, ℕ, List, [], ◌∷◌, ◌++◌, ◌⊎◌, inl, inr, ◌↔◌, ◌^◌, IsTrue, Option, Some, None, refl, sym, ◌∙◌, ap, subst}
-use Rattle.std.specs.Prelude.{option_map}
+-- What a session wrote that was alone on what a journal came to.
 use Rattle.std.specs.List.{AllByRecursion}
-use Rattle.dxc_causes.specs.Causes.{Rose, Counted}
+use Rattle.std.proofs.Common.{◌≡◌, ◌≢◌, ◌⊎◌, ◌≤◌, ◌<◌, ◌+◌, ◌*◌, ℕ, false, length, length-append, List, [], ◌∷◌, ◌++◌, Option, None, refl, sym, ◌∙◌, ap, subst, arith, inl, inr}
+use Rattle.turnstile.specs.Turning.{Each}
+use Rattle.std.specs.Prelude.{IfSome}
+use Rattle.dxc_causes.specs.Causes.{HasCause}
+use Rattle.dxc_disk.specs.Disks.{CountsOn, DiskState, Spends}
 use Rattle.dxc_outside.specs.declared.clock.Moment.{Moment}
 use Rattle.dxc_outside.specs.Items.{Item}
 use Rattle.dxc_outside.specs.Links.{LinkState}
+use Rattle.dxc_model.specs.declared.cause.Cause.{Cause}
+use Rattle.dxc_model.specs.declared.cause.Cause.TheVariants.{DiskFault, JournalAstray}
+use Rattle.dxc_model.specs.declared.op.Op.{Op}
+use Rattle.dxc_model.specs.declared.op.Op.TheVariants.{Look, Restart}
+use Rattle.dxc_model.specs.declared.entry.Entry.{Entry}
+use Rattle.dxc_model.specs.declared.entry.Outcome.{Outcome}
+use Rattle.dxc_model.specs.declared.entry.Outcome.TheVariants.{Done, Denied, Failed, Restarted, Cut, Taken}
+use Rattle.dxc_model.specs.declared.entry.Outcome.TheVariants as outcome
+use Rattle.dxc_model.specs.Tables.{Board}
+use Rattle.dxc_model.specs.Steps.{IsFault, IsLimit, StepsTo}
+use Rattle.dxc_model.specs.Histories.{GoesOn, IsCut, IsFailedRestart, IsLegal, IsRestarted, IsRestartDue, KeepsTurns, Rules, table_after}
+use Rattle.dxc_model.proofs.Lasting.{lasts_before, lasts_no_more}
 use Rattle.tl1_text.specs.Units.{Input, IsRest, IsStream}
 use Rattle.shelf_file.specs.Contents.{Contents}
+use Rattle.xc_core.specs.Seeing.{Saw, codes, entry}
+use Rattle.xc_core.specs.declared.state.State.{State}
+use Rattle.xc_core.specs.Openings.{Begins, disk_home}
+use Rattle.xc_core.specs.States.{IsPaid, LimitBehind, Opening, cost, fault_in, faults_in, IsNeverAstray, most_room, opening_of, room_in, rules_of}
+use Rattle.xc_core.specs.Turns.{AreNumbered, SawNoneAstray}
+use Rattle.craft_session.specs.declared.ask.Ask.{Ask}
+use Rattle.craft_session.specs.declared.ask.Ask.TheVariants.{Refused, LogsIn, LogsOut, Greets, Allows, Inhibits, Lists, Restarts, Changes}
 use Rattle.craft_session.specs.declared.end.SessionEnd.{SessionEnd}
 use Rattle.craft_session.specs.declared.end.SessionEnd.TheVariants.{End, ReadFault, WriteFault, Stopped, Spent}
-use Rattle.craft_session.specs.declared.run.Status.{Status}
-use Rattle.craft_session.specs.declared.run.Status.TheVariants.{Done, BadWords, NoMemory, Link, Stopped as Was_stopped, Spent as Ran_out}
-use Rattle.craft_session.specs.Happenings.{unit, bytes_in}
+use Rattle.craft_session.specs.Asks.{Language, Reply}
+use Rattle.craft_session.specs.Happenings.{unit, bytes_in, units_in}
 use Rattle.craft_session.specs.Meanings.{language}
-use Rattle.dxc_disk.specs.Disks.{CountsOn, DiskState, Spends}
-use Rattle.dxc_disk.proofs.DiskSteps.{sound_on, spends_on}
-use Rattle.dxc_outside.specs.declared.send.Sent.{Sent}
-use Rattle.dxc_outside.specs.declared.send.Sent.TheVariants.{Whole, Cut as Sent_cut}
-use Rattle.journal_core.specs.declared.fault.JournalWhy.{JournalWhy}
-use Rattle.journal_core.specs.declared.fault.JournalWhy.TheVariants as why
-use Rattle.xc_core.specs.declared.fault.OpenFault.{OpenFault}
-use Rattle.xc_core.specs.declared.fault.OpenFault.TheVariants as fault_of
-use Rattle.craft_session.specs.declared.run.Mode.{Mode}
-use Rattle.craft_session.specs.declared.run.Mode.TheVariants.{Script, Check}
-use Rattle.xc_core.specs.declared.state.State.{State}
-use Rattle.dxc_model.specs.declared.entry.Entry.{Entry}
-use Rattle.xc_core.specs.declared.state.Home.{Home}
-use Rattle.xc_core.specs.declared.state.Home.TheVariants.{In, Out}
-use Rattle.xc_core.specs.Reckonings.{Past as PastBehind}
-use Rattle.xc_core.specs.States.{HomeIs, Opening, StandsFor, faults_in, rules_of}
-use Rattle.craft_session.specs.Acting.{IsOwn}
-use Rattle.craft_session.specs.Laws.{standing}
-use Rattle.craft_session.specs.Seats.{Seat, IsUnsound, room_of, IsFaulty, disk_at, disk_in, most_room}
-use Rattle.craft_session.specs.Sessions.{Now, Beginning, Keeps, Past, CutPast, StopPast, Served, Breaks, Halts, IsSession, IsServed}
-use Rattle.craft_session.specs.Words.{status_of, status_of_why, status_of_fault, status_of_check, IsOwnHistory, Answered, AnsweredInPart, AnsweredToStop, WroteAll, WroteInPart, WroteToStop, Wrote, IsOpened, NotStarted, IsScript, IsRunOn}
-use Rattle.craft_session.proofs.Streams.{stream_of, rest_none, units_in-append}
-use Rattle.craft_session.proofs.SessionSteps.{own_within}
-use Rattle.craft_session.proofs.Playing.{played, played_so_far, replied, each_before, legal_last}
+use Rattle.craft_session.specs.Plain.{Excuse, Plays, alone, said_in, standing}
+use Rattle.craft_session.specs.Runs.{Run, Walk, begins, passes, responds, waits, looks}
+use Rattle.craft_session.specs.Scripts.{Answered, AnsweredInPart, AnsweredToStop, IsEnded, IsOpeningOf, IsOwn, IsOwnHistory, IsScript, IsUnsoundBy, WroteAll, command_room, excused_on, opened, opening_room, room_of}
+use Rattle.craft_session.specs.Seats.{SeatAt}
+use Rattle.craft_session.specs.Sessions.{Beginning, CutPast, IsServed, IsSession, Now, Past, Served, StopPast}
+use Rattle.craft_session.specs.Walks.{ChangeReply, IsUnused, Mends, RestartReply, Serves}
+use Rattle.craft_session.proofs.Meanwhiles.{alone_keeps, alone_onward, alone_passed, own_doubts, own_excuse, taken_here}
+use Rattle.craft_session.proofs.Playing.{Played, Something, all_played, each_front, each_last, fits_last, played}
+use Rattle.craft_session.proofs.Streams.{rest_none, stream_of, units_in-append, units_in-quiet}
 
--- where the disk's room lasts, the failed operations are at most its faults since the opening
-few_home : {D : Type 0} (disk_told : Type 0) (state : D → DiskState) → ((x : D) → CountsOn (state x)) → (o : Opening) (b : PastBehind) (h : List Entry) (x : Home D) → HomeIs disk_told state o b h x → 0 < (disk_at state x).room
-    → o.faults + faults_in h ≤ (disk_at state x).faults
-few_home disk_told state counts o b h (In p) at roomy = let below = counts p.journal.0 roomy in omega (arith, at.faults, below)
-few_home disk_told state counts o b h Out at roomy = absurd at
+each_both : {X : Type 0} (P Q R : X → Type 0) → ((x : X) → P x → Q x → R x) → (xs : List X) → AllByRecursion P xs → AllByRecursion Q xs → AllByRecursion R xs
+each_both P Q R f [] p q = tt
+each_both P Q R f (x ∷ xs) p q = (f x p.0 q.0, each_both P Q R f xs p.1 q.1)
 
-module _ {D : Type 0} (disk_told : Type 0) (state : D → DiskState) (counts : (x : D) → CountsOn (state x)) (told clock_told : Type 0) (k l : LinkState) (c d : List Moment) (s : Contents) (o : Opening) (first : State D) (disk : D)
-    (spends : Spends 131_079 (state disk) (disk_in state first)) (later : (state disk).faults ≤ (disk_in state first).faults) (faults : o.faults ≡ (disk_in state first).faults) (now : Now D) where
-  -- behind what the journal came to, with no entries
-  abbrev b : Beginning D
-  b = record { opening = o; past = []; state = first }
+each_join : {X : Type 0} (P : X → Type 0) (xs ys : List X) → AllByRecursion P xs → AllByRecursion P ys → AllByRecursion P (xs ++ ys)
+each_join P [] ys p q = q
+each_join P (x ∷ xs) ys p q = (p.0, each_join P xs ys p.1 q)
 
-  -- a disk on which a command failed isn't sound for opening and all commands
-  unsound : (n : ℕ) (t : State D) → IsFaulty state n first t → IsUnsound (state disk) n
-  unsound n t f margin enough = f.unsound (sound_on 131_079 (most_room * n) (state disk) (disk_in state first) later (record { margin = margin; enough = enough }) spends)
+each_any : {X : Type 0} (xs : List X) → AllByRecursion (λ x. Unit {0}) xs
+each_any [] = tt
+each_any (x ∷ xs) = (tt, each_any xs)
 
-  within : (n : ℕ) (t : State D) (es : List Entry) → AllByRecursion (IsOwn (IsFaulty state n first t)) es → AllByRecursion (IsOwn (IsUnsound (state disk) n)) es
-  within n t es a = own_within (IsFaulty state n first t) (IsUnsound (state disk) n) (unsound n t) es a
+each_behind : {X : Type 0} (P : X → Type 0) (xs ys : List X) → AllByRecursion P (xs ++ ys) → AllByRecursion P ys
+each_behind P [] ys a = a
+each_behind P (x ∷ xs) ys a = each_behind P xs ys a.1
 
+-- with one place all entries are its own
+mine_of : (own : ℕ) → own ≡ 0 → (h : List Entry) → Each (λ e. e.place < 1) h → AllByRecursion (λ e. e.place ≡ own) h
+mine_of own zero [] a = tt
+mine_of own zero (e ∷ es) a = (omega (arith, zero, a.0), mine_of own zero es a.1)
+
+-- the outcomes of an entry of a unit that was answered
+abbrev IsAllowed : Outcome → Type 0
+IsAllowed (Done c) = Unit {0}
+IsAllowed (Denied q) = Unit {0}
+IsAllowed (Failed q) = Unit {0}
+IsAllowed outcome.Answered = Unit {0}
+IsAllowed (Restarted c) = Unit {0}
+IsAllowed Cut = ⊥
+IsAllowed Taken = Unit {0}
+
+abbrev Allows_own : ℕ → Entry → Type 0
+Allows_own own e = e.place ≡ own → IsAllowed e.outcome
+
+replied_allowed : (o : Outcome) (r : Reply) → ChangeReply o r → IsAllowed o
+replied_allowed (Done c) r x = tt
+replied_allowed (Denied q) r x = tt
+replied_allowed (Failed q) r x = tt
+replied_allowed outcome.Answered r x = absurd x
+replied_allowed (Restarted c) r x = absurd x
+replied_allowed Cut r x = absurd x
+replied_allowed Taken r x = absurd x
+
+none_allowed : (own : ℕ) (es : List Entry) → es ≡ [] → AllByRecursion (Allows_own own) es
+none_allowed own es none = subst (λ (x : List Entry). AllByRecursion (Allows_own own) x) (sym none) tt
+
+one_allowed : (own : ℕ) (es : List Entry) (op : Op) (o : Outcome) → es ≡ entry own op o ∷ [] → IsAllowed o → AllByRecursion (Allows_own own) es
+one_allowed own es op o one is = subst (λ (x : List Entry). AllByRecursion (Allows_own own) x) (sym one) ((λ _. is), tt)
+
+restarted_allowed : (o : Outcome) (r : Reply) → RestartReply o r → IsAllowed o
+restarted_allowed (Done c) r x = absurd x
+restarted_allowed (Denied q) r x = absurd x
+restarted_allowed (Failed q) r x = tt
+restarted_allowed outcome.Answered r x = absurd x
+restarted_allowed (Restarted c) r x = tt
+restarted_allowed Cut r x = absurd x
+restarted_allowed Taken r x = absurd x
+
+unused_allowed : (own : ℕ) (e : Entry) → IsUnused own e → Allows_own own e
+unused_allowed own e unused = λ mine. subst IsAllowed (sym (taken_here own e mine unused)) tt
+
+mends_allowed : (own : ℕ) (h es : List Entry) → Mends own h es → AllByRecursion (Allows_own own) es
+mends_allowed own h [] m = tt
+mends_allowed own h (e ∷ es) m = (elim m.0 [ inl unused ↦ unused_allowed own e unused | inr mend ↦ (λ _. subst IsAllowed (sym mend.made.1) tt) ], mends_allowed own (h ++ e ∷ []) es m.1)
+
+served_allowed : (own : ℕ) (t : Board) (h : List Entry) (k : Ask) (es : List Entry) (r : Reply) → Serves own t h k es r → AllByRecursion (Allows_own own) es
+served_allowed own t h (Refused q) es r x = none_allowed own es x.0
+served_allowed own t h (LogsIn u) es r x = none_allowed own es x.0
+served_allowed own t h LogsOut es r x = none_allowed own es x.0
+served_allowed own t h Greets es r x = none_allowed own es x.0
+served_allowed own t h Allows es r x = one_allowed own es _ outcome.Answered x.0 tt
+served_allowed own t h Inhibits es r x = none_allowed own es x.0
+served_allowed own t h (Lists which) es r x = one_allowed own es _ outcome.Answered x.0 tt
+served_allowed own t h Restarts es r x = one_allowed own es Restart x.0 x.1 (restarted_allowed x.0 r x.2)
+served_allowed own t h (Changes op) es r x = subst (λ (l : List Entry). AllByRecursion (Allows_own own) l) (sym x.all) (each_join (Allows_own own) x.front (entry own op x.outcome ∷ []) (mends_allowed own h x.front x.mends) ((λ _. replied_allowed x.outcome r x.reply), tt))
+
+-- what the entries took of the room
+room_join : (h g : List Entry) → room_in (h ++ g) ≡ room_in h + room_in g
+room_join [] g = omega arith
+room_join (e ∷ es) g = let more = room_join es g in omega (arith, more)
+
+cost_few : (o : Outcome) → cost o ≤ most_room
+cost_few (Done c) = omega arith
+cost_few (Denied q) = omega arith
+cost_few (Failed q) = omega arith
+cost_few outcome.Answered = omega arith
+cost_few (Restarted c) = omega arith
+cost_few Cut = omega arith
+cost_few Taken = omega arith
+
+-- one restart at most is due before a command
+not_due : (h : List Entry) (e : Entry) → (IsRestartDue h → ⊥) → e.outcome ≡ Taken → IsRestartDue (h ++ e ∷ []) → ⊥
+not_due h e none taken due = none (lasts_before (λ x. IsCut x ⊎ IsFailedRestart x) IsRestarted h e due (λ x. elim x [ inl cut ↦ (let no = sym taken ∙ cut in cc) | inr failed ↦ (let no = sym taken ∙ failed.1.1 in cc) ]))
+
+mended_not_due : (h : List Entry) (e : Entry) → IsRestarted e → IsRestartDue (h ++ e ∷ []) → ⊥
+mended_not_due h e made = lasts_no_more (λ x. IsCut x ⊎ IsFailedRestart x) IsRestarted h e (λ x. elim x [ inl cut ↦ (let no = sym made.1 ∙ cut in cc) | inr failed ↦ (let no = sym made.1 ∙ failed.1.1 in cc) ]) made
+
+rests_free : (own : ℕ) (h es : List Entry) → (IsRestartDue h → ⊥) → Mends own h es → AllByRecursion (λ e. e.place ≡ own) es → room_in es ≡ 0
+rests_free own h [] none m mine = refl
+rests_free own h (e ∷ es) none m mine = elim m.0 [
+  | inl unused ↦ (
+      let taken = taken_here own e mine.0 unused in
+      let free : cost e.outcome ≡ 0 = ap cost taken in
+      let rest = rests_free own (h ++ e ∷ []) es (not_due h e none taken) m.1 mine.1 in
+      omega (arith, free, rest)
+      )
+  | inr mend ↦ absurd (none mend.due)
+]
+
+mends_cost : (own : ℕ) (h es : List Entry) → Mends own h es → AllByRecursion (λ e. e.place ≡ own) es → room_in es ≤ most_room
+mends_cost own h [] m mine = omega arith
+mends_cost own h (e ∷ es) m mine = elim m.0 [
+  | inl unused ↦ (
+      let free : cost e.outcome ≡ 0 = ap cost (taken_here own e mine.0 unused) in
+      let rest = mends_cost own (h ++ e ∷ []) es m.1 mine.1 in
+      omega (arith, free, rest)
+      )
+  | inr mend ↦ (
+      let few = cost_few e.outcome in
+      let rest = rests_free own (h ++ e ∷ []) es (mended_not_due h e mend.made) m.1 mine.1 in
+      omega (arith, few, rest)
+      )
+]
+
+none_costs : (es : List Entry) → es ≡ [] → room_in es ≤ command_room
+none_costs es none = subst (λ (x : List Entry). room_in x ≤ command_room) (sym none) (omega arith)
+
+one_costs : (own : ℕ) (es : List Entry) (op : Op) (o : Outcome) → es ≡ entry own op o ∷ [] → room_in es ≤ command_room
+one_costs own es op o one = subst (λ (x : List Entry). room_in x ≤ command_room) (sym one) (let few = cost_few o in omega (arith, few))
+
+served_costs : (own : ℕ) (t : Board) (h : List Entry) (k : Ask) (es : List Entry) (r : Reply) → Serves own t h k es r → AllByRecursion (λ e. e.place ≡ own) es → room_in es ≤ command_room
+served_costs own t h (Refused q) es r x mine = none_costs es x.0
+served_costs own t h (LogsIn u) es r x mine = none_costs es x.0
+served_costs own t h LogsOut es r x mine = none_costs es x.0
+served_costs own t h Greets es r x mine = none_costs es x.0
+served_costs own t h Allows es r x mine = one_costs own es _ outcome.Answered x.0
+served_costs own t h Inhibits es r x mine = none_costs es x.0
+served_costs own t h (Lists which) es r x mine = one_costs own es _ outcome.Answered x.0
+served_costs own t h Restarts es r x mine = one_costs own es Restart x.0 x.1
+served_costs own t h (Changes op) es r x mine =
+    let e = entry own op x.outcome in
+    let all = subst (λ (l : List Entry). AllByRecursion (λ e. e.place ≡ own) l) x.all mine in
+    let front = mends_cost own h x.front x.mends (each_front (λ (y : Entry). y.place ≡ own) x.front (e ∷ []) all) in
+    let few = cost_few x.outcome in
+    let more = room_join x.front (e ∷ []) in
+    let same = ap room_in x.all in
+    omega (arith, front, few, more, same)
+
+module _ (l : Language Input Moment) (own : ℕ) (t : Board) where
+  -- the entries are of units that were answered
+  run_allowed : (w : Walk Input Moment) → Run l own t [] w → AllByRecursion (Allows_own own) w.history
+  run_allowed _ begins = tt
+  run_allowed _ (passes w e unused run) = each_join (Allows_own own) w.history (e ∷ []) (run_allowed w run) (unused_allowed own e unused, tt)
+  run_allowed _ (responds w u m es r none serves run) = each_join (Allows_own own) w.history es (run_allowed w run) (served_allowed own t w.history (l.asks w.attending.user u) es r serves)
+  run_allowed _ (waits w none run) = run_allowed w run
+  run_allowed _ (looks w cursor ms bytes due watch said run) = each_join (Allows_own own) w.history (entry own (Look cursor) outcome.Answered ∷ []) (run_allowed w run) ((λ _. tt), tt)
+
+  -- and took no more room than so many commands
+  run_costs : (w : Walk Input Moment) → Run l own t [] w → AllByRecursion (λ e. e.place ≡ own) w.history → room_in w.history ≤ command_room * length (units_in w.happenings)
+  run_costs _ begins mine = omega arith
+  run_costs _ (passes w e unused run) mine =
+      let so_far = run_costs w run (each_front (λ (x : Entry). x.place ≡ own) w.history (e ∷ []) mine) in
+      let free : cost e.outcome ≡ 0 = ap cost (taken_here own e (each_last (λ (x : Entry). x.place ≡ own) w.history e mine) unused) in
+      let more = room_join w.history (e ∷ []) in
+      omega (arith, so_far, free, more)
+  run_costs _ (responds w u m es r none serves run) mine =
+      let so_far = run_costs w run (each_front (λ (x : Entry). x.place ≡ own) w.history es mine) in
+      let few = served_costs own t w.history (l.asks w.attending.user u) es r serves (each_behind (λ (x : Entry). x.place ≡ own) w.history es mine) in
+      let more = room_join w.history es in
+      let units = ap length (units_in-append w.happenings (unit u ∷ [])) ∙ length-append (units_in w.happenings) (u ∷ []) in
+      omega (arith, so_far, few, more, units)
+  run_costs _ (waits w none run) mine =
+      let so_far = run_costs w run mine in
+      let units = ap length (units_in-quiet w.happenings) in
+      omega (arith, so_far, units)
+  run_costs _ (looks w cursor ms bytes due watch said run) mine =
+      let so_far = run_costs w run (each_front (λ (x : Entry). x.place ≡ own) w.history (entry own (Look cursor) outcome.Answered ∷ []) mine) in
+      let more = room_join w.history (entry own (Look cursor) outcome.Answered ∷ []) in
+      omega (arith, so_far, more)
+
+-- a fault of the disk is counted
+faults_there : (h : List Entry) (n : ℕ) → faults_in h ≤ n → AllByRecursion (λ e. e.outcome ≡ Failed DiskFault → 1 ≤ n) h
+faults_there [] n le = tt
+faults_there (e ∷ es) n le = ((λ is. let one : fault_in e.outcome ≡ 1 = ap fault_in is in omega (arith, one, le)), faults_there es n (omega (arith, le)))
+
+-- an operation of a legal history fails by a limit or by a fault
+fails_by : (r : Rules) (past h : List Entry) → GoesOn r past h → AllByRecursion (λ e. (q : Cause) → e.outcome ≡ Failed q → IsLimit q ⊎ IsFault q) h
+fails_by r past [] goes = tt
+fails_by r past (e ∷ es) goes = (
+  (λ q is. (let step = subst (λ (o : Outcome). StepsTo (table_after r.table past) e.op o (table_after r.table (past ++ e ∷ []))) is goes.0.step in elim step.0 [ inl x ↦ inl x.0 | inr x ↦ inr x.0 ])),
+  fails_by r (past ++ e ∷ []) es goes.1,
+)
+
+each_under : {X T : Type 0} (P : X → Type 0) (xs : List X) → (T → AllByRecursion P xs) → AllByRecursion (λ x. T → P x) xs
+each_under P [] f = tt
+each_under P (x ∷ xs) f = ((λ t. (f t).0), each_under P xs (λ t. (f t).1))
+
+-- what one entry of the place's is known to be
+record IsKnown (own : ℕ) (disk_told : Type 0) (faults : ℕ) (e : Entry) : Type 0 where
+  pub mine : e.place ≡ own
+  pub allowed : IsAllowed e.outcome
+  pub fails : (q : Cause) → e.outcome ≡ Failed q → IsLimit q ⊎ IsFault q
+  pub counted : e.outcome ≡ Failed DiskFault → 1 ≤ faults
+  pub never : disk_told → e.outcome ≢ Failed JournalAstray
+
+all_known : (own : ℕ) (disk_told : Type 0) (r : Rules) (h : List Entry) → IsLegal r h → AllByRecursion (λ e. e.place ≡ own) h → AllByRecursion (Allows_own own) h → (disk_told → IsNeverAstray h) → AllByRecursion (IsKnown own disk_told (faults_in h)) h
+all_known own disk_told r h legal mine allowed never =
+    let first = each_both (λ (e : Entry). e.place ≡ own) (Allows_own own) (λ e. (e.place ≡ own) × IsAllowed e.outcome) (λ e m a. (m, a m)) h mine allowed in
+    let next = each_both (λ (e : Entry). (q : Cause) → e.outcome ≡ Failed q → IsLimit q ⊎ IsFault q) (λ e. e.outcome ≡ Failed DiskFault → 1 ≤ faults_in h) (λ e. ((q : Cause) → e.outcome ≡ Failed q → IsLimit q ⊎ IsFault q) × (e.outcome ≡ Failed DiskFault → 1 ≤ faults_in h)) (λ e f n. (f, n)) h (fails_by r [] h legal) (faults_there h (faults_in h) (omega arith)) in
+    let both = each_both (λ (e : Entry). (e.place ≡ own) × IsAllowed e.outcome) (λ e. ((q : Cause) → e.outcome ≡ Failed q → IsLimit q ⊎ IsFault q) × (e.outcome ≡ Failed DiskFault → 1 ≤ faults_in h)) (λ e. ((e.place ≡ own) × IsAllowed e.outcome) × (((q : Cause) → e.outcome ≡ Failed q → IsLimit q ⊎ IsFault q) × (e.outcome ≡ Failed DiskFault → 1 ≤ faults_in h))) (λ e x y. (x, y)) h first next in
+    each_both (λ (e : Entry). ((e.place ≡ own) × IsAllowed e.outcome) × (((q : Cause) → e.outcome ≡ Failed q → IsLimit q ⊎ IsFault q) × (e.outcome ≡ Failed DiskFault → 1 ≤ faults_in h))) (λ e. disk_told → e.outcome ≢ Failed JournalAstray) (IsKnown own disk_told (faults_in h))
+    (λ e x y. record { mine = x.0.0; allowed = x.0.1; fails = x.1.0; counted = x.1.1; never = y }) h both (each_under (λ (e : Entry). e.outcome ≢ Failed JournalAstray) h never)
+
+module _ (disk_told : Type 0) (disk : DiskState) (own : ℕ) (o : Opening) (is : IsOpeningOf disk o) where
   -- each failed operation lowered the margin
-  few : (n : ℕ) (t : State D) (es : List Entry) → Keeps disk_told state b n es t → room_of n < (state disk).room → faults_in es ≤ (state disk).margin
-  few n t es keeps roomy =
-      let enough : 131_079 + most_room * n ≤ (state disk).room = omega (arith, roomy) in
-      let spent = spends_on 131_079 (most_room * n) (state disk) (disk_in state first) (disk_in state t) spends keeps.went.spends enough in
-      let left : 0 < (disk_in state t).room = omega (arith, roomy, spent.room) in
-      let counted = few_home disk_told state counts o keeps.stands.now es t.home keeps.stands.home left in
-      omega (arith, counted, spent.margin, later, faults)
+  few : (n : ℕ) (h : List Entry) → IsPaid o h → room_in h ≤ command_room * n → room_of n < disk.room → faults_in h ≤ disk.margin
+  few n h paid costs roomy =
+      let room = is.room (omega (arith, roomy)) in
+      let margin = is.margin (omega (arith, roomy)) in
+      let later = is.later in
+      let fell = paid (omega (arith, roomy, room, costs)) in
+      omega (arith, fell, margin, later)
 
-  own_history : (n : ℕ) (t : State D) (es : List Entry) → Keeps disk_told state b n es t → IsOwnHistory o (state disk) n es
-  own_history n t es keeps = record { legal = keeps.stands.legal; alone = within n t es keeps.alone; few = few n t es keeps }
+  module _ (n : ℕ) (h : List Entry) (paid : IsPaid o h) (costs : room_in h ≤ command_room * n) where
+    unsound : 1 ≤ faults_in h → IsUnsoundBy disk.margin disk.room n
+    unsound one margin roomy = let fell = few n h paid costs roomy in absurd (omega (arith, fell, one, margin))
 
-  answered : (items : List Item) (rest out : List ℕ) → IsRest rest → Past (language s) disk_told state clock_told c d b now items rest out → Answered clock_told c d s o (state disk) items out
-  answered items rest out alone p =
-      let n : ℕ = length p.walk.moments in
-      record {
-        walk = p.walk;
-        rest = rest;
-        now = standing o.first.fold.table p.walk.history p.walk.user;
-        happened = p.happened;
-        read = stream_of items p.walk.happenings rest p.happened alone;
-        gave = p.gave;
-        run = p.run;
-        history = own_history n now.state p.walk.history p.keeps;
-        written = p.written;
-        responds = rw p.written (played (language s) (rules_of o) (IsUnsound (state disk) n) [] p.walk p.run p.keeps.stands.legal (within n now.state p.walk.history p.keeps.alone));
-      }
+    excuse_of : (q : Cause) → (q ≡ DiskFault → 1 ≤ faults_in h) → (disk_told → q ≢ JournalAstray) → IsFault q → excused_on disk_told disk own o n q
+    excuse_of q counted never fault = elim fault [ inl d ↦ inl (d, unsound (counted d)) | inr a ↦ inr (a, λ told. never told a) ]
 
-  cut_off : (items : List Item) (out : List ℕ) → CutPast (language s) disk_told state clock_told c d b now items out → AnsweredInPart clock_told c d s o (state disk) items out
-  cut_off items out p =
-      let n : ℕ = length p.before.moments + 1 in
-      let alone = within n now.state (p.before.history ++ p.entries) p.keeps.alone in
-      record {
-        before = p.before;
-        last = p.last;
-        moment = p.moment;
-        reply = p.reply;
-        entries = p.entries;
-        user = now.user;
-        now = standing o.first.fold.table p.before.history p.before.user;
-        after = standing o.first.fold.table (p.before.history ++ p.entries) now.user;
-        part = p.part;
-        missing = p.missing;
-        happened = p.happened;
-        read = subst (λ (us : List Input). IsStream (bytes_in items) us []) (units_in-append p.before.happenings (unit p.last ∷ [])) (stream_of items (p.before.happenings ++ unit p.last ∷ []) [] p.happened rest_none);
-        gave = p.gave;
-        run = p.run;
-        serves = p.serves;
-        history = own_history n now.state (p.before.history ++ p.entries) p.keeps;
-        responds = played_so_far (language s) (rules_of o) (IsUnsound (state disk) n) [] p.before p.entries p.run p.keeps.stands.legal (each_before (IsOwn (IsUnsound (state disk) n)) p.before.history p.entries alone);
-        replies = replied (language s) (rules_of o) (IsUnsound (state disk) n) [] p.before p.last p.entries p.reply now.user p.serves p.keeps.stands.legal alone;
-        split = p.split;
-        written = p.written;
-      }
+    ended : (x : Outcome) → IsAllowed x → ((q : Cause) → x ≡ Failed q → IsLimit q ⊎ IsFault q) → (x ≡ Failed DiskFault → 1 ≤ faults_in h) → (disk_told → x ≢ Failed JournalAstray) → IsEnded (excused_on disk_told disk own o n) x
+    ended (Done c) allowed fails counted never = tt
+    ended (Denied q) allowed fails counted never = tt
+    ended (Failed q) allowed fails counted never = elim (fails q refl) [
+      | inl limit ↦ inl limit
+      | inr fault ↦ inr (excuse_of q (λ d. counted (ap Failed d)) (λ told a. never told (ap Failed a)) fault)
+    ]
+    ended outcome.Answered allowed fails counted never = tt
+    ended (Restarted c) allowed fails counted never = tt
+    ended Cut allowed fails counted never = absurd allowed
+    ended Taken allowed fails counted never = tt
 
-  to_stop : (items : List Item) (out : List ℕ) → StopPast (language s) disk_told state clock_told c d b now items out → AnsweredToStop clock_told c d s o (state disk) items out
-  to_stop items out p =
-      let n : ℕ = length p.before.moments in
-      record {
-        before = p.before;
-        last = p.last;
-        op = p.stops.op;
-        now = standing o.first.fold.table p.before.history p.before.user;
-        happened = p.happened;
-        read = subst (λ (us : List Input). IsStream (bytes_in items) us []) (units_in-append p.before.happenings (unit p.last ∷ [])) (stream_of items (p.before.happenings ++ unit p.last ∷ []) [] p.happened rest_none);
-        gave = p.gave;
-        run = p.run;
-        history = own_history n p.at p.before.history p.keeps;
-        cut = p.stops.stands.legal;
-        written = p.written;
-        responds = rw p.written (played (language s) (rules_of o) (IsUnsound (state disk) n) [] p.before p.run p.keeps.stands.legal (within n p.at p.before.history p.keeps.alone));
-        asked = p.stops.asked;
-        under_way = (legal_last (rules_of o) [] p.before.history _ p.stops.stands.legal).step.0;
-      }
+    known_own : (e : Entry) → IsKnown own disk_told (faults_in h) e → IsOwn own (excused_on disk_told disk own o n) e
+    known_own e k = record { mine = k.mine; ended = ended e.outcome k.allowed k.fails k.counted k.never }
 
-  wrote_all : Served (language s) disk_told state told clock_told k l c d b now → WroteAll clock_told c d s o (state disk) told k l
-  wrote_all x = record { items = x.items; out = x.out; exchanged = x.exchanged; answered = answered x.items x.rest x.out x.no_unit x.past }
+    own_history : IsLegal (rules_of o) h → KeepsTurns None h → AllByRecursion (λ e. e.place ≡ own) h → AllByRecursion (Allows_own own) h → (disk_told → IsNeverAstray h) → IsOwnHistory disk_told disk own o n h
+    own_history legal turns mine allowed never = record {
+      legal = legal;
+      turns = turns;
+      own = each_both (IsKnown own disk_told (faults_in h)) (λ e. Unit {0}) (IsOwn own (excused_on disk_told disk own o n)) (λ e k _. known_own e k) h (all_known own disk_told (rules_of o) h legal mine allowed never) (each_any h);
+      few = few n h paid costs;
+    }
 
-  wrote_in_part : Breaks (language s) disk_told state told clock_told k l c d b now → WroteInPart clock_told c d s o (state disk) told k l
-  wrote_in_part x = record { items = x.items; ahead = x.ahead; out = x.out; exchanged = x.exchanged; answered = cut_off x.items x.out x.past; rose = x.rose }
+  -- a run whose entries are the place's is the plain session's
+  module _ (l : Language Input Moment) (n : ℕ) (w : Walk Input Moment) (run : Run l own o.first.fold.table [] w) (history : IsOwnHistory disk_told disk own o n w.history) where
+    abbrev excused : Excuse
+    excused = excused_on disk_told disk own o n
 
-  wrote_to_stop : Halts (language s) disk_told state told clock_told k l c d b now → WroteToStop clock_told c d s o (state disk) told k l
-  wrote_to_stop x = record { items = x.items; ahead = x.ahead; out = x.out; exchanged = x.exchanged; answered = to_stop x.items x.out x.past }
+    played_alone : Played l (rules_of o) own excused alone (IsOwn own excused) (λ a. refl) alone_onward alone_keeps (alone_passed own excused o.first.fold.table) (own_excuse own excused) (own_doubts own excused o.first.fold.table) [] w
+    played_alone = played l (rules_of o) own excused alone (IsOwn own excused) (λ a. refl) alone_onward alone_keeps (alone_passed own excused o.first.fold.table) (own_excuse own excused) (own_doubts own excused o.first.fold.table) [] w run history.legal history.own
 
-  wrote : (end : SessionEnd) → IsSession (language s) disk_told state told clock_told k l c d b now end → Wrote clock_told c d s o (state disk) told k l (status_of end)
-  wrote End x = inl (wrote_all x)
-  wrote ReadFault x = inl (wrote_all x)
-  wrote Spent x = inl (wrote_all x)
-  wrote WriteFault x = inr (inl (refl, wrote_in_part x))
-  wrote Stopped x = inr (inr (refl, wrote_to_stop x))
+    plays_alone : w.due ≡ false → Plays l (LimitBehind o.first) excused alone (opened o) w.happenings (said_in w) (standing o.first.fold.table w.history w.attending)
+    plays_alone none = all_played l (rules_of o) own excused alone (IsOwn own excused) (λ a. refl) alone_onward alone_keeps (alone_passed own excused o.first.fold.table) (own_excuse own excused) (own_doubts own excused o.first.fold.table) [] w played_alone none
 
-  all_at : (end : SessionEnd) → IsSession (language s) disk_told state told clock_told k l c d b now end → end ≡ End → WroteAll clock_told c d s o (state disk) told k l
-  all_at End x is = wrote_all x
-  all_at ReadFault x is = cc
-  all_at Spent x is = cc
-  all_at WriteFault x is = cc
-  all_at Stopped x is = cc
+    some_alone : w.happenings ≢ [] → Something l (LimitBehind o.first) excused alone (opened o) (standing o.first.fold.table w.history w.attending) w
+    some_alone some = elim played_alone [ inl x ↦ absurd (some x.happenings) | inr x ↦ x ]
 
--- what the session's clauses tell of its end
-pub record IsEnd (k l : LinkState) (stops later : ℕ) (end : SessionEnd) : Type 0 where
-  pub ended : (end ≡ End) ↔ IsTrue l.ended
-  pub read_fault : end ≡ ReadFault → Rose k.read_faults l.read_faults
-  pub write_fault : end ≡ WriteFault → Rose k.write_faults l.write_faults
-  pub stopped : end ≡ Stopped → Rose stops later
-  pub unstopped : end ≢ Stopped → later ≡ stops
-  pub spent : end ≡ Spent → Counted k.reads l.reads (2 ^ 32)
+  module _ (told clock_told : Type 0) (k l : LinkState) (c d : List Moment) (s : Contents) (now : Now) (mine : (h : List Entry) → now.seen ≡ codes h → AllByRecursion (λ e. e.place ≡ own) h) (never : SawNoneAstray disk_told now.seen) where
+    abbrev b : Beginning
+    b = record { opening = o; place = own; before = [] }
 
-done_at : (end : SessionEnd) → status_of end ≡ Done → end ≡ End
-done_at End is = refl
-done_at ReadFault is = cc
-done_at WriteFault is = cc
-done_at Stopped is = cc
-done_at Spent is = cc
+    abbrev commands : Walk Input Moment → ℕ
+    commands w = length (units_in w.happenings)
 
-link_at : (k l : LinkState) (stops later : ℕ) (end : SessionEnd) → IsEnd k l stops later end → status_of end ≡ Link → Rose k.read_faults l.read_faults ⊎ Rose k.write_faults l.write_faults
-link_at k l stops later End e is = cc
-link_at k l stops later Spent e is = cc
-link_at k l stops later Stopped e is = cc
-link_at k l stops later ReadFault e is = inl (e.read_fault refl)
-link_at k l stops later WriteFault e is = inr (e.write_fault refl)
+    history_of : (w : Walk Input Moment) → Run (language s) own o.first.fold.table [] w → Saw o now.seen w.history → IsOwnHistory disk_told disk own o (commands w) w.history
+    history_of w run saw =
+        let here = mine w.history saw.codes_are in
+        own_history (commands w) w.history saw.history.paid (run_costs (language s) own o.first.fold.table w run here) saw.history.legal saw.history.turns here (run_allowed (language s) own o.first.fold.table w run) (λ t. never t w.history saw.codes_are)
 
-stopped_at : (end : SessionEnd) → status_of end ≡ Was_stopped → end ≡ Stopped
-stopped_at End is = cc
-stopped_at ReadFault is = cc
-stopped_at WriteFault is = cc
-stopped_at Stopped is = refl
-stopped_at Spent is = cc
+    answered : (items : List Item) (rest out : List ℕ) → IsRest rest → Past (language s) clock_told c d b now false items rest out → Answered disk_told disk own o clock_told c d s items out
+    answered items rest out no_unit p =
+        let history = history_of p.walk p.run p.saw in
+        record {
+          walk = p.walk;
+          rest = rest;
+          happened = p.happened;
+          read = stream_of items p.walk.happenings rest p.happened no_unit;
+          gave = p.gave;
+          run = p.run;
+          history = history;
+          written = p.written;
+          plays = plays_alone (language s) (commands p.walk) p.walk p.run history p.looked;
+        }
 
-spent_at : (end : SessionEnd) → status_of end ≡ Ran_out → end ≡ Spent
-spent_at End is = cc
-spent_at ReadFault is = cc
-spent_at WriteFault is = cc
-spent_at Stopped is = cc
-spent_at Spent is = refl
+    in_part : (items : List Item) (out : List ℕ) → CutPast (language s) clock_told c d b now items out → AnsweredInPart disk_told disk own o clock_told c d s items out
+    in_part items out p =
+        let history = history_of p.walk p.run p.saw in
+        let x = some_alone (language s) (commands p.walk) p.walk p.run history p.some in
+        record {
+          walk = p.walk;
+          rest = p.rest;
+          front = x.front;
+          last = x.last;
+          all = x.happenings;
+          happened = p.happened;
+          read = stream_of items p.walk.happenings p.rest p.happened p.no_unit;
+          moments = p.moments;
+          untaken = p.untaken;
+          taken = p.taken;
+          gave = p.gave;
+          run = p.run;
+          history = history;
+          earlier = x.earlier;
+          latest = x.latest;
+          took = x.moments;
+          plays = x.plays;
+          part = p.part;
+          missing = p.missing;
+          split = sym x.latest_is ∙ p.split;
+          written = p.written ∙ ap (λ (y : List ℕ). y ++ p.part) x.earlier_is;
+        }
 
-else_spent : (end : SessionEnd) → status_of end ≢ Done → status_of end ≢ Link → status_of end ≢ Was_stopped → status_of end ≡ Ran_out
-else_spent End done link stopped = absurd (done refl)
-else_spent ReadFault done link stopped = absurd (link refl)
-else_spent WriteFault done link stopped = absurd (link refl)
-else_spent Stopped done link stopped = absurd (stopped refl)
-else_spent Spent done link stopped = refl
+    to_stop : (items : List Item) (out : List ℕ) → StopPast (language s) clock_told c d b now items out → AnsweredToStop disk_told disk own o clock_told c d s items out
+    to_stop items out p =
+        let w = p.walk in
+        let x = p.stops in
+        let g = w.history ++ x.front in
+        let e = entry own x.op Cut in
+        let all = mine (g ++ e ∷ []) x.saw.codes_are in
+        let here = each_front (λ (y : Entry). y.place ≡ own) w.history x.front (each_front (λ (y : Entry). y.place ≡ own) g (e ∷ []) all) in
+        let never_here : disk_told → IsNeverAstray w.history = λ t. each_front (λ (y : Entry). y.outcome ≢ Failed JournalAstray) w.history x.front (each_front (λ (y : Entry). y.outcome ≢ Failed JournalAstray) g (e ∷ []) (never t (g ++ e ∷ []) x.saw.codes_are)) in
+        let history = own_history (commands w) w.history p.history.paid (run_costs (language s) own o.first.fold.table w p.run here) p.history.legal p.history.turns here (run_allowed (language s) own o.first.fold.table w p.run) never_here in
+        record {
+          walk = w;
+          last = p.last;
+          op = x.op;
+          in_front = x.front;
+          happened = p.happened;
+          read = subst (λ (us : List Input). IsStream (bytes_in items) us []) (units_in-append w.happenings (unit p.last ∷ [])) (stream_of items (w.happenings ++ unit p.last ∷ []) [] p.happened rest_none);
+          gave = p.gave;
+          run = p.run;
+          history = history;
+          mends = x.stands;
+          cuts = x.cuts;
+          legal = x.saw.history.legal;
+          written = p.written;
+          plays = plays_alone (language s) (commands w) w p.run history p.looked;
+          under_way = (fits_last (rules_of o) g e x.saw.history.legal).step.0;
+        }
 
-module _ {D : Type 0} (disk_told : Type 0) (state : D → DiskState) (counts : (x : D) → CountsOn (state x)) (told clock_told : Type 0) (k l : LinkState) (c d : List Moment) (stops later : ℕ) (s : Contents) (disk : D) where
-  -- a session on a place that was opened on the shelf and the disk
-  pub script_at : (place : Seat D) (after : State D) (end : SessionEnd) (status : Status) → (x : IsOpened disk_told state disk s place)
-      → ((b : Beginning D) → b.state ≡ place.state → StandsFor disk_told state b.opening place.state (b.past ++ []) → IsServed (language place.shelf) disk_told state told clock_told k l c d b after end) → IsEnd k l stops later end → status ≡ status_of end
-      → IsScript clock_told c d s x.opening (state disk) told k l stops later status
-  script_at place after end status x session e end_is =
-      let b : Beginning D = record { opening = x.opening; past = []; state = place.state } in
-      let ran = subst (λ (y : Contents). IsServed (language y) disk_told state told clock_told k l c d b after end) x.shelf (session b refl x.stands) in
-      let now : Now D = record { state = after; user = ran.0 } in
-      subst (λ (y : Status). IsScript clock_told c d s x.opening (state disk) told k l stops later y) (sym end_is) (record {
-        wrote = wrote disk_told state counts told clock_told k l c d s x.opening place.state disk x.spends x.later x.faults now end ran.1;
-        all_written = λ is. all_at disk_told state counts told clock_told k l c d s x.opening place.state disk x.spends x.later x.faults now end ran.1 (done_at end is);
-        ended = (λ is. e.ended.0 (done_at end is), λ is. ap status_of (e.ended.1 is));
-        cause = link_at k l stops later end e;
-        stopped = λ is. e.stopped (stopped_at end is);
-        unstopped = λ not. e.unstopped (λ is. not (ap status_of is));
-        spent = λ is. e.spent (spent_at end is);
-        else_spent = else_spent end;
-      })
+    wrote_all : Served (language s) told clock_told k l c d b now → WroteAll disk_told disk own o clock_told c d s told k l
+    wrote_all x = record { items = x.items; out = x.out; exchanged = x.exchanged; answered = answered x.items x.rest x.out x.no_unit x.past }
 
--- a controller that didn't start has no status of its words
-why_words : (w : JournalWhy) → status_of_why w ≡ BadWords → ⊥
-why_words (why.BadHeader bytes) is = cc
-why_words why.Disk is = cc
+    scripted : (end : SessionEnd) → IsSession (language s) told clock_told k l c d b now end → IsScript disk_told disk own o clock_told c d s told k l end
+    scripted End x = wrote_all x
+    scripted ReadFault x = wrote_all x
+    scripted Spent x = wrote_all x
+    scripted WriteFault x = record { items = x.items; ahead = x.ahead; out = x.out; exchanged = x.exchanged; answered = in_part x.items x.out x.past; rose = x.rose }
+    scripted Stopped x = record { items = x.items; ahead = x.ahead; out = x.out; exchanged = x.exchanged; answered = to_stop x.items x.out x.past }
 
-fault_words : {D : Type 0} (f : OpenFault D) → status_of_fault f ≡ BadWords → ⊥
-fault_words (fault_of.Journal f) is = why_words f.why is
-fault_words (fault_of.BadRecord i) is = cc
-fault_words (fault_of.Disk d) is = cc
-fault_words fault_of.NoMemory is = cc
-fault_words fault_of.Stopped is = cc
+no_codes : (h : List Entry) → codes h ≡ [] → h ≡ []
+no_codes [] is = refl
+no_codes (e ∷ es) is = cc
 
-check_words : (sent : Sent) → status_of_check sent ≡ BadWords → ⊥
-check_words Whole is = cc
-check_words Sent_cut is = cc
+-- What the one session of a turnstile with one pass wrote, on the opening of a disk.
+pub script_of : (disk_told told clock_told : Type 0) (disk : DiskState) (k l : LinkState) (c d : List Moment) (s : Contents) (old new : SeatAt) (end : SessionEnd) → IsOpeningOf disk old.opening → old.seen ≡ [] → old.place ≡ 0 → new.places ≡ 1 → AreNumbered new.places new.seen
+    → SawNoneAstray disk_told new.seen → IsServed (language s) told clock_told k l c d old new end → IsScript disk_told disk old.place old.opening clock_told c d s told k l end
+script_of disk_told told clock_told disk k l c d s old new end is none zero one numbers never (before, saw, (attending, ran)) =
+    let nothing : before ≡ [] = no_codes before (sym saw.codes_are ∙ none) in
+    let now : Now = record { seen = new.seen; attending = attending } in
+    let mine = λ (h : List Entry) (is_codes : new.seen ≡ codes h). mine_of old.place zero h (subst (λ (n : ℕ). Each (λ e. e.place < n) h) one (numbers h is_codes)) in
+    scripted disk_told disk old.place old.opening is told clock_told k l c d s now mine never end
+    (subst (λ (h : List Entry). IsSession (language s) told clock_told k l c d (record { opening = old.opening; place = old.place; before = h }) now end) nothing ran)
 
--- nor has what was done on a journal
-pub not_words : {D : Type 0} (disk_told : Type 0) (state : D → DiskState) (mode : Mode) (disk : D) (s : Contents) (told clock_told : Type 0) (k l : LinkState) (c d : List Moment) (stops later : ℕ) (status : Status)
-    → IsRunOn disk_told state mode disk s told clock_told k l c d stops later status → status ≡ BadWords → ⊥
-not_words disk_told state mode disk s told clock_told k l c d stops later status (inl none) is = fault_words none.0.fault (sym none.0.is ∙ is)
-not_words disk_told state Script disk s told clock_told k l c d stops later status (inr ran) is =
-    (let spent = ran.2.else_spent (λ e. (let no = sym e ∙ is in cc)) (λ e. (let no = sym e ∙ is in cc)) (λ e. (let no = sym e ∙ is in cc)) in let no = sym spent ∙ is in cc)
-not_words disk_told state Check disk s told clock_told k l c d stops later status (inr ran) is = check_words ran.2.sent (sym ran.2.status_is ∙ is)
-
--- memory was wanting
-pub no_memory : {D : Type 0} (disk_told : Type 0) (state : D → DiskState) (disk : D) (s : Contents) (stops later : ℕ) → NotStarted disk_told state disk s stops later NoMemory
-no_memory disk_told state disk s stops later = record { fault = fault_of.NoMemory; is = refl; why = λ _. tt; disk_failed = λ is. cc; stopped = λ is. cc }
-
--- words that are a line
-pub line_named : {X Y : Type 0} (f : X → Y) (o : Option X) (x : X) (line : Option Y) → option_map f o ≡ line → o ≡ Some x → line ≡ Some (f x)
-line_named f o x line is some = sym is ∙ ap (λ p. option_map f p) some
-
-pub named : {X Y : Type 0} (f : X → Y) (o : Option X) (x : X) (line : Option Y) → option_map f o ≡ line → o ≡ Some x → line ≡ None → ⊥
-named f o x line is some none = (let no = sym (line_named f o x line is some) ∙ none in cc)
+-- an opening of a disk is one, by what the call tells of the disk that the state has at home
+pub opening_of_disk : {D : Type 0} (told failed : Type 0) (state : D → DiskState) → ((x : D) → CountsOn (state x)) → (disk : D) (s : State D) → Begins told state s → IfSome (disk_home s.home) (λ d. HasCause (state disk).faults (state d).faults failed) → IfSome (disk_home s.home) (λ d. Spends opening_room (state disk) (state d))
+    → IsOpeningOf (state disk) (opening_of state s)
+opening_of_disk {D} told failed state counts disk s x cause spends =
+    let d = x.disk in
+    let caused = subst (λ (y : Option D). IfSome y (λ d2. HasCause (state disk).faults (state d2).faults failed)) x.is_home cause in
+    let spent = subst (λ (y : Option D). IfSome y (λ d2. Spends opening_room (state disk) (state d2))) x.is_home spends in
+    let on = counts d in
+    record {
+      later = omega (arith, caused.later, x.faults);
+      room = λ roomy. let left = (spent roomy).room in omega (arith, left, x.room);
+      margin = λ roomy. let left = (spent roomy).margin in omega (arith, left, x.faults, x.margin);
+      counts = λ some. let below = on (omega (arith, some, x.room)) in omega (arith, below, x.faults);
+    }

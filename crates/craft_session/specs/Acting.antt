@@ -1,54 +1,38 @@
--- What was asked is done: the entries that it makes, and the state behind them.
-use Rattle.std.specs.Prelude.{◌≡◌, ◌⊎◌, List, [], ◌∷◌, ◌++◌, Option, Some, None}
-use Rattle.std.specs.List.{AllByRecursion}
-use Rattle.dxc_disk.specs.Disks.{DiskState}
-use Rattle.dxc_model.specs.declared.cause.Cause.TheVariants.{DiskFault}
+-- What was asked is done: the entries that stand behind the history then, and the reply.
+use Rattle.std.specs.Prelude.{◌≡◌, List, [], ◌∷◌, ◌++◌, length, Option, Some, None, ℕ}
+use base.Stored.{Gv}
+use Rattle.turnstile.specs.Turning.{Each}
 use Rattle.dxc_model.specs.declared.conn.Conn.{Conn}
 use Rattle.dxc_model.specs.declared.op.Op.{Op}
-use Rattle.dxc_model.specs.declared.entry.Outcome.{Outcome}
-use Rattle.dxc_model.specs.declared.entry.Outcome.TheVariants.{Done, Denied, Failed, Answered, Restarted, Cut, Taken}
+use Rattle.dxc_model.specs.declared.entry.Outcome.TheVariants.{Cut}
 use Rattle.dxc_model.specs.declared.entry.Entry.{Entry}
-use Rattle.dxc_model.specs.declared.user.SessionUser.{SessionUser}
-use Rattle.dxc_model.specs.Steps.{IsLimit}
-use Rattle.xc_core.specs.declared.state.State.{State}
-use Rattle.xc_core.specs.States.{Opening, StandsFor}
+use Rattle.dxc_model.specs.Histories.{changes_of}
+use Rattle.xc_core.specs.States.{Opening}
+use Rattle.xc_core.specs.Seeing.{Saw, entry}
 use Rattle.craft_session.specs.declared.ask.Ask.{Ask}
-use Rattle.craft_session.specs.declared.ask.Ask.TheVariants.{Changes}
 use Rattle.craft_session.specs.declared.ask.Acted.{Acted}
+use Rattle.craft_session.specs.declared.attending.Attending.{Attending}
 use Rattle.craft_session.specs.Asks.{Reply, reply_of}
-use Rattle.craft_session.specs.Seats.{IsFaulty, Went}
-use Rattle.craft_session.specs.Walks.{own, entry, Serves}
+use Rattle.craft_session.specs.Walks.{CutsAt, FrontOf, IsUnused, Serves, attending_after}
 
--- the table took it or denied it, a limit stood against it, the disk failed, or it only read
-abbrev pub IsEnded : Type 0 → Outcome → Type 0
-IsEnded faulty (Done c) = Unit {0}
-IsEnded faulty (Denied q) = Unit {0}
-IsEnded faulty (Failed q) = IsLimit q ⊎ (faulty × (q ≡ DiskFault))
-IsEnded faulty Answered = Unit {0}
-IsEnded faulty (Restarted c) = ⊥
-IsEnded faulty Cut = ⊥
-IsEnded faulty Taken = ⊥
+-- behind the history stand entries that no unit uses, and then those of what was asked
+pub record Acts (o : Opening) (place : ℕ) (h : List Entry) (s : Attending) (a : Ask) (r : Reply) (z : Attending) (then_seen : List Gv) : Type 0 where
+  pub passed : List Entry
+  pub unused : Each (IsUnused place) passed
+  pub entries : List Entry
+  pub serves : Serves place o.first.fold.table (h ++ passed) a entries r
+  pub attending : z ≡ attending_after s (length (changes_of (h ++ passed))) a
+  pub saw : Saw o then_seen ((h ++ passed) ++ entries)
 
--- an entry of the one place, of a unit that was answered; a fault of the disk licenses it
-pub record IsOwn (faulty : Type 0) (e : Entry) : Type 0 where
-  pub place : e.place ≡ own
-  pub ended : IsEnded faulty e.outcome
+-- a stop cut a restart or a changing command
+pub record Stops (o : Opening) (place : ℕ) (h : List Entry) (s : Attending) (a : Ask) (z : Attending) (then_seen : List Gv) : Type 0 where
+  pub front : List Entry
+  pub stands : FrontOf place h a front
+  pub op : Op
+  pub cuts : CutsAt (h ++ front) a op
+  pub attending : z ≡ s
+  pub saw : Saw o then_seen ((h ++ front) ++ entry place op Cut ∷ [])
 
-module _ {D : Type 0} (told : Type 0) (state : D → DiskState) where
-  -- behind the history h what a user asked was done: the entries, the reply, the user and the state after it
-  pub record Acts (o : Opening) (h : List Entry) (s : SessionUser) (a : Ask) (r : Reply) (z : SessionUser) (before after : State D) : Type 0 where
-    pub entries : List Entry
-    pub serves : Serves own o.first.fold.table h s a entries r z
-    pub stands : StandsFor told state o after (h ++ entries)
-    pub went : Went state 1 before after
-    pub alone : AllByRecursion (IsOwn (IsFaulty state 1 before after)) entries
-
-  -- a stop cut a changing command
-  pub record Stops (o : Opening) (h : List Entry) (a : Ask) (after : State D) : Type 0 where
-    pub op : Op
-    pub asked : a ≡ Changes op
-    pub stands : StandsFor told state o after (h ++ entry own op Cut ∷ [])
-
-  abbrev pub ActedIs : Opening → List Entry → SessionUser → Ask → Option Acted → List Conn → SessionUser → State D → State D → Type 0
-  ActedIs o h s a (Some acted) rows z before after = Acts o h s a (reply_of acted rows) z before after
-  ActedIs o h s a None rows z before after = Stops o h a after
+abbrev pub ActedIs : Opening → ℕ → List Entry → Attending → Ask → Option Acted → List Conn → Attending → List Gv → Type 0
+ActedIs o place h s a (Some acted) rows z then_seen = Acts o place h s a (reply_of acted rows) z then_seen
+ActedIs o place h s a None rows z then_seen = Stops o place h s a z then_seen

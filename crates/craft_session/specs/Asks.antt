@@ -1,5 +1,5 @@
 -- What a session replies, and the language in which it is asked and answers.
-use Rattle.std.specs.Prelude.{ℕ, Bool, true, nat_lt, List}
+use Rattle.std.specs.Prelude.{ℕ, Bool, true, nat_lt, List, Option, Some, None}
 use Rattle.dxc_model.specs.declared.cause.Cause.{Cause}
 use Rattle.dxc_model.specs.declared.conn.Conn.{Conn}
 use Rattle.dxc_model.specs.declared.user.SessionUser.{SessionUser}
@@ -7,20 +7,23 @@ use Rattle.dxc_model.specs.declared.user.SessionUser.TheVariants.{Nobody, User}
 use Rattle.dxc_num.specs.Dimensions.{Dimensions}
 use Rattle.dxc_model.specs.Operations.{IsApt}
 use Rattle.craft_session.specs.declared.ask.Ask.{Ask}
-use Rattle.craft_session.specs.declared.ask.Ask.TheVariants.{Refused, LogsIn, LogsOut, Greets, Lists, Changes}
+use Rattle.craft_session.specs.declared.ask.Ask.TheVariants.{Refused, LogsIn, LogsOut, Greets, Allows, Inhibits, Lists, Restarts, Changes}
 use Rattle.craft_session.specs.declared.ask.Acted.{Acted}
 use Rattle.craft_session.specs.declared.ask.Acted.TheVariants as acted
+use Rattle.craft_session.specs.Notices.{Notice}
 
 -- what a response says
 pub data Reply : Type 0 where
   completed : Reply
   completed_rows : List Conn → Reply
+  restarted : Reply
   denied : Cause → Reply
 
 -- what was done, with the rows that were listed
 abbrev pub reply_of : Acted → List Conn → Reply
 reply_of acted.Completed rows = completed
 reply_of acted.Listed rows = completed_rows rows
+reply_of acted.Restarted rows = restarted
 reply_of (acted.Denied q) rows = denied q
 
 -- an operation that is asked for is one of the shape's
@@ -29,7 +32,10 @@ IsAptAsk d (Refused q) = Unit {0}
 IsAptAsk d (LogsIn u) = Unit {0}
 IsAptAsk d LogsOut = Unit {0}
 IsAptAsk d Greets = Unit {0}
+IsAptAsk d Allows = Unit {0}
+IsAptAsk d Inhibits = Unit {0}
 IsAptAsk d (Lists which) = Unit {0}
+IsAptAsk d Restarts = Unit {0}
 IsAptAsk d (Changes op) = IsApt d op
 
 -- who is logged in after what was asked
@@ -38,7 +44,10 @@ user_after s (Refused q) = s
 user_after s (LogsIn u) = u
 user_after s LogsOut = Nobody
 user_after s Greets = s
+user_after s Allows = s
+user_after s Inhibits = s
 user_after s (Lists which) = s
+user_after s Restarts = s
 user_after s (Changes op) = s
 
 -- the user is one of so many
@@ -46,7 +55,25 @@ abbrev pub is_known : ℕ → SessionUser → Bool
 is_known users Nobody = true
 is_known users (User n class) = nat_lt n users
 
--- what units ask for a user, and the bytes of the response to a unit at a moment
+-- The number of the last change that was reported, where reports are allowed; from this number on, where they begin
+abbrev pub cursor_from : Option ℕ → ℕ → ℕ
+cursor_from None newest = newest
+cursor_from (Some n) newest = n
+
+-- where reports stand after what was asked, with so many changes made
+abbrev pub watch_after : Option ℕ → ℕ → Ask → Option ℕ
+watch_after w newest (Refused q) = w
+watch_after w newest (LogsIn u) = w
+watch_after w newest LogsOut = None
+watch_after w newest Greets = w
+watch_after w newest Allows = Some (cursor_from w newest)
+watch_after w newest Inhibits = None
+watch_after w newest (Lists which) = w
+watch_after w newest Restarts = w
+watch_after w newest (Changes op) = w
+
+-- what units ask for a user, and the bytes of the response to a unit and of a report, at a moment
 pub record Language (U M : Type 0) : Type 0 where
   pub asks : SessionUser → U → Ask
   pub response : M → U → Reply → List ℕ
+  pub report : M → Notice → List ℕ

@@ -1,41 +1,62 @@
--- A changing command of a session, by the entry that it makes.
-use Rattle.std.specs.Prelude.{◌≡◌, ◌≤◌, ◌⊎◌, List, [], ◌∷◌, ◌++◌, false, None}
-use Rattle.dxc_disk.specs.Disks.{DiskState}
-use Rattle.dxc_model.specs.declared.cause.Cause.TheVariants.{DiskFault}
+-- A changing command of a session, and a restart, by the entries that they make.
+use Rattle.std.specs.Prelude.{◌⊎◌, ℕ, List, [], ◌∷◌, ◌++◌, Option}
+use base.Stored.{Gv}
+use Rattle.turnstile.specs.Turning.{Each}
 use Rattle.dxc_model.specs.declared.op.Op.{Op}
+use Rattle.dxc_model.specs.declared.op.Op.TheVariants.{Restart}
 use Rattle.dxc_model.specs.declared.op.Change.{Change as TableChange}
 use Rattle.dxc_model.specs.declared.entry.Outcome.TheVariants as outcome
 use Rattle.dxc_model.specs.declared.entry.Entry.{Entry}
-use Rattle.dxc_model.specs.Steps.{IsLimit}
-use Rattle.roll_engine.specs.Rollings.{RollingAt}
-use Rattle.xc_core.specs.declared.provisioner.Provisioner.{Provisioner}
-use Rattle.xc_core.specs.declared.state.Home.TheVariants.{In}
-use Rattle.xc_core.specs.declared.state.State.{State}
-use Rattle.xc_core.specs.Reckonings.{Meets}
-use Rattle.xc_core.specs.Provisioners.{Rolls, ground_of}
-use Rattle.xc_core.specs.States.{Opening, StandsFor}
-use Rattle.craft_session.specs.Seats.{IsFaulty}
+use Rattle.dxc_model.specs.Steps.{IsFault}
+use Rattle.dxc_model.specs.Histories.{IsRestartDue, IsStopped}
+use Rattle.xc_core.specs.States.{Opening}
+use Rattle.xc_core.specs.Seeing.{IsDueFor, Saw, entry, refused}
 use Rattle.craft_session.specs.declared.change.Changed.{Changed}
 use Rattle.craft_session.specs.declared.change.Changed.TheVariants.{Done, Denied, Stopped}
-use Rattle.craft_session.specs.Walks.{entry, own}
+use Rattle.craft_session.specs.declared.mend.Mended.{Mended}
+use Rattle.craft_session.specs.declared.mend.Mended.TheVariants as mended
+use Rattle.craft_session.specs.Walks.{IsChangeAt, IsUnused, Mends}
 
-module _ {D : Type 0} (told : Type 0) (state : D → DiskState) where
-  -- the state stands for the history with the operation's entry behind it; the disk's fault is one only where a call on it failed
-  abbrev pub ChangedIs : Opening → List Entry → Op → State D → State D → Changed → Type 0
-  ChangedIs o h op before s Done = (c : TableChange) × StandsFor told state o s (h ++ entry own op (outcome.Done c) ∷ [])
-  ChangedIs o h op before s (Denied q) = StandsFor told state o s (h ++ entry own op (outcome.Denied q) ∷ []) ⊎ ((IsLimit q ⊎ (IsFaulty state 1 before s × (q ≡ DiskFault))) × StandsFor told state o s (h ++ entry own op (outcome.Failed q) ∷ []))
-  ChangedIs o h op before s Stopped = StandsFor told state o s (h ++ entry own op outcome.Cut ∷ [])
+-- behind the history stand entries that no unit of the place uses, and then this one
+pub record Passed (o : Opening) (place : ℕ) (h : List Entry) (e : Entry) (then_seen : List Gv) : Type 0 where
+  pub passed : List Entry
+  pub unused : Each (IsUnused place) passed
+  pub saw : Saw o then_seen ((h ++ passed) ++ e ∷ [])
 
-  -- the Provisioner was taken from a state of this history, and the operation's work is planned and in the journal
-  pub record HasBegun (o : Opening) (h : List Entry) (op : Op) (s : State D) (p : Provisioner D) (r : RollingAt) : Type 0 where
-    pub whole : State D
-    pub before : Provisioner D
-    pub home_is : whole.home ≡ In before
-    pub was_ready : before.halted ≡ false
-    pub stands : StandsFor told state o whole h
-    pub table : s.table ≡ whole.table
-    pub ground : ground_of p ≡ ground_of before
-    pub later : (state before.journal.0).faults ≤ (state p.journal.0).faults
-    pub change : TableChange
-    pub within : Meets stands.now change None
-    pub rolls : Rolls told state stands.now op change p r
+-- the same with none behind them
+pub record PassedBy (o : Opening) (place : ℕ) (h : List Entry) (then_seen : List Gv) : Type 0 where
+  pub passed : List Entry
+  pub unused : Each (IsUnused place) passed
+  pub saw : Saw o then_seen (h ++ passed)
+
+-- behind it stand such entries, and restarts that were due, and then this one
+pub record MendedTo (o : Opening) (place : ℕ) (h : List Entry) (e : Entry) (then_seen : List Gv) : Type 0 where
+  pub front : List Entry
+  pub mends : Mends place h front
+  pub saw : Saw o then_seen ((h ++ front) ++ e ∷ [])
+
+-- the same with none behind them
+pub record MendedBy (o : Opening) (place : ℕ) (h : List Entry) (then_seen : List Gv) : Type 0 where
+  pub front : List Entry
+  pub mends : Mends place h front
+  pub saw : Saw o then_seen (h ++ front)
+
+-- what came of the command
+abbrev pub ChangedIs : Opening → ℕ → List Entry → Op → List Gv → Changed → Type 0
+ChangedIs o place h op then_seen Done = (c : TableChange) × (m : MendedTo o place h (entry place op (outcome.Done c)) then_seen) × IsChangeAt (h ++ m.front) (outcome.Done c)
+ChangedIs o place h op then_seen (Denied q) = (m : MendedTo o place h (entry place op (refused q)) then_seen) × IsChangeAt (h ++ m.front) (refused q)
+ChangedIs o place h op then_seen Stopped =
+    ((m : MendedTo o place h (entry place op outcome.Cut) then_seen) × (IsStopped (h ++ m.front) → ⊥)) ⊎ ((m : MendedTo o place h (entry place Restart outcome.Cut) then_seen) × IsRestartDue (h ++ m.front))
+
+-- what came of turns in which a restart was to be made for what was asked
+abbrev pub MendedIs : Opening → ℕ → List Entry → Op → List Gv → Mended → Type 0
+MendedIs o place h asked then_seen mended.Ready = (c : Option TableChange) × (p : Passed o place h (entry place Restart (outcome.Restarted c)) then_seen) × IsDueFor asked (h ++ p.passed)
+MendedIs o place h asked then_seen (mended.Denied q) = (p : Passed o place h (entry place asked (outcome.Failed q)) then_seen) × IsFault q × IsDueFor asked (h ++ p.passed)
+MendedIs o place h asked then_seen mended.Stopped = (p : Passed o place h (entry place Restart outcome.Cut) then_seen) × IsDueFor asked (h ++ p.passed)
+MendedIs o place h asked then_seen mended.Waits = PassedBy o place h then_seen
+
+-- what came of a restart that was asked for
+abbrev pub WarmRestartIs : Opening → ℕ → List Entry → List Gv → Changed → Type 0
+WarmRestartIs o place h then_seen Done = (c : Option TableChange) × Passed o place h (entry place Restart (outcome.Restarted c)) then_seen
+WarmRestartIs o place h then_seen (Denied q) = Passed o place h (entry place Restart (outcome.Failed q)) then_seen
+WarmRestartIs o place h then_seen Stopped = Passed o place h (entry place Restart outcome.Cut) then_seen

@@ -1,48 +1,61 @@
 -- What is true of every session's run.
-use Rattle.std.specs.Prelude.{◌≡◌, ◌≤◌, ℕ, false, None, List, ◌++◌}
+use Rattle.std.specs.Prelude.{◌≡◌, ◌<◌, ℕ, false, None, Option, Some, List, []}
 use Rattle.std.specs.List.{AllByRecursion}
-use Rattle.dxc_causes.specs.Causes.{Rose}
 use Rattle.dxc_outside.specs.declared.clock.Moment.{Moment}
+use Rattle.dxc_disk.specs.Disks.{DiskState}
 use Rattle.dxc_outside.specs.Items.{Item}
+use Rattle.dxc_outside.specs.Links.{LinkState}
 use Rattle.dxc_model.specs.declared.conn.Conn.{Conn}
 use Rattle.dxc_model.specs.declared.op.Op.TheVariants.{Enter}
+use Rattle.dxc_model.specs.declared.op.Change.{Change}
 use Rattle.dxc_model.specs.declared.op.Change.TheVariants as change
 use Rattle.dxc_model.specs.declared.entry.Entry.{Entry}
-use Rattle.dxc_model.specs.declared.user.SessionUser.{SessionUser}
-use Rattle.dxc_model.specs.declared.user.SessionUser.TheVariants.{Nobody}
 use Rattle.dxc_model.specs.Tables.{Board}
 use Rattle.dxc_model.specs.Operations.{ArePorts}
 use Rattle.dxc_model.specs.Denials.{names_unequipped, needs_used_side}
-use Rattle.dxc_model.specs.Verdicts.{effect}
-use Rattle.dxc_model.specs.Histories.{IsLegal, changes_of, table_after}
+use Rattle.dxc_model.specs.Steps.{IsFault}
+use Rattle.dxc_model.specs.Histories.{IsLegal}
 use Rattle.tl1_text.specs.Units.{Input, IsRest}
+use Rattle.shelf_file.specs.Contents.{Contents}
 use Rattle.xc_core.specs.States.{LimitBehind, Opening, rules_of}
-use Rattle.craft_session.specs.Acting.{IsOwn}
-use Rattle.craft_session.specs.Seats.{IsUnsoundBy, room_of}
+use Rattle.xc_core.specs.Turns.{AreNumbered, SawNoneAstray}
 use Rattle.craft_session.specs.declared.ask.Ask.TheVariants.{Changes}
 use Rattle.craft_session.specs.Asks.{Language, Reply, completed}
 use Rattle.craft_session.specs.Happenings.{Happening, Happens, bytes_in, units_in}
-use Rattle.craft_session.specs.Walks.{own}
-use Rattle.craft_session.specs.Runs.{Walk, Run}
-use Rattle.craft_session.specs.Plain.{At, Replies, Responds}
+use Rattle.craft_session.specs.Runs.{Run, Walk}
+use Rattle.craft_session.specs.Walks.{nobody}
+use Rattle.craft_session.specs.Plain.{At, Plays, Replies, Said, alone, among, said_in, standing}
+use Rattle.craft_session.specs.Scripts.{IsOpeningOf, IsOwn, IsScript, excused_by, room_of}
+use Rattle.craft_session.specs.Seats.{SeatAt}
+use Rattle.craft_session.specs.Sessions.{IsServed}
+use Rattle.craft_session.specs.Meanings.{language}
+use Rattle.craft_session.specs.declared.end.SessionEnd.{SessionEnd}
 
 -- of the same bytes the same units happen
 abbrev pub AreUnitsAlone : Type 0
 AreUnitsAlone = (items more : List Item) (hs gs : List (Happening Input)) (rest other : List ℕ) → Happens items hs rest → Happens more gs other → IsRest rest → IsRest other → bytes_in items ≡ bytes_in more → units_in hs ≡ units_in gs
 
--- where a plain session stands behind these entries
-abbrev pub standing : Board → List Entry → SessionUser → At
-standing t h s = record { table = table_after t h; changes = changes_of h; user = s }
-
--- a run whose entries go on a legal history writes what the plain session does; faults of the journal's disk are those of one count
+-- A run over a legal history writes what the plain session does whose table is that of the history at each entry of the place. What denies a
+-- change that table and limits grant is a fault of the journal.
 abbrev pub ArePlayed : Type 0
-ArePlayed = (l : Language Input Moment) (before after : ℕ) (o : Opening) (past : List Entry) (w : Walk Input Moment) → Run l own (table_after o.first.fold.table past) w → IsLegal (rules_of o) (past ++ w.history) → AllByRecursion (IsOwn (Rose before after)) w.history
-    → Responds l (LimitBehind o.first) (Rose before after) (standing o.first.fold.table past Nobody) (units_in w.happenings) w.moments (w.earlier ++ w.latest) (standing o.first.fold.table (past ++ w.history) w.user)
+ArePlayed = (l : Language Input Moment) (place : ℕ) (o : Opening) (past : List Entry) (w : Walk Input Moment) → Run l place o.first.fold.table past w → IsLegal (rules_of o) w.history → w.due ≡ false
+    → Plays l (LimitBehind o.first) IsFault (among place) (standing o.first.fold.table past nobody) w.happenings (said_in w) (standing o.first.fold.table w.history w.attending)
 
--- on disks that are sound for opening and all commands the plain session is one
+-- a run over a history of the place's entries alone writes what the plain session does on its one table
+abbrev pub ArePlayedAlone : Type 0
+ArePlayedAlone = (l : Language Input Moment) (place margin room commands : ℕ) (o : Opening) (past : List Entry) (w : Walk Input Moment) → Run l place o.first.fold.table past w → IsLegal (rules_of o) w.history → AllByRecursion (IsOwn place (excused_by ⊥ margin room commands)) w.history → w.due ≡ false
+    → Plays l (LimitBehind o.first) (excused_by ⊥ margin room commands) alone (standing o.first.fold.table past nobody) w.happenings (said_in w) (standing o.first.fold.table w.history w.attending)
+
+-- on disks that are sound for opening and all commands the plain session is one: what happened and the moments determine what is written
 abbrev pub AreResponsesOnce : Type 0
-AreResponsesOnce = (l : Language Input Moment) (o : Opening) (commands room other_room : ℕ) (a b c : At) (us : List Input) (ms : List Moment) (out other : List ℕ) → room_of commands ≤ room → room_of commands ≤ other_room
-    → Responds l (LimitBehind o.first) (IsUnsoundBy 0 room commands) a us ms out b → Responds l (LimitBehind o.first) (IsUnsoundBy 0 other_room commands) a us ms other c → (out ≡ other) × (b ≡ c)
+AreResponsesOnce = (l : Language Input Moment) (o : Opening) (commands room other_room : ℕ) (a b c : At) (hs : List (Happening Input)) (x y : Said Moment) → room_of commands < room → room_of commands < other_room
+    → Plays l (LimitBehind o.first) (excused_by (Unit {0}) 0 room commands) alone a hs x b → Plays l (LimitBehind o.first) (excused_by (Unit {0}) 0 other_room commands) alone a hs y c → x.moments ≡ y.moments → (x ≡ y) × (b ≡ c)
+
+-- The one session of a turnstile with one pass, on the opening of a disk, wrote what the plain session writes that is alone. Where the disk tells its
+-- content, the journal never reads otherwise than it was written.
+abbrev pub AreScripts : (told clock_told disk_told : Type 0) {D : Type 0} → (D → DiskState) → Type 0
+AreScripts told clock_told disk_told {D} state = (disk : D) (k l : LinkState) (c d : List Moment) (s : Contents) (old new : SeatAt) (end : SessionEnd) → IsOpeningOf (state disk) old.opening → old.seen ≡ [] → old.place ≡ 0 → new.places ≡ 1 → AreNumbered new.places new.seen
+    → SawNoneAstray disk_told new.seen → IsServed (language s) told clock_told k l c d old new end → IsScript disk_told (state disk) old.place old.opening clock_told c d s told k l end
 
 -- an entry can be made: its ports are two of the shape, on equipped modules, and the sides that its legs need are free
 pub record CanBeEntered (t : Board) (c : Conn) : Type 0 where
@@ -50,7 +63,7 @@ pub record CanBeEntered (t : Board) (c : Conn) : Type 0 where
   pub equipped : names_unequipped t (Enter c) ≡ false
   pub free : needs_used_side t (Enter c) ≡ false
 
--- an entry that unit and user allow, that can be made and meets no limit, is completed where no call on the journal's disk fails: the table has it then
+-- an entry that unit and user allow, that can be made and meets no limit, is completed where no fault of the journal excuses a denial: it is made
 abbrev pub EntriesAreCompleted : Type 0
-EntriesAreCompleted = (o : Opening) (a b : At) (c : Conn) (r : Reply) → CanBeEntered a.table c → LimitBehind o.first a.changes (change.Enter c) None → Replies (LimitBehind o.first) ⊥ a (Changes (Enter c)) r b
-    → (r ≡ completed) × (b.table ≡ effect a.table (change.Enter c))
+EntriesAreCompleted = (o : Opening) (a : At) (c : Conn) (r : Reply) (did : Option Change) → CanBeEntered a.table c → LimitBehind o.first a.changes (change.Enter c) None → Replies (LimitBehind o.first) (λ q. ⊥) a (Changes (Enter c)) r did
+    → (r ≡ completed) × (did ≡ Some (change.Enter c))

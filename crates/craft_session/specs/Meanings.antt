@@ -1,71 +1,39 @@
 -- What a unit means to a session: a cause that unit, user and shelf alone decide, or a command that is served.
-use Rattle.std.specs.Prelude.{ℕ, Bool, true, false, not, ◌&&◌, if◌then◌else◌, Option, Some, None, Result, Ok, Err, List, slice_get}
+use Rattle.std.specs.Prelude.{ℕ, Bool, false, not, ◌&&◌, if◌then◌else◌, Option, Some, None, Result, Ok, Err, List, slice_get}
 use Rattle.std.specs.Option.{option_map_or}
 use Rattle.dxc_outside.specs.declared.clock.Moment.{Moment}
 use Rattle.dxc_model.specs.declared.cause.Cause.{Cause}
-use Rattle.dxc_model.specs.declared.cause.Cause.TheVariants.{TooLong, BadText, UnknownCommand, BadValue, BadIdentity, OtherUser, AlreadyLoggedIn}
-use Rattle.dxc_model.specs.declared.conn.Cct.{Cct}
-use Rattle.dxc_model.specs.declared.conn.Cct.TheVariants.{OneWay, TwoWay}
+use Rattle.dxc_model.specs.declared.cause.Cause.TheVariants.{TooLong, BadText, UnknownCommand, BadIdentity, OtherUser, AlreadyLoggedIn}
 use Rattle.dxc_model.specs.declared.op.Op.{Op}
 use Rattle.dxc_model.specs.declared.op.Op.TheVariants as op
 use Rattle.dxc_model.specs.declared.user.Class.{Class}
 use Rattle.dxc_model.specs.declared.user.Class.TheVariants.{R}
 use Rattle.dxc_model.specs.declared.user.SessionUser.{SessionUser}
 use Rattle.dxc_model.specs.declared.user.SessionUser.TheVariants.{Nobody, User}
-use Rattle.dxc_model.specs.declared.user.CommandCode.{CommandCode}
-use Rattle.dxc_model.specs.declared.user.CommandCode.TheVariants.{ActUser, CancUser, RtrvHdr, AlwMsgAll, InhMsgAll, RtrvCrsT0, EntCrsT0, EdCrsT0, DltCrsT0, EntEqpt, DltEqpt, InitSys}
 use Rattle.tl1_text.specs.Grammar.{Block}
 use Rattle.tl1_text.specs.Tags.{ctag_of}
 use Rattle.tl1_text.specs.Units.{Input, whole, too_long}
 use Rattle.tl1_text.specs.Walk.{blocks_of}
-use Rattle.tl1_command.specs.Blocks.{code_text, is_there}
-use Rattle.tl1_command.specs.Codes.{code_named}
+use Rattle.tl1_command.specs.Blocks.{is_there}
 use Rattle.tl1_command.specs.Meanings.{Asked, acts, cancels, header, allows, inhibits, asks_table, meaning}
 use Rattle.shelf_file.specs.Contents.{Contents}
 use Rattle.shelf_file.specs.Shelves.{is_named}
 use Rattle.dxc_secu.specs.Users.{user_of}
 use Rattle.craft_session.specs.declared.ask.Ask.{Ask}
-use Rattle.craft_session.specs.declared.ask.Ask.TheVariants.{Refused, LogsIn, LogsOut, Greets, Lists, Changes}
+use Rattle.craft_session.specs.declared.ask.Ask.TheVariants.{Refused, LogsIn, LogsOut, Greets, Allows, Inhibits, Lists, Restarts, Changes}
 use Rattle.craft_session.specs.Asks.{Language}
-use Rattle.craft_session.specs.Responses.{reply_bytes}
-
--- the commands that sessions don't serve yet
-abbrev pub is_unserved : CommandCode → Bool
-is_unserved ActUser = false
-is_unserved CancUser = false
-is_unserved RtrvHdr = false
-is_unserved AlwMsgAll = true
-is_unserved InhMsgAll = true
-is_unserved RtrvCrsT0 = false
-is_unserved EntCrsT0 = false
-is_unserved EdCrsT0 = true
-is_unserved DltCrsT0 = false
-is_unserved EntEqpt = true
-is_unserved DltEqpt = true
-is_unserved InitSys = true
-
--- the command code names a command that isn't served yet
-abbrev pub names_unserved : List Block → Bool
-names_unserved bs = option_map_or is_unserved (code_named (code_text bs)) false
-
--- a two-way connection, which isn't served yet
-abbrev pub is_two_way : Cct → Bool
-is_two_way OneWay = false
-is_two_way TwoWay = true
-
-abbrev pub changes_by : Bool → Op → Ask
-changes_by two_way o = if two_way then Refused BadValue else Changes o
+use Rattle.craft_session.specs.Responses.{notice_bytes, reply_bytes}
 
 -- an operation on the table
 abbrev pub table_ask : Op → Ask
-table_ask (op.Enter c) = changes_by (is_two_way c.cct) (op.Enter c)
-table_ask (op.Delete x y cct) = changes_by (option_map_or is_two_way cct false) (op.Delete x y cct)
-table_ask (op.Edit c) = Refused UnknownCommand
-table_ask (op.EnterModule m) = Refused UnknownCommand
-table_ask (op.DeleteModule m) = Refused UnknownCommand
+table_ask (op.Enter c) = Changes (op.Enter c)
+table_ask (op.Delete x y cct) = Changes (op.Delete x y cct)
+table_ask (op.Edit c) = Changes (op.Edit c)
+table_ask (op.EnterModule m) = Changes (op.EnterModule m)
+table_ask (op.DeleteModule m) = Changes (op.DeleteModule m)
 table_ask (op.Rows which) = Lists which
 table_ask (op.Look n) = Refused UnknownCommand
-table_ask op.Restart = Refused UnknownCommand
+table_ask op.Restart = Restarts
 
 -- the class of the shelf's user of this number
 abbrev pub class_at : Contents → ℕ → Class
@@ -91,21 +59,17 @@ abbrev pub session_ask : Contents → SessionUser → Asked → Ask
 session_ask s user (acts uid pid) = log_in s user (user_of s uid pid)
 session_ask s user (cancels uid) = if is_other_user s user uid then Refused OtherUser else LogsOut
 session_ask s user header = Greets
-session_ask s user allows = Refused UnknownCommand
-session_ask s user inhibits = Refused UnknownCommand
+session_ask s user allows = Allows
+session_ask s user inhibits = Inhibits
 session_ask s user (asks_table o) = table_ask o
 
 abbrev pub command_ask : Contents → SessionUser → Result Asked Cause → Ask
 command_ask s user (Err q) = Refused q
 command_ask s user (Ok a) = session_ask s user a
 
--- what isn't served is an unknown command, whatever it asks
-abbrev pub choose : Bool → Ask → Ask
-choose unserved a = if unserved then Refused UnknownCommand else a
-
 -- what the blocks of a unit ask
 abbrev pub blocks_ask : Contents → SessionUser → List Block → Ask
-blocks_ask s user bs = choose (names_unserved bs) (command_ask s user (meaning s.shape s.sid user bs))
+blocks_ask s user bs = command_ask s user (meaning s.shape s.sid user bs)
 
 abbrev pub text_ask : Contents → SessionUser → Option (List Block) → Ask
 text_ask s user None = Refused BadText
@@ -123,4 +87,4 @@ tag_of (whole text) = ctag_of text
 
 -- the language of a shelf's sessions
 abbrev pub language : Contents → Language Input Moment
-language s = record { asks = asks s; response = λ m u r. reply_bytes s.sid s.shape m (tag_of u) r }
+language s = record { asks = asks s; response = λ m u r. reply_bytes s.sid s.shape m (tag_of u) r; report = λ m n. notice_bytes s.sid s.shape m n }

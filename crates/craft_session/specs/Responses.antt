@@ -1,5 +1,5 @@
 -- The bytes of responses, cut into blocks.
-use Rattle.std.specs.Prelude.{◌≡◌, ℕ, List, [], ◌++◌, Option, map}
+use Rattle.std.specs.Prelude.{◌≡◌, ℕ, List, [], ◌∷◌, ◌++◌, Option, map, codes, decimal}
 use Rattle.dxc_num.specs.Dimensions.{Dimensions}
 use Rattle.dxc_outside.specs.declared.clock.Moment.{Moment}
 use Rattle.dxc_outside.specs.declared.send.Sent.{Sent}
@@ -9,24 +9,37 @@ use Rattle.tl1_answer.specs.declared.answer.Code.{Code}
 use Rattle.tl1_answer.specs.declared.answer.Code.TheVariants.{Compld, Deny}
 use Rattle.tl1_answer.specs.Blocks.{Draft, IsUnended}
 use Rattle.tl1_answer.specs.Responses.{blocks_from, joined, response, denial}
-use Rattle.tl1_answer.specs.Texts.{row_text}
-use Rattle.craft_session.specs.Asks.{Reply, completed, completed_rows, denied}
+use Rattle.tl1_answer.specs.Messages.{report}
+use Rattle.tl1_answer.specs.Texts.{change_text, row_text}
+use Rattle.craft_session.specs.Notices.{Notice, change, lost}
+use Rattle.craft_session.specs.Asks.{Reply, completed, completed_rows, restarted, denied}
 
 -- the completion code of a reply
 abbrev pub code_of : Reply → Code
 code_of completed = Compld
 code_of (completed_rows cs) = Compld
+code_of restarted = Compld
 code_of (denied q) = Deny
 
 -- its text lines
 abbrev pub lines_of : Dimensions → Reply → List (List ℕ)
 lines_of d completed = []
 lines_of d (completed_rows cs) = map (row_text d) cs
+lines_of d restarted = codes "\"WARM\"" ∷ []
 lines_of d (denied q) = denial q
 
 -- the bytes of a reply's response
 abbrev pub reply_bytes : List ℕ → Dimensions → Moment → Option (List ℕ) → Reply → List ℕ
 reply_bytes sid d m tag r = response sid m tag (code_of r) (lines_of d r)
+
+-- the text of a report of lost changes
+abbrev pub lost_text : ℕ → List ℕ
+lost_text n = codes "\"LOST=" ++ decimal n ++ codes "\""
+
+-- the bytes of a report
+abbrev pub notice_bytes : List ℕ → Dimensions → Moment → Notice → List ℕ
+notice_bytes sid d m (change n c) = report sid m n (change_text d c)
+notice_bytes sid d m (lost newest count) = report sid m newest (lost_text count)
 
 -- the bytes of the blocks that are still to come, where the one in hand holds these bytes and these lines follow
 unfoldable pub bytes_from : List ℕ → List ℕ → List (List ℕ) → List ℕ

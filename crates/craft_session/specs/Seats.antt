@@ -1,66 +1,41 @@
--- What a place is.
-use Rattle.std.specs.Prelude.{◌≡◌, ◌≤◌, ◌+◌, ◌*◌, ℕ, List, []}
-use Rattle.dxc_causes.specs.Causes.{Rose}
-use Rattle.dxc_disk.specs.Disks.{DiskState, IsSound, Spends}
+-- What a seat at the state is, and a place.
+use Rattle.std.specs.Prelude.{◌≡◌, ℕ, List, refl}
+use Rattle.std.specs.Coded.{Coded, code_by, coded×, coded_ℕ}
+use base.Stored.{Gv}
+use Rattle.turnstile.specs.Passing.{Gate, Token, seen_code}
+use Rattle.dxc_disk.specs.Disks.{DiskState}
 use Rattle.dxc_model.specs.declared.entry.Entry.{Entry}
 use Rattle.fabric_words.specs.Seats.{FabricId}
 use Rattle.shelf_file.specs.Contents.{Contents}
-use Rattle.xc_core.specs.declared.state.Home.{Home}
-use Rattle.xc_core.specs.declared.state.Home.TheVariants.{In, Out}
 use Rattle.xc_core.specs.declared.state.State.{State}
-use Rattle.xc_core.specs.States.{Opening, StandsFor}
+use Rattle.xc_core.specs.Coding.{opening_coded}
+use Rattle.xc_core.specs.Seeing.{Rests, Saw}
+use Rattle.xc_core.specs.States.{Opening, opening_of}
+use Rattle.xc_core.specs.Turns.{HasPass, SawNoneAstray}
 
--- a shelf, and the state that is served, with the fabric that its Provisioner writes
-pub record Seat (D : Type 0) : Type 0 where
+-- where the history began, the number of the place, how many places there are, and the codes of what it has seen of the history
+pub record SeatAt : Type 0 where
+  pub opening : Opening
+  pub place : ℕ
+  pub places : ℕ
+  pub seen : List Gv
+
+abbrev pub seat_coded : Coded SeatAt
+seat_coded = code_by (Opening × (ℕ × (ℕ × List Gv))) (coded× opening_coded (coded× coded_ℕ (coded× coded_ℕ seen_code))) (λ s. (s.opening, (s.place, (s.places, s.seen)))) (λ p. record { opening = p.0; place = p.1.0; places = p.1.1.0; seen = p.1.1.1 }) (λ _. refl)
+
+abbrev pub seat_at : {D : Type 0} → (D → DiskState) → Token → Gate (State D) → SeatAt
+seat_at state p t = record { opening = opening_of state t.first; place = p.number; places = t.passes; seen = p.seen }
+
+-- the seat of the same place
+abbrev pub IsSameSeat : SeatAt → SeatAt → Type 0
+IsSameSeat old new = (new.opening ≡ old.opening) × (new.place ≡ old.place) × (new.places ≡ old.places)
+
+-- The pass is the turnstile's and no turn of it is out; the fabric is that of the turnstile's opening; what the pass has seen is a history in which
+-- the place hasn't got the Provisioner out; and where the disk tells its content, the journal never read otherwise than it was written.
+abbrev pub IsSeated : {D : Type 0} → Type 0 → (D → DiskState) → Token → Gate (State D) → FabricId → Type 0
+IsSeated told state p t i = HasPass t p × ((opening_of state t.first).site.fabric ≡ i) × ((h : List Entry) × Saw (opening_of state t.first) p.seen h × Rests p.number h) × SawNoneAstray told p.seen
+
+-- a shelf, and a seat
+pub record PlaceAt : Type 0 where
   pub shelf : Contents
-  pub fabric : FabricId
-  pub state : State D
-
--- no disk
-abbrev pub no_disk : DiskState
-no_disk = record { reads_as = []; may_leave = λ _. ⊥; left_since = λ _ _. ⊥; moment = 0; faults = 0; margin = 0; room = 0 }
-
--- the journal's disk; a Provisioner that is out has it with it
-abbrev pub disk_at : {D : Type 0} → (D → DiskState) → Home D → DiskState
-disk_at state (In p) = state p.journal.0
-disk_at state Out = no_disk
-
-abbrev pub disk_in : {D : Type 0} → (D → DiskState) → State D → DiskState
-disk_in state s = disk_at state s.home
-
--- the most that one command takes of a disk's room
-abbrev pub most_room : ℕ
-most_room = 40
-
--- what opening and so many commands may take of a disk's room
-abbrev pub room_of : ℕ → ℕ
-room_of commands = 131_079 + most_room * commands
-
--- a disk of this margin and room isn't sound for opening and so many commands
-abbrev pub IsUnsoundBy : (margin room commands : ℕ) → Type 0
-IsUnsoundBy margin room commands = margin ≡ 0 → room_of commands ≤ room → ⊥
-
--- the disk that was handed out isn't
-abbrev pub IsUnsound : DiskState → ℕ → Type 0
-IsUnsound d commands = IsUnsoundBy d.margin d.room commands
-
--- so many commands called the disk between
-pub record WentDisk (n : ℕ) (a b : DiskState) : Type 0 where
-  pub later : a.faults ≤ b.faults
-  pub spends : Spends (most_room * n) a b
-
--- in so many commands a call on the disk failed: its count rose, and it wasn't sound for them
-pub record IsFaultyDisk (n : ℕ) (a b : DiskState) : Type 0 where
-  pub rose : Rose a.faults b.faults
-  pub unsound : IsSound (most_room * n) a → ⊥
-
--- the same from the one state to the other
-abbrev pub Went : {D : Type 0} → (D → DiskState) → ℕ → State D → State D → Type 0
-Went state n s t = WentDisk n (disk_in state s) (disk_in state t)
-
-abbrev pub IsFaulty : {D : Type 0} → (D → DiskState) → ℕ → State D → State D → Type 0
-IsFaulty state n s t = IsFaultyDisk n (disk_in state s) (disk_in state t)
-
--- the state stands for some history on this fabric
-abbrev pub IsSeated : {D : Type 0} → Type 0 → (D → DiskState) → FabricId → State D → Type 0
-IsSeated told state i s = (o : Opening) × (h : List Entry) × (o.ground.fabric ≡ i) × StandsFor told state o s h
+  pub seat : SeatAt

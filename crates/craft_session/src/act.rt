@@ -1,42 +1,38 @@
-ghost use Rattle.std.specs.Prelude.{◌≡◌, ◌≢◌, ◌≤◌, List, Some, vec_capacity};
+ghost use Rattle.std.specs.Prelude.{◌≡◌, ◌≢◌, ◌≤◌, List, Some, None, vec_capacity};
 ghost use Rattle.std.specs.List.{AllByRecursion};
 ghost use Rattle.dxc_causes.specs.Causes.{Rose};
 ghost use Rattle.dxc_num.specs.Dimensions.{ports};
 ghost use Rattle.dxc_model.specs.declared.entry.Entry.{Entry};
-ghost use Rattle.dxc_model.specs.Tables.{rows as rows_of};
 ghost use Rattle.tl1_answer.specs.Texts.{IsOfShape};
-ghost use Rattle.xc_core.specs.States.{Opening, StandsFor};
-ghost use Rattle.craft_session.specs.Asks.{user_after, IsAptAsk};
-ghost use Rattle.craft_session.specs.Seats.{IsSeated};
+ghost use Rattle.xc_core.specs.Seeing.{Saw};
+ghost use Rattle.craft_session.specs.Asks.{IsAptAsk, cursor_from, user_after};
 ghost use Rattle.craft_session.specs.Acting.{ActedIs};
+ghost use Rattle.craft_session.specs.Seats.{IsSameSeat};
 
 use crate::ask::{Acted, Ask};
-use crate::change::{Changed, change};
+use crate::attending::Attending;
+use crate::change::Changed;
+use crate::seat::Seat;
 use dxc_disk::Disk;
-use dxc_model::{Conn, Selection, SessionUser, Table};
+use dxc_model::{Conn, SessionUser};
 use dxc_outside::Gate;
-use fabric_words::Fabric;
 use std::sync::Wait;
-use xc_core::State;
 
 /// Does what was asked; the rows of a listing stand in `rows` then. None: the gate stopped.
 pub fn act<D: Disk + Drop, G: Gate, R: Wait>(
-    state: &mut State<D>,
-    fabric: &Fabric,
-    user: &mut SessionUser,
+    seat: &mut Seat<D>,
+    attending: &mut Attending,
     rows: &mut Vec<Conn>,
     ask: Ask,
     gate: &mut G,
     rt: &R,
 ) -> Option<Acted>
-    requires room { ports state.old.table.shape ≤ vec_capacity rows.old }
-    requires apt { IsAptAsk state.old.table.shape ask }
-    requires seated { IsSeated D.told D.state fabric.now state.old }
-    ensures acts { (o : Opening) → (h : List Entry) → StandsFor D.told D.state o state.old h → ActedIs D.told D.state o h user.old ask result rows.new.items user.new state.old state.new }
-    ensures seated { IsSeated D.told D.state fabric.now state.new }
-    ensures listed { result ≡ Some Acted.Listed → AllByRecursion (IsOfShape state.old.table.shape) rows.new.items }
-    ensures user { user.new ≡ user_after user.old ask }
-    ensures shape { state.new.table.shape ≡ state.old.table.shape }
+    requires room { ports seat.old.opening.first.fold.table.shape ≤ vec_capacity rows.old }
+    requires apt { IsAptAsk seat.old.opening.first.fold.table.shape ask }
+    ensures same { IsSameSeat seat.old seat.new }
+    ensures acts { (h : List Entry) → Saw seat.old.opening seat.old.seen h → ActedIs seat.old.opening seat.old.place h attending.old ask result rows.new.items attending.new seat.new.seen }
+    ensures listed { result ≡ Some Acted.Listed → AllByRecursion (IsOfShape seat.old.opening.first.fold.table.shape) rows.new.items }
+    ensures user { attending.new.user ≡ user_after attending.old.user ask }
     ensures room { vec_capacity rows.new ≡ vec_capacity rows.old }
     ensures acted { result ≢ None → G.stops gate.new ≡ G.stops gate.old }
     ensures stopped { result ≡ None → Rose (G.stops gate.old) (G.stops gate.new) }
@@ -45,19 +41,34 @@ pub fn act<D: Disk + Drop, G: Gate, R: Wait>(
     match ask {
         Ask::Refused(cause) => Some(Acted::Denied(cause)),
         Ask::LogsIn(named) => {
-            *user = named;
+            attending.user = named;
             Some(Acted::Completed)
         }
         Ask::LogsOut => {
-            *user = SessionUser::Nobody;
+            attending.user = SessionUser::Nobody;
+            attending.watch = None;
             Some(Acted::Completed)
         }
         Ask::Greets => Some(Acted::Completed),
+        Ask::Allows => {
+            let newest = seat.mark(rt);
+            attending.watch = Some(cursor(attending.watch, newest));
+            Some(Acted::Completed)
+        }
+        Ask::Inhibits => {
+            attending.watch = None;
+            Some(Acted::Completed)
+        }
         Ask::Lists(selection) => {
-            list(&state.table, selection, rows);
+            seat.rows(selection, rows, rt);
             Some(Acted::Listed)
         }
-        Ask::Changes(op) => match change(state, fabric, &op, gate, rt) {
+        Ask::Restarts => match seat.restart(gate, rt) {
+            Changed::Done => Some(Acted::Restarted),
+            Changed::Denied(cause) => Some(Acted::Denied(cause)),
+            Changed::Stopped => None,
+        },
+        Ask::Changes(op) => match seat.change(&op, gate, rt) {
             Changed::Done => Some(Acted::Completed),
             Changed::Denied(cause) => Some(Acted::Denied(cause)),
             Changed::Stopped => None,
@@ -65,14 +76,12 @@ pub fn act<D: Disk + Drop, G: Gate, R: Wait>(
     }
 }
 
-/// Gives the connections of the selection, whose ports are of the shape.
-pub fn list(table: &Table, selection: Selection, rows: &mut Vec<Conn>)
-    requires { ports table.now.shape ≤ vec_capacity rows.old }
-    ensures rows { rows.new.items ≡ rows_of table.now selection }
-    ensures shape { AllByRecursion (IsOfShape table.now.shape) rows.new.items }
-    ensures room { vec_capacity rows.new ≡ vec_capacity rows.old }
+/// From where on changes are reported: from the last one that was, or, where reports begin, from the newest.
+fn cursor(watch: Option<u64>, newest: u64) -> u64
+    ensures { result ≡ cursor_from watch newest }
 {
-    // Its clause tells that the table's ports are of the shape.
-    let _shape = table.shape();
-    table.rows(selection, rows);
+    match watch {
+        Some(reported) => reported,
+        None => newest,
+    }
 }

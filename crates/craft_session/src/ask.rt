@@ -10,8 +10,14 @@ pub enum Ask {
     LogsOut,
     /// RTRV-HDR.
     Greets,
+    /// ALW-MSG-ALL.
+    Allows,
+    /// INH-MSG-ALL.
+    Inhibits,
     /// RTRV-CRS-T0.
     Lists(Selection),
+    /// INIT-SYS.
+    Restarts,
     /// A command that changes the table.
     Changes(Op),
 }
@@ -21,5 +27,6 @@ pub enum Ask {
 pub enum Acted {
     Completed,
     Listed,
+    Restarted,
     Denied(Cause),
 }

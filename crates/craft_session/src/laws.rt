@@ -1,20 +1,34 @@
 //! What is true of every session's run, as the contract of a function without parameters.
-ghost use Rattle.craft_session.specs.Laws.{AreUnitsAlone, ArePlayed, AreResponsesOnce, EntriesAreCompleted};
+ghost use Rattle.craft_session.specs.Laws.{AreUnitsAlone, ArePlayed, ArePlayedAlone, AreResponsesOnce, AreScripts, EntriesAreCompleted};
+
+use dxc_disk::Disk;
+use dxc_outside::{Clock, Link};
 
 /// What was read determines the units, however it was cut into pieces and wherever nothing came for a time.
 pub fn units_are_alone()
     ensures { AreUnitsAlone }
 {}
 
-/// What a run wrote is what the plain session writes: each unit's response with the next moment, by the one table after the
-/// units before it.
+/// What a run wrote is what the plain session writes whose table is that of the history at each entry of the place: each unit's response and,
+/// where they are allowed, the reports behind it and at each Quiet, with the next moments.
 pub fn runs_are_played()
     ensures { ArePlayed }
 {}
 
-/// The plain session is one: on a sound disk what the journal came to, the units and the moments determine what it writes.
+/// Where the place is alone, it is the plain session on its one table.
+pub fn runs_alone_are_played()
+    ensures { ArePlayedAlone }
+{}
+
+/// The plain session is one: on a sound disk what the journal came to, what happened and the moments determine what it writes.
 pub fn responses_are_one()
     ensures { AreResponsesOnce }
+{}
+
+/// What the one session of a turnstile with one pass wrote is what the plain session writes on what the journal came to, over a legal history of its
+/// entries alone.
+pub fn scripts_are_played<K: Link, C: Clock, D: Disk>()
+    ensures { AreScripts K.told C.told D.told D.state }
 {}
 
 /// An entry between two free ports of equipped modules is completed, unless a stop comes first: there is always a middle for

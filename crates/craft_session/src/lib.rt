@@ -3,20 +3,18 @@
 
 mod act;
 mod ask;
+mod attending;
 mod change;
-mod check;
 mod desk;
 mod end;
 pub mod laws;
 mod meaning;
+mod mend;
 mod place;
-mod run;
 mod say;
+mod seat;
 mod session;
-#[cfg(test)]
-mod tests;
 
 pub use end::SessionEnd;
 pub use place::Place;
-pub use run::{JournalBad, Status, dxc_run};
 pub use session::serve_session;

@@ -1,17 +1,15 @@
-ghost use Rattle.std.specs.Prelude.{◌≡◌, ◌≤◌, true, length, map};
+ghost use Rattle.std.specs.Prelude.{◌≡◌, ◌≤◌, true, length};
 ghost use Rattle.tl1_text.specs.Units.{whole};
 ghost use Rattle.dxc_secu.specs.Users.{user_of};
-ghost use Rattle.tl1_text.specs.Spans.{block_at, AreBlocksOf};
 ghost use Rattle.tl1_command.specs.Commands.{asked_by, IsAptCommand};
 ghost use Rattle.craft_session.specs.Asks.{IsAptAsk, is_known, user_after};
-ghost use Rattle.craft_session.specs.Meanings.{asks, is_unserved as unserved, names_unserved as unserved_named, is_two_way as two_way, table_ask, log_in, is_other_user as other_user, session_ask};
+ghost use Rattle.craft_session.specs.Meanings.{asks, table_ask, log_in, is_other_user as other_user, session_ask};
 
 use crate::ask::Ask;
-use dxc_model::{Cause, Cct, CommandCode, Op, SessionUser};
+use dxc_model::{Cause, Op, SessionUser};
 use dxc_secu::{login, same_user};
 use shelf_file::Shelf;
-use tl1_command::{Command, code_in, command_of};
-use tl1_text::Blocks;
+use tl1_command::{Command, command_of};
 use tl1_text::grammar::blocks;
 
 /// What a whole unit asks of the session of a user.
@@ -25,42 +23,9 @@ pub fn ask_of(shelf: &Shelf, user: SessionUser, unit: &[u8]) -> Ask
     let Ok(found) = blocks(unit) else {
         return Ask::Refused(Cause::BadText);
     };
-    if names_unserved(unit, &found) {
-        return Ask::Refused(Cause::UnknownCommand);
-    }
     match command_of(shelf.shape(), shelf.sid(), user, unit, &found) {
         Ok(command) => served(shelf, user, unit, command),
         Err(cause) => Ask::Refused(cause),
-    }
-}
-
-/// The code is a command's that sessions don't serve yet.
-fn names_unserved(unit: &[u8], found: &Blocks) -> bool
-    requires { AreBlocksOf unit.now found.now.block.items }
-    ensures { result ≡ unserved_named (map (block_at unit.now) found.now.block.items) }
-{
-    match code_in(unit, found) {
-        Some(code) => is_unserved(code),
-        None => false,
-    }
-}
-
-fn is_unserved(code: CommandCode) -> bool
-    ensures { result ≡ unserved code }
-{
-    match code {
-        CommandCode::AlwMsgAll
-        | CommandCode::InhMsgAll
-        | CommandCode::EdCrsT0
-        | CommandCode::EntEqpt
-        | CommandCode::DltEqpt
-        | CommandCode::InitSys => true,
-        CommandCode::ActUser
-        | CommandCode::CancUser
-        | CommandCode::RtrvHdr
-        | CommandCode::RtrvCrsT0
-        | CommandCode::EntCrsT0
-        | CommandCode::DltCrsT0 => false,
     }
 }
 
@@ -82,7 +47,8 @@ fn served(shelf: &Shelf, user: SessionUser, unit: &[u8], command: Command) -> As
             }
         }
         Command::Header => Ask::Greets,
-        Command::Allow | Command::Inhibit => Ask::Refused(Cause::UnknownCommand),
+        Command::Allow => Ask::Allows,
+        Command::Inhibit => Ask::Inhibits,
         Command::Table(op) => on_table(op),
     }
 }
@@ -115,26 +81,15 @@ fn is_other_user(shelf: &Shelf, user: SessionUser, uid: &[u8]) -> bool
     }
 }
 
-/// An operation on the table, as far as it is served.
+/// An operation on the table. A command never asks for a look.
 fn on_table(op: Op) -> Ask
     ensures { result ≡ table_ask op }
 {
     match op {
-        Op::Enter(conn) if is_two_way(conn.cct) => Ask::Refused(Cause::BadValue),
-        Op::Delete {
-            cct: Some(Cct::TwoWay),
-            ..
-        } => Ask::Refused(Cause::BadValue),
-        Op::Enter(_) | Op::Delete { .. } => Ask::Changes(op),
+        Op::Enter(_) | Op::Delete { .. } | Op::Edit(_) | Op::EnterModule(_) | Op::DeleteModule(_) =>
+            Ask::Changes(op),
         Op::Rows(selection) => Ask::Lists(selection),
-        Op::Edit(_) | Op::EnterModule(_) | Op::DeleteModule(_) | Op::Look(_) | Op::Restart => {
-            Ask::Refused(Cause::UnknownCommand)
-        }
+        Op::Restart => Ask::Restarts,
+        Op::Look(_) => Ask::Refused(Cause::UnknownCommand),
     }
-}
-
-fn is_two_way(cct: Cct) -> bool
-    ensures { result ≡ two_way cct }
-{
-    matches!(cct, Cct::TwoWay)
 }

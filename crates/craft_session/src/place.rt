@@ -1,8 +1,11 @@
 ghost use Rattle.std.specs.Prelude.{◌≡◌, IfOk};
 ghost use Rattle.std.specs.Arc.{arc_value};
-ghost use Rattle.craft_session.specs.Seats.{IsSeated};
+ghost use Rattle.xc_core.specs.States.{opening_of};
+ghost use Rattle.craft_session.specs.Seats.{IsSeated, seat_at};
 
+use crate::attending::Attending;
 use crate::desk::Desk;
+use crate::seat::Seat;
 use arrayvec::ArrayVec;
 use dxc_causes::NoMemory;
 use dxc_disk::Disk;
@@ -14,12 +17,16 @@ use std::marker::Model;
 use std::sync::Arc;
 use tl1_answer::Answer;
 use tl1_text::UnitReader;
+use turnstile::{Pass, Turnstile};
 use xc_core::State;
 
 /// The most bytes of one read.
 const PIECE: usize = 4096;
 
-/// What sessions need: the shelf, the state that they serve with its fabric, and all buffers. Contracts see shelf, fabric and state.
+/// The most changes that reports are made of.
+const KEPT: usize = 1024;
+
+/// What the sessions of one place need: the shelf, its seat at the state, and all buffers. Contracts see shelf and seat.
 #[derive(Drop)]
 pub struct Place<D: Disk> {
     pub(crate) desk: Desk<D>,
@@ -29,38 +36,48 @@ pub struct Place<D: Disk> {
 impl<D: Disk> Model for Place<D> {
     ghost use Rattle.std.specs.Prelude.{◌<◌, vec_len};
     ghost use Rattle.std.specs.Arc.{arc_value};
-    ghost use Rattle.craft_session.specs.Seats.{Seat, IsSeated};
+    ghost use Rattle.craft_session.specs.Seats.{PlaceAt};
 
-    ghost Value = { Seat D };
+    ghost Value = { PlaceAt };
 
-    ghost view = { λ p. record { shelf = arc_value p.desk.shelf; fabric = arc_value p.desk.fabric; state = p.desk.state } };
+    ghost view = { λ p. record { shelf = arc_value p.desk.shelf; seat = p.desk.seat } };
 
-    ghost invariant = { λ p. (0 < vec_len p.piece) × IsSeated D.told D.state (arc_value p.desk.fabric) p.desk.state };
+    ghost invariant = { λ p. 0 < vec_len p.piece };
 }
 
 impl<D: Disk + Drop> Place<D> {
-    /// A place of the state, whose Provisioner writes the fabric's registers, on the shelf, which is of the same shape. It takes
-    /// all memory that its sessions need.
+    /// A place of the turnstile, whose Provisioner writes the fabric's registers, on the shelf, which is of the same shape. It takes all memory
+    /// that its sessions need.
     pub fn new(
         alloc: Global,
+        pass: Pass,
+        number: u16,
         shelf: Arc<Shelf>,
         fabric: Arc<Fabric>,
-        state: State<D>,
+        turns: Arc<Turnstile<State<D>>>,
     ) -> Result<Place<D>, NoMemory>
-        requires shape { state.table.shape ≡ (arc_value shelf).shape }
-        requires seated { IsSeated D.told D.state (arc_value fabric) state }
-        ensures { IfOk result (λ p. p ≡ record { shelf = arc_value shelf; fabric = arc_value fabric; state = state }) }
+        requires number { number ≡ pass.number }
+        requires seated { IsSeated D.told D.state pass (arc_value turns) (arc_value fabric) }
+        requires shape { (opening_of D.state (arc_value turns).first).first.fold.table.shape ≡ (arc_value shelf).shape }
+        ensures { IfOk result (λ p. p ≡ record { shelf = arc_value shelf; seat = seat_at D.state pass (arc_value turns) }) }
     {
+        let _ = number;
         let rows = Vec::with_capacity(alloc, shelf.shape().ports() as usize)?;
+        let changes = Vec::with_capacity(alloc, KEPT)?;
         let piece = Vec::from_elem(alloc, 0, PIECE)?;
+        let seat = Seat::new(pass, turns, fabric);
+        let attending = Attending {
+            user: SessionUser::Nobody,
+            watch: None,
+        };
         let desk = Desk {
             shelf,
-            fabric,
-            state,
-            user: SessionUser::Nobody,
+            seat,
+            attending,
             reader: UnitReader::new(),
             answer: Answer::new(),
             rows,
+            changes,
             text: ArrayVec::new(),
         };
         Ok(Place { desk, piece })

@@ -1,18 +1,26 @@
-ghost use Rattle.std.specs.Prelude.{◌≡◌, ◌≢◌, ◌≤◌, ◌<◌, ◌^◌, ◌↔◌, true, ℕ, List, [], length, IsTrue};
+ghost use Rattle.std.specs.Prelude.{◌≡◌, ◌≢◌, ◌≤◌, ◌<◌, ◌^◌, ◌↔◌, true, false, is_some, ℕ, ◌+◌, List, [], length, slice_index_or, IsTrue};
 ghost use Rattle.dxc_causes.specs.Causes.{Rose, Counted};
 ghost use Rattle.dxc_outside.specs.declared.clock.Moment.{Moment};
 ghost use Rattle.dxc_outside.specs.Links.{LinkState};
 ghost use Rattle.tl1_text.specs.declared.reader.UnitKind.TheVariants.{More};
 ghost use Rattle.tl1_text.specs.Reading.{Holds, hand};
+ghost use Rattle.tl1_text.specs.Reading.{Reader};
+ghost use Rattle.tl1_text.specs.Units.{Input, IsUnit};
+ghost use Rattle.tl1_text.specs.declared.reader.UnitKind.{UnitKind};
 ghost use Rattle.std.specs.Arc.{arc_value};
 ghost use Rattle.std.specs.List.{AllByRecursion};
-ghost use Rattle.dxc_model.specs.declared.user.SessionUser.TheVariants.{Nobody};
-ghost use Rattle.tl1_answer.specs.Texts.{IsOfShape};
+ghost use Rattle.tl1_answer.specs.Texts.{IsChangeOf, IsOfShape};
+ghost use Rattle.tl1_answer.specs.Messages.{report as whole_report};
+ghost use Rattle.dxc_model.specs.declared.op.Change.{Change};
 ghost use Rattle.craft_session.specs.Asks.{reply_of, user_after, is_known, IsAptAsk};
-ghost use Rattle.craft_session.specs.Meanings.{language};
+ghost use Rattle.craft_session.specs.Meanings.{asks, language, tag_of};
+ghost use Rattle.craft_session.specs.Notices.{change, found_notices, lead, numbered};
+ghost use Rattle.craft_session.specs.Responses.{lost_text as text_of_lost};
 ghost use Rattle.craft_session.specs.Desks.{now, IsReplied, IsAnswered};
-ghost use Rattle.craft_session.specs.Seats.{IsSeated};
-ghost use Rattle.craft_session.specs.Sessions.{Beginning, StandsAt, Writes, Stands, Goes, IsServed};
+ghost use Rattle.craft_session.specs.Seats.{IsSameSeat};
+ghost use Rattle.craft_session.specs.Sessions.{AreTold, Beginning, IsAt, IsReported, Writes, Stands, Goes, IsServed};
+ghost use Rattle.craft_session.specs.Walks.{nobody};
+ghost use Rattle.xc_core.specs.Turns.{AreNumbered, SawNoneAstray};
 
 use crate::act::act;
 use crate::ask::{Acted, Ask};
@@ -21,76 +29,17 @@ use crate::end::{Progress, SessionEnd};
 use crate::meaning::ask_of;
 use crate::place::Place;
 use crate::say::{add_lines, code_of};
+use arrayvec::ArrayVec;
+use dbchg_reports::Since;
 use dxc_disk::Disk;
 use dxc_model::Cause;
 use dxc_outside::{Clock, Gate, Got, Link, Sent, write_all};
 use std::sync::Wait;
+use tl1_answer::change_text;
 use tl1_text::{Ctag, UnitKind, ctag_of};
+use xc_core::turns::Looked;
 
 const READS: u64 = 1 << 32;
-
-/// Serves the link, until it ends or fails, the gate stops, or 2^32 reads were made. It waits for frames that stand in the way of a
-/// circuit's move. It takes no memory.
-pub fn serve_session<K: Link, C: Clock, G: Gate, D: Disk + Drop, R: Wait>(
-    place: &mut Place<D>,
-    link: &mut K,
-    clock: &mut C,
-    gate: &mut G,
-    rt: &R,
-) -> SessionEnd
-    ensures shelf { place.new.shelf ≡ place.old.shelf }
-    ensures fabric { place.new.fabric ≡ place.old.fabric }
-    ensures session { (b : Beginning D) → b.state ≡ place.old.state → StandsAt D.told D.state b [] place.old.state → IsServed (language place.old.shelf) D.told D.state K.told C.told (K.state link.old) (K.state link.new) (C.coming clock.old) (C.coming clock.new) b place.new.state result }
-    ensures end { (result ≡ SessionEnd.End) ↔ IsTrue (K.state link.new).ended }
-    ensures all_read { K.told → result ≡ SessionEnd.End → (K.state link.new).left ≡ [] }
-    ensures read_fault { result ≡ SessionEnd.ReadFault → Rose (K.state link.old).read_faults (K.state link.new).read_faults }
-    ensures write_fault { result ≡ SessionEnd.WriteFault → Rose (K.state link.old).write_faults (K.state link.new).write_faults }
-    ensures stopped { result ≡ SessionEnd.Stopped → Rose (G.stops gate.old) (G.stops gate.new) }
-    ensures unstopped { result ≢ SessionEnd.Stopped → G.stops gate.new ≡ G.stops gate.old }
-    ensures spent { result ≡ SessionEnd.Spent → Counted (K.state link.old).reads (K.state link.new).reads (2 ^ 32) }
-{
-    place.desk.begin();
-    serve(&mut place.desk, &mut place.piece, link, clock, gate, rt)
-}
-
-fn serve<K: Link, C: Clock, G: Gate, D: Disk + Drop, R: Wait>(
-    desk: &mut Desk<D>,
-    piece: &mut [u8],
-    link: &mut K,
-    clock: &mut C,
-    gate: &mut G,
-    rt: &R,
-) -> SessionEnd
-    requires room { 0 < length piece.old }
-    requires nothing_read { Holds [] (hand desk.old.reader) }
-    requires nobody { desk.old.user ≡ Nobody }
-    requires seated { IsSeated D.told D.state (arc_value desk.old.fabric) desk.old.state }
-    ensures shelf { desk.new.shelf ≡ desk.old.shelf }
-    ensures fabric { desk.new.fabric ≡ desk.old.fabric }
-    ensures seated { IsSeated D.told D.state (arc_value desk.new.fabric) desk.new.state }
-    ensures session { (b : Beginning D) → b.state ≡ desk.old.state → StandsAt D.told D.state b [] desk.old.state → IsServed (language (arc_value desk.old.shelf)) D.told D.state K.told C.told (K.state link.old) (K.state link.new) (C.coming clock.old) (C.coming clock.new) b desk.new.state result }
-    ensures end { (result ≡ SessionEnd.End) ↔ IsTrue (K.state link.new).ended }
-    ensures all_read { K.told → result ≡ SessionEnd.End → (K.state link.new).left ≡ [] }
-    ensures read_fault { result ≡ SessionEnd.ReadFault → Rose (K.state link.old).read_faults (K.state link.new).read_faults }
-    ensures write_fault { result ≡ SessionEnd.WriteFault → Rose (K.state link.old).write_faults (K.state link.new).write_faults }
-    ensures stopped { result ≡ SessionEnd.Stopped → Rose (G.stops gate.old) (G.stops gate.new) }
-    ensures unstopped { result ≢ SessionEnd.Stopped → G.stops gate.new ≡ G.stops gate.old }
-    ensures spent { result ≡ SessionEnd.Spent → Counted (K.state link.old).reads (K.state link.new).reads (2 ^ 32) }
-{
-    for _ in 0..READS {
-        match link.read(piece) {
-            Got::Bytes(count) => match serve_piece(desk, link, clock, gate, rt, &piece[..count]) {
-                Progress::On => {}
-                Progress::Cut => return SessionEnd::WriteFault,
-                Progress::Stopped => return SessionEnd::Stopped,
-            },
-            Got::Quiet => {}
-            Got::End => return SessionEnd::End,
-            Got::Failed => return SessionEnd::ReadFault,
-        }
-    }
-    SessionEnd::Spent
-}
 
 /// Answers the units that end in the piece.
 fn serve_piece<K: Link, C: Clock, G: Gate, D: Disk + Drop, R: Wait>(
@@ -101,15 +50,14 @@ fn serve_piece<K: Link, C: Clock, G: Gate, D: Disk + Drop, R: Wait>(
     rt: &R,
     piece: &[u8],
 ) -> Progress
-    requires seated { IsSeated D.told D.state (arc_value desk.old.fabric) desk.old.state }
     ensures shelf { desk.new.shelf ≡ desk.old.shelf }
-    ensures fabric { desk.new.fabric ≡ desk.old.fabric }
-    ensures seated { IsSeated D.told D.state (arc_value desk.new.fabric) desk.new.state }
+    ensures seat { IsSameSeat desk.old.seat desk.new.seat }
     ensures link { Writes K.told (K.state link.old) (K.state link.new) }
-    ensures goes { (k : LinkState) → (c : List Moment) → (b : Beginning D) → Stands (language (arc_value desk.old.shelf)) D.told D.state K.told C.told k (K.state link.old) c (C.coming clock.old) b (now desk.old) More desk.old.reader piece.now
-        → Goes (language (arc_value desk.old.shelf)) D.told D.state K.told C.told k (K.state link.new) c (C.coming clock.new) b (now desk.new) result desk.new.reader [] }
+    ensures goes { (k : LinkState) → (c : List Moment) → (b : Beginning) → IsAt b desk.old.seat → Stands (language (arc_value desk.old.shelf)) K.told C.told k (K.state link.old) c (C.coming clock.old) b (now desk.old) false More desk.old.reader piece.now
+        → Goes (language (arc_value desk.old.shelf)) K.told C.told k (K.state link.new) c (C.coming clock.new) b (now desk.new) result false desk.new.reader [] }
     ensures stopped { result ≡ Progress.Stopped → Rose (G.stops gate.old) (G.stops gate.new) }
     ensures unstopped { result ≢ Progress.Stopped → G.stops gate.new ≡ G.stops gate.old }
+    ensures later { G.stops gate.old ≤ G.stops gate.new }
 {
     let mut at = 0;
     while at < piece.len() {
@@ -123,7 +71,7 @@ fn serve_piece<K: Link, C: Clock, G: Gate, D: Disk + Drop, R: Wait>(
     Progress::On
 }
 
-/// Answers the unit that ended, if one did.
+/// Answers the unit that ended, if one did, and reports what changed.
 fn serve_unit<K: Link, C: Clock, G: Gate, D: Disk + Drop, R: Wait>(
     desk: &mut Desk<D>,
     link: &mut K,
@@ -133,28 +81,57 @@ fn serve_unit<K: Link, C: Clock, G: Gate, D: Disk + Drop, R: Wait>(
     kind: UnitKind,
 ) -> Progress
     requires short { kind ≡ UnitKind.Whole → length desk.old.reader.kept ≤ 2047 }
-    requires seated { IsSeated D.told D.state (arc_value desk.old.fabric) desk.old.state }
     ensures shelf { desk.new.shelf ≡ desk.old.shelf }
-    ensures fabric { desk.new.fabric ≡ desk.old.fabric }
-    ensures seated { IsSeated D.told D.state (arc_value desk.new.fabric) desk.new.state }
+    ensures seat { IsSameSeat desk.old.seat desk.new.seat }
     ensures reader { desk.new.reader ≡ desk.old.reader }
     ensures link { Writes K.told (K.state link.old) (K.state link.new) }
-    ensures goes { (k : LinkState) → (c : List Moment) → (b : Beginning D) → (ahead : List ℕ) → Stands (language (arc_value desk.old.shelf)) D.told D.state K.told C.told k (K.state link.old) c (C.coming clock.old) b (now desk.old) kind desk.old.reader ahead
-        → Goes (language (arc_value desk.old.shelf)) D.told D.state K.told C.told k (K.state link.new) c (C.coming clock.new) b (now desk.new) result desk.old.reader ahead }
+    ensures goes { (k : LinkState) → (c : List Moment) → (b : Beginning) → (ahead : List ℕ) → IsAt b desk.old.seat → Stands (language (arc_value desk.old.shelf)) K.told C.told k (K.state link.old) c (C.coming clock.old) b (now desk.old) false kind desk.old.reader ahead
+        → Goes (language (arc_value desk.old.shelf)) K.told C.told k (K.state link.new) c (C.coming clock.new) b (now desk.new) result false desk.old.reader ahead }
     ensures stopped { result ≡ Progress.Stopped → Rose (G.stops gate.old) (G.stops gate.new) }
     ensures unstopped { result ≢ Progress.Stopped → G.stops gate.new ≡ G.stops gate.old }
+    ensures later { G.stops gate.old ≤ G.stops gate.new }
 {
     match kind {
         UnitKind::More => Progress::On,
         UnitKind::Whole => {
             let tag = ctag_of(desk.reader.unit());
-            let ask = ask_of(&desk.shelf, desk.user, desk.reader.unit());
-            answer(desk, link, clock, gate, rt, tag, ask)
+            let ask = ask_of(&desk.shelf, desk.attending.user, desk.reader.unit());
+            attend(desk, link, clock, gate, rt, tag, ask)
         }
         UnitKind::TooLong => {
             let ask = Ask::Refused(Cause::TooLong);
-            answer(desk, link, clock, gate, rt, None, ask)
+            attend(desk, link, clock, gate, rt, None, ask)
         }
+    }
+}
+
+/// Does what a unit asks, answers it, and reports what changed.
+fn attend<K: Link, C: Clock, G: Gate, D: Disk + Drop, R: Wait>(
+    desk: &mut Desk<D>,
+    link: &mut K,
+    clock: &mut C,
+    gate: &mut G,
+    rt: &R,
+    tag: Option<Ctag>,
+    ask: Ask,
+) -> Progress
+    requires apt { IsAptAsk desk.old.seat.opening.first.fold.table.shape ask }
+    requires known { is_known (length (arc_value desk.old.shelf).users) (user_after desk.old.attending.user ask) ≡ true }
+    ensures shelf { desk.new.shelf ≡ desk.old.shelf }
+    ensures seat { IsSameSeat desk.old.seat desk.new.seat }
+    ensures reader { desk.new.reader ≡ desk.old.reader }
+    ensures link { Writes K.told (K.state link.old) (K.state link.new) }
+    ensures goes { (k : LinkState) → (c : List Moment) → (b : Beginning) → (kind : UnitKind) → (r : Reader) → (ahead : List ℕ) → (u : Input) → IsAt b desk.old.seat → (s : Stands (language (arc_value desk.old.shelf)) K.told C.told k (K.state link.old) c (C.coming clock.old) b (now desk.old) false kind r ahead)
+        → IsUnit s.rest u × (hand r ≡ []) → tag ≡ tag_of u → ask ≡ asks (arc_value desk.old.shelf) desk.old.attending.user u
+        → Goes (language (arc_value desk.old.shelf)) K.told C.told k (K.state link.new) c (C.coming clock.new) b (now desk.new) result false r ahead }
+    ensures stopped { result ≡ Progress.Stopped → Rose (G.stops gate.old) (G.stops gate.new) }
+    ensures unstopped { result ≢ Progress.Stopped → G.stops gate.new ≡ G.stops gate.old }
+    ensures later { G.stops gate.old ≤ G.stops gate.new }
+{
+    match answer(desk, link, clock, gate, rt, tag, ask) {
+        Progress::On => report(desk, link, clock, rt),
+        Progress::Cut => Progress::Cut,
+        Progress::Stopped => Progress::Stopped,
     }
 }
 
@@ -168,22 +145,20 @@ fn answer<K: Link, C: Clock, G: Gate, D: Disk + Drop, R: Wait>(
     tag: Option<Ctag>,
     ask: Ask,
 ) -> Progress
-    requires apt { IsAptAsk desk.old.state.table.shape ask }
-    requires known { is_known (length (arc_value desk.old.shelf).users) (user_after desk.old.user ask) ≡ true }
-    requires seated { IsSeated D.told D.state (arc_value desk.old.fabric) desk.old.state }
+    requires apt { IsAptAsk desk.old.seat.opening.first.fold.table.shape ask }
+    requires known { is_known (length (arc_value desk.old.shelf).users) (user_after desk.old.attending.user ask) ≡ true }
     ensures shelf { desk.new.shelf ≡ desk.old.shelf }
-    ensures fabric { desk.new.fabric ≡ desk.old.fabric }
-    ensures seated { IsSeated D.told D.state (arc_value desk.new.fabric) desk.new.state }
+    ensures seat { IsSameSeat desk.old.seat desk.new.seat }
     ensures reader { desk.new.reader ≡ desk.old.reader }
     ensures link { Writes K.told (K.state link.old) (K.state link.new) }
-    ensures answered { IsAnswered D.told D.state (arc_value desk.old.shelf) K.told C.told (K.state link.old) (K.state link.new) (C.coming clock.old) (C.coming clock.new) tag ask (now desk.old) (now desk.new) result }
+    ensures answered { IsAnswered (arc_value desk.old.shelf) K.told C.told (K.state link.old) (K.state link.new) (C.coming clock.old) (C.coming clock.new) tag ask desk.old.seat (now desk.old) (now desk.new) result }
     ensures stopped { result ≡ Progress.Stopped → Rose (G.stops gate.old) (G.stops gate.new) }
     ensures unstopped { result ≢ Progress.Stopped → G.stops gate.new ≡ G.stops gate.old }
+    ensures later { G.stops gate.old ≤ G.stops gate.new }
 {
     let acted = act(
-        &mut desk.state,
-        &desk.fabric,
-        &mut desk.user,
+        &mut desk.seat,
+        &mut desk.attending,
         &mut desk.rows,
         ask,
         gate,
@@ -203,11 +178,11 @@ fn say<K: Link, C: Clock, D: Disk + Drop>(
     tag: Option<Ctag>,
     acted: Acted,
 ) -> Sent
-    requires { acted ≡ Acted.Listed → AllByRecursion (IsOfShape desk.old.state.table.shape) desk.old.rows.items }
+    requires { acted ≡ Acted.Listed → AllByRecursion (IsOfShape desk.old.seat.opening.first.fold.table.shape) desk.old.rows.items }
     ensures shelf { desk.new.shelf ≡ desk.old.shelf }
-    ensures fabric { desk.new.fabric ≡ desk.old.fabric }
+    ensures seat { desk.new.seat ≡ desk.old.seat }
+    ensures attending { desk.new.attending ≡ desk.old.attending }
     ensures reader { desk.new.reader ≡ desk.old.reader }
-    ensures now { now desk.new ≡ now desk.old }
     ensures said { IsReplied (arc_value desk.old.shelf) K.told C.told (K.state link.old) (K.state link.new) (C.coming clock.old) (C.coming clock.new) result tag (reply_of acted desk.old.rows.items) }
 {
     let moment = clock.now();
@@ -226,4 +201,221 @@ fn say<K: Link, C: Clock, D: Disk + Drop>(
     }
     desk.answer.end();
     write_all(link, desk.answer.bytes())
+}
+
+/// Looks for changes where reports are allowed, and writes a report of each, with the next moments.
+fn report<K: Link, C: Clock, D: Disk + Drop, R: Wait>(
+    desk: &mut Desk<D>,
+    link: &mut K,
+    clock: &mut C,
+    rt: &R,
+) -> Progress
+    ensures shelf { desk.new.shelf ≡ desk.old.shelf }
+    ensures seat { IsSameSeat desk.old.seat desk.new.seat }
+    ensures reader { desk.new.reader ≡ desk.old.reader }
+    ensures link { Writes K.told (K.state link.old) (K.state link.new) }
+    ensures goes { (k : LinkState) → (c : List Moment) → (b : Beginning) → (r : Reader) → (ahead : List ℕ) → IsAt b desk.old.seat → Stands (language (arc_value desk.old.shelf)) K.told C.told k (K.state link.old) c (C.coming clock.old) b (now desk.old) (is_some desk.old.attending.watch) More r ahead
+        → Goes (language (arc_value desk.old.shelf)) K.told C.told k (K.state link.new) c (C.coming clock.new) b (now desk.new) result false r ahead }
+    ensures unstopped { result ≢ Progress.Stopped }
+{
+    let Some(cursor) = desk.attending.watch else {
+        return Progress::On;
+    };
+    let looked = desk.seat.look(cursor, &mut desk.changes, rt);
+    desk.attending.watch = Some(looked.newest);
+    Progress::of(tell(desk, link, clock, looked))
+}
+
+/// Writes the reports of what a look found, each with the next moment.
+fn tell<K: Link, C: Clock, D: Disk + Drop>(
+    desk: &mut Desk<D>,
+    link: &mut K,
+    clock: &mut C,
+    looked: Looked,
+) -> Sent
+    requires few { length desk.old.changes.items ≤ looked.newest }
+    requires of_shape { AllByRecursion (IsChangeOf desk.old.seat.opening.first.fold.table.shape) desk.old.changes.items }
+    ensures shelf { desk.new.shelf ≡ desk.old.shelf }
+    ensures seat { desk.new.seat ≡ desk.old.seat }
+    ensures attending { desk.new.attending ≡ desk.old.attending }
+    ensures reader { desk.new.reader ≡ desk.old.reader }
+    ensures told { AreTold (language (arc_value desk.old.shelf)) K.told C.told (K.state link.old) (K.state link.new) (C.coming clock.old) (C.coming clock.new) result (found_notices looked.since looked.newest desk.old.changes.items) }
+{
+    let before = looked.newest - desk.changes.as_slice().len() as u64;
+    match tell_lost(desk, link, clock, looked.since, before) {
+        Sent::Whole => tell_changes(desk, link, clock, before),
+        Sent::Cut => Sent::Cut,
+    }
+}
+
+/// Writes the report of changes that were lost, if some were.
+fn tell_lost<K: Link, C: Clock, D: Disk + Drop>(
+    desk: &mut Desk<D>,
+    link: &mut K,
+    clock: &mut C,
+    since: Since,
+    before: u64,
+) -> Sent
+    ensures shelf { desk.new.shelf ≡ desk.old.shelf }
+    ensures seat { desk.new.seat ≡ desk.old.seat }
+    ensures attending { desk.new.attending ≡ desk.old.attending }
+    ensures reader { desk.new.reader ≡ desk.old.reader }
+    ensures changes { desk.new.changes ≡ desk.old.changes }
+    ensures told { AreTold (language (arc_value desk.old.shelf)) K.told C.told (K.state link.old) (K.state link.new) (C.coming clock.old) (C.coming clock.new) result (lead since before) }
+{
+    match since {
+        Since::All(_) => Sent::Whole,
+        Since::Lost(count) => {
+            lost_text(&mut desk.text, count);
+            tell_one(desk, link, clock, before)
+        }
+    }
+}
+
+/// Writes a report of each change, numbered from the one behind `before`.
+fn tell_changes<K: Link, C: Clock, D: Disk + Drop>(
+    desk: &mut Desk<D>,
+    link: &mut K,
+    clock: &mut C,
+    before: u64,
+) -> Sent
+    requires few { before + length desk.old.changes.items < 2 ^ 64 }
+    requires of_shape { AllByRecursion (IsChangeOf desk.old.seat.opening.first.fold.table.shape) desk.old.changes.items }
+    ensures shelf { desk.new.shelf ≡ desk.old.shelf }
+    ensures seat { desk.new.seat ≡ desk.old.seat }
+    ensures attending { desk.new.attending ≡ desk.old.attending }
+    ensures reader { desk.new.reader ≡ desk.old.reader }
+    ensures told { AreTold (language (arc_value desk.old.shelf)) K.told C.told (K.state link.old) (K.state link.new) (C.coming clock.old) (C.coming clock.new) result (numbered before desk.old.changes.items) }
+{
+    for at in 0..desk.changes.as_slice().len() {
+        match tell_change(desk, link, clock, before, at) {
+            Sent::Whole => {}
+            Sent::Cut => return Sent::Cut,
+        }
+    }
+    Sent::Whole
+}
+
+/// Writes the report of the change at a place of the list.
+fn tell_change<K: Link, C: Clock, D: Disk + Drop>(
+    desk: &mut Desk<D>,
+    link: &mut K,
+    clock: &mut C,
+    before: u64,
+    at: usize,
+) -> Sent
+    requires within { at < length desk.old.changes.items }
+    requires few { before + length desk.old.changes.items < 2 ^ 64 }
+    requires of_shape { AllByRecursion (IsChangeOf desk.old.seat.opening.first.fold.table.shape) desk.old.changes.items }
+    ensures shelf { desk.new.shelf ≡ desk.old.shelf }
+    ensures seat { desk.new.seat ≡ desk.old.seat }
+    ensures attending { desk.new.attending ≡ desk.old.attending }
+    ensures reader { desk.new.reader ≡ desk.old.reader }
+    ensures changes { desk.new.changes ≡ desk.old.changes }
+    ensures told { (d : Change) → IsReported K.told C.told (K.state link.old) (K.state link.new) (C.coming clock.old) (C.coming clock.new) result (λ m. (language (arc_value desk.old.shelf)).report m (change (before + at + 1) (slice_index_or desk.old.changes.items at d))) }
+{
+    change_text(desk.shelf.shape(), &desk.changes[at], &mut desk.text);
+    tell_one(desk, link, clock, before + at as u64 + 1)
+}
+
+/// Writes one report of the text with the next moment.
+fn tell_one<K: Link, C: Clock, D: Disk + Drop>(
+    desk: &mut Desk<D>,
+    link: &mut K,
+    clock: &mut C,
+    number: u64,
+) -> Sent
+    ensures shelf { desk.new.shelf ≡ desk.old.shelf }
+    ensures seat { desk.new.seat ≡ desk.old.seat }
+    ensures attending { desk.new.attending ≡ desk.old.attending }
+    ensures reader { desk.new.reader ≡ desk.old.reader }
+    ensures changes { desk.new.changes ≡ desk.old.changes }
+    ensures told { IsReported K.told C.told (K.state link.old) (K.state link.new) (C.coming clock.old) (C.coming clock.new) result (λ m. whole_report (arc_value desk.old.shelf).sid m number desk.old.text.items) }
+{
+    let moment = clock.now();
+    desk.answer
+        .report(desk.shelf.sid(), moment, number, desk.text.as_slice());
+    write_all(link, desk.answer.bytes())
+}
+
+fn lost_text(text: &mut ArrayVec<u8, 128>, count: u64)
+    ensures { text.new.items ≡ text_of_lost count }
+{
+    text.clear();
+    let _ = text.try_extend_from_slice(b"\"LOST=");
+    let _ = text.try_extend_from_slice(itoa::Buffer::new().format(count).as_bytes());
+    let _ = text.try_extend_from_slice(b"\"");
+}
+
+/// Serves the link, until it ends or fails, the gate stops, or 2^32 reads were made. It waits for its turn at the state, for the Provisioner, and for
+/// frames that stand in the way of a circuit's move. It takes no memory.
+pub fn serve_session<K: Link, C: Clock, G: Gate, D: Disk + Drop, R: Wait>(
+    place: &mut Place<D>,
+    link: &mut K,
+    clock: &mut C,
+    gate: &mut G,
+    rt: &R,
+) -> SessionEnd
+    ensures shelf { place.new.shelf ≡ place.old.shelf }
+    ensures seat { IsSameSeat place.old.seat place.new.seat }
+    ensures numbers { AreNumbered place.new.seat.places place.new.seat.seen }
+    ensures astray { SawNoneAstray D.told place.new.seat.seen }
+    ensures session { IsServed (language place.old.shelf) K.told C.told (K.state link.old) (K.state link.new) (C.coming clock.old) (C.coming clock.new) place.old.seat place.new.seat result }
+    ensures end { (result ≡ SessionEnd.End) ↔ IsTrue (K.state link.new).ended }
+    ensures all_read { K.told → result ≡ SessionEnd.End → (K.state link.new).left ≡ [] }
+    ensures read_fault { result ≡ SessionEnd.ReadFault → Rose (K.state link.old).read_faults (K.state link.new).read_faults }
+    ensures write_fault { result ≡ SessionEnd.WriteFault → Rose (K.state link.old).write_faults (K.state link.new).write_faults }
+    ensures stopped { result ≡ SessionEnd.Stopped → Rose (G.stops gate.old) (G.stops gate.new) }
+    ensures unstopped { result ≢ SessionEnd.Stopped → G.stops gate.new ≡ G.stops gate.old }
+    ensures later { G.stops gate.old ≤ G.stops gate.new }
+    ensures spent { result ≡ SessionEnd.Spent → Counted (K.state link.old).reads (K.state link.new).reads (2 ^ 32) }
+{
+    place.desk.begin();
+    let end = serve(&mut place.desk, &mut place.piece, link, clock, gate, rt);
+    // Its clause tells whose entries the seat has seen.
+    place.desk.seat.seen();
+    end
+}
+
+fn serve<K: Link, C: Clock, G: Gate, D: Disk + Drop, R: Wait>(
+    desk: &mut Desk<D>,
+    piece: &mut [u8],
+    link: &mut K,
+    clock: &mut C,
+    gate: &mut G,
+    rt: &R,
+) -> SessionEnd
+    requires room { 0 < length piece.old }
+    requires nothing_read { Holds [] (hand desk.old.reader) }
+    requires nobody { desk.old.attending ≡ nobody }
+    ensures shelf { desk.new.shelf ≡ desk.old.shelf }
+    ensures seat { IsSameSeat desk.old.seat desk.new.seat }
+    ensures session { IsServed (language (arc_value desk.old.shelf)) K.told C.told (K.state link.old) (K.state link.new) (C.coming clock.old) (C.coming clock.new) desk.old.seat desk.new.seat result }
+    ensures end { (result ≡ SessionEnd.End) ↔ IsTrue (K.state link.new).ended }
+    ensures all_read { K.told → result ≡ SessionEnd.End → (K.state link.new).left ≡ [] }
+    ensures read_fault { result ≡ SessionEnd.ReadFault → Rose (K.state link.old).read_faults (K.state link.new).read_faults }
+    ensures write_fault { result ≡ SessionEnd.WriteFault → Rose (K.state link.old).write_faults (K.state link.new).write_faults }
+    ensures stopped { result ≡ SessionEnd.Stopped → Rose (G.stops gate.old) (G.stops gate.new) }
+    ensures unstopped { result ≢ SessionEnd.Stopped → G.stops gate.new ≡ G.stops gate.old }
+    ensures later { G.stops gate.old ≤ G.stops gate.new }
+    ensures spent { result ≡ SessionEnd.Spent → Counted (K.state link.old).reads (K.state link.new).reads (2 ^ 32) }
+{
+    // Its clause tells that the seat has seen a history.
+    desk.seat.seen();
+    for _ in 0..READS {
+        match link.read(piece) {
+            Got::Bytes(count) => match serve_piece(desk, link, clock, gate, rt, &piece[..count]) {
+                Progress::On => {}
+                Progress::Cut => return SessionEnd::WriteFault,
+                Progress::Stopped => return SessionEnd::Stopped,
+            },
+            Got::Quiet => match report(desk, link, clock, rt) {
+                Progress::On => {}
+                Progress::Cut | Progress::Stopped => return SessionEnd::WriteFault,
+            },
+            Got::End => return SessionEnd::End,
+            Got::Failed => return SessionEnd::ReadFault,
+        }
+    }
+    SessionEnd::Spent
 }

@@ -1,18 +1,28 @@
-use Rattle.std.proofs.Common.{◌∙◌, ap}
-use Rattle.xc_core.specs.declared.state.Home.TheVariants.{In}
-use Rattle.craft_session.proofs.Changing.{was_done, was_stopped, shape_after}
+use Rattle.std.proofs.Common.{◌∙◌, ap, inl}
+use Rattle.xc_core.specs.Provisioners.{Ground}
+use Rattle.xc_core.specs.States.{opening_of}
+use Rattle.xc_core.proofs.Away.{taken_rolls}
+use Rattle.craft_session.proofs.Changing.{changed_cut, changed_done}
 use Rattle.craft_session.proofs.change.carry_out.Goals as goal
 
-pub finish-change-requires-clause-rolls : goal.finish-change-requires-clause-rolls
-finish-change-requires-clause-rolls g c = let w = c.requires.rolls in (w.0, w.1, w.2, c.roll.ensures.rolls w.0 w.1 w.2 w.3, w.4)
+pub roll-requires-clause-own : goal.roll-requires-clause-own
+roll-requires-clause-own g c = let w = c.requires.taken in ap (λ (s : Ground). s.fabric) w.2.out.ground ∙ c.requires.fabric
+
+pub roll-requires-clause-rolls : goal.roll-requires-clause-rolls
+roll-requires-clause-rolls g c = let w = c.requires.taken in inl (w.2.out.now, c.args.op.now, w.2.change, w.2.rolls)
+
+pub bring-requires-clause-taken : goal.bring-requires-clause-taken
+bring-requires-clause-taken g c =
+    let w = c.requires.taken in
+    (w.0, w.1, taken_rolls g.D.Disk.told g.D.Disk.state (opening_of g.D.Disk.state c.args.turns.now.first) c.args.pass.now.number c.args.op.now w.0 c.args.p c.roll.new.p c.args.rolling c.roll.new.rolling w.2 c.roll.ensures.ground c.roll.ensures.journal c.roll.ensures.rolls)
+
+pub cut-requires-clause-taken : goal.cut-requires-clause-taken
+cut-requires-clause-taken g c =
+    let w = c.requires.taken in
+    (w.0, w.1, taken_rolls g.D.Disk.told g.D.Disk.state (opening_of g.D.Disk.state c.args.turns.now.first) c.args.pass.now.number c.args.op.now w.0 c.args.p c.roll.new.p c.args.rolling c.roll.new.rolling w.2 c.roll.ensures.ground c.roll.ensures.journal c.roll.ensures.rolls)
 
 pub returns-in-Go-clause-changed : goal.returns-in-Go-clause-changed
-returns-in-Go-clause-changed g c = λ o h op whole b. was_done _ _ o h op _ _ _ b whole _ _ _ _ _ _ c.roll.ensures.rolls c.finish-change.ensures.finishes (c.finish-change.ensures.ground ∙ c.roll.ensures.ground) (c.finish-change.ensures.journal ∙ c.roll.ensures.journal) c.bring_home.ensures
-
-pub returns-in-Go-clause-shape : goal.returns-in-Go-clause-shape
-returns-in-Go-clause-shape g c = let w = c.requires.rolls in
-    shape_after _ _ w.0 w.2 _ _ _ _ _ _ w.4 (c.finish-change.ensures.finishes w.0 w.1 w.2 (c.roll.ensures.rolls w.0 w.1 w.2 w.3) w.4) c.bring_home.ensures
+returns-in-Go-clause-changed g c = λ h saw. changed_done (opening_of g.D.Disk.state c.args.turns.now.first) c.args.pass.now.number h c.args.op.now c.bring.new.pass.seen (c.bring.ensures.done h saw)
 
 pub returns-in-Stop-clause-changed : goal.returns-in-Stop-clause-changed
-returns-in-Stop-clause-changed g c = λ o h op whole b. was_stopped _ _ o h op _ _ _ b whole _ _ _ c.roll.ensures.rolls c.roll.ensures.ground c.roll.ensures.journal
-    (c.bring_home-in-Stop.ensures ∙ ap (λ p. record { table = c.args.state.now.table; home = In p }) c.halt.ensures)
+returns-in-Stop-clause-changed g c = λ h saw. changed_cut (opening_of g.D.Disk.state c.args.turns.now.first) c.args.pass.now.number h c.args.op.now c.cut.new.pass.seen (c.cut.ensures.cut h saw)

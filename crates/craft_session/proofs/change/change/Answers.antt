@@ -1,61 +1,126 @@
-use Rattle.std.proofs.Common.{ℕ, Some, ap, sym, ◌∙◌, subst, arith}
-use Rattle.dxc_causes.specs.Causes.{Rose}
-use Rattle.xc_core.specs.declared.provisioner.Provisioner.{Provisioner}
-use Rattle.xc_core.specs.declared.state.Home.TheVariants.{In}
-use Rattle.xc_core.specs.declared.state.State.{State}
-use Rattle.xc_core.specs.Openings.{disk_home}
+use Rattle.std.proofs.Common.{rules, length, ℕ, [], ◌∷◌, ◌++◌, inl, inr, refl, sym, ◌∙◌, subst}
+use Rattle.dxc_model.specs.declared.entry.Outcome.TheVariants.{Taken}
+use Rattle.dxc_model.proofs.FirstCauses.{changes}
+use Rattle.xc_core.specs.Seeing.{HasTaken, entry}
+use Rattle.xc_core.specs.States.{opening_of}
+use Rattle.xc_core.specs.Turns.{TookIs}
 use Rattle.craft_session.specs.declared.change.Changed.TheVariants.{Denied, Stopped}
-use Rattle.craft_session.proofs.Changing.{went_by, may_carry_out, was_planned, was_denied, was_held, seated_after}
+use Rattle.craft_session.specs.declared.mend.Mended.{Mended}
+use Rattle.craft_session.specs.Changing.{ChangedIs, MendedIs}
+use Rattle.craft_session.proofs.Changing.{changed_on, mend_denied, mend_stopped, mended_back, mended_none, mends_ready, mends_wait, taken_passed, took_back, took_denied, took_halted, took_rolling, took_stopped, turned_back_passed}
+use Rattle.dxc_outside.specs.declared.gate.GatePlace.TheVariants.{Journal}
+use Rattle.roll_engine.specs.Rollings.{rest_of}
+use Rattle.xc_core.specs.declared.turns.Took.{Took}
+use Rattle.xc_core.specs.Askings.{asked_at_take}
+use Rattle.craft_session.specs.Askings.{no_mending}
+use Rattle.craft_session.proofs.Gating.{denied_asked, mending_denied, mending_more, mending_none, mending_stopped, nothing_more, rolled_asked, stopped_asked}
 use Rattle.craft_session.proofs.change.change.Goals as goal
 
-pub carry_out-requires-clause-rolls : goal.carry_out-requires-clause-rolls
-carry_out-requires-clause-rolls g c = may_carry_out _ _ _ _ c.take_ready-p.ensures.home c.take_ready-p.ensures.ready c.args.op.now _ c.begin.ensures.ground c.begin.ensures.fault.later c.take_ready-p.new.state (ap (λ x. x.table) c.take_ready-p.ensures.state) _ c.begin.ensures.begun c.args.fabric.now c.requires.seated c.in-Rolling.rolling c.in-Rolling.is
+pub take-requires-clause-seen : goal.take-requires-clause-seen
+take-requires-clause-seen g c = let w = c.requires.seen in let b = c.loop.invariant.mended w.0 w.1 in (w.0 ++ b.front, b.saw)
+
+pub loop-init : goal.loop-init
+loop-init g c = record { goes = (tt, tt); pass = c.requires.pass; number = refl; mended = λ h saw. mended_none (opening_of g.D.Disk.state c.args.turns.now.first) c.args.pass.now.number h c.args.pass.now.seen saw; gate = refl; asked = ([], no_mending, g.G.Gate.unasked c.args.gate.now) }
+
+pub carry_out-requires-clause-taken : goal.carry_out-requires-clause-taken
+carry_out-requires-clause-taken g c =
+    let w = c.requires.seen in
+    let b = c.loop.invariant.mended w.0 w.1 in
+    let k = subst (λ (n : ℕ). TookIs g.D.Disk.told g.D.Disk.state (opening_of g.D.Disk.state c.args.turns.now.first) n (w.0 ++ b.front) c.args.op.now c.take.new.pass.seen c.take.result) c.loop.invariant.number (c.take.ensures.took (w.0 ++ b.front) b.saw) in
+    let t = took_rolling (opening_of g.D.Disk.state c.args.turns.now.first) c.args.pass.now.number (w.0 ++ b.front) g.D.Disk.told g.D.Disk.state c.args.op.now c.take.new.pass.seen c.take.result k c.in-Rolling.p c.in-Rolling.rolling c.in-Rolling.is in
+    (((w.0 ++ b.front) ++ t.0.later) ++ entry c.args.pass.now.number c.args.op.now Taken ∷ [], t.0.saw, subst (λ (n : ℕ). HasTaken g.D.Disk.told g.D.Disk.state (opening_of g.D.Disk.state c.args.turns.now.first) n c.args.op.now (((w.0 ++ b.front) ++ t.0.later) ++ entry c.args.pass.now.number c.args.op.now Taken ∷ []) c.in-Rolling.p c.in-Rolling.rolling) (sym (c.take.ensures.pass.1 ∙ c.loop.invariant.number)) t.1)
 
 pub returns-in-Rolling-clause-changed : goal.returns-in-Rolling-clause-changed
-returns-in-Rolling-clause-changed g c = λ o h st. c.carry_out.ensures.changed o h c.args.op.now c.args.state.now (was_planned _ _ _ _ c.take_ready-p.ensures.home c.take_ready-p.ensures.ready c.args.op.now _ c.begin.ensures.ground c.begin.ensures.fault.later c.take_ready-p.new.state (ap (λ x. x.table) c.take_ready-p.ensures.state) _ c.begin.ensures.begun o h st c.in-Rolling.rolling c.in-Rolling.is)
-
-pub returns-in-Rolling-clause-seated : goal.returns-in-Rolling-clause-seated
-returns-in-Rolling-clause-seated g c = let seat = c.requires.seated in
-    seated_after _ _ _ seat.0 seat.1 c.args.op.now c.args.state.now _ _ seat.2 (returns-in-Rolling-clause-changed g c seat.0 seat.1 seat.3)
-
-pub returns-in-Rolling-clause-went : goal.returns-in-Rolling-clause-went
-returns-in-Rolling-clause-went g c = went_by g.D.Disk.told g.D.Disk.state c.args.state.now c.take_ready-p.result c.take_ready-p.ensures.home c.take_ready-p.ensures.ready c.carry_out.new.state c.begin.new.p c.carry_out.ensures.disk c.begin.ensures.fault c.begin.ensures.room
-
-pub returns-in-Rolling-clause-done : goal.returns-in-Rolling-clause-done
-returns-in-Rolling-clause-done g c = λ not. c.carry_out.ensures.done not ∙ c.begin.ensures.unstopped (λ is. let no = sym c.in-Rolling.is ∙ is in cc)
-
-pub returns-in-Rolling-clause-stopped : goal.returns-in-Rolling-clause-stopped
-returns-in-Rolling-clause-stopped g c = λ is. subst (λ (n : ℕ). Rose n (g.G.Gate.stops c.carry_out.new.gate)) (c.begin.ensures.unstopped (λ x. let no = sym c.in-Rolling.is ∙ x in cc)) (c.carry_out.ensures.stopped is)
-
-pub returns-in-Rolling-clause-later : goal.returns-in-Rolling-clause-later
-returns-in-Rolling-clause-later g c = omega (arith, c.carry_out.ensures.later, c.begin.ensures.later)
+returns-in-Rolling-clause-changed g c = λ h saw.
+    let b = c.loop.invariant.mended h saw in
+    let k = subst (λ (n : ℕ). TookIs g.D.Disk.told g.D.Disk.state (opening_of g.D.Disk.state c.args.turns.now.first) n (h ++ b.front) c.args.op.now c.take.new.pass.seen c.take.result) c.loop.invariant.number (c.take.ensures.took (h ++ b.front) b.saw) in
+    let t = took_rolling (opening_of g.D.Disk.state c.args.turns.now.first) c.args.pass.now.number (h ++ b.front) g.D.Disk.told g.D.Disk.state c.args.op.now c.take.new.pass.seen c.take.result k c.in-Rolling.p c.in-Rolling.rolling c.in-Rolling.is in
+    let d = mended_back (opening_of g.D.Disk.state c.args.turns.now.first) c.args.pass.now.number h c.loop.pass.seen c.take.new.pass.seen b (taken_passed (opening_of g.D.Disk.state c.args.turns.now.first) c.args.pass.now.number (h ++ b.front) c.args.op.now c.take.new.pass.seen t.0) in
+    let r = subst (λ (n : ℕ). ChangedIs (opening_of g.D.Disk.state c.args.turns.now.first) n (h ++ d.front) c.args.op.now c.carry_out.new.pass.seen c.carry_out.result) (c.take.ensures.pass.1 ∙ c.loop.invariant.number) (c.carry_out.ensures.changed (h ++ d.front) d.saw) in
+    changed_on (opening_of g.D.Disk.state c.args.turns.now.first) c.args.pass.now.number h c.args.op.now c.take.new.pass.seen c.carry_out.new.pass.seen d c.carry_out.result r
 
 pub returns-in-Denied-clause-changed : goal.returns-in-Denied-clause-changed
-returns-in-Denied-clause-changed g c = λ o h st. was_denied _ _ _ _ c.take_ready-p.ensures.home c.take_ready-p.ensures.ready c.args.op.now _ c.begin.ensures.ground c.begin.ensures.fault.later c.take_ready-p.new.state (ap (λ x. x.table) c.take_ready-p.ensures.state) _ c.begin.ensures.begun o h st c.in-Denied.cause _ c.in-Denied.is c.bring_home.ensures
-    (λ is. record { rose = c.begin.ensures.fault.cause is; unsound = λ x. c.begin.ensures.sound x is })
-
-pub returns-in-Denied-clause-seated : goal.returns-in-Denied-clause-seated
-returns-in-Denied-clause-seated g c = let seat = c.requires.seated in
-    seated_after _ _ _ seat.0 seat.1 c.args.op.now c.args.state.now _ (Denied c.in-Denied.cause) seat.2 (returns-in-Denied-clause-changed g c seat.0 seat.1 seat.3)
-
-pub returns-in-Denied-clause-went : goal.returns-in-Denied-clause-went
-returns-in-Denied-clause-went g c = went_by g.D.Disk.told g.D.Disk.state c.args.state.now c.take_ready-p.result c.take_ready-p.ensures.home c.take_ready-p.ensures.ready c.bring_home.new.self c.begin.new.p (ap (λ (s : State g.row.D.Denot). disk_home s.home) c.bring_home.ensures) c.begin.ensures.fault c.begin.ensures.room
-
-pub returns-in-Denied-clause-done : goal.returns-in-Denied-clause-done
-returns-in-Denied-clause-done g c = λ _. c.begin.ensures.unstopped (λ is. let no = sym c.in-Denied.is ∙ is in cc)
-
-pub returns-in-Denied-clause-later : goal.returns-in-Denied-clause-later
-returns-in-Denied-clause-later g c = c.begin.ensures.later
+returns-in-Denied-clause-changed g c = λ h saw.
+    let b = c.loop.invariant.mended h saw in
+    let k = subst (λ (n : ℕ). TookIs g.D.Disk.told g.D.Disk.state (opening_of g.D.Disk.state c.args.turns.now.first) n (h ++ b.front) c.args.op.now c.take.new.pass.seen c.take.result) c.loop.invariant.number (c.take.ensures.took (h ++ b.front) b.saw) in
+    changed_on (opening_of g.D.Disk.state c.args.turns.now.first) c.args.pass.now.number h c.args.op.now c.loop.pass.seen c.take.new.pass.seen b (Denied c.in-Denied.cause) (took_denied (opening_of g.D.Disk.state c.args.turns.now.first) c.args.pass.now.number (h ++ b.front) g.D.Disk.told g.D.Disk.state c.args.op.now c.take.new.pass.seen c.take.result k c.in-Denied.cause c.in-Denied.is)
 
 pub returns-in-Stopped-clause-changed : goal.returns-in-Stopped-clause-changed
-returns-in-Stopped-clause-changed g c = λ o h st. was_held _ _ _ _ c.take_ready-p.ensures.home c.take_ready-p.ensures.ready c.args.op.now _ c.begin.ensures.ground c.begin.ensures.fault.later c.take_ready-p.new.state (ap (λ x. x.table) c.take_ready-p.ensures.state) _ c.begin.ensures.begun o h st _ c.in-Stopped.is (c.bring_home-in-Stopped.ensures ∙ ap (λ (q : Provisioner g.row.D.Denot). record { table = c.take_ready-p.new.state.table; home = In q }) c.halt.ensures)
+returns-in-Stopped-clause-changed g c = λ h saw.
+    let b = c.loop.invariant.mended h saw in
+    let k = subst (λ (n : ℕ). TookIs g.D.Disk.told g.D.Disk.state (opening_of g.D.Disk.state c.args.turns.now.first) n (h ++ b.front) c.args.op.now c.take.new.pass.seen c.take.result) c.loop.invariant.number (c.take.ensures.took (h ++ b.front) b.saw) in
+    changed_on (opening_of g.D.Disk.state c.args.turns.now.first) c.args.pass.now.number h c.args.op.now c.loop.pass.seen c.take.new.pass.seen b Stopped (took_stopped (opening_of g.D.Disk.state c.args.turns.now.first) c.args.pass.now.number (h ++ b.front) g.D.Disk.told g.D.Disk.state c.args.op.now c.take.new.pass.seen c.take.result k c.in-Stopped.is)
 
-pub returns-in-Stopped-clause-seated : goal.returns-in-Stopped-clause-seated
-returns-in-Stopped-clause-seated g c = let seat = c.requires.seated in
-    seated_after _ _ _ seat.0 seat.1 c.args.op.now c.args.state.now _ Stopped seat.2 (returns-in-Stopped-clause-changed g c seat.0 seat.1 seat.3)
+pub mend-requires-clause-asked : goal.mend-requires-clause-asked
+mend-requires-clause-asked g c = let is = changes (opening_of g.D.Disk.state c.args.turns.now.first).first.fold.table.shape c.args.op.now c.requires.apt in inr (search rules)
 
-pub returns-in-Stopped-clause-went : goal.returns-in-Stopped-clause-went
-returns-in-Stopped-clause-went g c = went_by g.D.Disk.told g.D.Disk.state c.args.state.now c.take_ready-p.result c.take_ready-p.ensures.home c.take_ready-p.ensures.ready c.bring_home-in-Stopped.new.self c.begin.new.p (ap (λ (s : State g.row.D.Denot). disk_home s.home) c.bring_home-in-Stopped.ensures ∙ ap (λ (q : Provisioner g.row.D.Denot). Some q.journal.0) c.halt.ensures) c.begin.ensures.fault c.begin.ensures.room
+pub mend-requires-clause-seen : goal.mend-requires-clause-seen
+mend-requires-clause-seen g c =
+    let w = c.requires.seen in
+    let b = c.loop.invariant.mended w.0 w.1 in
+    let k = subst (λ (n : ℕ). TookIs g.D.Disk.told g.D.Disk.state (opening_of g.D.Disk.state c.args.turns.now.first) n (w.0 ++ b.front) c.args.op.now c.take.new.pass.seen c.take.result) c.loop.invariant.number (c.take.ensures.took (w.0 ++ b.front) b.saw) in
+    let d = mended_back (opening_of g.D.Disk.state c.args.turns.now.first) c.args.pass.now.number w.0 c.loop.pass.seen c.take.new.pass.seen b (turned_back_passed (opening_of g.D.Disk.state c.args.turns.now.first) c.args.pass.now.number (w.0 ++ b.front) c.take.new.pass.seen (took_halted (opening_of g.D.Disk.state c.args.turns.now.first) c.args.pass.now.number (w.0 ++ b.front) g.D.Disk.told g.D.Disk.state c.args.op.now c.take.new.pass.seen c.take.result k c.in-Halted.is)) in
+    (w.0 ++ d.front, d.saw)
 
-pub returns-in-Stopped-clause-stopped : goal.returns-in-Stopped-clause-stopped
-returns-in-Stopped-clause-stopped g c = λ is. c.begin.ensures.stopped c.in-Stopped.is
+pub loop-preserved : goal.loop-preserved
+loop-preserved g c = record {
+  goes = (tt, tt);
+  pass = c.take.ensures.pass.0;
+  number = c.take.ensures.pass.1 ∙ c.loop.invariant.number;
+  mended = λ h saw.
+      let b = c.loop.invariant.mended h saw in
+      let k = subst (λ (n : ℕ). TookIs g.D.Disk.told g.D.Disk.state (opening_of g.D.Disk.state c.args.turns.now.first) n (h ++ b.front) c.args.op.now c.take.new.pass.seen c.take.result) c.loop.invariant.number (c.take.ensures.took (h ++ b.front) b.saw) in
+      mended_back (opening_of g.D.Disk.state c.args.turns.now.first) c.args.pass.now.number h c.loop.pass.seen c.take.new.pass.seen b (turned_back_passed (opening_of g.D.Disk.state c.args.turns.now.first) c.args.pass.now.number (h ++ b.front) c.take.new.pass.seen (took_back (opening_of g.D.Disk.state c.args.turns.now.first) c.args.pass.now.number (h ++ b.front) g.D.Disk.told g.D.Disk.state c.args.op.now c.take.new.pass.seen c.take.result k c.in-Waits.is));
+  gate = c.take.ensures.unstopped (λ is. let no_stop = sym c.in-Waits.is ∙ is in cc) ∙ c.loop.invariant.gate;
+  asked = (c.loop.invariant.asked.0, c.loop.invariant.asked.1, nothing_more g.G.Gate.asked g.G.Gate.asked_on c.args.gate.now c.loop.gate c.take.new.gate c.loop.invariant.asked.0 c.loop.invariant.asked.2 (subst (λ (x : Took g.row.D.Denot). g.G.Gate.asked c.loop.gate c.take.new.gate (asked_at_take x)) c.in-Waits.is c.take.ensures.asked));
+}
+
+pub loop-preserved-in-Ready : goal.loop-preserved-in-Ready
+loop-preserved-in-Ready g c = record {
+  goes = (tt, tt);
+  pass = c.mend.ensures.pass.0;
+  number = c.mend.ensures.pass.1 ∙ c.take.ensures.pass.1 ∙ c.loop.invariant.number;
+  mended = λ h saw.
+      let b = c.loop.invariant.mended h saw in
+      let k = subst (λ (n : ℕ). TookIs g.D.Disk.told g.D.Disk.state (opening_of g.D.Disk.state c.args.turns.now.first) n (h ++ b.front) c.args.op.now c.take.new.pass.seen c.take.result) c.loop.invariant.number (c.take.ensures.took (h ++ b.front) b.saw) in
+      let d = mended_back (opening_of g.D.Disk.state c.args.turns.now.first) c.args.pass.now.number h c.loop.pass.seen c.take.new.pass.seen b (turned_back_passed (opening_of g.D.Disk.state c.args.turns.now.first) c.args.pass.now.number (h ++ b.front) c.take.new.pass.seen (took_halted (opening_of g.D.Disk.state c.args.turns.now.first) c.args.pass.now.number (h ++ b.front) g.D.Disk.told g.D.Disk.state c.args.op.now c.take.new.pass.seen c.take.result k c.in-Halted.is)) in
+      let m = subst (λ (n : ℕ). MendedIs (opening_of g.D.Disk.state c.args.turns.now.first) n (h ++ d.front) c.args.op.now c.mend.new.pass.seen c.mend.result) (c.take.ensures.pass.1 ∙ c.loop.invariant.number) (c.mend.ensures.mended (h ++ d.front) d.saw) in
+      elim c.in-Ready.is [
+        | inl is ↦ mends_ready (opening_of g.D.Disk.state c.args.turns.now.first) c.args.pass.now.number h (opening_of g.D.Disk.state c.args.turns.now.first).first.fold.table.shape c.args.op.now c.requires.apt c.take.new.pass.seen c.mend.new.pass.seen d c.mend.result m is
+        | inr is ↦ mends_wait (opening_of g.D.Disk.state c.args.turns.now.first) c.args.pass.now.number h (opening_of g.D.Disk.state c.args.turns.now.first).first.fold.table.shape c.args.op.now c.requires.apt c.take.new.pass.seen c.mend.new.pass.seen d c.mend.result m is
+      ];
+  gate = c.mend.ensures.going (λ is. elim c.in-Ready.is [ inl ready ↦ (let no_stop = sym ready ∙ is in cc) | inr waits ↦ (let no_stop = sym waits ∙ is in cc) ]) ∙ c.take.ensures.unstopped (λ is. let no_stop = sym c.in-Halted.is ∙ is in cc) ∙ c.loop.invariant.gate;
+  asked = elim c.in-Ready.is [ inl is ↦ mending_more g.G.Gate.asked g.G.Gate.asked_on c.args.gate.now c.take.new.gate c.mend.new.gate c.loop.invariant.asked.0 c.loop.invariant.asked.1 (nothing_more g.G.Gate.asked g.G.Gate.asked_on c.args.gate.now c.loop.gate c.take.new.gate c.loop.invariant.asked.0 c.loop.invariant.asked.2 (subst (λ (x : Took g.row.D.Denot). g.G.Gate.asked c.loop.gate c.take.new.gate (asked_at_take x)) c.in-Halted.is c.take.ensures.asked)) c.mend.result is c.mend.ensures.asked | inr is ↦ mending_none g.G.Gate.asked g.G.Gate.asked_on c.args.gate.now c.take.new.gate c.mend.new.gate c.loop.invariant.asked.0 c.loop.invariant.asked.1 (nothing_more g.G.Gate.asked g.G.Gate.asked_on c.args.gate.now c.loop.gate c.take.new.gate c.loop.invariant.asked.0 c.loop.invariant.asked.2 (subst (λ (x : Took g.row.D.Denot). g.G.Gate.asked c.loop.gate c.take.new.gate (asked_at_take x)) c.in-Halted.is c.take.ensures.asked)) c.mend.result is c.mend.ensures.asked ];
+}
+
+pub returns-in-Denied-mend-clause-changed : goal.returns-in-Denied-mend-clause-changed
+returns-in-Denied-mend-clause-changed g c = λ h saw.
+    let b = c.loop.invariant.mended h saw in
+    let k = subst (λ (n : ℕ). TookIs g.D.Disk.told g.D.Disk.state (opening_of g.D.Disk.state c.args.turns.now.first) n (h ++ b.front) c.args.op.now c.take.new.pass.seen c.take.result) c.loop.invariant.number (c.take.ensures.took (h ++ b.front) b.saw) in
+    let d = mended_back (opening_of g.D.Disk.state c.args.turns.now.first) c.args.pass.now.number h c.loop.pass.seen c.take.new.pass.seen b (turned_back_passed (opening_of g.D.Disk.state c.args.turns.now.first) c.args.pass.now.number (h ++ b.front) c.take.new.pass.seen (took_halted (opening_of g.D.Disk.state c.args.turns.now.first) c.args.pass.now.number (h ++ b.front) g.D.Disk.told g.D.Disk.state c.args.op.now c.take.new.pass.seen c.take.result k c.in-Halted.is)) in
+    let m = subst (λ (n : ℕ). MendedIs (opening_of g.D.Disk.state c.args.turns.now.first) n (h ++ d.front) c.args.op.now c.mend.new.pass.seen c.mend.result) (c.take.ensures.pass.1 ∙ c.loop.invariant.number) (c.mend.ensures.mended (h ++ d.front) d.saw) in
+    changed_on (opening_of g.D.Disk.state c.args.turns.now.first) c.args.pass.now.number h c.args.op.now c.take.new.pass.seen c.mend.new.pass.seen d (Denied c.in-Denied-mend.cause) (mend_denied (opening_of g.D.Disk.state c.args.turns.now.first) c.args.pass.now.number (h ++ d.front) (opening_of g.D.Disk.state c.args.turns.now.first).first.fold.table.shape c.args.op.now c.requires.apt c.mend.new.pass.seen c.in-Denied-mend.cause (subst (λ (z : Mended). MendedIs (opening_of g.D.Disk.state c.args.turns.now.first) c.args.pass.now.number (h ++ d.front) c.args.op.now c.mend.new.pass.seen z) c.in-Denied-mend.is m))
+
+pub returns-in-Stopped-mend-clause-changed : goal.returns-in-Stopped-mend-clause-changed
+returns-in-Stopped-mend-clause-changed g c = λ h saw.
+    let b = c.loop.invariant.mended h saw in
+    let k = subst (λ (n : ℕ). TookIs g.D.Disk.told g.D.Disk.state (opening_of g.D.Disk.state c.args.turns.now.first) n (h ++ b.front) c.args.op.now c.take.new.pass.seen c.take.result) c.loop.invariant.number (c.take.ensures.took (h ++ b.front) b.saw) in
+    let d = mended_back (opening_of g.D.Disk.state c.args.turns.now.first) c.args.pass.now.number h c.loop.pass.seen c.take.new.pass.seen b (turned_back_passed (opening_of g.D.Disk.state c.args.turns.now.first) c.args.pass.now.number (h ++ b.front) c.take.new.pass.seen (took_halted (opening_of g.D.Disk.state c.args.turns.now.first) c.args.pass.now.number (h ++ b.front) g.D.Disk.told g.D.Disk.state c.args.op.now c.take.new.pass.seen c.take.result k c.in-Halted.is)) in
+    let m = subst (λ (n : ℕ). MendedIs (opening_of g.D.Disk.state c.args.turns.now.first) n (h ++ d.front) c.args.op.now c.mend.new.pass.seen c.mend.result) (c.take.ensures.pass.1 ∙ c.loop.invariant.number) (c.mend.ensures.mended (h ++ d.front) d.saw) in
+    changed_on (opening_of g.D.Disk.state c.args.turns.now.first) c.args.pass.now.number h c.args.op.now c.take.new.pass.seen c.mend.new.pass.seen d Stopped (mend_stopped (opening_of g.D.Disk.state c.args.turns.now.first) c.args.pass.now.number (h ++ d.front) (opening_of g.D.Disk.state c.args.turns.now.first).first.fold.table.shape c.args.op.now c.requires.apt c.mend.new.pass.seen (subst (λ (z : Mended). MendedIs (opening_of g.D.Disk.state c.args.turns.now.first) c.args.pass.now.number (h ++ d.front) c.args.op.now c.mend.new.pass.seen z) c.in-Stopped-mend.is m))
+
+pub returns-in-Rolling-clause-asked : goal.returns-in-Rolling-clause-asked
+returns-in-Rolling-clause-asked g c =
+    rolled_asked g.G.Gate.asked g.G.Gate.asked_on c.args.gate.now c.take.new.gate c.carry_out.new.gate c.loop.invariant.asked.0 (length (rest_of c.in-Rolling.rolling)) c.carry_out.result c.loop.invariant.asked.1 (g.G.Gate.asked_on c.args.gate.now c.loop.gate c.take.new.gate c.loop.invariant.asked.0 (Journal ∷ []) c.loop.invariant.asked.2 (subst (λ (x : Took g.row.D.Denot). g.G.Gate.asked c.loop.gate c.take.new.gate (asked_at_take x)) c.in-Rolling.is c.take.ensures.asked)) c.carry_out.ensures.asked
+
+pub returns-in-Denied-clause-asked : goal.returns-in-Denied-clause-asked
+returns-in-Denied-clause-asked g c = denied_asked g.G.Gate.asked g.G.Gate.asked_on c.args.gate.now c.loop.gate c.take.new.gate c.loop.invariant.asked.0 c.loop.invariant.asked.1 c.loop.invariant.asked.2 c.in-Denied.cause (subst (λ (x : Took g.row.D.Denot). g.G.Gate.asked c.loop.gate c.take.new.gate (asked_at_take x)) c.in-Denied.is c.take.ensures.asked)
+
+pub returns-in-Stopped-clause-asked : goal.returns-in-Stopped-clause-asked
+returns-in-Stopped-clause-asked g c = stopped_asked g.G.Gate.asked g.G.Gate.asked_on c.args.gate.now c.loop.gate c.take.new.gate c.loop.invariant.asked.0 c.loop.invariant.asked.1 c.loop.invariant.asked.2 (subst (λ (x : Took g.row.D.Denot). g.G.Gate.asked c.loop.gate c.take.new.gate (asked_at_take x)) c.in-Stopped.is c.take.ensures.asked)
+
+pub returns-in-Denied-mend-clause-asked : goal.returns-in-Denied-mend-clause-asked
+returns-in-Denied-mend-clause-asked g c = mending_denied g.G.Gate.asked g.G.Gate.asked_on c.args.gate.now c.take.new.gate c.mend.new.gate c.loop.invariant.asked.0 c.loop.invariant.asked.1 (nothing_more g.G.Gate.asked g.G.Gate.asked_on c.args.gate.now c.loop.gate c.take.new.gate c.loop.invariant.asked.0 c.loop.invariant.asked.2 (subst (λ (x : Took g.row.D.Denot). g.G.Gate.asked c.loop.gate c.take.new.gate (asked_at_take x)) c.in-Halted.is c.take.ensures.asked)) c.mend.result c.in-Denied-mend.cause c.in-Denied-mend.is c.mend.ensures.asked
+
+pub returns-in-Stopped-mend-clause-asked : goal.returns-in-Stopped-mend-clause-asked
+returns-in-Stopped-mend-clause-asked g c = mending_stopped g.G.Gate.asked g.G.Gate.asked_on c.args.gate.now c.take.new.gate c.mend.new.gate c.loop.invariant.asked.0 c.loop.invariant.asked.1 (nothing_more g.G.Gate.asked g.G.Gate.asked_on c.args.gate.now c.loop.gate c.take.new.gate c.loop.invariant.asked.0 c.loop.invariant.asked.2 (subst (λ (x : Took g.row.D.Denot). g.G.Gate.asked c.loop.gate c.take.new.gate (asked_at_take x)) c.in-Halted.is c.take.ensures.asked)) c.mend.result c.in-Stopped-mend.is c.mend.ensures.asked

@@ -2,10 +2,11 @@ use Rattle.std.proofs.Common.{◌≡◌, ◌<◌, [], false, length}
 use Rattle.std.specs.Arc.{arc_value}
 use Rattle.dxc_causes.specs.Causes.{Counted}
 use Rattle.tl1_text.specs.declared.reader.UnitKind.TheVariants.{More}
+use Rattle.xc_core.specs.Seeing.{Saw}
 use Rattle.craft_session.specs.Desks.{now}
 use Rattle.craft_session.specs.Meanings.{language}
-use Rattle.craft_session.specs.Seats.{IsSeated}
-use Rattle.craft_session.specs.Sessions.{Beginning, StandsAt, Stands}
+use Rattle.craft_session.specs.Seats.{IsSameSeat}
+use Rattle.craft_session.specs.Sessions.{Beginning, IsAt, Stands}
 use Rattle.craft_session.proofs.session.serve.Given as goal
 
 abbrev pub invariant-loop : goal.invariant-loop
@@ -14,9 +15,8 @@ invariant-loop g l =
     let coming = g.C.Clock.coming in
     record {
       shelf : l.desk.shelf ≡ l.fn.desk.shelf;
-      fabric : l.desk.fabric ≡ l.fn.desk.fabric;
-      seated : IsSeated g.D.Disk.told g.D.Disk.state (arc_value l.desk.fabric) l.desk.state;
-      stands : (b : Beginning g.row.D.Denot) → b.state ≡ l.fn.desk.state → StandsAt g.D.Disk.told g.D.Disk.state b [] l.fn.desk.state → Stands (language (arc_value l.fn.desk.shelf)) g.D.Disk.told g.D.Disk.state g.K.Link.told g.C.Clock.told (state l.fn.link) (state l.link) (coming l.fn.clock) (coming l.clock) b (now l.desk) More l.desk.reader [];
+      seat : IsSameSeat l.fn.desk.seat l.desk.seat;
+      stands : (b : Beginning) → IsAt b l.fn.desk.seat → Saw b.opening l.fn.desk.seat.seen b.before → Stands (language (arc_value l.fn.desk.shelf)) g.K.Link.told g.C.Clock.told (state l.fn.link) (state l.link) (coming l.fn.clock) (coming l.clock) b (now l.desk) false More l.desk.reader [];
       gate : g.G.Gate.stops l.gate ≡ g.G.Gate.stops l.fn.gate;
       counted : Counted (state l.fn.link).reads (state l.link).reads l.counter;
       not_ended : 0 < l.counter → (state l.link).ended ≡ false;

@@ -1,35 +1,40 @@
-use Rattle.std.proofs.Common.{ℕ, List, length, length-drop, ap, refl, sym, ◌∙◌, arith}
+use Rattle.std.proofs.Common.{◌+◌, false, ℕ, List, [], drop, length, length-drop, ap, refl, sym, ◌∙◌, arith, subst}
 use Rattle.std.proofs.lemmas.List.{take_rest}
 use Rattle.std.specs.Arc.{arc_value}
+use Rattle.dxc_outside.specs.declared.clock.Moment.{Moment}
+use Rattle.dxc_outside.specs.Links.{LinkState}
+use Rattle.shelf_file.specs.Contents.{Contents}
+use Rattle.craft_session.specs.Desks.{now}
+use Rattle.craft_session.specs.Meanings.{language}
+use Rattle.craft_session.specs.Sessions.{Beginning, Goes, IsAt, Stands}
 use Rattle.craft_session.proofs.SessionSteps.{stands_on, goes_on_is, goes_ended_is, writes_none, writes_more}
-use Rattle.craft_session.proofs.Answering.{moved}
 use Rattle.craft_session.proofs.session.serve_piece.Goals as goal
 
 pub loop-at-init : goal.loop-at-init
-loop-at-init g c = record { shelf = refl; fabric = refl; seated = c.requires.seated; link = writes_none _ _; gate = refl; within = omega arith; stands = λ k c0 b s. s }
+loop-at-init g c = record { shelf = refl; seat = (refl, refl, refl); link = writes_none _ _; gate = refl; within = omega arith; stands = λ k c1 b at s. s }
 
 pub loop-at-preserved : goal.loop-at-preserved
 loop-at-preserved g c =
     let piece : List ℕ = c.args.piece.now in
-    let at : ℕ = c.loop-at.at in
-    let offer = take_rest piece at in
+    let offer = take_rest piece c.loop-at.at in
+    let goes = subst (λ (y : Contents). (k : LinkState) (c2 : List Moment) (b : Beginning) (ahead : List ℕ) → IsAt b c.loop-at.desk.seat → Stands (language y) g.K.Link.told g.C.Clock.told k (g.K.Link.state c.loop-at.link) c2 (g.C.Clock.coming c.loop-at.clock) b (record { seen = c.loop-at.desk.seat.seen; attending = c.loop-at.desk.attending }) false c.feed-fed.result.unit c.feed-fed.new.self ahead
+    → Goes (language y) g.K.Link.told g.C.Clock.told k (g.K.Link.state c.serve_unit.new.link) c2 (g.C.Clock.coming c.serve_unit.new.clock) b (now c.serve_unit.new.desk) c.serve_unit.result false c.feed-fed.new.self ahead) (ap arc_value c.loop-at.invariant.shelf) c.serve_unit.ensures.goes in
     record {
       shelf = c.serve_unit.ensures.shelf ∙ c.loop-at.invariant.shelf;
-      fabric = c.serve_unit.ensures.fabric ∙ c.loop-at.invariant.fabric;
-      seated = c.serve_unit.ensures.seated;
+      seat = (c.serve_unit.ensures.seat.0 ∙ c.loop-at.invariant.seat.0, c.serve_unit.ensures.seat.1 ∙ c.loop-at.invariant.seat.1, c.serve_unit.ensures.seat.2 ∙ c.loop-at.invariant.seat.2);
       link = writes_more _ _ _ _ c.loop-at.invariant.link c.serve_unit.ensures.link;
-      gate = c.serve_unit.ensures.unstopped (λ is. let no = sym c.in-On.is ∙ is in cc) ∙ c.loop-at.invariant.gate;
-      within = omega (arith, c.feed-fed.ensures.within, ap length offer, length-drop at piece, c.loop-at.invariant.within);
-      stands = λ k c0 b s. rw c.serve_unit.ensures.reader (goes_on_is _ _ _ _ _ _ _ _ _ _ _ _ _ _ c.in-On.is
-          (moved _ _ arc_value _ _ _ _ _ _ _ _ _ _ _ _ _ c.loop-at.invariant.shelf c.serve_unit.ensures.goes k c0 b _ (stands_on _ _ _ _ _ _ _ _ _ _ _ _ piece _ at _ _ (c.loop-at.invariant.stands k c0 b s) offer c.feed-fed.ensures.fed)));
+      gate = c.serve_unit.ensures.unstopped (λ is. let no_stop = sym c.in-On.is ∙ is in cc) ∙ c.loop-at.invariant.gate;
+      within = omega (arith, c.feed-fed.ensures.within, ap length offer, length-drop c.loop-at.at piece, c.loop-at.invariant.within);
+      stands = λ k c1 b at s. rw c.serve_unit.ensures.reader (goes_on_is (language (arc_value c.args.desk.now.shelf)) g.K.Link.told g.C.Clock.told k c1 b (g.K.Link.state c.serve_unit.new.link) (g.C.Clock.coming c.serve_unit.new.clock) (now c.serve_unit.new.desk) c.feed-fed.new.self c.serve_unit.result _ c.in-On.is (goes k c1 b (drop (c.loop-at.at + c.feed-fed.result.taken) c.args.piece.now) (c.loop-at.invariant.seat.0 ∙ at.0, c.loop-at.invariant.seat.1 ∙ at.1)
+          (stands_on (language (arc_value c.args.desk.now.shelf)) g.K.Link.told g.C.Clock.told k c1 b (g.K.Link.state c.loop-at.link) (g.C.Clock.coming c.loop-at.clock) (record { seen = c.loop-at.desk.seat.seen; attending = c.loop-at.desk.attending }) c.loop-at.desk.reader c.args.piece.now _ c.loop-at.at c.feed-fed.result c.feed-fed.new.self (c.loop-at.invariant.stands k c1 b at s) (take_rest c.args.piece.now c.loop-at.at) c.feed-fed.ensures.fed)));
     }
 
 pub returns-in_default-clause-link : goal.returns-in_default-clause-link
 returns-in_default-clause-link g c = writes_more _ _ _ _ c.loop-at.invariant.link c.serve_unit.ensures.link
 
 pub returns-in_default-clause-goes : goal.returns-in_default-clause-goes
-returns-in_default-clause-goes g c = λ k c0 b s.
-    let piece : List ℕ = c.args.piece.now in
-    let at : ℕ = c.loop-at.at in
-    goes_ended_is _ _ _ _ _ _ _ _ _ _ _ _ _ _ _ _ (λ is. c.in_default.not-On is)
-    (moved _ _ arc_value _ _ _ _ _ _ _ _ _ _ _ _ _ c.loop-at.invariant.shelf c.serve_unit.ensures.goes k c0 b _ (stands_on _ _ _ _ _ _ _ _ _ _ _ _ piece _ at _ _ (c.loop-at.invariant.stands k c0 b s) (take_rest piece at) c.feed-fed.ensures.fed))
+returns-in_default-clause-goes g c = λ k c1 b at s.
+    let goes = subst (λ (y : Contents). (k : LinkState) (c2 : List Moment) (b : Beginning) (ahead : List ℕ) → IsAt b c.loop-at.desk.seat → Stands (language y) g.K.Link.told g.C.Clock.told k (g.K.Link.state c.loop-at.link) c2 (g.C.Clock.coming c.loop-at.clock) b (record { seen = c.loop-at.desk.seat.seen; attending = c.loop-at.desk.attending }) false c.feed-fed.result.unit c.feed-fed.new.self ahead
+    → Goes (language y) g.K.Link.told g.C.Clock.told k (g.K.Link.state c.serve_unit.new.link) c2 (g.C.Clock.coming c.serve_unit.new.clock) b (now c.serve_unit.new.desk) c.serve_unit.result false c.feed-fed.new.self ahead) (ap arc_value c.loop-at.invariant.shelf) c.serve_unit.ensures.goes in
+    goes_ended_is (language (arc_value c.args.desk.now.shelf)) g.K.Link.told g.C.Clock.told k c1 b (g.K.Link.state c.serve_unit.new.link) (g.C.Clock.coming c.serve_unit.new.clock) (now c.serve_unit.new.desk) c.feed-fed.new.self c.serve_unit.result false false c.serve_unit.new.desk.reader _ [] (λ is. c.in_default.not-On is) (goes k c1 b (drop (c.loop-at.at + c.feed-fed.result.taken) c.args.piece.now) (c.loop-at.invariant.seat.0 ∙ at.0, c.loop-at.invariant.seat.1 ∙ at.1)
+    (stands_on (language (arc_value c.args.desk.now.shelf)) g.K.Link.told g.C.Clock.told k c1 b (g.K.Link.state c.loop-at.link) (g.C.Clock.coming c.loop-at.clock) (record { seen = c.loop-at.desk.seat.seen; attending = c.loop-at.desk.attending }) c.loop-at.desk.reader c.args.piece.now _ c.loop-at.at c.feed-fed.result c.feed-fed.new.self (c.loop-at.invariant.stands k c1 b at s) (take_rest c.args.piece.now c.loop-at.at) c.feed-fed.ensures.fed))

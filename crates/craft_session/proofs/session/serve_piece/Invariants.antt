@@ -1,12 +1,12 @@
-use Rattle.std.proofs.Common.{◌≡◌, ◌≤◌, ◌-◌, List, drop, length}
+use Rattle.std.proofs.Common.{◌≡◌, ◌≤◌, ◌-◌, false, List, drop, length}
 use Rattle.std.specs.Arc.{arc_value}
 use Rattle.dxc_outside.specs.declared.clock.Moment.{Moment}
 use Rattle.dxc_outside.specs.Links.{LinkState}
 use Rattle.tl1_text.specs.declared.reader.UnitKind.TheVariants.{More}
 use Rattle.craft_session.specs.Desks.{now}
 use Rattle.craft_session.specs.Meanings.{language}
-use Rattle.craft_session.specs.Seats.{IsSeated}
-use Rattle.craft_session.specs.Sessions.{Beginning, Stands, Writes}
+use Rattle.craft_session.specs.Seats.{IsSameSeat}
+use Rattle.craft_session.specs.Sessions.{Beginning, IsAt, Stands, Writes}
 use Rattle.craft_session.proofs.session.serve_piece.Given as goal
 
 abbrev pub invariant-loop-at : goal.invariant-loop-at
@@ -16,13 +16,12 @@ invariant-loop-at g l =
     let tongue = language (arc_value l.fn.desk.shelf) in
     record {
       shelf : l.desk.shelf ≡ l.fn.desk.shelf;
-      fabric : l.desk.fabric ≡ l.fn.desk.fabric;
-      seated : IsSeated g.D.Disk.told g.D.Disk.state (arc_value l.desk.fabric) l.desk.state;
+      seat : IsSameSeat l.fn.desk.seat l.desk.seat;
       link : Writes g.K.Link.told (state l.fn.link) (state l.link);
       gate : g.G.Gate.stops l.gate ≡ g.G.Gate.stops l.fn.gate;
       within : l.at ≤ length l.piece;
-      stands : (k : LinkState) (c : List Moment) (b : Beginning g.row.D.Denot) → Stands tongue g.D.Disk.told g.D.Disk.state g.K.Link.told g.C.Clock.told k (state l.fn.link) c (coming l.fn.clock) b (now l.fn.desk) More l.fn.desk.reader l.piece
-          → Stands tongue g.D.Disk.told g.D.Disk.state g.K.Link.told g.C.Clock.told k (state l.link) c (coming l.clock) b (now l.desk) More l.desk.reader (drop l.at l.piece);
+      stands : (k : LinkState) (c : List Moment) (b : Beginning) → IsAt b l.fn.desk.seat → Stands tongue g.K.Link.told g.C.Clock.told k (state l.fn.link) c (coming l.fn.clock) b (now l.fn.desk) false More l.fn.desk.reader l.piece
+          → Stands tongue g.K.Link.told g.C.Clock.told k (state l.link) c (coming l.clock) b (now l.desk) false More l.desk.reader (drop l.at l.piece);
     }
 
 abbrev pub decreases-loop-at : goal.decreases-loop-at

@@ -1,0 +1,85 @@
+-- One session was served on a controller that was opened.
+use Rattle.std.proofs.Common.{◌≡◌, ◌≢◌, ◌<◌, ◌↔◌, ◌^◌, ◌⊎◌, arith, ℕ, List, [], ◌∷◌, IsTrue, inl, inr, length, slice_index_or, refl, sym, ◌∙◌, ap, subst}
+use Rattle.std.specs.Arc.{arc_value}
+use Rattle.dxc_causes.specs.Causes.{Rose, Counted}
+use Rattle.dxc_disk.specs.Disks.{DiskState}
+use Rattle.dxc_outside.specs.declared.clock.Moment.{Moment}
+use Rattle.dxc_outside.specs.Links.{LinkState}
+use Rattle.shelf_file.specs.Contents.{Contents}
+use Rattle.xc_core.specs.States.{Opening, opening_of}
+use Rattle.xc_core.specs.Turns.{AreNumbered, SawNoneAstray}
+use Rattle.craft_session.specs.declared.end.SessionEnd.{SessionEnd}
+use Rattle.craft_session.specs.declared.end.SessionEnd.TheVariants.{End, ReadFault, WriteFault, Stopped, Spent}
+use Rattle.craft_session.specs.Meanings.{language}
+use Rattle.craft_session.specs.Seats.{IsSameSeat, PlaceAt}
+use Rattle.craft_session.specs.Sessions.{IsServed}
+use Rattle.craft_session.proofs.Scripts.{script_of}
+use Rattle.craft_server.specs.declared.opening.Controller.{Controller}
+use Rattle.craft_server.specs.declared.status.Status.{Status}
+use Rattle.craft_server.specs.declared.status.Status.TheVariants.{Done, Link, Stopped as Was_stopped, Spent as Ran_out}
+use Rattle.craft_server.specs.Openings.{IsStarted}
+use Rattle.craft_server.specs.Places.{ArePlaces, place_at}
+use Rattle.craft_server.specs.Scripts.{RanSession}
+use Rattle.craft_server.specs.Statuses.{status_of}
+
+-- what the session's clauses tell of its end
+pub record IsEnd (k l : LinkState) (stops later : ℕ) (end : SessionEnd) : Type 0 where
+  pub ended : (end ≡ End) ↔ IsTrue l.ended
+  pub read_fault : end ≡ ReadFault → Rose k.read_faults l.read_faults
+  pub write_fault : end ≡ WriteFault → Rose k.write_faults l.write_faults
+  pub stopped : end ≡ Stopped → Rose stops later
+  pub unstopped : end ≢ Stopped → later ≡ stops
+  pub spent : end ≡ Spent → Counted k.reads l.reads (2 ^ 32)
+
+done_at : (end : SessionEnd) → status_of end ≡ Done → end ≡ End
+done_at End is = refl
+done_at ReadFault is = cc
+done_at WriteFault is = cc
+done_at Stopped is = cc
+done_at Spent is = cc
+
+link_at : (k l : LinkState) (stops later : ℕ) (end : SessionEnd) → IsEnd k l stops later end → status_of end ≡ Link → Rose k.read_faults l.read_faults ⊎ Rose k.write_faults l.write_faults
+link_at k l stops later End e is = cc
+link_at k l stops later Spent e is = cc
+link_at k l stops later Stopped e is = cc
+link_at k l stops later ReadFault e is = inl (e.read_fault refl)
+link_at k l stops later WriteFault e is = inr (e.write_fault refl)
+
+stopped_at : (end : SessionEnd) → status_of end ≡ Was_stopped → end ≡ Stopped
+stopped_at End is = cc
+stopped_at ReadFault is = cc
+stopped_at WriteFault is = cc
+stopped_at Stopped is = refl
+stopped_at Spent is = cc
+
+spent_at : (end : SessionEnd) → status_of end ≡ Ran_out → end ≡ Spent
+spent_at End is = cc
+spent_at ReadFault is = cc
+spent_at WriteFault is = cc
+spent_at Stopped is = cc
+spent_at Spent is = refl
+
+-- the first of the places
+pub first_place : (s : Contents) (o : Opening) (places : ℕ) (ps : List PlaceAt) (d : PlaceAt) → ArePlaces s o places 0 ps → 0 < length ps → slice_index_or ps 0 d ≡ place_at s o places 0
+first_place s o places [] d all some = absurd (omega arith)
+first_place s o places (p ∷ ps) d all some = all.0
+
+module _ {D : Type 0} (disk_told : Type 0) (state : D → DiskState) (told clock_told : Type 0) (k l : LinkState) (c d : List Moment) (stops later : ℕ) (s : Contents) (disk : D) where
+  -- what the session at its one place did
+  pub ran_session : (workers : ℕ) (x : Controller D) (old new : PlaceAt) (end : SessionEnd) (status : Status) → IsStarted disk_told state disk s workers x → old ≡ place_at (arc_value x.shelf) (opening_of state x.state) 1 0 → IsSameSeat old.seat new.seat → AreNumbered new.seat.places new.seat.seen → SawNoneAstray disk_told new.seat.seen
+      → IsServed (language old.shelf) told clock_told k l c d old.seat new.seat end → IsEnd k l stops later end → status ≡ status_of end → RanSession disk_told told clock_told (state disk) s (opening_of state x.state) k l c d stops later status
+  ran_session workers x old new end status started is same numbers astray served e status_is =
+      let o : Opening = opening_of state x.state in
+      let at : old ≡ place_at s o 1 0 = is ∙ ap (λ (y : Contents). place_at y o 1 0) started.shelf in
+      let ran = subst (λ (p : PlaceAt). IsServed (language p.shelf) told clock_told k l c d p.seat new.seat end) at served in
+      let one : new.seat.places ≡ 1 = same.2 ∙ ap (λ (p : PlaceAt). p.seat.places) at in
+      record {
+        end = end;
+        status_is = status_is;
+        wrote = script_of disk_told told clock_told (state disk) k l c d s (place_at s o 1 0).seat new.seat end started.of_disk refl refl one numbers astray ran;
+        ended = (λ done. e.ended.0 (done_at end (sym status_is ∙ done)), λ ended. status_is ∙ ap status_of (e.ended.1 ended));
+        cause = λ link. link_at k l stops later end e (sym status_is ∙ link);
+        stopped = λ was. e.stopped (stopped_at end (sym status_is ∙ was));
+        unstopped = λ not. e.unstopped (λ was. not (status_is ∙ ap status_of was));
+        spent = λ was. e.spent (spent_at end (sym status_is ∙ was));
+      }

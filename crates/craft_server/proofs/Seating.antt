@@ -1,0 +1,58 @@
+-- Passes of a new turnstile, and places that have seen nothing.
+use Rattle.std.proofs.Common.{◌≡◌, ◌<◌, ◌+◌, ℕ, suc, arith, true, List, [], ◌∷◌, ◌++◌, length, slice_index_or, Some, refl, sym, ◌∙◌, ap, subst}
+use Rattle.std.specs.List.{slice_get}
+use base.Stored.{Gv}
+use Rattle.dxc_disk.specs.Disks.{DiskState}
+use Rattle.dxc_model.specs.declared.entry.Entry.{Entry}
+use Rattle.fabric_words.specs.Seats.{FabricId}
+use Rattle.shelf_file.specs.Contents.{Contents}
+use Rattle.turnstile.specs.Passing.{ArePasses, Gate, Ident, Token}
+use Rattle.xc_core.specs.declared.state.State.{State}
+use Rattle.xc_core.specs.Openings.{Begins}
+use Rattle.xc_core.specs.Seeing.{Saw, codes}
+use Rattle.xc_core.specs.States.{Opening, opening_of}
+use Rattle.xc_core.specs.Turns.{AreNumbered, SawNoneAstray}
+use Rattle.craft_session.specs.Seats.{IsSeated, PlaceAt}
+use Rattle.craft_server.specs.Places.{AreFresh, ArePlaces, place_at}
+
+abbrev fresh : Ident → ℕ → Token
+fresh id n = record { number = n; free = true; id = id; seen = [] }
+
+fresh_from : (id : Ident) (n : ℕ) (ps : List Token) → ((k : ℕ) (p : Token) → slice_get ps k ≡ Some p → p ≡ fresh id (n + k)) → AreFresh id n ps
+fresh_from id n [] f = tt
+fresh_from id n (x ∷ xs) f =
+    let first : n + 0 ≡ n = omega arith in
+    (f 0 x refl ∙ ap (fresh id) first, fresh_from id (n + 1) xs (λ k p e. f (suc k) p e ∙ ap (fresh id) (omega arith)))
+
+-- the passes of a turnstile are fresh, from number 0 on
+pub all_fresh : (id : Ident) (passes : ℕ) (ps : List Token) → ArePasses id passes ps → AreFresh id 0 ps
+all_fresh id passes ps are = fresh_from id 0 ps (λ k p e. let same : k ≡ 0 + k = omega arith in are.1 k p e ∙ ap (fresh id) same)
+
+-- the first of them
+pub first_fresh : (id : Ident) (n : ℕ) (ps : List Token) (d : Token) → AreFresh id n ps → 0 < length ps → slice_index_or ps 0 d ≡ fresh id n
+first_fresh id n [] d all some = absurd (omega arith)
+first_fresh id n (p ∷ ps) d all some = all.0
+
+-- one place more behind them
+pub places_more : (s : Contents) (o : Opening) (places n : ℕ) (ps : List PlaceAt) (p : PlaceAt) → ArePlaces s o places n ps → p ≡ place_at s o places (n + length ps) → ArePlaces s o places n (ps ++ p ∷ [])
+places_more s o places n [] p all is = let same : n + 0 ≡ n = omega arith in (is ∙ ap (place_at s o places) same, tt)
+places_more s o places n (x ∷ xs) p all is = let same : n + suc (length xs) ≡ n + 1 + length xs = omega arith in (all.0, places_more s o places (n + 1) xs p all.1 (is ∙ ap (place_at s o places) same))
+
+-- who has seen nothing has seen no number
+none_numbered : (passes : ℕ) → AreNumbered passes []
+none_numbered passes [] is = tt
+none_numbered passes (e ∷ h) is = cc
+
+-- nor an operation that failed
+none_astray : (told : Type 0) → SawNoneAstray told []
+none_astray told t [] is = tt
+none_astray told t (e ∷ h) is = cc
+
+module _ {D : Type 0} (told : Type 0) (state : D → DiskState) where
+  -- a state that begins stands for no entry
+  saw_nothing : (s : State D) → Begins told state s → Saw (opening_of state s) [] []
+  saw_nothing s b = record { codes_are = refl; history = record { legal = b.stands.legal; turns = b.stands.turns; paid = b.stands.paid } }
+
+  -- a fresh pass is seated at such a state
+  pub seated : (p : Token) (t : Gate (State D)) (i : FabricId) (n : ℕ) → p ≡ fresh t.id n → n < t.passes → Begins told state t.first → (opening_of state t.first).site.fabric ≡ i → IsSeated told state p t i
+  seated p t i n is within b fabric = subst (λ (q : Token). IsSeated told state q t i) (sym is) ((refl, refl, within, none_numbered t.passes), fabric, ([], saw_nothing t.first b, λ e no. cc), none_astray told)

@@ -1,0 +1,9 @@
+pub mod Lines
+pub mod Matching
+pub mod Statuses
+pub mod Openings
+pub mod Places
+pub mod Listings
+pub mod Serving
+pub mod Scripts
+pub mod Runs

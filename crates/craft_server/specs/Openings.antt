@@ -1,0 +1,110 @@
+-- What the words name is opened, or why it isn't.
+use Rattle.std.specs.Prelude.{◌≡◌, ◌≢◌, ◌≤◌, ◌⊎◌, ℕ, List, [], length, Option, Some}
+use Rattle.std.specs.Arc.{arc_value}
+use Rattle.dxc_causes.specs.Causes.{Rose}
+use Rattle.dxc_disk.specs.Disks.{DiskState, IsSound}
+use Rattle.dxc_outside.specs.Openings.{OpenerState, IsShelfPart}
+use Rattle.fabric_words.specs.New.{AreNew}
+use Rattle.fabric_words.specs.Seats.{FabricId}
+use Rattle.shelf_file.specs.declared.fault.ShelfFault.TheVariants as fault
+use Rattle.shelf_file.specs.Contents.{Contents, IsShelf}
+use Rattle.shelf_file.specs.Checks.{IsFirstFault}
+use Rattle.xc_core.specs.declared.fault.OpenFault.{OpenFault}
+use Rattle.xc_core.specs.Openings.{Begins, Fails, IsOpening}
+use Rattle.xc_core.specs.States.{Opening, opening_of}
+use Rattle.craft_session.specs.Scripts.{IsOpeningOf, opening_room}
+use Rattle.craft_server.specs.declared.opening.Controller.{Controller}
+use Rattle.craft_server.specs.declared.status.Status.{Status}
+use Rattle.craft_server.specs.declared.status.Status.TheVariants.{Done, BadWords, BadShelf, BadJournal, Disk, CannotOpen, NoThread, NoMemory, Link, Stopped, Spent}
+use Rattle.craft_server.specs.Statuses.{status_of_fault}
+
+-- the names of a shelf file and a journal
+pub record Named : Type 0 where
+  pub shelf : List ℕ
+  pub journal : List ℕ
+
+abbrev pub named : List ℕ → List ℕ → Named
+named shelf journal = record { shelf = shelf; journal = journal }
+
+-- what an opening asks: the opener, which would hand out these disks by name, and the gate, by its count of stops
+pub record Sources (D : Type 0) : Type 0 where
+  pub opener : OpenerState
+  pub journal_at : List ℕ → Option D
+  pub stops : ℕ
+
+abbrev pub sources : {D : Type 0} → OpenerState → (List ℕ → Option D) → ℕ → Sources D
+sources o at n = record { opener = o; journal_at = at; stops = n }
+
+-- where the opener tells what it holds, these bytes are the file's, as far as they are read
+abbrev pub IsFile : (told : Type 0) (o : OpenerState) (name file : List ℕ) → Type 0
+IsFile told o name file = told → IsShelfPart o name file
+
+-- a shelf that the file of this name describes
+abbrev pub HasShelf : (told : Type 0) (o : OpenerState) (name : List ℕ) → Contents → Type 0
+HasShelf told o name s = (file : List ℕ) × IsFile told o name file × IsShelf file s
+
+-- why there is none
+abbrev pub NoShelf : (told : Type 0) (o p : OpenerState) (name : List ℕ) → Status → Type 0
+NoShelf told o p name (BadShelf f) = (file : List ℕ) × IsFile told o name file × IsFirstFault file f × (f ≢ fault.NoMemory)
+NoShelf told o p name CannotOpen = Rose o.faults p.faults
+NoShelf told o p name NoMemory = Unit {0}
+NoShelf told o p name Done = ⊥
+NoShelf told o p name BadWords = ⊥
+NoShelf told o p name NoThread = ⊥
+NoShelf told o p name Link = ⊥
+NoShelf told o p name Stopped = ⊥
+NoShelf told o p name (BadJournal f) = ⊥
+NoShelf told o p name Disk = ⊥
+NoShelf told o p name Spent = ⊥
+
+-- no disk was handed out, and why
+abbrev pub NoDisk : {D : Type 0} → Sources D → Sources D → Status → Type 0
+NoDisk before after status = (after.stops ≡ before.stops) × ((status ≡ NoMemory) ⊎ ((status ≡ CannotOpen) × Rose before.opener.faults after.opener.faults))
+
+module _ {D : Type 0} (disk_told : Type 0) (state : D → DiskState) where
+  -- why the controller didn't start on this disk
+  pub record NotStarted (disk : D) (s : Contents) (stops later : ℕ) (status : Status) : Type 0 where
+    pub fault : OpenFault D
+    pub is : status ≡ status_of_fault fault
+    pub why : disk_told → Fails state (state disk) s.shape fault
+    pub disk_failed : status ≡ Disk → IsSound opening_room (state disk) → ⊥
+    pub stopped : status ≡ Stopped → Rose stops later
+
+  -- where the history begins that the disk's journal came to, on a fabric of its own
+  pub record HasOpening (disk : D) (s : Contents) (o : Opening) : Type 0 where
+    pub fabric : FabricId
+    pub opening : IsOpening disk_told (state disk).reads_as s fabric o
+
+  -- It started on the shelf, with so many workers, on a fabric of its own; the state stands for no entry behind what the disk's journal came to.
+  pub record IsStarted (disk : D) (s : Contents) (workers : ℕ) (x : Controller D) : Type 0 where
+    pub shelf : arc_value x.shelf ≡ s
+    pub opening : IsOpening disk_told (state disk).reads_as s (arc_value x.fabric) (opening_of state x.state)
+    pub begins : Begins disk_told state x.state
+    pub of_disk : IsOpeningOf (state disk) (opening_of state x.state)
+    pub seats : AreNew (arc_value x.fabric) 0 x.seats.items
+    pub each : length x.seats.items ≡ workers
+
+-- the shelf that the file of the name describes, and the disk that the opener handed out for the journal
+pub record Found (opener_told : Type 0) {D : Type 0} (names : Named) (before : Sources D) : Type 0 where
+  pub shelf : Contents
+  pub described : HasShelf opener_told before.opener names.shelf shelf
+  pub disk : D
+  pub handed : opener_told → before.journal_at names.journal ≡ Some disk
+
+module _ (opener_told : Type 0) {D : Type 0} (disk_told : Type 0) (state : D → DiskState) where
+  -- the controller that the names stand for
+  abbrev pub IsOpened : Named → ℕ → Sources D → Controller D → Type 0
+  IsOpened names workers before x = (f : Found opener_told names before) × IsStarted disk_told state f.disk f.shelf workers x
+
+  -- no shelf, no disk, or one on which the controller didn't start
+  abbrev pub NotOpened : Named → (before after : Sources D) → Status → Type 0
+  NotOpened names before after status =
+      ((after.stops ≡ before.stops) × NoShelf opener_told before.opener after.opener names.shelf status)
+      ⊎ (((s : Contents) × HasShelf opener_told before.opener names.shelf s × NoDisk before after status)
+      ⊎ ((f : Found opener_told names before) × NotStarted disk_told state f.disk f.shelf before.stops after.stops status))
+
+  -- Nothing was opened, why, and nothing else happened; or this was done on what was opened.
+  abbrev pub Opens : (names : Named) (before after : Sources D) (untouched : Type 0) (done : Found opener_told names before → Opening → Type 0) → Status → Type 0
+  Opens names before after untouched done status =
+      (NotOpened names before after status × untouched)
+      ⊎ ((f : Found opener_told names before) × (o : Opening) × HasOpening disk_told state f.disk f.shelf o × done f o)

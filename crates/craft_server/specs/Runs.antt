@@ -1,0 +1,99 @@
+-- What the program does, by its words.
+use Rattle.std.specs.Prelude.{◌≡◌, ◌⊎◌, ◌+◌, ℕ, List, length}
+use Rattle.dxc_disk.specs.Disks.{DiskState}
+use Rattle.dxc_outside.specs.declared.clock.Moment.{Moment}
+use Rattle.dxc_outside.specs.declared.send.Sent.{Sent}
+use Rattle.dxc_outside.specs.Links.{LinkState, IsSent}
+use Rattle.dxc_outside.specs.Threads.{SpawnerState}
+use Rattle.dxc_model.specs.declared.op.Selection.TheVariants.{All}
+use Rattle.dxc_model.specs.Tables.{rows}
+use Rattle.shelf_file.specs.Contents.{Contents}
+use Rattle.xc_core.specs.States.{Opening}
+use Rattle.craft_server.specs.declared.line.Line.{Line}
+use Rattle.craft_server.specs.declared.line.Line.TheVariants.{Script, Check, Serve, Load}
+use Rattle.craft_server.specs.declared.status.Status.{Status}
+use Rattle.craft_server.specs.declared.status.Status.TheVariants.{BadWords, NoMemory}
+use Rattle.craft_server.specs.Lines.{IsLine}
+use Rattle.craft_server.specs.Listings.{listing}
+use Rattle.craft_server.specs.Openings.{Found, Opens, Sources}
+use Rattle.craft_server.specs.Scripts.{RanSession}
+use Rattle.craft_server.specs.Serving.{IsServing, named_in, workers_in}
+use Rattle.craft_server.specs.Statuses.{status_of_sent}
+
+-- whether opener, disk, terminal and clock tell what they hold
+pub record Told : Type 1 where
+  pub opener : Type 0
+  pub disk : Type 0
+  pub terminal : Type 0
+  pub clock : Type 0
+
+abbrev pub told_by : (opener disk terminal clock : Type 0) → Told
+told_by opener disk terminal clock = record { opener = opener; disk = disk; terminal = terminal; clock = clock }
+
+-- what the program is lent, at a moment
+pub record Lent (D : Type 0) : Type 0 where
+  pub sources : Sources D
+  pub terminal : LinkState
+  pub clock : List Moment
+  pub spawner : SpawnerState
+
+abbrev pub lent : {D : Type 0} → Sources D → LinkState → List Moment → SpawnerState → Lent D
+lent s k c p = record { sources = s; terminal = k; clock = c; spawner = p }
+
+-- the rows of the table were written with the number of records, or a part of them where a write failed
+pub record IsCheck (told : Type 0) (s : Contents) (o : Opening) (k l : LinkState) (status : Status) : Type 0 where
+  pub sent : Sent
+  pub wrote : IsSent told k l sent (listing s.shape (rows o.first.fold.table All) (length o.first.records))
+  pub status_is : status ≡ status_of_sent sent
+
+-- nothing was read, written or started
+pub record IsUntouched {D : Type 0} (before after : Lent D) : Type 0 where
+  pub terminal : after.terminal ≡ before.terminal
+  pub clock : after.clock ≡ before.clock
+  pub spawner : after.spawner ≡ before.spawner
+
+module _ (told : Told) {D : Type 0} (state : D → DiskState) where
+  -- one session was served over the terminal
+  pub record RanScript (before after : Lent D) (s : Contents) (o : Opening) (disk : D) (status : Status) : Type 0 where
+    pub session : RanSession told.disk told.terminal told.clock (state disk) s o before.terminal after.terminal before.clock after.clock before.sources.stops after.sources.stops status
+    pub spawner : after.spawner ≡ before.spawner
+
+  -- the table was written to the terminal
+  pub record RanCheck (before after : Lent D) (s : Contents) (o : Opening) (status : Status) : Type 0 where
+    pub check : IsCheck told.terminal s o before.terminal after.terminal status
+    pub clock : after.clock ≡ before.clock
+    pub spawner : after.spawner ≡ before.spawner
+    pub gate : after.sources.stops ≡ before.sources.stops
+
+  -- sessions and frame workers were started, with terminal and clock untouched; the gate is asked no more once the controller is opened
+  pub record RanServe (workers : ℕ) (before after : Lent D) (status : Status) : Type 0 where
+    pub serving : IsServing (workers + 16) before.sources.opener.faults after.sources.opener.faults before.spawner after.spawner status
+    pub terminal : after.terminal ≡ before.terminal
+    pub clock : after.clock ≡ before.clock
+    pub gate : after.sources.stops ≡ before.sources.stops
+
+  -- what a line's mode did on what was opened
+  abbrev pub Ran : (l : Line) (before after : Lent D) (status : Status) → Found told.opener (named_in l) before.sources → Opening → Type 0
+  Ran (Script shelf journal) before after status f o = RanScript before after f.shelf o f.disk status
+  Ran (Check shelf journal) before after status f o = RanCheck before after f.shelf o status
+  Ran (Serve shelf journal address lines workers) before after status f o = RanServe workers before after status
+  Ran (Load number) before after status f o = ⊥
+
+  -- what its names stand for was opened, or why not, and the mode ran on it
+  abbrev pub OpensFor : Line → (before after : Lent D) → Status → Type 0
+  OpensFor l before after status = Opens told.opener told.disk state (named_in l) before.sources after.sources (IsUntouched before after) (Ran l before after status) status
+
+  -- what a line did; the load mode isn't there yet
+  abbrev pub IsRunOf : Line → (before after : Lent D) → Status → Type 0
+  IsRunOf (Load number) before after status = (after ≡ before) × (status ≡ BadWords)
+  IsRunOf (Script shelf journal) before after status = OpensFor (Script shelf journal) before after status
+  IsRunOf (Check shelf journal) before after status = OpensFor (Check shelf journal) before after status
+  IsRunOf (Serve shelf journal address lines workers) before after status = OpensFor (Serve shelf journal address lines workers) before after status
+
+  -- the words are no line, or memory was wanting to read them
+  abbrev pub NoLine : List (List ℕ) → Status → Type 0
+  NoLine words status = ((status ≡ BadWords) × ((l : Line) → IsLine words l → ⊥)) ⊎ (status ≡ NoMemory)
+
+  -- what the program did, by its words
+  abbrev pub IsRun : List (List ℕ) → (before after : Lent D) → Status → Type 0
+  IsRun words before after status = ((after ≡ before) × NoLine words status) ⊎ ((l : Line) × IsLine words l × IsRunOf l before after status)

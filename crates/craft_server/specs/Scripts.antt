@@ -1,0 +1,24 @@
+-- What a script did: one session, alone on what the journal came to.
+use Rattle.std.specs.Prelude.{◌≡◌, ◌≢◌, ◌↔◌, ◌^◌, ◌⊎◌, ℕ, List, IsTrue}
+use Rattle.dxc_causes.specs.Causes.{Rose, Counted}
+use Rattle.dxc_disk.specs.Disks.{DiskState}
+use Rattle.dxc_outside.specs.declared.clock.Moment.{Moment}
+use Rattle.dxc_outside.specs.Links.{LinkState}
+use Rattle.shelf_file.specs.Contents.{Contents}
+use Rattle.xc_core.specs.States.{Opening}
+use Rattle.craft_session.specs.declared.end.SessionEnd.{SessionEnd}
+use Rattle.craft_session.specs.Scripts.{IsScript}
+use Rattle.craft_server.specs.declared.status.Status.{Status}
+use Rattle.craft_server.specs.declared.status.Status.TheVariants.{Done, Link, Stopped, Spent}
+use Rattle.craft_server.specs.Statuses.{status_of}
+
+-- one session from the opening on, by its end, and the status; so many stops were before and after it
+pub record RanSession (disk_told told clock_told : Type 0) (disk : DiskState) (s : Contents) (o : Opening) (k l : LinkState) (c d : List Moment) (stops later : ℕ) (status : Status) : Type 0 where
+  pub end : SessionEnd
+  pub status_is : status ≡ status_of end
+  pub wrote : IsScript disk_told disk 0 o clock_told c d s told k l end
+  pub ended : (status ≡ Done) ↔ IsTrue l.ended
+  pub cause : status ≡ Link → Rose k.read_faults l.read_faults ⊎ Rose k.write_faults l.write_faults
+  pub stopped : status ≡ Stopped → Rose stops later
+  pub unstopped : status ≢ Stopped → later ≡ stops
+  pub spent : status ≡ Spent → Counted k.reads l.reads (2 ^ 32)

@@ -1,0 +1,46 @@
+-- The serving of callers, and the program's jobs.
+use Rattle.std.specs.Prelude.{◌≡◌, ◌≢◌, ℕ, ◌+◌, ◌≤◌, ◌⊎◌, min, true, List, []}
+use Rattle.dxc_causes.specs.Causes.{Rose, last}
+use Rattle.dxc_outside.specs.Threads.{SpawnerState}
+use Rattle.craft_server.specs.declared.line.Line.{Line}
+use Rattle.craft_server.specs.declared.line.Line.TheVariants.{Script, Check, Serve, Load}
+use Rattle.craft_server.specs.declared.status.Status.{Status}
+use Rattle.craft_server.specs.declared.status.Status.TheVariants.{Done, CannotOpen, NoThread, NoMemory}
+use Rattle.craft_server.specs.Openings.{Named, named}
+
+-- a count has risen by at least so much, or stands at its last value
+abbrev pub RoseBy : ℕ → ℕ → ℕ → Type 0
+RoseBy n before now = min (before + n) last ≤ now
+
+-- a line of the mode serve, with 1 to 8 workers
+abbrev pub IsServe : Line → Type 0
+IsServe (Script shelf journal) = ⊥
+IsServe (Check shelf journal) = ⊥
+IsServe (Serve shelf journal address lines workers) = (1 ≤ workers) × (workers ≤ 8)
+IsServe (Load number) = ⊥
+
+-- how many frame workers a line asks for
+abbrev pub workers_in : Line → ℕ
+workers_in (Script shelf journal) = 0
+workers_in (Check shelf journal) = 0
+workers_in (Serve shelf journal address lines workers) = workers
+workers_in (Load number) = 0
+
+-- the names of shelf file and journal that a line has
+abbrev pub named_in : Line → Named
+named_in (Script shelf journal) = named shelf journal
+named_in (Check shelf journal) = named shelf journal
+named_in (Serve shelf journal address lines workers) = named shelf journal
+named_in (Load number) = named [] []
+
+-- what became of so many jobs of an opened controller, by the counts of the opener's faults and of the spawner
+pub record IsServing (jobs faults later : ℕ) (old new : SpawnerState) (status : Status) : Type 0 where
+  -- each was started
+  pub done : status ≡ Done → RoseBy jobs old.starts new.starts
+  pub no_more : new.starts ≤ old.starts + jobs
+  -- and those that were have ended
+  pub waited : (status ≡ Done) ⊎ (status ≡ NoThread) → new.waited ≡ true
+  pub no_thread : status ≡ NoThread → Rose old.faults new.faults
+  pub cannot_open : status ≡ CannotOpen → Rose faults later
+  pub not_started : (status ≡ CannotOpen) ⊎ (status ≡ NoMemory) → new ≡ old
+  pub only : status ≢ Done → status ≢ NoThread → status ≢ CannotOpen → status ≡ NoMemory

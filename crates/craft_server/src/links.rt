@@ -1,0 +1,57 @@
+ghost use Rattle.std.specs.Prelude.{◌≡◌, ◌≤◌, ◌⊎◌, [], true};
+ghost use Rattle.craft_session.specs.Seats.{IsSameSeat};
+ghost use Rattle.craft_server.specs.Serving.{RoseBy};
+
+use craft_session::{Place, serve_session};
+use dxc_disk::Disk;
+use dxc_outside::{Came, Clock, Gate, Listener};
+use std::sync::Wait;
+
+/// How the serving of callers ended.
+#[derive(Clone, Copy, Debug, PartialEq, Eq)]
+pub enum LinksEnd {
+    /// The listener said End.
+    End,
+    /// 16 accepts in a row failed.
+    Failed,
+}
+
+/// So many accepts in a row may not fail.
+const FAILURES: u8 = 16;
+
+/// Serves each caller of the listener by one session, one after another, until the listener says End or 16 accepts in a row failed.
+/// A session that ends by a fault, or that the gate stops, ends for its caller alone.
+pub fn serve_links<L: Listener, C: Clock, G: Gate, D: Disk + Drop, R: Wait>(
+    place: &mut Place<D>,
+    listener: &mut L,
+    clock: &mut C,
+    gate: &mut G,
+    rt: &R,
+) -> LinksEnd
+    ensures shelf { place.new.shelf ≡ place.old.shelf }
+    ensures seat { IsSameSeat place.old.seat place.new.seat }
+    ensures end { result ≡ LinksEnd.End → (L.state listener.new).ended ≡ true }
+    ensures said_end { (L.state listener.new).ended ≡ true → (result ≡ LinksEnd.End) ⊎ ((L.state listener.old).ended ≡ true) }
+    ensures all_served { L.told → result ≡ LinksEnd.End → (L.state listener.new).coming ≡ [] }
+    ensures failed { result ≡ LinksEnd.Failed → RoseBy 16 (L.state listener.old).faults (L.state listener.new).faults }
+    ensures later { (L.state listener.old).faults ≤ (L.state listener.new).faults }
+    ensures gate { G.stops gate.old ≤ G.stops gate.new }
+{
+    let mut failures = 0;
+    for _ in rt.forever() {
+        match listener.accept(rt) {
+            Came::Link(mut link) => {
+                serve_session(place, &mut link, clock, gate, rt);
+                failures = 0;
+            }
+            Came::End => return LinksEnd::End,
+            Came::Failed => {
+                failures += 1;
+                if failures == FAILURES {
+                    return LinksEnd::Failed;
+                }
+            }
+        }
+    }
+    unreachable!()
+}

@@ -1,0 +1,61 @@
+ghost use Rattle.std.specs.Prelude.{◌≡◌};
+ghost use Rattle.craft_server.specs.Lines.{IsLine, IsLoad};
+ghost use Rattle.craft_server.specs.declared.line.Line.{Line as ALine};
+ghost use Rattle.craft_server.specs.Openings.{sources};
+ghost use Rattle.craft_server.specs.Runs.{IsRun, lent, told_by};
+
+use crate::check::run_check;
+use crate::opening::Names;
+use crate::script::run_script;
+use crate::{Line, Status, WordsFault, line_of, serve_all};
+use dxc_outside::{Clock, Gate, Link, Listener, Name, Opener, Spawner};
+use std::alloc::Global;
+use std::sync::Wait;
+
+/// Runs a line of words: `script SHELF JOURNAL`, `check SHELF JOURNAL` or `serve SHELF JOURNAL ADDRESS LINES WORKERS`, by the names of
+/// a shelf file, which is read in the form that `shelf_of` tells, and of a journal, which is made where it is new. The controller
+/// starts on what the journal stands for.
+///
+/// `script` serves one session over the terminal; `check` writes each row of the table and the number of records to it; `serve`
+/// serves 16 callers of the address at a time, and carries the frames of the lines with 1 to 8 workers. The gate is asked while the
+/// controller starts and, in `script`, before a change is journalled, before each register write and before the table takes a change.
+pub fn dxc_run<O: Opener, K: Link, C: Clock, G: Gate, P: Spawner, R: Wait>(
+    alloc: Global,
+    words: &[Name],
+    opener: &mut O,
+    terminal: &mut K,
+    clock: &mut C,
+    gate: &mut G,
+    spawner: &mut P,
+    rt: &R,
+) -> Status
+where
+    <O::Listener as Listener>::Link: Send + 'static,
+    ensures words { result ≡ Status.BadWords → (l : ALine) → IsLine words.now l → IsLoad l }
+    ensures run { IsRun (told_by O.told O.Journal.told K.told C.told) O.Journal.state words.now (lent (sources (O.state opener.old) (O.journal_at opener.old) (G.stops gate.old)) (K.state terminal.old) (C.coming clock.old) (P.state spawner.old)) (lent (sources (O.state opener.new) (O.journal_at opener.new) (G.stops gate.new)) (K.state terminal.new) (C.coming clock.new) (P.state spawner.new)) result }
+{
+    let line = match line_of(alloc, words) {
+        Ok(line) => line,
+        Err(WordsFault::BadWords) => return Status::BadWords,
+        Err(WordsFault::NoMemory) => return Status::NoMemory,
+    };
+    match &line {
+        Line::Script { shelf, journal } => {
+            let names = Names {
+                shelf: shelf.text(),
+                journal: journal.text(),
+            };
+            run_script(alloc, opener, names, terminal, clock, gate, rt)
+        }
+        Line::Check { shelf, journal } => {
+            let names = Names {
+                shelf: shelf.text(),
+                journal: journal.text(),
+            };
+            run_check(alloc, opener, names, terminal, gate)
+        }
+        Line::Serve { .. } => serve_all(alloc, opener, &line, gate, spawner, rt),
+        // Nothing serves this mode yet.
+        Line::Load { .. } => Status::BadWords,
+    }
+}

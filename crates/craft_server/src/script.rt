@@ -1,0 +1,42 @@
+ghost use Rattle.std.specs.Prelude.{◌≡◌};
+ghost use Rattle.craft_server.specs.Openings.{Opens, named, sources};
+ghost use Rattle.craft_server.specs.Scripts.{RanSession};
+
+use crate::Status;
+use crate::opening::{Controller, Names, open};
+use crate::places::open_places;
+use craft_session::serve_session;
+use dxc_outside::{Clock, Gate, Link, Opener};
+use std::alloc::Global;
+use std::sync::Wait;
+
+/// No frames are carried, so the one worker has a seat, and none runs.
+pub(crate) const WORKERS: u16 = 1;
+
+/// Serves one session over the terminal, at the one place of a controller that is opened on these names.
+pub(crate) fn run_script<O: Opener, K: Link, C: Clock, G: Gate, R: Wait>(
+    alloc: Global,
+    opener: &mut O,
+    names: Names<'_>,
+    terminal: &mut K,
+    clock: &mut C,
+    gate: &mut G,
+    rt: &R,
+) -> Status
+    ensures { Opens O.told O.Journal.told O.Journal.state (named names.entry.shelf.now names.entry.journal.now) (sources (O.state opener.old) (O.journal_at opener.old) (G.stops gate.old)) (sources (O.state opener.new) (O.journal_at opener.new) (G.stops gate.new)) ((K.state terminal.new ≡ K.state terminal.old) × (C.coming clock.new ≡ C.coming clock.old)) (λ f o. RanSession O.Journal.told K.told C.told (O.Journal.state f.disk) f.shelf o (K.state terminal.old) (K.state terminal.new) (C.coming clock.old) (C.coming clock.new) (G.stops gate.old) (G.stops gate.new) result) result }
+{
+    let Controller {
+        shelf,
+        fabric,
+        seats: _,
+        state,
+    } = match open(alloc, opener, names, WORKERS, gate) {
+        Ok(controller) => controller,
+        Err(status) => return status,
+    };
+    let Ok(mut places) = open_places(alloc, &shelf, &fabric, state, 1) else {
+        return Status::NoMemory;
+    };
+    let mut place = places.remove(0);
+    Status::of_end(serve_session(&mut place, terminal, clock, gate, rt))
+}

@@ -1,0 +1,146 @@
+//! Sessions and frame workers, side by side.
+ghost use Rattle.std.specs.Prelude.{◌≡◌, ◌≢◌, ◌≤◌, ◌+◌, ◌⊎◌, length, vec_len, true};
+ghost use Rattle.std.specs.Arc.{arc_value};
+ghost use Rattle.dxc_causes.specs.Causes.{HasCause, Rose};
+ghost use Rattle.fabric_words.specs.New.{AreNew};
+ghost use Rattle.craft_server.specs.Openings.{Opens, sources};
+ghost use Rattle.craft_server.specs.Serving.{RoseBy, IsServe, IsServing, named_in, workers_in};
+
+use crate::frames::FrameJob;
+use crate::jobs::{frame_jobs, session_jobs};
+use crate::opening::{Controller, Names, open};
+use crate::places::open_places;
+use crate::sessions::SessionJob;
+use crate::threads::run_all;
+use crate::{Line, Status};
+use craft_session::Place;
+use dxc_disk::Disk;
+use dxc_outside::{Clock, Gate, Lines, Listener, Opener, Spawner, Started};
+use fabric_words::{Fabric, WorkerSeat};
+use std::alloc::Global;
+use std::sync::{Arc, Wait};
+
+/// Runs the workers' jobs and the sessions' jobs to their ends.
+fn run_jobs<
+    D: Disk + Send + Drop + 'static,
+    L: Listener + Send + Drop + 'static,
+    C: Clock + Send + Drop + 'static,
+    G: Gate + Send + Drop + 'static,
+    N: Lines + Send + Drop + 'static,
+    P: Spawner,
+    R: Wait,
+>(
+    spawner: &mut P,
+    workers: Vec<FrameJob<N, G>>,
+    sessions: Vec<SessionJob<D, L, C, G>>,
+    rt: &R,
+) -> Status
+where
+    L::Link: Send + 'static,
+    ensures done { result ≡ Status.Done → RoseBy (vec_len workers + vec_len sessions) (P.state spawner.old).starts (P.state spawner.new).starts }
+    ensures no_more { (P.state spawner.new).starts ≤ (P.state spawner.old).starts + (vec_len workers + vec_len sessions) }
+    ensures cause { HasCause (P.state spawner.old).faults (P.state spawner.new).faults (result ≡ Status.NoThread) }
+    ensures waited { (P.state spawner.new).waited ≡ true }
+    ensures only { (result ≡ Status.Done) ⊎ (result ≡ Status.NoThread) }
+{
+    match run_all(spawner, workers, sessions, rt) {
+        Started::Running => Status::Done,
+        Started::Failed => Status::NoThread,
+    }
+}
+
+/// Where the sessions and the workers of `serve` run.
+#[derive(Clone, Copy)]
+pub(crate) struct Site<'a> {
+    pub(crate) address: &'a str,
+    pub(crate) lines: &'a str,
+    pub(crate) workers: u16,
+}
+
+/// Opens the lines of each worker and a listener for each place, and runs their jobs to their ends.
+pub(crate) fn serve_on<O: Opener, D: Disk + Send + Drop + 'static, P: Spawner, R: Wait>(
+    alloc: Global,
+    opener: &mut O,
+    site: Site<'_>,
+    fabric: &Arc<Fabric>,
+    seats: Vec<WorkerSeat>,
+    places: Vec<Place<D>>,
+    spawner: &mut P,
+    rt: &R,
+) -> Status
+where
+    <O::Listener as Listener>::Link: Send + 'static,
+    requires seats { AreNew (arc_value fabric.now) 0 seats.items }
+    requires each { length seats.items ≡ site.workers }
+    ensures done { result ≡ Status.Done → RoseBy (site.entry.workers + vec_len places) (P.state spawner.old).starts (P.state spawner.new).starts }
+    ensures no_more { (P.state spawner.new).starts ≤ (P.state spawner.old).starts + (site.entry.workers + vec_len places) }
+    ensures waited { (result ≡ Status.Done) ⊎ (result ≡ Status.NoThread) → (P.state spawner.new).waited ≡ true }
+    ensures no_thread { result ≡ Status.NoThread → Rose (P.state spawner.old).faults (P.state spawner.new).faults }
+    ensures cannot_open { result ≡ Status.CannotOpen → Rose (O.state opener.old).faults (O.state opener.new).faults }
+    ensures not_started { (result ≡ Status.CannotOpen) ⊎ (result ≡ Status.NoMemory) → P.state spawner.new ≡ P.state spawner.old }
+    ensures only { result ≢ Status.Done → result ≢ Status.NoThread → result ≢ Status.CannotOpen → result ≡ Status.NoMemory }
+{
+    let workers = match frame_jobs(alloc, opener, site.lines, site.workers, fabric, seats) {
+        Ok(jobs) => jobs,
+        Err(status) => return status,
+    };
+    let sessions = match session_jobs(alloc, opener, site.address, places) {
+        Ok(jobs) => jobs,
+        Err(status) => return status,
+    };
+    run_jobs(spawner, workers, sessions, rt)
+}
+
+/// The most sessions at a time.
+const SESSIONS: u16 = 16;
+
+/// Serves the line's address with 16 sessions at a time, and its lines with its workers. The line is one of `serve`.
+///
+/// The controller is opened first, and the gate asked meanwhile; then the lines of each worker and a listener for each session.
+/// The frame workers are started before the sessions. It ends when all of them have ended.
+pub fn serve_all<O: Opener, G: Gate, P: Spawner, R: Wait>(
+    alloc: Global,
+    opener: &mut O,
+    line: &Line,
+    gate: &mut G,
+    spawner: &mut P,
+    rt: &R,
+) -> Status
+where
+    <O::Listener as Listener>::Link: Send + 'static,
+    requires { IsServe line.now }
+    ensures { Opens O.told O.Journal.told O.Journal.state (named_in line.now) (sources (O.state opener.old) (O.journal_at opener.old) (G.stops gate.old)) (sources (O.state opener.new) (O.journal_at opener.new) (G.stops gate.new)) (P.state spawner.new ≡ P.state spawner.old) (λ f o. (G.stops gate.new ≡ G.stops gate.old) × IsServing (workers_in line.now + 16) (O.state opener.old).faults (O.state opener.new).faults (P.state spawner.old) (P.state spawner.new) result) result }
+{
+    let Line::Serve {
+        shelf,
+        journal,
+        address,
+        lines,
+        workers,
+    } = line
+    else {
+        unreachable!()
+    };
+    let names = Names {
+        shelf: shelf.text(),
+        journal: journal.text(),
+    };
+    let Controller {
+        shelf,
+        fabric,
+        seats,
+        state,
+    } = match open(alloc, opener, names, *workers, gate) {
+        Ok(controller) => controller,
+        Err(status) => return status,
+    };
+    let Ok(places) = open_places(alloc, &shelf, &fabric, state, SESSIONS) else {
+        return Status::NoMemory;
+    };
+    let site = Site {
+        address: address.text(),
+        lines: lines.text(),
+        workers: *workers,
+    };
+    serve_on(alloc, opener, site, &fabric, seats, places, spawner, rt)
+}

@@ -1,0 +1,28 @@
+use crate::links::serve_links;
+use craft_session::Place;
+use dxc_disk::Disk;
+use dxc_outside::{Clock, Gate, Listener, Task};
+use std::sync::Wait;
+
+/// Sessions at one place, one after another.
+#[derive(Drop)]
+pub struct SessionJob<D: Disk, L, C, G> {
+    pub place: Place<D>,
+    pub listener: L,
+    pub clock: C,
+    pub gate: G,
+}
+
+impl<D: Disk + Drop, L: Listener + Drop, C: Clock + Drop, G: Gate + Drop> Task
+    for SessionJob<D, L, C, G> {
+    /// Serves callers until the listener ends or fails.
+    fn run<R: Wait>(self, rt: &R) {
+        let SessionJob {
+            mut place,
+            mut listener,
+            mut clock,
+            mut gate,
+        } = self;
+        serve_links(&mut place, &mut listener, &mut clock, &mut gate, rt);
+    }
+}

@@ -1,0 +1,104 @@
+ghost use Rattle.std.specs.Prelude.{◌≡◌};
+ghost use Rattle.craft_server.specs.Statuses.{number_of, status_of, status_of_fault, status_of_sent};
+
+use craft_session::SessionEnd;
+use dxc_disk::Disk;
+use dxc_outside::Sent;
+use journal_core::JournalWhy;
+use shelf_file::ShelfFault;
+use xc_core::OpenFault;
+
+/// Why a journal can't be taken up.
+#[derive(Clone, Copy, Debug, PartialEq, Eq)]
+pub enum JournalBad {
+    /// The file isn't new, and its header isn't one of the shelf's shape: its first 32 bytes.
+    Header([u8; 32]),
+    /// The record of this number, from 0, is the first that makes no change.
+    Record(u32),
+}
+
+/// How the program ends.
+#[derive(Clone, Copy, Debug, PartialEq, Eq)]
+pub enum Status {
+    /// The mode ran to its end.
+    Done,
+    /// The words are no line of the program.
+    BadWords,
+    /// The shelf file's first fault.
+    BadShelf(ShelfFault),
+    /// The journal can't be taken up.
+    BadJournal(JournalBad),
+    /// The journal's disk failed while the program opened.
+    Disk,
+    /// Something that the words name couldn't be opened: the shelf file, the journal, lines or the address.
+    CannotOpen,
+    /// A thread couldn't be started. No further one was, and those that ran have ended.
+    NoThread,
+    /// Memory was wanting while the program opened.
+    NoMemory,
+    /// The terminal failed.
+    Link,
+    /// The gate stopped: the command in hand has no response.
+    Stopped,
+    /// 2^32 reads were made.
+    Spent,
+}
+
+impl Status {
+    /// The number that the process ends with.
+    pub fn number(self) -> u8
+        ensures { result ≡ number_of self }
+    {
+        match self {
+            Status::Done => 0,
+            Status::BadWords => 2,
+            Status::BadShelf(_) => 3,
+            Status::BadJournal(_) => 4,
+            Status::Disk => 5,
+            Status::CannotOpen => 6,
+            Status::NoThread => 7,
+            Status::NoMemory => 8,
+            Status::Link => 9,
+            Status::Stopped => 10,
+            Status::Spent => 11,
+        }
+    }
+
+    /// After a session over the terminal.
+    pub(crate) fn of_end(end: SessionEnd) -> Status
+        ensures { result ≡ status_of end }
+    {
+        match end {
+            SessionEnd::End => Status::Done,
+            SessionEnd::ReadFault | SessionEnd::WriteFault => Status::Link,
+            SessionEnd::Stopped => Status::Stopped,
+            SessionEnd::Spent => Status::Spent,
+        }
+    }
+
+    /// After lines were written to the terminal.
+    pub(crate) fn of_sent(sent: Sent) -> Status
+        ensures { result ≡ status_of_sent sent }
+    {
+        match sent {
+            Sent::Whole => Status::Done,
+            Sent::Cut => Status::Link,
+        }
+    }
+
+    /// Where the controller didn't start.
+    pub(crate) fn of_fault<D: Disk + Drop>(fault: OpenFault<D>) -> Status
+        ensures { result ≡ status_of_fault fault }
+    {
+        match fault {
+            OpenFault::Journal(fault) => match fault.why {
+                JournalWhy::BadHeader(bytes) => Status::BadJournal(JournalBad::Header(bytes)),
+                JournalWhy::Disk => Status::Disk,
+            },
+            OpenFault::BadRecord(number) => Status::BadJournal(JournalBad::Record(number)),
+            OpenFault::Disk(_) => Status::Disk,
+            OpenFault::NoMemory => Status::NoMemory,
+            OpenFault::Stopped => Status::Stopped,
+        }
+    }
+}

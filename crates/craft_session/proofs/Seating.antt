@@ -1,0 +1,68 @@
+-- A seat after one of its turns.
+use Rattle.std.proofs.Common.{◌≡◌, ◌≢◌, ℕ, List, [], ◌∷◌, ◌++◌, refl, sym, ◌∙◌, subst, inl, inr}
+use base.Stored.{Gv}
+use Rattle.turnstile.specs.Passing.{Gate, Token}
+use Rattle.dxc_disk.specs.Disks.{DiskState}
+use Rattle.dxc_model.specs.declared.cause.Cause.{Cause}
+use Rattle.dxc_model.specs.declared.cause.Cause.TheVariants.{DiskFault, JournalFull, SwitchLimit, JournalAstray}
+use Rattle.dxc_model.specs.declared.op.Op.{Op}
+use Rattle.dxc_model.specs.declared.op.Op.TheVariants.{Restart}
+use Rattle.dxc_model.specs.declared.entry.Outcome.TheVariants as outcome
+use Rattle.dxc_model.specs.declared.entry.Entry.{Entry}
+use Rattle.fabric_words.specs.Seats.{FabricId}
+use Rattle.xc_core.specs.declared.state.State.{State}
+use Rattle.xc_core.specs.States.{Opening, opening_of}
+use Rattle.xc_core.specs.Seeing.{Saw, Turned, entry, refused}
+use Rattle.xc_core.specs.Turns.{HasPass, SawNoneAstray}
+use Rattle.xc_core.proofs.Turning.{rests_now}
+use Rattle.craft_session.specs.declared.change.Changed.{Changed}
+use Rattle.craft_session.specs.declared.change.Changed.TheVariants.{Done, Denied, Stopped}
+use Rattle.craft_session.specs.Changing.{ChangedIs, MendedTo, Passed, WarmRestartIs}
+use Rattle.craft_session.specs.Seats.{IsSeated}
+
+-- what was seen ends with an entry of the place's own, by which it didn't take the Provisioner
+pub record Ended (o : Opening) (own : ℕ) (seen : List Gv) : Type 0 where
+  pub before : List Entry
+  pub last : Entry
+  pub mine : last.place ≡ own
+  pub settled : last.outcome ≢ outcome.Taken
+  pub saw : Saw o seen (before ++ last ∷ [])
+
+pub turned_ended : (o : Opening) (own : ℕ) (h : List Entry) (e : Entry) (seen : List Gv) → e.place ≡ own → e.outcome ≢ outcome.Taken → Turned o own h e seen → Ended o own seen
+turned_ended o own h e seen mine settled t = record { before = h ++ t.later; last = e; mine = mine; settled = settled; saw = t.saw }
+
+refused_settled : (q : Cause) → refused q ≢ outcome.Taken
+refused_settled JournalFull = λ is. cc
+refused_settled SwitchLimit = λ is. cc
+refused_settled DiskFault = λ is. cc
+refused_settled JournalAstray = λ is. cc
+refused_settled _ = λ is. cc
+
+mended_ended : (o : Opening) (own : ℕ) (h : List Entry) (e : Entry) (seen : List Gv) → e.place ≡ own → e.outcome ≢ outcome.Taken → MendedTo o own h e seen → Ended o own seen
+mended_ended o own h e seen mine settled m = record { before = h ++ m.front; last = e; mine = mine; settled = settled; saw = m.saw }
+
+pub changed_ended : (o : Opening) (own : ℕ) (h : List Entry) (op : Op) (seen : List Gv) (how : Changed) → ChangedIs o own h op seen how → Ended o own seen
+changed_ended o own h op seen Done x = mended_ended o own h (entry own op (outcome.Done x.0)) seen refl (λ is. cc) x.1
+changed_ended o own h op seen (Denied q) x = mended_ended o own h (entry own op (refused q)) seen refl (refused_settled q) x.0
+changed_ended o own h op seen Stopped x = elim x [
+  | inl cut ↦ mended_ended o own h (entry own op outcome.Cut) seen refl (λ is. cc) cut.0
+  | inr restart ↦ mended_ended o own h (entry own Restart outcome.Cut) seen refl (λ is. cc) restart.0
+]
+
+passed_ended : (o : Opening) (own : ℕ) (h : List Entry) (e : Entry) (seen : List Gv) → e.place ≡ own → e.outcome ≢ outcome.Taken → Passed o own h e seen → Ended o own seen
+passed_ended o own h e seen mine settled p = record { before = h ++ p.passed; last = e; mine = mine; settled = settled; saw = p.saw }
+
+pub restarted_ended : (o : Opening) (own : ℕ) (h : List Entry) (seen : List Gv) (how : Changed) → WarmRestartIs o own h seen how → Ended o own seen
+restarted_ended o own h seen Done x = passed_ended o own h (entry own Restart (outcome.Restarted x.0)) seen refl (λ is. cc) x.1
+restarted_ended o own h seen (Denied q) x = passed_ended o own h (entry own Restart (outcome.Failed q)) seen refl (λ is. cc) x
+restarted_ended o own h seen Stopped x = passed_ended o own h (entry own Restart outcome.Cut) seen refl (λ is. cc) x
+
+module _ {D : Type 0} (told : Type 0) (state : D → DiskState) where
+  -- what was seen, at the turnstile as a call is lent it
+  pub saw_there : (p : Token) (t u : Gate (State D)) (h : List Entry) → u ≡ t → Saw (opening_of state t.first) p.seen h → Saw (opening_of state u.first) p.seen h
+  saw_there p t u h is saw = subst (λ (x : Gate (State D)). Saw (opening_of state x.first) p.seen h) (sym is) saw
+
+  pub seated_on : (p q : Token) (t u : Gate (State D)) (i : FabricId) → u ≡ t → IsSeated told state p t i → HasPass u q → q.number ≡ p.number → Ended (opening_of state u.first) p.number q.seen → SawNoneAstray told q.seen → IsSeated told state q t i
+  seated_on p q t u i is seat pass number end never =
+      let there = subst (λ (x : Gate (State D)). IsSeated told state p x i) (sym is) seat in
+      subst (λ (x : Gate (State D)). IsSeated told state q x i) is (pass, there.1, (end.before ++ end.last ∷ [], end.saw, rests_now q.number end.before end.last (end.mine ∙ sym number) end.settled), never)

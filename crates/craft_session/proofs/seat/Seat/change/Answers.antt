@@ -1,0 +1,26 @@
+use Rattle.std.proofs.Common.{List, ◌∙◌, ap, subst}
+use Rattle.std.specs.Arc.{arc_value}
+use Rattle.turnstile.specs.Passing.{Gate}
+use Rattle.dxc_model.specs.declared.entry.Entry.{Entry}
+use Rattle.xc_core.specs.declared.state.State.{State}
+use Rattle.xc_core.specs.Seeing.{Saw}
+use Rattle.craft_session.specs.Changing.{ChangedIs}
+use Rattle.craft_session.specs.Seats.{SeatAt, seat_at}
+use Rattle.xc_core.specs.States.{opening_of}
+use Rattle.craft_session.proofs.Seating.{changed_ended, saw_there, seated_on}
+use Rattle.craft_session.proofs.seat.Seat.change.Goals as goal
+
+pub invariant_of-self : goal.invariant_of-self
+invariant_of-self g c =
+    let t = arc_value c.self.inside.turns in
+    let p = c.self.inside.pass in
+    let w = c.self.invariant.2 in
+    let o = opening_of g.D.Disk.state c.deref.result.now.first in
+    let turn = c.change.ensures.changed w.0 (saw_there g.D.Disk.told g.D.Disk.state p t c.deref.result.now w.0 c.deref.ensures w.1) in
+    seated_on g.D.Disk.told g.D.Disk.state p c.change.new.pass t c.deref.result.now (arc_value c.self.inside.fabric) c.deref.ensures c.self.invariant c.change.ensures.pass.0 c.change.ensures.pass.1
+    (changed_ended o p.number w.0 c.args.op.now c.change.new.pass.seen c.change.result turn) c.change.ensures.astray
+
+pub returns-clause-changed : goal.returns-clause-changed
+returns-clause-changed g c =
+    let eq = ap (λ (t : Gate (State g.row.D.Denot)). seat_at g.D.Disk.state c.self.inside.pass t) c.deref.ensures ∙ c.self.view_is in
+    subst (λ (s : SeatAt). (h : List Entry) → Saw s.opening s.seen h → ChangedIs s.opening s.place h c.args.op.now c.change.new.pass.seen c.change.result) eq c.change.ensures.changed

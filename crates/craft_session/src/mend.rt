@@ -1,0 +1,133 @@
+//! A restart: begun in one turn, driven to its end, and ended in another.
+ghost use Rattle.std.specs.Prelude.{◌≡◌, ◌≢◌, ◌≤◌, ◌⊎◌, List, length};
+ghost use Rattle.dxc_causes.specs.Causes.{Rose};
+ghost use Rattle.dxc_model.specs.declared.entry.Entry.{Entry};
+ghost use Rattle.dxc_model.specs.declared.op.Op.TheVariants.{Restart};
+ghost use Rattle.dxc_model.specs.Steps.{IsDriven};
+ghost use Rattle.xc_core.specs.Seeing.{HasRestart, Saw};
+ghost use Rattle.xc_core.specs.States.{opening_of};
+ghost use Rattle.xc_core.specs.Turns.{HasPass, SawNoneAstray};
+ghost use Rattle.roll_engine.specs.Rollings.{rest_of};
+ghost use Rattle.craft_session.specs.Askings.{MendAsked, RollAsked, WarmAsked};
+ghost use Rattle.craft_session.specs.Changing.{MendedIs, WarmRestartIs};
+
+use crate::change::{Changed, roll};
+use dxc_disk::Disk;
+use dxc_model::{Cause, Op};
+use dxc_outside::{Gate, Pass1};
+use fabric_words::Fabric;
+use roll_engine::Rolling;
+use std::sync::Wait;
+use turnstile::{Pass, Turnstile};
+use xc_core::restarts::{Restarting, cut_restart, end_restart, restart};
+use xc_core::{Provisioner, State};
+
+/// What came of turns in which a restart was to be made.
+#[derive(Clone, Copy, Debug, PartialEq, Eq)]
+pub enum Mended {
+    /// It was made. The Provisioner is home and ready.
+    Ready,
+    /// The disk failed, or the journal reads otherwise than it was written. The Provisioner is home.
+    Denied(Cause),
+    /// The gate stopped. The Provisioner is home, halted.
+    Stopped,
+    /// Another place has the Provisioner; or none is due any more.
+    Waits,
+}
+
+/// Drives a restart that has begun, and ends it.
+fn resume<D: Disk + Drop, G: Gate, R: Wait>(
+    pass: &mut Pass,
+    turns: &Turnstile<State<D>>,
+    fabric: &Fabric,
+    asked: &Op,
+    p: Provisioner<D>,
+    rolling: Rolling,
+    gate: &mut G,
+    rt: &R,
+) -> Mended
+    requires pass { HasPass turns.now pass.old }
+    requires fabric { (opening_of D.state turns.now.first).site.fabric ≡ fabric.now }
+    requires restart { (h : List Entry) × Saw (opening_of D.state turns.now.first) pass.old.seen h × HasRestart D.told D.state (opening_of D.state turns.now.first) pass.old.number asked.now h p rolling }
+    ensures pass { HasPass turns.now pass.new × (pass.new.number ≡ pass.old.number) }
+    ensures mended { (h : List Entry) → Saw (opening_of D.state turns.now.first) pass.old.seen h → MendedIs (opening_of D.state turns.now.first) pass.old.number h asked.now pass.new.seen result }
+    ensures astray { SawNoneAstray D.told pass.new.seen }
+    ensures going { result ≢ Mended.Stopped → G.stops gate.new ≡ G.stops gate.old }
+    ensures stopped { result ≡ Mended.Stopped → Rose (G.stops gate.old) (G.stops gate.new) }
+    ensures later { G.stops gate.old ≤ G.stops gate.new }
+    ensures asked { ((result ≡ Mended.Ready) × RollAsked (G.asked gate.old gate.new) (length (rest_of rolling)) Pass1.Go) ⊎ ((result ≡ Mended.Stopped) × RollAsked (G.asked gate.old gate.new) (length (rest_of rolling)) Pass1.Stop) }
+{
+    let mut p = p;
+    let mut rolling = rolling;
+    match roll(&mut p, fabric, &mut rolling, gate, rt) {
+        Pass1::Go => {
+            end_restart(pass, turns, asked, p, rolling, rt);
+            Mended::Ready
+        }
+        Pass1::Stop => {
+            cut_restart(pass, turns, asked, p, &rolling, rt);
+            Mended::Stopped
+        }
+    }
+}
+
+/// Tries to make a restart, for INIT-SYS or for a changing operation that found one due.
+pub fn mend<D: Disk + Drop, G: Gate, R: Wait>(
+    pass: &mut Pass,
+    turns: &Turnstile<State<D>>,
+    fabric: &Fabric,
+    asked: &Op,
+    gate: &mut G,
+    rt: &R,
+) -> Mended
+    requires pass { HasPass turns.now pass.old }
+    requires fabric { (opening_of D.state turns.now.first).site.fabric ≡ fabric.now }
+    requires asked { IsDriven asked.now }
+    requires seen { (h : List Entry) × Saw (opening_of D.state turns.now.first) pass.old.seen h }
+    ensures pass { HasPass turns.now pass.new × (pass.new.number ≡ pass.old.number) }
+    ensures mended { (h : List Entry) → Saw (opening_of D.state turns.now.first) pass.old.seen h → MendedIs (opening_of D.state turns.now.first) pass.old.number h asked.now pass.new.seen result }
+    ensures astray { SawNoneAstray D.told pass.new.seen }
+    ensures going { result ≢ Mended.Stopped → G.stops gate.new ≡ G.stops gate.old }
+    ensures stopped { result ≡ Mended.Stopped → Rose (G.stops gate.old) (G.stops gate.new) }
+    ensures later { G.stops gate.old ≤ G.stops gate.new }
+    ensures asked { MendAsked (G.asked gate.old gate.new) result }
+{
+    match restart(pass, turns, fabric, asked, gate, rt) {
+        Restarting::Rolling(p, rolling) => {
+            resume(pass, turns, fabric, asked, p, rolling, gate, rt)
+        }
+        Restarting::Failed(cause) => Mended::Denied(cause),
+        Restarting::Stopped => Mended::Stopped,
+        Restarting::Waits => Mended::Waits,
+    }
+}
+
+/// Makes the restart of INIT-SYS. It tries again while another place has the Provisioner.
+pub fn warm_restart<D: Disk + Drop, G: Gate, R: Wait>(
+    pass: &mut Pass,
+    turns: &Turnstile<State<D>>,
+    fabric: &Fabric,
+    gate: &mut G,
+    rt: &R,
+) -> Changed
+    requires pass { HasPass turns.now pass.old }
+    requires fabric { (opening_of D.state turns.now.first).site.fabric ≡ fabric.now }
+    requires seen { (h : List Entry) × Saw (opening_of D.state turns.now.first) pass.old.seen h }
+    ensures pass { HasPass turns.now pass.new × (pass.new.number ≡ pass.old.number) }
+    ensures restarted { (h : List Entry) → Saw (opening_of D.state turns.now.first) pass.old.seen h → WarmRestartIs (opening_of D.state turns.now.first) pass.old.number h pass.new.seen result }
+    ensures astray { SawNoneAstray D.told pass.new.seen }
+    ensures done { result ≢ Changed.Stopped → G.stops gate.new ≡ G.stops gate.old }
+    ensures stopped { result ≡ Changed.Stopped → Rose (G.stops gate.old) (G.stops gate.new) }
+    ensures later { G.stops gate.old ≤ G.stops gate.new }
+    ensures asked { WarmAsked (G.asked gate.old gate.new) result }
+{
+    for _ in rt.forever() {
+        match mend(pass, turns, fabric, &Op::Restart, gate, rt) {
+            Mended::Ready => return Changed::Done,
+            Mended::Denied(cause) => return Changed::Denied(cause),
+            Mended::Stopped => return Changed::Stopped,
+            Mended::Waits => {}
+        }
+    }
+    unreachable!()
+}

@@ -1,0 +1,129 @@
+ghost use Rattle.std.specs.Prelude.{◌≡◌, ◌≢◌, ◌≤◌, List, length, vec_capacity};
+ghost use Rattle.std.specs.Arc.{arc_value};
+ghost use Rattle.std.specs.List.{AllByRecursion};
+ghost use Rattle.tl1_answer.specs.Texts.{IsChangeOf, IsOfShape};
+ghost use Rattle.dxc_causes.specs.Causes.{Rose};
+ghost use Rattle.dxc_num.specs.Dimensions.{ports};
+ghost use Rattle.dxc_model.specs.declared.entry.Entry.{Entry};
+ghost use Rattle.dxc_model.specs.Histories.{kept};
+ghost use Rattle.dxc_model.specs.Operations.{IsApt};
+ghost use Rattle.xc_core.specs.Seeing.{Saw};
+ghost use Rattle.xc_core.specs.Turns.{AreNumbered, LookIs, MarkIs, RowsAre, SawNoneAstray};
+ghost use Rattle.craft_session.specs.Askings.{ChangeAsked, WarmAsked};
+ghost use Rattle.craft_session.specs.Changing.{ChangedIs, WarmRestartIs};
+ghost use Rattle.craft_session.specs.Seats.{IsSameSeat, IsSeated, seat_at};
+
+use crate::change::{Changed, change};
+use crate::mend::warm_restart;
+use dxc_disk::Disk;
+use dxc_model::{Change, Conn, Op, Selection};
+use dxc_outside::Gate;
+use fabric_words::Fabric;
+use std::marker::Model;
+use std::sync::{Arc, Wait};
+use turnstile::{Pass, Turnstile};
+use xc_core::State;
+use xc_core::turns::{self, Looked};
+
+/// The right of one place to take turns at the element's state, with the fabric that its Provisioner writes. Contracts see where the history
+/// began, the number of the place, and what it has seen of the history.
+#[derive(Drop)]
+pub struct Seat<D: Disk> {
+    pass: Pass,
+    turns: Arc<Turnstile<State<D>>>,
+    fabric: Arc<Fabric>,
+}
+
+impl<D: Disk> Model for Seat<D> {
+    ghost use Rattle.craft_session.specs.Seats.{SeatAt, seat_coded};
+
+    ghost Value = { SeatAt };
+
+    ghost coded = { seat_coded };
+
+    ghost use Rattle.std.specs.Arc.{arc_value};
+    ghost use Rattle.craft_session.specs.Seats.{IsSeated, seat_at};
+
+    ghost view = { λ s. seat_at D.state s.pass (arc_value s.turns) };
+
+    ghost invariant = { λ s. IsSeated D.told D.state s.pass (arc_value s.turns) (arc_value s.fabric) };
+}
+
+impl<D: Disk + Drop> Seat<D> {
+    pub fn new(pass: Pass, turns: Arc<Turnstile<State<D>>>, fabric: Arc<Fabric>) -> Seat<D>
+        requires { IsSeated D.told D.state pass (arc_value turns) (arc_value fabric) }
+        ensures { result ≡ seat_at D.state pass (arc_value turns) }
+    {
+        Seat {
+            pass,
+            turns,
+            fabric,
+        }
+    }
+
+    /// What it has seen is a history of the places' entries.
+    pub fn seen(&self)
+        ensures history { (h : List Entry) × Saw self.now.opening self.now.seen h }
+        ensures numbers { AreNumbered self.now.places self.now.seen }
+        ensures astray { SawNoneAstray D.told self.now.seen }
+    {
+        // What the pass has seen is told by the type.
+        let _ = &self.pass;
+    }
+
+    /// Gives the connections of a selection. It waits for the turn alone.
+    pub fn rows<R: Wait>(&mut self, selection: Selection, into: &mut Vec<Conn>, rt: &R)
+        requires room { ports self.old.opening.first.fold.table.shape ≤ vec_capacity into.old }
+        ensures same { IsSameSeat self.old self.new }
+        ensures rows { (h : List Entry) → Saw self.old.opening self.old.seen h → RowsAre self.old.opening self.old.place h selection self.new.seen into.new.items }
+        ensures of_shape { AllByRecursion (IsOfShape self.old.opening.first.fold.table.shape) into.new.items }
+        ensures room { vec_capacity into.new ≡ vec_capacity into.old }
+    {
+        turns::rows(&mut self.pass, &self.turns, selection, into, rt);
+    }
+
+    /// Gives the changes behind a number.
+    pub fn look<R: Wait>(&mut self, cursor: u64, into: &mut Vec<Change>, rt: &R) -> Looked
+        requires room { kept ≤ vec_capacity into.old }
+        ensures same { IsSameSeat self.old self.new }
+        ensures look { (h : List Entry) → Saw self.old.opening self.old.seen h → LookIs self.old.opening self.old.place h cursor self.new.seen result into.new.items }
+        ensures few { length into.new.items ≤ result.newest }
+        ensures of_shape { AllByRecursion (IsChangeOf self.old.opening.first.fold.table.shape) into.new.items }
+        ensures room { vec_capacity into.old ≤ vec_capacity into.new }
+    {
+        turns::look(&mut self.pass, &self.turns, cursor, into, rt)
+    }
+
+    /// Gives the number of the newest change.
+    pub fn mark<R: Wait>(&mut self, rt: &R) -> u64
+        ensures same { IsSameSeat self.old self.new }
+        ensures mark { (h : List Entry) → Saw self.old.opening self.old.seen h → MarkIs self.old.opening self.old.place h self.new.seen result }
+    {
+        turns::mark(&mut self.pass, &self.turns, rt)
+    }
+
+    /// Makes a restart. It waits until the Provisioner is home, and for frames in the way.
+    pub fn restart<G: Gate, R: Wait>(&mut self, gate: &mut G, rt: &R) -> Changed
+        ensures same { IsSameSeat self.old self.new }
+        ensures restarted { (h : List Entry) → Saw self.old.opening self.old.seen h → WarmRestartIs self.old.opening self.old.place h self.new.seen result }
+        ensures done { result ≢ Changed.Stopped → G.stops gate.new ≡ G.stops gate.old }
+        ensures stopped { result ≡ Changed.Stopped → Rose (G.stops gate.old) (G.stops gate.new) }
+        ensures later { G.stops gate.old ≤ G.stops gate.new }
+        ensures asked { WarmAsked (G.asked gate.old gate.new) result }
+    {
+        warm_restart(&mut self.pass, &self.turns, &self.fabric, gate, rt)
+    }
+
+    /// Makes a change of the table, and of the registers before it. It waits until the Provisioner is home, and for frames in the way.
+    pub fn change<G: Gate, R: Wait>(&mut self, op: &Op, gate: &mut G, rt: &R) -> Changed
+        requires apt { IsApt self.old.opening.first.fold.table.shape op.now }
+        ensures same { IsSameSeat self.old self.new }
+        ensures changed { (h : List Entry) → Saw self.old.opening self.old.seen h → ChangedIs self.old.opening self.old.place h op.now self.new.seen result }
+        ensures done { result ≢ Changed.Stopped → G.stops gate.new ≡ G.stops gate.old }
+        ensures stopped { result ≡ Changed.Stopped → Rose (G.stops gate.old) (G.stops gate.new) }
+        ensures later { G.stops gate.old ≤ G.stops gate.new }
+        ensures asked { ChangeAsked (G.asked gate.old gate.new) result }
+    {
+        change(&mut self.pass, &self.turns, &self.fabric, op, gate, rt)
+    }
+}

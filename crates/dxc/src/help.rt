@@ -1,0 +1,53 @@
+use dxc_outside::Name;
+
+const HELP: &str = "dxc: the controller of a digital cross-connect
+
+  dxc script SHELF JOURNAL    one session: TL1 on standard input, answers on standard output
+  dxc check SHELF JOURNAL     the connections that the journal comes to, and how many records it has
+  dxc serve SHELF JOURNAL ADDRESS LINES WORKERS
+                              sessions over TCP, 16 at a time, and 1 to 8 workers that carry frames
+  dxc --help                  this text
+  dxc --version               the version
+
+JOURNAL is the name of the journal, which is made where there is none. Every change is in it before it is answered, and a
+start takes it up again. One program at a time has it.
+
+ADDRESS is where TCP callers come in, such as 127.0.0.1:3083 or [::1]:3083. Each gets a session of its own, in plain bytes.
+LINES names files: worker W reads the frames of LINES.in, a byte for each port, and writes those of LINES.W.out, from 0 on.
+
+  printf 'ACT-USER::ANNA:1::bc;ENT-CRS-T0::DS0-1-1,DS0-2-1:2;' | dxc script office.toml office.journal
+  dxc check office.toml office.journal
+  dxc serve office.toml office.journal 127.0.0.1:3083 office 2
+
+SHELF is the name of a shelf file, which tells the element's name, its shape and its users, such as office.toml:
+
+  sid = \"DXC1\"         # a letter, then at most 19 letters, digits and dashes
+  modules = 2          # 2 to 32
+  slots = 1            # 1 to 32 ports of each module
+  equipped = [1, 2]    # may be left out: all modules
+
+  [[user]]             # 1 to 64 of them
+  uid = \"ANNA\"         # a letter, then at most 9 letters and digits
+  class = \"S\"          # R retrieves, P provisions too, S does all
+  salt = \"61\"          # at most 32 bytes, in hexadecimal
+  # SHA-256 of the salt's bytes and the PID, in hexadecimal; here the PID is bc
+  digest = \"ba7816bf8f01cfea414140de5dae2223b00361a396177a9cb410ff61f20015ad\"
+
+Status: 0 done, 2 words not understood, 3 shelf file refused, 4 journal refused, 5 journal disk failed, 6 cannot open,
+7 cannot start a thread, 8 no memory, 9 terminal failed, 10 stopped, 11 read limit reached. On a terminal a second line on
+standard error tells more.
+";
+
+const VERSION: &str = "dxc 0.1.0\n";
+
+/// What the one word `--help` or `--version` asks for.
+pub fn told_by_itself(words: &[Name]) -> Option<&'static str> {
+    match words {
+        [word] => match word.text() {
+            "--help" => Some(HELP),
+            "--version" => Some(VERSION),
+            _ => None,
+        },
+        _ => None,
+    }
+}

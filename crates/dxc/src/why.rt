@@ -1,0 +1,131 @@
+use craft_server::{JournalBad, Status};
+use dxc_outside::Name;
+use shelf_file::{ShelfFault, ShelfKey};
+use std::fmt::{self, Display, Formatter, Write};
+
+/// The line that tells of a status other than Done.
+pub fn fault_text(status: Status) -> &'static str {
+    match status {
+        Status::Done => "",
+        Status::BadWords => "dxc: words not understood\n",
+        Status::BadShelf(_) => "dxc: shelf file refused\n",
+        Status::BadJournal(_) => "dxc: journal refused\n",
+        Status::Disk => "dxc: journal disk failed\n",
+        Status::CannotOpen => "dxc: cannot open\n",
+        Status::NoThread => "dxc: cannot start a thread\n",
+        Status::NoMemory => "dxc: no memory\n",
+        Status::Link => "dxc: terminal failed\n",
+        Status::Stopped => "dxc: stopped\n",
+        Status::Spent => "dxc: read limit reached\n",
+    }
+}
+
+/// What the status holds, as a line for whoever reads a terminal. Nothing of a PID, a salt or a digest is in it.
+#[derive(Drop)]
+pub struct Why<'a> {
+    status: Status,
+    words: &'a [Name],
+}
+
+impl<'a> Why<'a> {
+    pub fn new(status: Status, words: &'a [Name]) -> Why<'a> {
+        Why { status, words }
+    }
+}
+
+impl Display for Why<'_> {
+    fn fmt<W: Write>(&self, f: &mut Formatter<W>) -> fmt::Result {
+        match self.status {
+            Status::BadWords => write_word(f, self.words),
+            Status::BadShelf(fault) => write_shelf_fault(f, fault),
+            Status::BadJournal(JournalBad::Header(bytes)) => write_header(f, &bytes),
+            Status::BadJournal(JournalBad::Record(number)) => {
+                writeln!(f, "dxc: record {number}, counted from 0, makes no change")
+            }
+            _ => Ok(()),
+        }
+    }
+}
+
+/// How many words a mode has behind it; None: there is no such mode.
+fn words_behind(mode: &str) -> Option<usize> {
+    match mode {
+        "script" | "check" => Some(2),
+        "serve" => Some(5),
+        _ => None,
+    }
+}
+
+/// The first word that stands in no line of the program.
+fn word_at_fault(words: &[Name]) -> Option<&Name> {
+    let mode = words.first()?;
+    let Some(behind) = words_behind(mode.text()) else {
+        return Some(mode);
+    };
+    if let Some(dashed) = words.iter().find(|word| word.text().starts_with('-')) {
+        return Some(dashed);
+    }
+    if words.len() <= behind {
+        return None;
+    }
+    // One too many, or else the number of workers.
+    words.get(behind + 1).or(words.last())
+}
+
+fn write_word<W: Write>(f: &mut Formatter<W>, words: &[Name]) -> fmt::Result {
+    match word_at_fault(words) {
+        Some(word) => writeln!(
+            f,
+            "dxc: {:?} can't stand there; dxc --help tells the words",
+            word.text()
+        ),
+        None => writeln!(
+            f,
+            "dxc: a word is missing, or isn't UTF-8; dxc --help tells the words"
+        ),
+    }
+}
+
+fn key_name(key: ShelfKey) -> &'static str {
+    match key {
+        ShelfKey::Sid => "sid",
+        ShelfKey::Modules => "modules",
+        ShelfKey::Slots => "slots",
+        ShelfKey::Equipped => "equipped",
+        ShelfKey::User => "user",
+        ShelfKey::Uid => "uid",
+        ShelfKey::Class => "class",
+        ShelfKey::Salt => "salt",
+        ShelfKey::Digest => "digest",
+    }
+}
+
+fn write_shelf_fault<W: Write>(f: &mut Formatter<W>, fault: ShelfFault) -> fmt::Result {
+    match fault {
+        ShelfFault::TooLarge => writeln!(f, "dxc: the shelf file has more than 65536 bytes"),
+        ShelfFault::NotToml => writeln!(f, "dxc: the shelf file is no TOML document"),
+        ShelfFault::Missing { key, user } => write_key(f, key, user, "isn't there"),
+        ShelfFault::Bad { key, user } => write_key(f, key, user, "isn't as it has to be"),
+        ShelfFault::TwoUsers { user } => writeln!(
+            f,
+            "dxc: user {user} has the name of an earlier one"
+        ),
+        ShelfFault::NoMemory => Ok(()),
+    }
+}
+
+/// The key, at the top or of a user, which are counted from 1.
+fn write_key<W: Write>(f: &mut Formatter<W>, key: ShelfKey, user: u16, what: &str) -> fmt::Result {
+    match user {
+        0 => writeln!(f, "dxc: key {} {what}", key_name(key)),
+        _ => writeln!(f, "dxc: key {} of user {user} {what}", key_name(key)),
+    }
+}
+
+fn write_header<W: Write>(f: &mut Formatter<W>, bytes: &[u8; 32]) -> fmt::Result {
+    f.write_str("dxc: the journal begins")?;
+    for byte in bytes {
+        write!(f, " {byte:02x}")?;
+    }
+    f.write_str("\n")
+}

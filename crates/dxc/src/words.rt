@@ -1,0 +1,19 @@
+use dxc_causes::NoMemory;
+use dxc_outside::Name;
+use std::alloc::Global;
+use std::env::{self, Env};
+use std::io::ErrorKind;
+
+/// Appends the words behind the program's name. Where one of them is no UTF-8 text, there are none.
+pub fn words_given<R: Env + AllocGlobal>(rt: &R, words: &mut Vec<Name>) -> Result<(), NoMemory> {
+    match env::args(rt) {
+        Ok(args) => {
+            for word in args.skip(1) {
+                words.push(Name::of(word))?;
+            }
+            Ok(())
+        }
+        Err(error) if error.kind() == ErrorKind::InvalidData => Ok(()),
+        Err(_) => Err(NoMemory),
+    }
+}

@@ -1,0 +1,44 @@
+use crate::row::{Row, Run, bytes_of};
+use anyhow::{Context, Result};
+use std::alloc::Global;
+
+/// The rows that the text describes, line by line.
+pub fn rows_of(alloc: Global, text: &str) -> Result<Vec<Row>> {
+    let mut rows = Vec::new(alloc);
+    for line in text.lines() {
+        if line.is_empty() || line.starts_with('#') {
+            continue;
+        }
+        let (word, rest) = line.split_once(' ').unwrap_or((line, ""));
+        if word == "row" {
+            rows.push(Row::new(alloc, rest)?)?;
+        } else {
+            let row = rows
+                .last_mut()
+                .context("a line stands before the first row")?;
+            take_line(alloc, row, word, rest)?;
+        }
+    }
+    Ok(rows)
+}
+
+fn take_line(alloc: Global, row: &mut Row, word: &str, rest: &str) -> Result<()> {
+    match word {
+        "shelf" => row.shelf = rest.to_string(alloc)?,
+        "sid" => row.sid = rest.to_string(alloc)?,
+        "old" => row.journal = bytes_of(alloc, rest)?,
+        "words" => row.runs.push(Run::new(alloc, rest)?)?,
+        "script" | "check" => {
+            let line = format!(in alloc; "{word} {} row.journal", row.shelf)?;
+            row.runs.push(Run::new(alloc, line.as_str())?)?;
+        }
+        _ => {
+            let run = row
+                .runs
+                .last_mut()
+                .context("a line stands before the row's first run")?;
+            run.take(alloc, row.sid.as_str(), word, rest)?;
+        }
+    }
+    Ok(())
+}

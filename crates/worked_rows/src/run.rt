@@ -1,0 +1,85 @@
+use crate::row::{Row, Run};
+use anyhow::Result;
+use craft_server::dxc_run;
+use dxc_outside::{HostOpener, MemClock, MemGate, MemLink, MemSpawner, Moment, Name};
+use std::fs;
+use std::sync::Wait;
+use std::thread::Threads;
+
+const NOON: Moment = Moment {
+    year: 26,
+    month: 3,
+    day: 1,
+    hour: 12,
+    minute: 0,
+    second: 0,
+};
+
+/// Runs the row's runs on a journal of its own. None where they did what they must, else what didn't hold.
+pub fn run_row<R: Threads + Wait + Copy + Send + 'static>(
+    rt: &HostRuntime,
+    waits: &R,
+    row: &Row,
+) -> Result<Option<String>> {
+    fs::write(rt, "row.journal", row.journal.as_slice())?;
+    for run in &row.runs {
+        if let Some(why) = fault_of(rt, waits, run)? {
+            return Ok(Some(why));
+        }
+    }
+    Ok(None)
+}
+
+// What a run did otherwise than it must.
+fn fault_of<R: Threads + Wait + Copy + Send + 'static>(
+    rt: &HostRuntime,
+    waits: &R,
+    run: &Run,
+) -> Result<Option<String>> {
+    let alloc = rt.alloc();
+    let mut words = Vec::new(alloc);
+    for word in &run.words {
+        words.push(Name::of(word.clone()?))?;
+    }
+    let mut terminal = MemLink::new(
+        run.input.clone()?,
+        run.pieces.clone()?,
+        Vec::new(alloc),
+        Vec::new(alloc),
+    );
+    let mut clock = MemClock::new(vec![in alloc; NOON]?);
+    let mut gate = MemGate::new(run.stops.clone()?);
+    let mut opener = HostOpener::new(rt.clone()?, Vec::new(alloc));
+    let mut spawner = MemSpawner::<R>::new(Vec::new(alloc));
+    let status = dxc_run(
+        alloc,
+        &words,
+        &mut opener,
+        &mut terminal,
+        &mut clock,
+        &mut gate,
+        &mut spawner,
+        waits,
+    );
+    if status.number() != run.status {
+        return Ok(Some(format!(in alloc; "status {}", status.number())?));
+    }
+    if terminal.output() != run.output.as_slice() {
+        let written = String::from_utf8_lossy(alloc, terminal.output())?;
+        return Ok(Some(format!(in alloc; "written was {written}")?));
+    }
+    journal_fault(rt, run)
+}
+
+// What is wrong with the journal behind the run, where the row says what it must be.
+fn journal_fault(rt: &HostRuntime, run: &Run) -> Result<Option<String>> {
+    let alloc = rt.alloc();
+    let Some(wanted) = &run.journal else {
+        return Ok(None);
+    };
+    let journal = fs::read(rt, "row.journal")?;
+    if journal.as_slice() == wanted.as_slice() {
+        return Ok(None);
+    }
+    Ok(Some(format!(in alloc; "the journal was {}", hex::encode(alloc, &journal)?)?))
+}
