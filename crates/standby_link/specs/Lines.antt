@@ -1,0 +1,53 @@
+-- What a primary sends over its line.
+use Rattle.std.specs.Prelude.{◌≡◌, ◌⊎◌, ◌↔◌, IsTrue, ℕ, ◌+◌, ◌≤◌, List, [], ◌++◌, length, take, Option, Some, None, IsSome}
+use Rattle.dxc_causes.specs.Causes.{Rose}
+use Rattle.dxc_outside.specs.Links.{LinkState, Wrote, IsSent}
+use Rattle.dxc_outside.specs.declared.send.Sent.TheVariants.{Cut}
+use Rattle.standby_link.specs.declared.line.Line.{Line}
+use Rattle.standby_link.specs.declared.mirror.Lost.{Lost}
+use Rattle.standby_link.specs.declared.mirror.Lost.TheVariants.{Link, End}
+use Rattle.standby_link.specs.Acts.{Act, sync}
+use Rattle.standby_link.specs.Listens.{WaitsFor, WaitsInVain}
+use Rattle.standby_link.specs.Messages.{spelled, spelled_all, numbered}
+
+-- a line to a standby, as contracts see it
+pub record LineState : Type 0 where
+  pub link : LinkState
+  -- the number of the last item
+  pub number : ℕ
+  -- the bytes of a Have that isn't whole yet
+  pub held : List ℕ
+  pub lost : Option Lost
+
+abbrev pub line_at : {K : Type 0} → (K → LinkState) → Line K → LineState
+line_at state l = record { link = state l.link; number = l.number; held = take l.ear.held l.ear.inbox; lost = l.lost }
+
+-- Acts were sent as items, all of them, or as far as the link took them, and the line is then lost.
+pub record SentActs (told : Type 0) (old new : LinkState) (n m : ℕ) (lost : Option Lost) (acts : List Act) : Type 0 where
+  pub part : List ℕ
+  pub rest : List ℕ
+  pub split : spelled_all (numbered n acts) ≡ part ++ rest
+  pub wrote : Wrote told old new part
+  pub whole : lost ≡ None → (rest ≡ []) × (m ≡ n + length acts)
+  pub cause : IsSome lost → (lost ≡ Some Link) × Rose old.write_faults new.write_faults
+
+abbrev pub Sends : (told : Type 0) (old new : LineState) (acts : List Act) → Type 0
+Sends told old new acts = SentActs told old.link new.link old.number new.number new.lost acts
+
+-- one message was sent, or the link took a part of it and is lost
+abbrev pub SendsOne : (told : Type 0) (old new : LinkState) (lost : Option Lost) (message : List ℕ) → Type 0
+SendsOne told old new lost message = ((lost ≡ None) × Wrote told old new message) ⊎ ((lost ≡ Some Link) × IsSent told old new Cut message)
+
+-- A Sync was sent, after which the link was as `mid`, and its Have came; or the line was lost.
+pub record SentSync (told : Type 0) (mid : LinkState) (old new : LineState) : Type 0 where
+  pub number : new.number ≡ old.number + 1
+  pub wrote : Wrote told old.link mid (spelled (old.number + 1) sync)
+  pub came : new.lost ≡ None → WaitsFor told mid new.link old.held new.held (old.number + 1)
+  pub vain : (why : Lost) → new.lost ≡ Some why → WaitsInVain told mid new.link old.held (old.number + 1) why
+  pub end : (new.lost ≡ Some End) ↔ IsTrue new.link.ended
+  pub few : new.link.reads ≤ mid.reads + 256
+
+abbrev pub Syncs : (told : Type 0) (old new : LineState) → Type 0
+Syncs told old new =
+    ((new.lost ≡ Some Link) × IsSent told old.link new.link Cut (spelled (old.number + 1) sync))
+    ⊎ ((mid : LinkState) × SentSync told mid old new)

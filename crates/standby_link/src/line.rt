@@ -1,0 +1,109 @@
+ghost use Rattle.std.specs.Prelude.{◌≡◌, ◌+◌, ◌^◌, ◌≤◌, ◌<◌, [], ◌∷◌, length, Option, Some, None, IsSome};
+ghost use Rattle.dxc_causes.specs.Causes.{Rose};
+ghost use Rattle.standby_link.specs.Acts.{write, sync, pieces};
+ghost use Rattle.standby_link.specs.Lines.{line_at, Sends, SendsOne, Syncs};
+
+use crate::ear::Ear;
+use crate::mirror::Lost;
+use crate::spell::{spell_sync, spell_write};
+use dxc_outside::{Link, Sent, write_all};
+
+/// The most bytes that one item carries.
+pub(crate) const MOST: usize = 4096;
+
+/// A primary's end of the link to its standby. Once it is lost nothing more is sent or read.
+#[derive(Drop)]
+pub(crate) struct Line<K: Link> {
+    pub(crate) link: K,
+    pub(crate) ear: Ear,
+    /// The number of the last item.
+    pub(crate) number: u64,
+    pub(crate) lost: Option<Lost>,
+}
+
+impl<K: Link> Line<K> {
+    pub(crate) fn new(link: K) -> Line<K>
+        ensures number { result.number ≡ 0 }
+        ensures lost { result.lost ≡ None }
+        ensures link { result.link ≡ link }
+        ensures ear { result.ear.held ≡ 0 }
+    {
+        Line {
+            link,
+            ear: Ear::new(),
+            number: 0,
+            lost: None,
+        }
+    }
+
+    /// Sends a write, in as many items as it takes.
+    pub(crate) fn write(&mut self, place: u64, from: &[u8])
+        ensures gone { IsSome self.old.lost → self.new ≡ self.old }
+        ensures sends { self.old.lost ≡ None → self.old.number + length (pieces place from.now) < 2 ^ 64 → place + length from.now < 2 ^ 64
+            → Sends K.told (line_at K.state self.old) (line_at K.state self.new) (pieces place from.now) }
+        ensures ear { self.new.ear ≡ self.old.ear }
+    {
+        if self.lost.is_some() {
+            return;
+        }
+        let mut sent = 0;
+        while sent < from.len() {
+            let end = from.len().min(sent + MOST);
+            self.send_write(place.wrapping_add(sent as u64), &from[sent..end]);
+            if self.lost.is_some() {
+                return;
+            }
+            sent = end;
+        }
+    }
+
+    /// Sends a Write.
+    pub(crate) fn send_write(&mut self, place: u64, from: &[u8])
+        requires few { length from.now ≤ 4096 }
+        requires here { self.old.lost ≡ None }
+        ensures sends { self.old.number + 1 < 2 ^ 64 → Sends K.told (line_at K.state self.old) (line_at K.state self.new) (write place from.now ∷ []) }
+        ensures ear { self.new.ear ≡ self.old.ear }
+    {
+        let mut message = [0; 4115];
+        self.number = self.number.wrapping_add(1);
+        let end = spell_write(&mut message, self.number, place, from);
+        self.send(&message[..end]);
+    }
+
+    fn send(&mut self, message: &[u8])
+        requires { self.old.lost ≡ None }
+        ensures sends { SendsOne K.told (K.state self.old.link) (K.state self.new.link) self.new.lost message.now }
+        ensures number { self.new.number ≡ self.old.number }
+        ensures ear { self.new.ear ≡ self.old.ear }
+    {
+        if let Sent::Cut = write_all(&mut self.link, message) {
+            self.lost = Some(Lost::Link);
+        }
+    }
+
+    /// Sends a Sync, and waits for its Have.
+    pub(crate) fn sync(&mut self)
+        ensures gone { IsSome self.old.lost → self.new ≡ self.old }
+        ensures syncs { self.old.lost ≡ None → self.old.number + 1 < 2 ^ 64 → Syncs K.told (line_at K.state self.old) (line_at K.state self.new) }
+    {
+        if self.lost.is_some() {
+            return;
+        }
+        self.number = self.number.wrapping_add(1);
+        self.send(&spell_sync(self.number));
+        if self.lost.is_none() {
+            self.lost = self.ear.wait(&mut self.link, self.number);
+        }
+    }
+
+    /// Nothing more is sent, since the disk failed.
+    pub(crate) fn lose(&mut self)
+        ensures same { self.new ≡ record self.old { lost = self.new.lost } }
+        ensures lost { self.old.lost ≡ None → self.new.lost ≡ Some Lost.Disk }
+        ensures gone { IsSome self.old.lost → self.new ≡ self.old }
+    {
+        if self.lost.is_none() {
+            self.lost = Some(Lost::Disk);
+        }
+    }
+}

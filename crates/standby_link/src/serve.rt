@@ -1,0 +1,133 @@
+ghost use Rattle.std.specs.Prelude.{◌≡◌, ◌≢◌, ◌⊎◌, ◌↔◌, ◌+◌, ◌-◌, ◌^◌, ◌≤◌, ℕ, min, false, [], length, take, IfOk, IfErr, IsTrue};
+ghost use Rattle.dxc_causes.specs.Causes.{HasCause, Rose, Counted};
+ghost use Rattle.dxc_outside.specs.Links.{LinkState};
+ghost use Rattle.standby_link.specs.Readings.{size};
+ghost use Rattle.standby_link.specs.Serves.{Goes, Ran, Served, IsSpentBy, Unbegun, SendsHave, IsUnfinished, IsOfItem, IsOfTurn, OnlyWrites};
+
+use crate::end::StandbyEnd;
+use crate::in_hand::{InHand, judge, size_of_item};
+use crate::made::Made;
+use byteorder::{BigEndian, ByteOrder};
+use dxc_disk::Disk;
+use dxc_outside::{Got, Link, Sent, write_all};
+
+const READS: u64 = 1 << 32;
+
+/// Makes on the disk, which is to be empty, what a primary sends over the link, and answers each Sync with a Have. It ends
+/// as the link ends, by a fault, by bytes that are no item, or after 2^32 reads. It takes no memory.
+pub fn serve_standby<K: Link, D: Disk>(link: &mut K, disk: &mut D) -> StandbyEnd
+    ensures served { Unbegun D.told (K.state link.old) (K.state link.new) (D.state disk.old) (D.state disk.new) result ⊎ Served K.told D.told (D.state disk.old).room ((D.state disk.old).faults + (D.state disk.old).margin) (K.state link.old) (K.state link.new) (D.state disk.new) result }
+    ensures not_empty { D.told → (D.state disk.old).reads_as ≢ [] → (result ≡ StandbyEnd.NotEmpty) ⊎ (result ≡ StandbyEnd.DiskFault) }
+    ensures empty { D.told → result ≡ StandbyEnd.NotEmpty → (D.state disk.old).reads_as ≢ [] }
+    ensures end { (K.state link.old).ended ≡ false → ((result ≡ StandbyEnd.End) ↔ IsTrue (K.state link.new).ended) }
+    ensures read_fault { result ≡ StandbyEnd.ReadFault → Rose (K.state link.old).read_faults (K.state link.new).read_faults }
+    ensures write_fault { result ≡ StandbyEnd.WriteFault → Rose (K.state link.old).write_faults (K.state link.new).write_faults }
+    ensures disk_fault { result ≡ StandbyEnd.DiskFault → Rose (D.state disk.old).faults (D.state disk.new).faults }
+    ensures few { (K.state link.new).reads ≤ (K.state link.old).reads + 2 ^ 32 }
+    ensures spent { result ≡ StandbyEnd.Spent → Counted (K.state link.old).reads (K.state link.new).reads (2 ^ 32) }
+{
+    match disk.length() {
+        Ok(0) => serve(link, disk),
+        Ok(_) => StandbyEnd::NotEmpty,
+        Err(_) => StandbyEnd::DiskFault,
+    }
+}
+
+fn serve<K: Link, D: Disk>(link: &mut K, disk: &mut D) -> StandbyEnd
+    requires { D.told → (D.state disk.old).reads_as ≡ [] }
+    ensures served { (room sum : ℕ) → IsSpentBy 1 room sum (D.state disk.old) → Served K.told D.told room sum (K.state link.old) (K.state link.new) (D.state disk.new) result }
+    ensures end { (result ≡ StandbyEnd.End) ↔ IsTrue (K.state link.new).ended }
+    ensures read_fault { HasCause (K.state link.old).read_faults (K.state link.new).read_faults (result ≡ StandbyEnd.ReadFault) }
+    ensures write_fault { HasCause (K.state link.old).write_faults (K.state link.new).write_faults (result ≡ StandbyEnd.WriteFault) }
+    ensures disk_fault { HasCause (D.state disk.old).faults (D.state disk.new).faults (result ≡ StandbyEnd.DiskFault) }
+    ensures few { (K.state link.new).reads ≤ (K.state link.old).reads + 2 ^ 32 }
+    ensures spent { result ≡ StandbyEnd.Spent → Counted (K.state link.old).reads (K.state link.new).reads (2 ^ 32) }
+    ensures not_empty { result ≡ StandbyEnd.NotEmpty → ⊥ }
+{
+    let mut inbox = [0; 4115];
+    let mut held = 0;
+    let mut made = Made {
+        length: 0,
+        last: 0,
+        synced: 0,
+    };
+    for _ in 0..READS {
+        match turn(&mut inbox, held, &mut made, link, disk) {
+            Ok(left) => held = left,
+            Err(end) => return end,
+        }
+    }
+    StandbyEnd::Spent
+}
+
+/// One read behind the bytes in hand, and what is to be done for what it brought. Answers how many bytes are in hand then.
+fn turn<K: Link, D: Disk>(
+    inbox: &mut [u8; 4115],
+    held: usize,
+    made: &mut Made,
+    link: &mut K,
+    disk: &mut D,
+) -> Result<usize, StandbyEnd>
+    requires unfinished { IsUnfinished inbox.old held }
+    requires sized { D.told → made.old.length ≡ min (length (D.state disk.old).reads_as) (2 ^ 64 - 1) }
+    ensures goes { (before : LinkState) (room sum : ℕ) → Ran K.told D.told room sum before (K.state link.old) (D.state disk.old) made.old (take held inbox.old)
+        → Goes K.told D.told room sum before (K.state link.new) (D.state disk.new) made.new inbox.new result }
+    ensures unfinished { IfOk result (λ left. IsUnfinished inbox.new left) }
+    ensures ends { IfErr result IsOfTurn }
+    ensures end { (result ≡ Err StandbyEnd.End) ↔ IsTrue (K.state link.new).ended }
+    ensures reads { Counted (K.state link.old).reads (K.state link.new).reads 1 }
+    ensures read_fault { HasCause (K.state link.old).read_faults (K.state link.new).read_faults (result ≡ Err StandbyEnd.ReadFault) }
+    ensures write_fault { HasCause (K.state link.old).write_faults (K.state link.new).write_faults (result ≡ Err StandbyEnd.WriteFault) }
+    ensures disk_fault { HasCause (D.state disk.old).faults (D.state disk.new).faults (result ≡ Err StandbyEnd.DiskFault) }
+{
+    let wanted = size_of_item(&inbox[..held]);
+    match link.read(&mut inbox[held..wanted]) {
+        Got::Bytes(count) => take_in(&inbox[..held + count], made, link, disk),
+        Got::Quiet => Ok(held),
+        Got::End => Err(StandbyEnd::End),
+        Got::Failed => Err(StandbyEnd::ReadFault),
+    }
+}
+
+/// Makes the item in hand where it is whole. Answers how many bytes are in hand then.
+fn take_in<K: Link, D: Disk>(
+    held: &[u8],
+    made: &mut Made,
+    link: &mut K,
+    disk: &mut D,
+) -> Result<usize, StandbyEnd>
+    requires within { length held.now ≤ size held.now }
+    requires sized { D.told → made.old.length ≡ min (length (D.state disk.old).reads_as) (2 ^ 64 - 1) }
+    ensures goes { (before : LinkState) (room sum : ℕ) → Ran K.told D.told room sum before (K.state link.old) (D.state disk.old) made.old held.now
+        → Goes K.told D.told room sum before (K.state link.new) (D.state disk.new) made.new held.now result }
+    ensures unfinished { IfOk result (λ left. IsUnfinished held.now left) }
+    ensures ends { IfErr result IsOfItem }
+    ensures link { OnlyWrites (K.state link.old) (K.state link.new) }
+    ensures write_fault { HasCause (K.state link.old).write_faults (K.state link.new).write_faults (result ≡ Err StandbyEnd.WriteFault) }
+    ensures disk_fault { HasCause (D.state disk.old).faults (D.state disk.new).faults (result ≡ Err StandbyEnd.DiskFault) }
+{
+    match judge(held) {
+        InHand::Unfinished => return Ok(held.len()),
+        InHand::Bad => return Err(StandbyEnd::BadMessage),
+        InHand::Write { number, place } => made.write(disk, number, place, &held[19..])?,
+        InHand::Sync { number } => {
+            made.sync(disk, number)?;
+            send_have(link, made.synced)?;
+        }
+    }
+    Ok(0)
+}
+
+fn send_have<K: Link>(link: &mut K, number: u64) -> Result<(), StandbyEnd>
+    ensures sends { SendsHave K.told (K.state link.old) (K.state link.new) number result }
+    ensures link { OnlyWrites (K.state link.old) (K.state link.new) }
+    ensures ends { IfErr result IsOfItem }
+    ensures cause { HasCause (K.state link.old).write_faults (K.state link.new).write_faults (result ≡ Err StandbyEnd.WriteFault) }
+{
+    let mut message = [3; 9];
+    BigEndian::write_u64(&mut message[1..], number);
+    match write_all(link, &message) {
+        Sent::Whole => Ok(()),
+        Sent::Cut => Err(StandbyEnd::WriteFault),
+    }
+}
