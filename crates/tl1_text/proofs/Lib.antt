@@ -1,4 +1,5 @@
 pub mod Steps
+pub mod Runs
 pub mod Once
 pub mod Walks
 pub mod Finds
