@@ -4,6 +4,7 @@ ghost use Rattle.tl1_text.specs.Reading.{Holds, IsKind, IsRun};
 ghost use Rattle.tl1_text.specs.Units.{is_gap as gap, is_quoted, Begins};
 
 use arrayvec::ArrayVec;
+use memchr::memchr2;
 use std::marker::Model;
 
 /// A unit has at most so many bytes, the `;` that ends it among them.
@@ -184,12 +185,10 @@ fn run_of(text: &[u8]) -> usize
     ensures within { result ≤ length text.now }
     ensures run { IsRun (take result text.now) }
 {
-    for at in 0..text.len() {
-        if text[at] == b';' || text[at] == b'"' {
-            return at;
-        }
+    match memchr2(b';', b'"', text) {
+        Some(at) => at,
+        None => text.len(),
     }
-    text.len()
 }
 
 fn begins_with_gap(text: &[u8]) -> bool

@@ -1,8 +1,9 @@
-use Rattle.std.proofs.Common.{take, sym, subst}
-use Rattle.std.proofs.lemmas.List.{take_more}
-use Rattle.tl1_text.specs.Reading.{IsRun}
-use Rattle.tl1_text.proofs.Runs.{run_more}
+use Rattle.std.proofs.Common.{length, arith}
+use Rattle.tl1_text.proofs.Runs.{run_before}
 use Rattle.tl1_text.proofs.reader.run_of.Goals as goal
 
-pub loop-at-preserved : goal.loop-at-preserved
-loop-at-preserved c = subst IsRun (sym (take_more c.args.text.now c.loop-at.at 0 c.loop-at-test.true)) (run_more (take c.loop-at.at c.args.text.now) _ c.loop-at.invariant c.if-text-at-eq59.false c.if-text-at-eq34.false)
+pub returns-in-Some-clause-run : goal.returns-in-Some-clause-run
+returns-in-Some-clause-run c = run_before c.in-Some.at c.args.text.now (omega (arith, c.in-Some.ensures.0.high)) c.in-Some.ensures.0.before
+
+pub returns-in-None-clause-run : goal.returns-in-None-clause-run
+returns-in-None-clause-run c = run_before (length c.args.text.now) c.args.text.now (omega arith) c.in-None.ensures

@@ -1,6 +1,0 @@
-use Rattle.std.proofs.Common.{take}
-use Rattle.tl1_text.specs.Reading.{IsRun}
-use Rattle.tl1_text.proofs.reader.run_of.Given as goal
-
-abbrev pub invariant-loop-at : goal.invariant-loop-at
-invariant-loop-at l = IsRun (take l.at l.text)
