@@ -8,6 +8,7 @@ pub mod BlockFacts
 pub mod CutSteps
 pub mod Slices
 pub mod ValueSteps
+pub mod Plains
 pub mod CutBlocks
 pub mod TagFacts
 pub mod Totals
