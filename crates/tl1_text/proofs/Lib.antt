@@ -12,3 +12,4 @@ pub mod Plains
 pub mod CutBlocks
 pub mod TagFacts
 pub mod Totals
+pub mod Tables
