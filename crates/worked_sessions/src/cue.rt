@@ -1,4 +1,5 @@
-ghost use Rattle.std.specs.Prelude.{◌≤◌, length};
+ghost use Rattle.std.specs.Prelude.{◌<◌, ◌≤◌, length};
+ghost use Rattle.dxc_outside.specs.Items.{FitsBuffer};
 
 use crate::meeting::Meeting;
 use dxc_outside::Got;

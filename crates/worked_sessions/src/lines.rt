@@ -118,10 +118,11 @@ impl Lines for WatchedLines {
 
     fn read_frame(&mut self, into: &mut [u8]) -> Frame {
         yield_now();
-        self.ended = !self.goes_on();
-        if self.ended {
+        if !self.goes_on() {
+            self.ended = true;
             return Frame::End;
         }
+        self.ended = false;
         for known in &mut self.known {
             known.look(&self.meeting);
         }

@@ -2,14 +2,19 @@
 //! each frame worker on a thread of its own. It compares what each session was written and what the frames carried with what they say.
 #![tactic(auto)]
 
+mod asked;
+mod audit;
 mod compare;
 mod cue;
 mod gate;
+mod heard;
 mod lines;
 mod link;
 mod listener;
 mod meeting;
 mod opener;
+mod plain;
+mod random;
 mod read;
 mod row;
 mod run;
@@ -35,6 +40,9 @@ fn main(rt: HostRuntime) -> Result<()> {
             runs = runs.saturating_add(1);
         }
     }
-    println!(rt; "{runs} runs of {} rows, {failed} of them failed", rows.len())?;
+    println!(rt;
+        "{runs} runs of {} rows, {failed} of them failed",
+        rows.len()
+    )?;
     Ok(())
 }

@@ -1,6 +1,8 @@
 use crate::cue::Cue;
 use crate::gate::Act;
-use crate::row::{Carried, POINTS, Row, Session, Size};
+use crate::plain::Spot;
+use crate::random::{Plan, take_random};
+use crate::row::{Carried, NEVER, POINTS, Row, Session, Size};
 use crate::wanted::{add_completed, add_denied, add_line, add_report, add_rows};
 use anyhow::{Context, Result, bail, ensure};
 use std::alloc::Global;
@@ -38,9 +40,10 @@ fn take_line(alloc: Global, row: &mut Row, word: &str, rest: &str) -> Result<()>
         "carried" => take_carried(row, rest)?,
         "stands" => {
             let (input, output) = two(rest)?;
-            let legs = (row.size.port(input)?, row.size.port(output)?);
-            row.stands.push(legs)?;
+            let input = row.size.port(Spot::of(input)?)?;
+            row.stands.push((input, row.size.port(Spot::of(output)?)?))?;
         }
+        "random" => take_plan(alloc, row, rest)?,
         "session" => row.sessions.push(Session::new(alloc, rest)?)?,
         _ => {
             let session = row
@@ -52,9 +55,6 @@ fn take_line(alloc: Global, row: &mut Row, word: &str, rest: &str) -> Result<()>
     }
     Ok(())
 }
-
-// No point has this number.
-const NEVER: usize = POINTS;
 
 // The words in front of the first blank and behind it.
 fn two(text: &str) -> Result<(&str, &str)> {
@@ -85,16 +85,40 @@ fn take_carried(row: &mut Row, rest: &str) -> Result<()> {
     row.carried.push(Carried {
         from: point(from)?,
         until: if until == "-" { NEVER } else { point(until)? },
-        input: row.size.port(input)?,
-        output: row.size.port(output)?,
+        input: row.size.port(Spot::of(input)?)?,
+        output: row.size.port(Spot::of(output)?)?,
         stands: false,
     })?;
     Ok(())
 }
 
-fn take_step(alloc: Global, session: &mut Session, sid: &str, word: &str, rest: &str) -> Result<()> {
+// The numbers that are parted by blanks, and at last a user.
+fn take_plan(alloc: Global, row: &mut Row, rest: &str) -> Result<()> {
+    let (seed, rest) = two(rest)?;
+    let (sessions, rest) = two(rest)?;
+    let (rounds, rest) = two(rest)?;
+    let (units, rest) = two(rest)?;
+    let (equipped, uid) = two(rest)?;
+    let plan = Plan {
+        seed: seed.parse::<u64>()?,
+        sessions: sessions.parse::<usize>()?,
+        rounds: rounds.parse::<usize>()?,
+        units: units.parse::<usize>()?,
+        equipped: equipped.parse::<u16>()?,
+        uid,
+    };
+    take_random(alloc, row, plan)
+}
+
+fn take_step(
+    alloc: Global,
+    session: &mut Session,
+    sid: &str,
+    word: &str,
+    rest: &str,
+) -> Result<()> {
     match word {
-        "send" => session.cues.push(Cue::Send(bytes_of(alloc, rest)?))?,
+        "send" => session.send(alloc, rest)?,
         "times" => take_times(alloc, session, rest)?,
         "quiet" => session.cues.push(Cue::Quiet)?,
         "point" => session.cues.push(Cue::Reach(point(rest)?))?,
@@ -112,12 +136,6 @@ fn take_step(alloc: Global, session: &mut Session, sid: &str, word: &str, rest: 
         _ => take_wanted(alloc, session, sid, word, rest)?,
     }
     Ok(())
-}
-
-fn bytes_of(alloc: Global, text: &str) -> Result<Vec<u8>> {
-    let mut bytes = Vec::new(alloc);
-    bytes.extend_from_slice(text.as_bytes())?;
-    Ok(bytes)
 }
 
 fn take_times(alloc: Global, session: &mut Session, rest: &str) -> Result<()> {
@@ -163,7 +181,7 @@ fn take_wanted(
 fn take_login(alloc: Global, session: &mut Session, sid: &str, rest: &str) -> Result<()> {
     let (uid, tag) = two(rest)?;
     let unit = format!(in alloc; "ACT-USER::{uid}:{tag}::bc;")?;
-    session.cues.push(Cue::Send(bytes_of(alloc, unit.as_str())?))?;
+    session.send(alloc, unit.as_str())?;
     add_completed(alloc, sid, tag, &mut session.wanted)
 }
 

@@ -1,11 +1,16 @@
+use crate::asked::Ask;
 use crate::cue::Cue;
 use crate::gate::Act;
 use crate::meeting::Meeting;
+use crate::plain::Spot;
 use anyhow::{Context, Result, ensure};
 use std::alloc::Global;
 
-/// The points of a row are below this number.
+/// The points that a row's text may name are below this number.
 pub const POINTS: usize = 64;
+
+/// No point has this number.
+pub const NEVER: usize = usize::MAX;
 
 /// A connection that is known to stand for a time: each frame that begins and ends within it carries the input's byte.
 #[derive(Clone, Copy)]
@@ -21,6 +26,17 @@ pub struct Carried {
 }
 
 impl Carried {
+    /// It stands for good when the point was come to.
+    pub fn from_point(from: usize, input: u16, output: u16) -> Carried {
+        Carried {
+            from,
+            until: NEVER,
+            input,
+            output,
+            stands: false,
+        }
+    }
+
     /// Looks whether it stands, where a frame begins.
     pub fn look(&mut self, meeting: &Meeting) {
         self.stands = meeting.was_reached(self.from);
@@ -38,6 +54,8 @@ pub struct Session {
     pub name: String,
     pub cues: Vec<Cue>,
     pub wanted: Vec<u8>,
+    /// In place of that, what its units ask: they are tagged by their numbers, from 1.
+    pub asked: Vec<Ask>,
     /// The point that is come to where it is over.
     pub over: Option<usize>,
     /// What its gate does at the asking of the row's number.
@@ -50,9 +68,18 @@ impl Session {
             name: name.to_string(alloc)?,
             cues: Vec::new(alloc),
             wanted: Vec::new(alloc),
+            asked: Vec::new(alloc),
             over: None,
             act: None,
         })
+    }
+
+    /// The text comes next.
+    pub fn send(&mut self, alloc: Global, text: &str) -> Result<()> {
+        let mut bytes = Vec::new(alloc);
+        bytes.extend_from_slice(text.as_bytes())?;
+        self.cues.push(Cue::Send(bytes))?;
+        Ok(())
     }
 }
 
@@ -68,14 +95,10 @@ impl Size {
         self.modules.saturating_mul(self.slots)
     }
 
-    /// The number of the port of this name, from 0.
-    pub fn port(self, name: &str) -> Result<u16> {
-        let rest = name.strip_prefix("DS0-").context("a port is wanted")?;
-        let (module, slot) = rest.split_once('-').context("a slot is wanted")?;
-        let module = module.parse::<u16>()?;
-        let slot = slot.parse::<u16>()?;
-        let module = module.checked_sub(1).context("modules begin at 1")?;
-        let slot = slot.checked_sub(1).context("slots begin at 1")?;
+    /// The number of the port, from 0.
+    pub fn port(self, spot: Spot) -> Result<u16> {
+        let module = spot.module.checked_sub(1).context("modules begin at 1")?;
+        let slot = spot.slot.checked_sub(1).context("slots begin at 1")?;
         ensure!(
             module < self.modules && slot < self.slots,
             "the element has no such port"
@@ -96,6 +119,10 @@ pub struct Row {
     pub sid: String,
     pub size: Size,
     pub workers: u16,
+    /// Its points are below this number.
+    pub points: usize,
+    /// Where its sessions are random: up to which module it is equipped at first.
+    pub equipped: Option<u16>,
     /// It is run for each number from the first to the last.
     pub first: u64,
     pub last: u64,
@@ -116,6 +143,8 @@ impl Row {
                 slots: 1,
             },
             workers: 1,
+            points: POINTS,
+            equipped: None,
             first: 0,
             last: 0,
             carried: Vec::new(alloc),

@@ -1,10 +1,11 @@
+use crate::audit::stands_after;
 use crate::compare::{fault_of_frames, fault_of_session};
 use crate::cue::Script;
 use crate::gate::Cued;
 use crate::link::CueLink;
 use crate::meeting::Meeting;
 use crate::opener::{Caller, Crew, RowOpener};
-use crate::row::{POINTS, Row, Session};
+use crate::row::{Row, Session};
 use anyhow::{Context, Result};
 use craft_server::dxc_run;
 use dxc_disk::MemDisk;
@@ -35,7 +36,7 @@ pub fn run_row<R: Threads + Wait + Copy + Send + Drop + 'static>(
     asking: u64,
 ) -> Result<Option<String>> {
     let alloc = rt.alloc();
-    let meeting = Meeting::new(alloc, POINTS, row.sessions.len(), row.workers as usize)?;
+    let meeting = Meeting::new(alloc, row.points, row.sessions.len(), row.workers as usize)?;
     let meeting = Arc::new(alloc, meeting)?;
     let status = serve(rt, threads, row, asking, &meeting)?;
     if status != 0 {
@@ -54,7 +55,13 @@ fn serve<R: Threads + Wait + Copy + Send + Drop + 'static>(
 ) -> Result<u8> {
     let alloc = rt.alloc();
     let mut words = Vec::new(alloc);
-    for word in ["serve", row.shelf.as_str(), "row.journal", "anywhere", "lines"] {
+    for word in [
+        "serve",
+        row.shelf.as_str(),
+        "row.journal",
+        "anywhere",
+        "lines",
+    ] {
         words.push(Name::of(word.to_string(alloc)?))?;
     }
     words.push(Name::of(row.workers.to_string(alloc)?))?;
@@ -99,10 +106,12 @@ fn files_of(rt: &HostRuntime, row: &Row) -> Result<MemOpener> {
     for _ in 0..PLACES {
         clocks.push_back(MemClock::new(vec![in alloc; NOON]?))?;
     }
-    Ok(MemOpener::new(alloc, Vec::new(alloc))
-        .with_shelves(vec![in alloc; (shelf_name, shelf)]?)
-        .with_journals(vec![in alloc; (journal_name, disk)]?)
-        .with_clocks(clocks))
+    Ok(
+        MemOpener::new(alloc, Vec::new(alloc))
+            .with_shelves(vec![in alloc; (shelf_name, shelf)]?)
+            .with_journals(vec![in alloc; (journal_name, disk)]?)
+            .with_clocks(clocks),
+    )
 }
 
 fn callers_of(
@@ -112,10 +121,8 @@ fn callers_of(
     meeting: &Arc<Meeting>,
 ) -> Result<VecDeque<Caller>> {
     let mut callers = VecDeque::new(rt.alloc());
-    let mut number = 0;
-    for session in &row.sessions {
+    for (number, session) in row.sessions.iter().enumerate() {
         callers.push_back(caller_of(rt, session, number, asking, meeting)?)?;
-        number += 1;
     }
     Ok(callers)
 }
@@ -146,12 +153,16 @@ fn fault_of(alloc: Global, row: &Row, meeting: &Meeting) -> Result<Option<String
     if meeting.is_given_up() {
         return Ok(Some("a thread was waited for in vain".to_string(alloc)?));
     }
-    let mut number = 0;
-    for session in &row.sessions {
+    if let Some(equipped) = row.equipped {
+        return match stands_after(alloc, row, equipped, meeting) {
+            Ok(stands) => fault_of_frames(alloc, row, &stands, meeting),
+            Err(why) => Ok(Some(why.to_string(alloc)?)),
+        };
+    }
+    for (number, session) in row.sessions.iter().enumerate() {
         if let Some(why) = fault_of_session(alloc, session, meeting.output(number))? {
             return Ok(Some(why));
         }
-        number += 1;
     }
-    fault_of_frames(alloc, row, meeting)
+    fault_of_frames(alloc, row, &row.stands, meeting)
 }

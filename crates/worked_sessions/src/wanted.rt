@@ -51,7 +51,13 @@ pub fn add_denied(alloc: Global, sid: &str, rest: &str, into: &mut Vec<u8>) -> R
 }
 
 /// Appends a report of this number.
-pub fn add_report(alloc: Global, sid: &str, number: u64, text: &str, into: &mut Vec<u8>) -> Result<()> {
+pub fn add_report(
+    alloc: Global,
+    sid: &str,
+    number: u64,
+    text: &str,
+    into: &mut Vec<u8>,
+) -> Result<()> {
     let head = format!(in alloc; "A  {number} REPT DBCHG")?;
     let text = format!(in alloc; "   \"{text}\"")?;
     add_message(alloc, sid, &[head.as_str(), text.as_str()], into)
