@@ -1,4 +1,4 @@
-ghost use Rattle.std.specs.Prelude.{◌<◌, ◌≤◌, length};
+ghost use Rattle.std.specs.Prelude.{◌<◌, ◌≤◌, IfSome, length};
 ghost use Rattle.dxc_outside.specs.Items.{FitsBuffer};
 
 use crate::meeting::Meeting;
@@ -31,14 +31,6 @@ pub struct Script {
     given: usize,
 }
 
-/// What a cue gives.
-#[derive(Clone, Copy)]
-enum Given {
-    Got(Got),
-    /// The next cue is to be looked at.
-    Nothing,
-}
-
 impl Script {
     pub fn new(rt: HostRuntime, meeting: Arc<Meeting>, cues: Vec<Cue>) -> Script {
         Script {
@@ -56,30 +48,32 @@ impl Script {
         ensures { FitsBuffer result (length into.new) }
     {
         for _ in 0..self.cues.len() {
-            if let Given::Got(got) = self.give(into) {
+            if let Some(got) = self.give(into) {
                 return got;
             }
         }
         Got::End
     }
 
-    // What the cue in hand gives.
-    fn give(&mut self, into: &mut [u8]) -> Given {
+    // What the cue in hand gives; None where the next one is to be looked at.
+    fn give(&mut self, into: &mut [u8]) -> Option<Got>
+        ensures { IfSome result (λ got. FitsBuffer got (length into.new)) }
+    {
         let Some(cue) = self.cues.get(self.at) else {
-            return Given::Got(Got::End);
+            return Some(Got::End);
         };
         let held = match cue {
             Cue::Send(bytes) => {
                 let count = copy_part(bytes, self.given, into);
                 if count != 0 {
                     self.given = self.given.saturating_add(count);
-                    return Given::Got(Got::Bytes(count));
+                    return Some(Got::Bytes(count));
                 }
                 true
             }
             Cue::Quiet => {
                 self.at += 1;
-                return Given::Got(Got::Quiet);
+                return Some(Got::Quiet);
             }
             Cue::Reach(point) => {
                 self.meeting.reach(*point);
@@ -89,11 +83,11 @@ impl Script {
             Cue::Frames => self.meeting.wait_for_frames(&self.rt),
         };
         if !held {
-            return Given::Got(Got::Failed);
+            return Some(Got::Failed);
         }
         self.at += 1;
         self.given = 0;
-        Given::Nothing
+        None
     }
 }
 

@@ -31,6 +31,34 @@ pub struct Worker {
     pub slots: u16,
 }
 
+/// The number of the frame in hand, and how many come behind it.
+#[derive(Clone, Copy)]
+struct Count {
+    frame: u8,
+    /// Known once all sessions are over.
+    left: Option<u8>,
+}
+
+impl Count {
+    // Goes on to the next frame; whether there is one. Behind the first frame at which all sessions are over, which is frame 0, comes
+    // frame 1.
+    fn goes_on(&mut self, is_over: bool) -> bool {
+        match self.left {
+            Some(0) => return false,
+            Some(left) => {
+                self.left = Some(left - 1);
+                self.frame = 1;
+            }
+            None if is_over => {
+                self.left = Some(1);
+                self.frame = 0;
+            }
+            None => self.frame = self.frame.wrapping_add(1) % PERIOD,
+        }
+        true
+    }
+}
+
 /// The lines of a worker. They give frame by frame until all sessions are over, and then frames 0 and 1; meanwhile they look whether
 /// the connections that are known to stand are carried. Where they are dropped they leave what those last two carried to whoever
 /// compares it.
@@ -38,10 +66,7 @@ pub struct WatchedLines {
     meeting: Arc<Meeting>,
     worker: Worker,
     known: Vec<Carried>,
-    /// The number of the frame in hand.
-    frame: u8,
-    /// How many frames come behind the one in hand, once all sessions are over.
-    left: Option<u8>,
+    count: Count,
     last_frames: Vec<u8>,
     ended: bool,
     write_faults: u64,
@@ -59,29 +84,14 @@ impl WatchedLines {
             meeting,
             worker,
             known,
-            frame: 0,
-            left: None,
+            count: Count {
+                frame: 0,
+                left: None,
+            },
             last_frames,
             ended: false,
             write_faults: 0,
         }
-    }
-
-    // Whether one more frame comes.
-    fn goes_on(&mut self) -> bool {
-        match self.left {
-            Some(0) => return false,
-            Some(left) => {
-                self.left = Some(left - 1);
-                self.frame = 1;
-            }
-            None if self.meeting.is_over() => {
-                self.left = Some(1);
-                self.frame = 0;
-            }
-            None => self.frame = self.frame.wrapping_add(1) % PERIOD,
-        }
-        true
     }
 
     // How many bytes of a frame come from elsewhere than from the input of a connection that stood meanwhile.
@@ -96,7 +106,7 @@ impl WatchedLines {
             if known.stood(&self.meeting)
                 && is_of_worker(known.output, slots, number, workers)
                 && frame.get(known.output as usize).copied()
-                    != Some(byte_of(known.input, self.frame))
+                    != Some(byte_of(known.input, self.count.frame))
             {
                 astray = astray.saturating_add(1);
             }
@@ -118,7 +128,7 @@ impl Lines for WatchedLines {
 
     fn read_frame(&mut self, into: &mut [u8]) -> Frame {
         yield_now();
-        if !self.goes_on() {
+        if !self.count.goes_on(self.meeting.is_over()) {
             self.ended = true;
             return Frame::End;
         }
@@ -126,12 +136,12 @@ impl Lines for WatchedLines {
         for known in &mut self.known {
             known.look(&self.meeting);
         }
-        fill(into, self.frame);
+        fill(into, self.count.frame);
         Frame::Whole
     }
 
     fn write_frame(&mut self, from: &[u8]) -> Put {
-        if self.left.is_some() && self.last_frames.extend_from_slice(from).is_err() {
+        if self.count.left.is_some() && self.last_frames.extend_from_slice(from).is_err() {
             self.write_faults = self.write_faults.saturating_add(1);
             return Put::Failed;
         }
@@ -156,8 +166,7 @@ impl Drop for WatchedLines {
             meeting,
             worker,
             known: _,
-            frame: _,
-            left: _,
+            count: _,
             last_frames,
             ended: _,
             write_faults: _,
