@@ -11,9 +11,9 @@ use std::alloc::Global;
 
 /// The response to a unit: it was given when of all changes at least `from` and at most `until` were made.
 #[derive(Clone, Copy)]
-struct Answer<'a> {
+struct Answer<'m, 'a> {
     completed: bool,
-    lines: &'a [&'a str],
+    lines: &'m [&'a str],
     from: usize,
     until: usize,
 }
@@ -89,11 +89,11 @@ fn start_of(messages: &[Heard<'_>]) -> Result<usize> {
 }
 
 // The session's responses, each with the changes that were reported around it, which are those of the history.
-fn answers_of<'a>(
+fn answers_of<'m, 'a>(
     alloc: Global,
-    messages: &'a [Heard<'a>],
+    messages: &'m [Heard<'a>],
     history: &[Change],
-) -> Result<Vec<Answer<'a>>> {
+) -> Result<Vec<Answer<'m, 'a>>> {
     let mut answers = Vec::new(alloc);
     let mut seen = start_of(messages)?;
     for message in messages {
@@ -134,7 +134,7 @@ fn answers_of<'a>(
 fn judge(
     alloc: Global,
     session: &Session,
-    answers: &[Answer<'_>],
+    answers: &[Answer<'_, '_>],
     history: &[Change],
     mut table: PlainTable,
     claims: &mut Vec<Claim>,
@@ -180,7 +180,7 @@ fn advance(table: &mut PlainTable, history: &[Change], at: &mut usize, until: us
 fn is_right(
     alloc: Global,
     ask: Ask,
-    answer: &Answer<'_>,
+    answer: &Answer<'_, '_>,
     history: &[Change],
     table: &mut PlainTable,
     at: &mut usize,
@@ -231,7 +231,7 @@ fn lists(table: &PlainTable, which: Which, rows: &[Joined]) -> bool {
 }
 
 // Whether the answer is the denial of the change by the table.
-fn is_denied_so(table: &PlainTable, change: Change, answer: &Answer<'_>) -> bool {
+fn is_denied_so(table: &PlainTable, change: Change, answer: &Answer<'_, '_>) -> bool {
     match (table.denial(change), answer.lines) {
         (Some(denial), [code, text]) => {
             !answer.completed && *code == denial.code() && *text == denial.text()

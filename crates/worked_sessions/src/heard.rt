@@ -22,7 +22,6 @@ pub enum Heard<'a> {
 /// A reader of messages.
 #[derive(Drop)]
 struct Ear<'a> {
-    header: &'a str,
     rest: &'a str,
 }
 
@@ -34,10 +33,10 @@ impl<'a> Ear<'a> {
         line.strip_suffix("\r").context("a line has no CR")
     }
 
-    fn header(&mut self) -> Result<()> {
+    fn header(&mut self, header: &str) -> Result<()> {
         self.rest = self
             .rest
-            .strip_prefix(self.header)
+            .strip_prefix(header)
             .context("a header is wanted")?;
         Ok(())
     }
@@ -60,13 +59,13 @@ impl<'a> Ear<'a> {
     }
 
     // Takes a message's blocks behind its first header; its head and its text lines.
-    fn blocks(&mut self, lines: &mut Vec<&'a str>) -> Result<&'a str> {
+    fn blocks(&mut self, header: &str, lines: &mut Vec<&'a str>) -> Result<&'a str> {
         let head = self.line()?;
         for _ in 0..self.rest.len() {
             if self.lines(lines)? {
                 return Ok(head);
             }
-            self.header()?;
+            self.header(header)?;
             ensure!(self.line()? == head, "the blocks of a message differ");
         }
         bail!("a message has no end")
@@ -74,16 +73,16 @@ impl<'a> Ear<'a> {
 }
 
 /// The messages of an element with this header.
-pub fn messages_of<'a>(alloc: Global, header: &'a str, text: &'a str) -> Result<Vec<Heard<'a>>> {
+pub fn messages_of<'a>(alloc: Global, header: &str, text: &'a str) -> Result<Vec<Heard<'a>>> {
     let mut messages = Vec::new(alloc);
-    let mut ear = Ear { header, rest: text };
+    let mut ear = Ear { rest: text };
     for _ in 0..text.len() {
         if ear.rest.is_empty() {
             break;
         }
-        ear.header()?;
+        ear.header(header)?;
         let mut lines = Vec::new(alloc);
-        let head = ear.blocks(&mut lines)?;
+        let head = ear.blocks(header, &mut lines)?;
         messages.push(message_of(head, lines)?)?;
     }
     Ok(messages)
