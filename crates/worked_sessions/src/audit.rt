@@ -149,12 +149,14 @@ fn judge(
     for (ask, answer) in session.asked.iter().zip(answers.iter()) {
         advance(&mut table, history, &mut at, answer.from)?;
         match ask {
-            Ask::Change(change) if answer.completed => claims.push(Claim {
-                change: *change,
-                from: answer.from,
-                until: answer.until,
-                is_met: false,
-            })?,
+            Ask::Change(change) if answer.completed && answer.lines.is_empty() => claims.push(
+                Claim {
+                    change: *change,
+                    from: answer.from,
+                    until: answer.until,
+                    is_met: false,
+                },
+            )?,
             _ => ensure!(
                 is_right(alloc, *ask, answer, history, &mut table, &mut at)?,
                 "session {}: an answer between changes {} and {} is wrong",

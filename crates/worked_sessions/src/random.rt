@@ -88,21 +88,32 @@ impl Draws {
         }
     }
 
-    // What a unit asks, where the session asked for these connections before.
-    fn ask(&mut self, size: Size, before: &[Joined]) -> Ask {
+    // Connections that all sessions ask for, so that each often names what another entered.
+    fn pool(&mut self, alloc: Global, size: Size) -> Result<Vec<Joined>> {
+        let mut pool = Vec::new(alloc);
+        for _ in 0..size.ports() {
+            pool.push(self.joined(size))?;
+        }
+        Ok(pool)
+    }
+
+    // What a unit asks.
+    fn ask(&mut self, size: Size, pool: &[Joined]) -> Ask {
         let kind = self.below(100);
-        let earlier = self.below(before.len().min(1000) as u16) as usize;
-        let mut joined = match before.get(earlier) {
-            Some(earlier) if 45 <= kind => *earlier,
-            _ => self.joined(size),
+        let joined = match pool.get(self.below(size.ports()) as usize) {
+            Some(joined) => *joined,
+            None => self.joined(size),
+        };
+        let other = Joined {
+            both: !joined.both,
+            ..joined
         };
         match kind {
-            0..=44 => Ask::Change(Change::Enter(joined)),
-            45..=72 => Ask::Change(Change::Delete(joined)),
-            73..=82 => {
-                joined.both = !joined.both;
-                Ask::Change(Change::Edit(joined))
-            }
+            0..=39 => Ask::Change(Change::Enter(joined)),
+            40..=63 => Ask::Change(Change::Delete(joined)),
+            64..=70 => Ask::Change(Change::Delete(other)),
+            71..=78 => Ask::Change(Change::Edit(other)),
+            79..=82 => Ask::Change(Change::Edit(joined)),
             83..=85 => Ask::Change(Change::Unequip(size.modules)),
             86..=88 => Ask::Change(Change::Equip(size.modules)),
             _ => Ask::Rows(self.which(size)),
@@ -115,10 +126,11 @@ pub fn take_random(alloc: Global, row: &mut Row, plan: Plan<'_>) -> Result<()> {
     row.points = plan.points();
     row.equipped = Some(plan.equipped);
     let mut draws = Draws { state: plan.seed };
+    let pool = draws.pool(alloc, row.size)?;
     let teller = teller_of(alloc, row.size, plan, &mut row.carried)?;
     row.sessions.push(teller)?;
     for number in 0..plan.sessions {
-        let session = drawn_session(alloc, row.size, plan, number, &mut draws)?;
+        let session = drawn_session(alloc, row.size, plan, number, &pool, &mut draws)?;
         row.sessions.push(session)?;
     }
     Ok(())
@@ -186,20 +198,17 @@ fn drawn_session(
     size: Size,
     plan: Plan<'_>,
     number: usize,
+    pool: &[Joined],
     draws: &mut Draws,
 ) -> Result<Session> {
     let name = format!(in alloc; "{number}")?;
     let mut session = Session::new(alloc, name.as_str())?;
     session.cues.push(Cue::Await(0))?;
     begin(alloc, &mut session, plan.uid)?;
-    let mut before = Vec::new(alloc);
     for round in 0..plan.rounds {
         let mut units = "".to_string(alloc)?;
         for _ in 0..plan.units {
-            let ask = draws.ask(size, &before);
-            if let Ask::Change(Change::Enter(joined)) = ask {
-                before.push(joined)?;
-            }
+            let ask = draws.ask(size, pool);
             units.push_str(next_unit(alloc, &mut session, ask)?.as_str())?;
         }
         session.send(alloc, units.as_str())?;
