@@ -1,5 +1,5 @@
 -- The plain table of what is joined, and frames by their number.
-use Rattle.std.specs.Prelude.{ℕ, ◌+◌, ◌*◌, ◌≤◌, ◌<◌, ◌^◌, List, ◌++◌, length, Option, Some, None, slice_get, unwrap_or}
+use Rattle.std.specs.Prelude.{ℕ, ◌+◌, ◌≤◌, ◌<◌, ◌^◌, List, ◌++◌, length, Option, Some, None, slice_get, unwrap_or}
 use Rattle.std.proofs.Common.{arith, subst, sym, length-append}
 
 abbrev joined_with : Option (Option ℕ) → Option ℕ

@@ -1,4 +1,3 @@
-use Rattle.std.proofs.Common.{◌≡◌}
 use Rattle.std.specs.Arc.{arc_value}
 use Rattle.turnstile.specs.Passing.{Gate}
 use Rattle.xc_core.specs.declared.state.State.{State}

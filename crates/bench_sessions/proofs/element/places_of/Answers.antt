@@ -1,5 +1,4 @@
 use Rattle.std.proofs.Common.{rules, arith, sym, subst}
-use Rattle.std.specs.Arc.{arc_value}
 use Rattle.turnstile.specs.Passing.{Gate}
 use Rattle.xc_core.specs.declared.state.State.{State}
 use Rattle.craft_server.specs.Places.{AreFresh}
