@@ -1,10 +1,10 @@
 -- The shelf file of the load is one, and what it describes.
-use Rattle.std.proofs.Common.{◌≡◌, ◌≢◌, ◌<◌, ◌≤◌, ◌+◌, ◌==◌, arith, ℕ, zero, suc, pos, Bool, true, false, List, [], ◌∷◌, length, codes, Option, Some, None, refl, sym, ap, ap₂, ◌∙◌, subst}
+use Rattle.std.proofs.Common.{◌≡◌, ◌<◌, ◌+◌, ◌==◌, arith, ℕ, zero, suc, pos, true, List, [], ◌∷◌, codes, Some, None, refl, sym, ap, ◌∙◌, subst}
 use Rattle.std.specs.List.{list_any, range_with_len}
 use Rattle.std.specs.Str.{IsUtf8}
 use Rattle.hex.specs.Hex.{decode_pairs}
 use Rattle.std.specs.Float.Numeral.{scan_numeral}
-use Rattle.toml.specs.Data.{Data, Items, Members, no_items, item, no_members, member, string, integer, array, table, get_member}
+use Rattle.toml.specs.Data.{Members, no_items, item, no_members, member, string, integer, array, table}
 use Rattle.toml.specs.Parse.{parse_document, lines, line, expression, key_equals, val, atom, skip_bom, header_key, items, members, after_element}
 use Rattle.toml.specs.Tables.{along_header, along_dots, at_key, define}
 use Rattle.toml_parser.specs.Lexical.{skip_ws, skip_from}
@@ -17,7 +17,7 @@ use Rattle.dxc_model.specs.declared.user.Class.TheVariants.{P}
 use Rattle.dxc_model.specs.Equipment.{has_bit}
 use Rattle.shelf_file.specs.declared.fault.ShelfFault.{ShelfFault}
 use Rattle.shelf_file.specs.declared.fault.ShelfFault.TheVariants.{NoMemory}
-use Rattle.shelf_file.specs.Keys.{sid_of, modules_of, slots_of, users_of, uid_of, class_of, salt_of, digest_of, value_at}
+use Rattle.shelf_file.specs.Keys.{salt_of, digest_of, value_at}
 use Rattle.shelf_file.specs.Checks.{IsDocument, IsFirstFault, first_fault, no_memory, too_large, not_toml, found}
 use Rattle.shelf_file.specs.Contents.{AreUsers, Contents, Describes, IsShelf, IsUser, Marks, UserEntry}
 use Rattle.craft_server.specs.Loads.{IsLoadShelf, load_digest, load_file}

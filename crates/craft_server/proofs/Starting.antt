@@ -1,5 +1,5 @@
 -- A controller that was opened, or wasn't.
-use Rattle.std.proofs.Common.{◌≡◌, ◌≤◌, ◌⊎◌, ℕ, List, [], length, Option, Some, Result, Ok, Err, inl, inr, refl, sym, ◌∙◌, ap, subst}
+use Rattle.std.proofs.Common.{◌≡◌, ℕ, List, length, Option, Some, Result, Ok, Err, inl, inr, refl, sym, ◌∙◌, ap, subst}
 use Rattle.std.specs.Prelude.{MatchResult, IfSome}
 use Rattle.std.specs.Arc.{arc_value}
 use Rattle.dxc_causes.specs.Causes.{HasCause}

@@ -18,7 +18,7 @@ use Rattle.craft_server.specs.Listings.{listing}
 use Rattle.craft_server.specs.Loads.{IsLoad}
 use Rattle.craft_server.specs.Openings.{Found, Opens, Sources}
 use Rattle.craft_server.specs.Scripts.{RanSession}
-use Rattle.craft_server.specs.Serving.{IsServing, named_in, workers_in}
+use Rattle.craft_server.specs.Serving.{IsServing, named_in}
 use Rattle.craft_server.specs.Statuses.{status_of_sent}
 
 -- whether opener, disk, terminal and clock tell what they hold

@@ -1,15 +1,15 @@
 -- What a state comes to, and what the sessions of a place left.
-use Rattle.std.specs.Prelude.{◌≡◌, ℕ, List, length}
+use Rattle.std.specs.Prelude.{◌≡◌, List, length}
 use Rattle.dxc_disk.specs.Disks.{DiskState}
 use Rattle.dxc_model.specs.declared.entry.Entry.{Entry}
 use Rattle.dxc_model.specs.declared.op.Selection.TheVariants.{All}
-use Rattle.dxc_model.specs.Histories.{IsLegal, IsRestartDue, KeepsTurns, changes_of, table_after}
+use Rattle.dxc_model.specs.Histories.{IsLegal, IsRestartDue, changes_of, table_after}
 use Rattle.dxc_model.specs.Tables.{rows}
 use Rattle.xc_core.specs.declared.provisioner.Provisioner.{Provisioner}
 use Rattle.xc_core.specs.declared.state.Home.TheVariants.{In}
 use Rattle.xc_core.specs.declared.state.State.{State}
 use Rattle.xc_core.specs.Reckonings.{Past, ReckonsTo}
-use Rattle.xc_core.specs.States.{Opening, StandsFor, rules_of}
+use Rattle.xc_core.specs.States.{Opening, rules_of}
 use Rattle.craft_server.specs.declared.stock.Stock.{Stock}
 
 -- the connections of a state's table, and the switches of its Provisioner, which is home

@@ -90,12 +90,16 @@ fn loaded<G: Gate, R: Wait>(
         return Err(Status::NoMemory);
     };
     let mut link = LoadLink::new(number, fabric, seats.remove(0), written);
-    match serve_session(&mut place, &mut link, &mut LoadClock, gate, rt) {
+    let end = serve_session(&mut place, &mut link, &mut LoadClock, gate, rt);
+    // Its clause tells that not all reads were made before the script's end.
+    let _reads = link.reads();
+    match end {
         SessionEnd::End => {}
-        // Fewer than 2 MiB are written; where they were not, there was no room.
+        // There was no room for what it wrote.
         SessionEnd::WriteFault => return Err(Status::NoMemory),
         SessionEnd::Stopped => return Err(Status::Stopped),
-        SessionEnd::ReadFault | SessionEnd::Spent => unreachable!(),
+        SessionEnd::ReadFault => unreachable!(),
+        SessionEnd::Spent => unreachable!(),
     }
     let stock = stock_of(&mut pass, &turns, &mut rows, rt);
     Ok(Summary {

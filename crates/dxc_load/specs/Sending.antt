@@ -1,5 +1,5 @@
 -- The link of the load.
-use Rattle.std.specs.Prelude.{ℕ, false, List, [], ◌++◌}
+use Rattle.std.specs.Prelude.{ℕ, false, [], ◌++◌}
 use Rattle.dxc_outside.specs.Items.{bytes}
 use Rattle.dxc_outside.specs.Links.{LinkState}
 use Rattle.dxc_load.specs.declared.link.LoadLink.{LoadLink}

@@ -1,4 +1,4 @@
-use Rattle.std.proofs.Common.{◌≡◌, ◌+◌, ℕ, slice_index_or, sym, ap, ap₂, ◌∙◌}
+use Rattle.std.proofs.Common.{◌+◌, ℕ, slice_index_or, sym, ap, ap₂, ◌∙◌}
 use Rattle.dxc_load.specs.declared.codes.Spot.{Spot}
 use Rattle.dxc_load.specs.declared.codes.Spot.TheVariants.{Login}
 use Rattle.dxc_load.specs.Codes.{codes_at, compld, deny, next_spot}

@@ -1,4 +1,4 @@
-use Rattle.std.proofs.Common.{◌≡◌, ◌≤◌, length, take}
+use Rattle.std.proofs.Common.{◌≡◌, ◌≤◌, take}
 use Rattle.dxc_load.specs.declared.codes.Spot.TheVariants.{Login}
 use Rattle.dxc_load.specs.Codes.{coded_from, compld, deny, spot_after}
 use Rattle.dxc_load.proofs.codes.codes_in.Given as goal

@@ -1,4 +1,4 @@
-use Rattle.std.proofs.Common.{◌≡◌, ◌*◌, ℕ, ap, ◌∙◌}
+use Rattle.std.proofs.Common.{◌*◌, ℕ, ap, ◌∙◌}
 use Rattle.dxc_load.proofs.link.LoadLink.carried.Goals as goal
 
 pub returns : goal.returns
