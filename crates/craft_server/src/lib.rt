@@ -17,6 +17,8 @@ mod serve;
 mod sessions;
 mod status;
 mod stock;
+#[cfg(test)]
+mod tests;
 mod threads;
 
 pub use frames::FrameJob;
