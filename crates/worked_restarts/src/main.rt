@@ -1,0 +1,44 @@
+//! Runs worked rows of stops, restarts and faults of the disk through sessions on one element, and compares what is written, where the gate was
+//! asked, each frame and each register word with what they say.
+#![tactic(auto)]
+
+mod answer;
+mod audit;
+mod carriage;
+mod carrier;
+mod course;
+mod disk;
+mod element;
+mod levers;
+mod loops;
+mod point;
+mod read;
+mod row;
+mod run;
+mod tally;
+
+use crate::course::Course;
+use crate::read::Parts;
+use crate::tally::Tally;
+use anyhow::Result;
+use std::fs;
+
+fn main(rt: HostRuntime) -> Result<()> {
+    let alloc = rt.alloc();
+    let parts = fs::read_to_string(&rt, "parts.txt")?;
+    let rows = fs::read_to_string(&rt, "rows.txt")?;
+    let writes = fs::read_to_string(&rt, "writes.txt")?;
+    let course = Course::of(alloc, writes.as_str())?;
+    let mut tally = Tally::new(
+        alloc,
+        Parts {
+            text: parts.as_str(),
+        },
+    );
+    tally.run(alloc, &rt, rows.as_str())?;
+    loops::restarts(alloc, &rt, &course, &mut tally)?;
+    loops::second_stops(alloc, &rt, &course, &mut tally)?;
+    print!(rt; "{}", tally.report)?;
+    println!(rt; "{} rows, {} of them failed", tally.rows, tally.failed)?;
+    Ok(())
+}
