@@ -6,15 +6,18 @@ mod answer;
 mod audit;
 mod carriage;
 mod carrier;
+mod changes;
 mod course;
 mod disk;
 mod element;
+mod faults;
 mod levers;
-mod loops;
 mod point;
 mod read;
 mod row;
 mod run;
+mod seals;
+mod stops;
 mod tally;
 
 use crate::course::Course;
@@ -36,8 +39,11 @@ fn main(rt: HostRuntime) -> Result<()> {
         },
     );
     tally.run(alloc, &rt, rows.as_str())?;
-    loops::restarts(alloc, &rt, &course, &mut tally)?;
-    loops::second_stops(alloc, &rt, &course, &mut tally)?;
+    stops::restarts(alloc, &rt, &course, &mut tally)?;
+    stops::second_stops(alloc, &rt, &course, &mut tally)?;
+    changes::changes(alloc, &rt, &course, &mut tally)?;
+    faults::faults(alloc, &rt, &course, &mut tally)?;
+    seals::seals(alloc, &rt, &mut tally)?;
     print!(rt; "{}", tally.report)?;
     println!(rt; "{} rows, {} of them failed", tally.rows, tally.failed)?;
     Ok(())

@@ -1,4 +1,4 @@
-//! Rows for each place at which a stop or a fault can come.
+//! Rows with a stop at each place of an entry, and at each place of the restart behind it.
 use crate::course::Course;
 use crate::point::{PLACES, Point, writes_asked};
 use crate::tally::Tally;
@@ -6,8 +6,8 @@ use anyhow::Result;
 use std::alloc::Global;
 use std::sync::Wait;
 
-/// The entry that needs three moves, stopped at its asking of that number.
-fn fifth(alloc: Global, course: &Course, asking: u64) -> Result<String> {
+/// The entry that needs three moves, behind four others, stopped at its asking of that number.
+pub fn fifth(alloc: Global, course: &Course, asking: u64) -> Result<String> {
     let point = Point::at(asking);
     let asked = writes_asked(asking, 18);
     let ended = (asking == PLACES - 1) as u8;
@@ -31,21 +31,12 @@ fn restart_stopped(alloc: Global, course: &Course, from: Point, asking: u64) -> 
 }
 
 /// A restart from there that comes to its end.
-fn restart(alloc: Global, course: &Course, from: Point) -> Result<String> {
+pub fn restart(alloc: Global, course: &Course, from: Point) -> Result<String> {
     let end = from.ended();
     let (first, frame, listed, left) = (from.frame(), end.frame(), end.listed(), from.left());
     let words = course.words_after(alloc, end.made)?;
     Ok(format!(in alloc;
         "session\nuse login\nuse warm\nuse {listed}\nasked 1 {left} 1\nframes {first} {frame}\nlast {frame}\nwords {words}\n"
-    )?)
-}
-
-/// A restart from there one of whose calls of the disk fails.
-fn restart_failed(alloc: Global, course: &Course, from: Point, call: u64) -> Result<String> {
-    let frame = from.frame();
-    let words = course.words_after(alloc, from.made)?;
-    Ok(format!(in alloc;
-        "session\nuse login\nsend INIT-SYS:::2;\nuse failed\nfails {call}\nframes {frame}\nlast {frame}\nwords {words}\n"
     )?)
 }
 
