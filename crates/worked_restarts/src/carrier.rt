@@ -1,4 +1,4 @@
-use crate::carriage::{Carriage, IDLE};
+use crate::crew::Crew;
 use crate::row::Session;
 use anyhow::Result;
 use dxc_outside::{Gate, GatePlace, Pass1};
@@ -33,9 +33,7 @@ impl Asked {
 /// A gate that stops at one asking, and at each asking has all workers carry a frame.
 #[derive(Drop)]
 pub struct Carrier {
-    workers: Vec<Carriage>,
-    // What the outputs of all workers come to.
-    frame: Vec<u8>,
+    pub crew: Crew,
     // The frames that may come at an asking; none: any.
     frames: Vec<Vec<u8>>,
     stop: Option<u64>,
@@ -47,18 +45,17 @@ pub struct Carrier {
 }
 
 impl Carrier {
-    /// A gate with these workers, in order of their numbers, for frames of so many bytes.
-    pub fn new(alloc: Global, workers: Vec<Carriage>, ports: u16) -> Result<Carrier> {
-        Ok(Carrier {
-            workers,
-            frame: Vec::from_elem(alloc, IDLE, ports as usize)?,
+    /// A gate that doesn't stop.
+    pub fn new(alloc: Global, crew: Crew) -> Carrier {
+        Carrier {
+            crew,
             frames: Vec::new(alloc),
             stop: None,
             askings: 0,
             asked: Asked::NEVER,
             wrong: None,
             stops: 0,
-        })
+        }
     }
 
     /// From now on askings are counted from 0, and it stops where the session says so.
@@ -73,29 +70,6 @@ impl Carrier {
         self.asked = Asked::NEVER;
         self.wrong = None;
         Ok(())
-    }
-
-    /// Has each worker carry a frame.
-    pub fn carry(&mut self) {
-        self.frame.fill(IDLE);
-        for worker in self.workers.iter_mut() {
-            worker.carry();
-            for (all, byte) in self.frame.iter_mut().zip(worker.output().iter()) {
-                if *byte != IDLE {
-                    *all = *byte;
-                }
-            }
-        }
-    }
-
-    /// The last frame, by all workers.
-    pub fn frame(&self) -> &[u8] {
-        &self.frame
-    }
-
-    /// What that worker wrote of the last frame.
-    pub fn frame_by(&self, worker: usize) -> Option<&[u8]> {
-        self.workers.get(worker).map(|worker| worker.output())
     }
 
     /// How often it was asked at each place.
@@ -113,7 +87,7 @@ impl Carrier {
             || self
                 .frames
                 .iter()
-                .any(|frame| frame.as_slice() == self.frame.as_slice())
+                .any(|frame| frame.as_slice() == self.crew.frame())
     }
 }
 
@@ -129,7 +103,7 @@ impl Gate for Carrier {
     ghost asked_on = { λ _ _ _ _ _ _ _. tt };
 
     fn pass(&mut self, place: GatePlace) -> Pass1 {
-        self.carry();
+        self.crew.carry();
         if self.wrong.is_none() && !self.may_come() {
             self.wrong = Some(self.askings);
         }

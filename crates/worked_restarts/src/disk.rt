@@ -69,35 +69,28 @@ impl RowDisk {
         into.copy_from_slice(from.get(..into.len())?);
         Some(())
     }
+}
 
-    fn write_within(&mut self, at: u64, from: &[u8]) -> Option<()> {
-        if at as usize > self.held.bytes().len() {
-            return None;
-        }
-        self.held.write_at(at, from).ok()
+// Writes where a disk of these bytes can be written.
+fn write_within(held: &mut MemDisk, at: u64, from: &[u8]) -> Option<()> {
+    if at as usize > held.bytes().len() {
+        return None;
     }
+    held.write_at(at, from).ok()
+}
 
-    // What a failed write leaves.
-    fn tear(&mut self, at: u64, from: &[u8]) {
-        match self.torn {
-            Torn::Lost => {}
-            Torn::Whole => {
-                let _ = self.write_within(at, from);
-            }
-            Torn::Other => {
-                for place in 0..from.len() as u64 {
-                    let _ = self.write_within(at.saturating_add(place), &[OTHER]);
-                }
+// What a failed write leaves.
+fn tear(held: &mut MemDisk, torn: Torn, at: u64, from: &[u8]) {
+    match torn {
+        Torn::Lost => {}
+        Torn::Whole => {
+            let _ = write_within(held, at, from);
+        }
+        Torn::Other => {
+            for place in 0..from.len() as u64 {
+                let _ = write_within(held, at.saturating_add(place), &[OTHER]);
             }
         }
-    }
-
-    fn write_or_tear(&mut self, at: u64, from: &[u8]) -> Option<()> {
-        if self.levers.fails() {
-            self.tear(at, from);
-            return None;
-        }
-        self.write_within(at, from)
     }
 }
 
@@ -133,7 +126,11 @@ impl Disk for RowDisk {
     }
 
     fn write_at(&mut self, at: u64, from: &[u8]) -> Result<(), DiskFault> {
-        let written = self.write_or_tear(at, from);
+        if self.levers.fails() {
+            tear(&mut self.held, self.torn, at, from);
+            return RowDisk::counted(None, &mut self.faults);
+        }
+        let written = write_within(&mut self.held, at, from);
         RowDisk::counted(written, &mut self.faults)
     }
 

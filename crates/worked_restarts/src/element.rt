@@ -1,7 +1,8 @@
 //! The opening of an element on a disk, with a place for each session of a row.
-ghost use Rattle.std.specs.Prelude.{◌≡◌, ◌≤◌, ◌<◌, ◌+◌, IfOk, ℕ, length};
+ghost use Rattle.std.specs.Prelude.{◌≡◌, ◌≤◌, ◌<◌, ◌+◌, IfOk, ℕ, [], length, true};
 ghost use Rattle.std.specs.Arc.{arc_value};
 ghost use Rattle.fabric_words.specs.New.{AreNew};
+ghost use Rattle.turnstile.specs.Passing.{Ident};
 ghost use Rattle.xc_core.specs.Openings.{Begins};
 ghost use Rattle.xc_core.specs.States.{opening_of};
 ghost use Rattle.craft_server.specs.Places.{AreFresh, IsAtOpening};
@@ -9,6 +10,7 @@ ghost use Rattle.craft_server.specs.Places.{AreFresh, IsAtOpening};
 use crate::audit::Audit;
 use crate::carriage::Carriage;
 use crate::carrier::Carrier;
+use crate::crew::Crew;
 use crate::disk::RowDisk;
 use crate::levers::Levers;
 use crate::row::Row;
@@ -53,7 +55,7 @@ impl Element {
             row.workers
         );
         let started = start(alloc, &shelf, disk, row.workers)?;
-        let gate = gate_of(alloc, &started.fabric, started.seats)?;
+        let crew = crew_of(alloc, &started.fabric, started.seats)?;
         let sessions = row.sessions.len();
         ensure!(sessions < 100, "{sessions} sessions");
         let (audit, places) = seat_all(
@@ -66,7 +68,7 @@ impl Element {
         Ok(Element {
             places,
             audit,
-            gate,
+            gate: Carrier::new(alloc, crew),
             levers,
         })
     }
@@ -115,18 +117,33 @@ fn start<D: Disk + Drop>(
     })
 }
 
-// The gate with these workers.
-fn gate_of(alloc: Global, fabric: &Arc<Fabric>, seats: Vec<WorkerSeat>) -> Result<Carrier>
+// The workers of these seats.
+fn crew_of(alloc: Global, fabric: &Arc<Fabric>, mut seats: Vec<WorkerSeat>) -> Result<Crew>
     requires { AreNew (arc_value fabric.now) 0 seats.items }
 {
     let mut workers = Vec::new(alloc);
-    for seat in seats {
-        let Ok(worker) = Carriage::new(alloc, Arc::try_clone(fabric)?, seat) else {
-            bail!("no memory");
-        };
-        workers.push(worker)?;
+    for number in 0..seats.len() {
+        workers.push(next_worker(alloc, number, fabric, &mut seats)?)?;
     }
-    Carrier::new(alloc, workers, fabric.shape().ports())
+    Ok(Crew::new(alloc, workers, fabric.shape().ports())?)
+}
+
+// The worker of that number, for the first of the seats that are left.
+fn next_worker(
+    alloc: Global,
+    number: usize,
+    fabric: &Arc<Fabric>,
+    seats: &mut Vec<WorkerSeat>,
+) -> Result<Carriage>
+    requires some { 0 < length seats.old.items }
+    requires new { AreNew (arc_value fabric.now) number seats.old.items }
+    ensures fewer { length seats.new.items + 1 ≡ length seats.old.items }
+    ensures new { AreNew (arc_value fabric.now) (number + 1) seats.new.items }
+{
+    let _ = number;
+    let seat = seats.remove(0);
+    let fabric = Arc::try_clone(fabric)?;
+    Carriage::new(alloc, fabric, seat).ok().context("no memory")
 }
 
 // One who looks at the registers, and so many places.
@@ -174,7 +191,9 @@ fn turns_of<D: Disk + Drop>(
 
 // The pass with the lowest number that is left.
 fn next_pass(passes: &mut Vec<Pass>) -> Pass
-    requires { 0 < length passes.old.items }
+    requires some { 0 < length passes.old.items }
+    ensures pass { (id : Ident) → (n : ℕ) → AreFresh id n passes.old.items → (result ≡ record { number = n; free = true; id = id; seen = [] }) × AreFresh id (n + 1) passes.new.items }
+    ensures fewer { length passes.new.items + 1 ≡ length passes.old.items }
 {
     passes.remove(0)
 }

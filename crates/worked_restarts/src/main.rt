@@ -8,6 +8,7 @@ mod carriage;
 mod carrier;
 mod changes;
 mod course;
+mod crew;
 mod disk;
 mod element;
 mod faults;

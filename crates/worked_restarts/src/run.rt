@@ -102,19 +102,19 @@ fn carried_otherwise(
     element: &mut Element,
     session: &Session,
 ) -> Result<Option<String>> {
-    let gate = &mut element.gate;
-    if let Some(asking) = gate.wrong() {
+    if let Some(asking) = element.gate.wrong() {
         return Ok(Some(format!(in alloc; "another frame was carried at asking {asking}")?));
     }
-    gate.carry();
+    let crew = &mut element.gate.crew;
+    crew.carry();
     if let Some(last) = &session.last {
-        if gate.frame() != last.as_slice() {
-            let frame = String::from_utf8_lossy(alloc, gate.frame())?;
+        if crew.frame() != last.as_slice() {
+            let frame = String::from_utf8_lossy(alloc, crew.frame())?;
             return Ok(Some(format!(in alloc; "the frame was {frame}")?));
         }
     }
     for share in &session.shares {
-        let output = gate.frame_by(share.worker).context("no such worker")?;
+        let output = crew.frame_by(share.worker).context("no such worker")?;
         if output != share.output.as_slice() {
             let frame = String::from_utf8_lossy(alloc, output)?;
             return Ok(Some(format!(in alloc; "worker {} wrote {frame}", share.worker)?));
