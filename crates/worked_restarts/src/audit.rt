@@ -56,8 +56,8 @@ impl<D: Disk + Drop> Audit<D> {
     }
 }
 
-// The words as a turn of the pass finds them. It adds nothing to the history.
-fn words_in_turn<D: Disk + Drop, R: Wait>(
+/// The words as a turn of the pass finds them. It adds nothing to the history.
+pub fn words_in_turn<D: Disk + Drop, R: Wait>(
     alloc: Global,
     pass: &mut Pass,
     turns: &Turnstile<State<D>>,

@@ -1,7 +1,9 @@
 //! The opening of an element on a disk, with a place for each session of a row.
 ghost use Rattle.std.specs.Prelude.{◌≡◌, ◌≤◌, ◌<◌, ◌+◌, IfOk, ℕ, [], length, true};
 ghost use Rattle.std.specs.Arc.{arc_value};
+ghost use Rattle.fabric_core.specs.State.{new_worker};
 ghost use Rattle.fabric_words.specs.New.{AreNew};
+ghost use Rattle.fabric_words.specs.Seats.{FabricId};
 ghost use Rattle.turnstile.specs.Passing.{Ident};
 ghost use Rattle.xc_core.specs.Openings.{Begins};
 ghost use Rattle.xc_core.specs.States.{opening_of};
@@ -25,7 +27,8 @@ use std::sync::Arc;
 use turnstile::{Pass, Turnstile};
 use xc_core::{Core, State};
 
-type Turns<D> = Arc<Turnstile<State<D>>>;
+/// The turnstile of an element.
+pub type Turns<D> = Arc<Turnstile<State<D>>>;
 
 /// An element on which a row's sessions are served.
 #[derive(Drop)]
@@ -41,26 +44,13 @@ impl Element {
     /// The element that the row's shelf and journal describe.
     pub fn open(alloc: Global, row: &Row) -> Result<Element> {
         let levers = Levers::new(alloc).ok().context("no memory")?;
-        let held = MemDisk::new(alloc, row.journal.clone()?, Vec::new(alloc));
-        let disk = RowDisk::new(
-            held.ok().context("no memory")?,
-            row.shown.clone()?,
-            row.torn,
-            Arc::try_clone(&levers)?,
-        );
-        let shelf = Arc::new(alloc, shelf_of_shape(alloc, row.modules, row.slots)?)?;
-        ensure!(
-            1 <= row.workers && row.workers <= 8,
-            "{} workers",
-            row.workers
-        );
-        let started = start(alloc, &shelf, disk, row.workers)?;
+        let started = start_row(alloc, row, &levers)?;
         let crew = crew_of(alloc, &started.fabric, started.seats)?;
         let sessions = row.sessions.len();
         ensure!(sessions < 100, "{sessions} sessions");
         let (audit, places) = seat_all(
             alloc,
-            &shelf,
+            &started.shelf,
             &started.fabric,
             started.state,
             sessions as u16,
@@ -74,6 +64,34 @@ impl Element {
     }
 }
 
+/// A controller that has started, on a new fabric with a seat for each worker.
+#[derive(Drop)]
+pub struct Started<D: Disk> {
+    pub shelf: Arc<Shelf>,
+    pub fabric: Arc<Fabric>,
+    pub seats: Vec<WorkerSeat>,
+    pub state: State<D>,
+}
+
+/// The controller that the row's shelf and journal describe, with a disk on which these levers are.
+pub fn start_row(alloc: Global, row: &Row, levers: &Arc<Levers>) -> Result<Started<RowDisk>>
+    ensures begins { IfOk result (λ s. Begins RowDisk.told RowDisk.state s.state) }
+    ensures opening { IfOk result (λ s. IsAtOpening (opening_of RowDisk.state s.state) (arc_value s.shelf) (arc_value s.fabric)) }
+    ensures seats { IfOk result (λ s. AreNew (arc_value s.fabric) 0 s.seats.items) }
+{
+    let held = MemDisk::new(alloc, row.journal.clone()?, Vec::new(alloc));
+    let disk = RowDisk::new(
+        held.ok().context("no memory")?,
+        row.shown.clone()?,
+        row.torn,
+        Arc::try_clone(levers)?,
+    );
+    let shelf = shelf_of_shape(alloc, row.modules, row.slots)?;
+    let workers = row.workers;
+    ensure!(1 <= workers && workers <= 8, "{workers} workers");
+    start(alloc, shelf, disk, workers)
+}
+
 // A shelf of this shape with all modules equipped, and a user ANNA with the PID bc.
 fn shelf_of_shape(alloc: Global, modules: u16, slots: u16) -> Result<Shelf> {
     let text = format!(in alloc;
@@ -82,35 +100,23 @@ fn shelf_of_shape(alloc: Global, modules: u16, slots: u16) -> Result<Shelf> {
     shelf_of(alloc, text.as_bytes()).ok().context("no shelf")
 }
 
-/// A controller that has started, on a new fabric with a seat for each worker.
-#[derive(Drop)]
-struct Started<D: Disk> {
-    fabric: Arc<Fabric>,
-    seats: Vec<WorkerSeat>,
-    state: State<D>,
-}
-
-fn start<D: Disk + Drop>(
-    alloc: Global,
-    shelf: &Arc<Shelf>,
-    disk: D,
-    workers: u16,
-) -> Result<Started<D>>
+fn start<D: Disk + Drop>(alloc: Global, shelf: Shelf, disk: D, workers: u16) -> Result<Started<D>>
     requires workers { (0 < workers) × (workers ≤ 8) }
     ensures begins { IfOk result (λ s. Begins D.told D.state s.state) }
-    ensures opening { IfOk result (λ s. IsAtOpening (opening_of D.state s.state) (arc_value shelf.now) (arc_value s.fabric)) }
+    ensures opening { IfOk result (λ s. IsAtOpening (opening_of D.state s.state) (arc_value s.shelf) (arc_value s.fabric)) }
     ensures seats { IfOk result (λ s. AreNew (arc_value s.fabric) 0 s.seats.items) }
 {
     let Ok((fabric, mover, seats)) = Fabric::new(alloc, shelf.shape(), workers) else {
         bail!("no memory");
     };
-    let Ok(state) = Core::open(alloc, shelf, disk, mover, &fabric, &mut AlwaysGo) else {
+    let Ok(state) = Core::open(alloc, &shelf, disk, mover, &fabric, &mut AlwaysGo) else {
         bail!("not opened");
     };
-    let Ok(fabric) = Arc::new(alloc, fabric) else {
+    let (Ok(shelf), Ok(fabric)) = (Arc::new(alloc, shelf), Arc::new(alloc, fabric)) else {
         bail!("no memory");
     };
     Ok(Started {
+        shelf,
         fabric,
         seats,
         state,
@@ -141,9 +147,18 @@ fn next_worker(
     ensures new { AreNew (arc_value fabric.now) (number + 1) seats.new.items }
 {
     let _ = number;
-    let seat = seats.remove(0);
+    let seat = next_seat(seats);
     let fabric = Arc::try_clone(fabric)?;
     Carriage::new(alloc, fabric, seat).ok().context("no memory")
+}
+
+/// The seat with the lowest number that is left.
+pub fn next_seat(seats: &mut Vec<WorkerSeat>) -> WorkerSeat
+    requires some { 0 < length seats.old.items }
+    ensures seat { (f : FabricId) → (n : ℕ) → AreNew f n seats.old.items → (result.reader ≡ record { fabric = f; worker = new_worker n }) × AreNew f (n + 1) seats.new.items }
+    ensures fewer { length seats.new.items + 1 ≡ length seats.old.items }
+{
+    seats.remove(0)
 }
 
 // One who looks at the registers, and so many places.
@@ -168,8 +183,8 @@ fn seat_all<D: Disk + Drop>(
     Ok((audit, places))
 }
 
-// The turnstile of the state, and its passes.
-fn turns_of<D: Disk + Drop>(
+/// The turnstile of the state, and its passes.
+pub fn turns_of<D: Disk + Drop>(
     alloc: Global,
     state: State<D>,
     count: u16,
@@ -189,8 +204,8 @@ fn turns_of<D: Disk + Drop>(
     Ok((turns, passes))
 }
 
-// The pass with the lowest number that is left.
-fn next_pass(passes: &mut Vec<Pass>) -> Pass
+/// The pass with the lowest number that is left.
+pub fn next_pass(passes: &mut Vec<Pass>) -> Pass
     requires some { 0 < length passes.old.items }
     ensures pass { (id : Ident) → (n : ℕ) → AreFresh id n passes.old.items → (result ≡ record { number = n; free = true; id = id; seen = [] }) × AreFresh id (n + 1) passes.new.items }
     ensures fewer { length passes.new.items + 1 ≡ length passes.old.items }
@@ -198,8 +213,8 @@ fn next_pass(passes: &mut Vec<Pass>) -> Pass
     passes.remove(0)
 }
 
-// A place for the pass of that number.
-fn next_place<D: Disk + Drop>(
+/// A place for the pass of that number.
+pub fn next_place<D: Disk + Drop>(
     alloc: Global,
     number: u16,
     passes: &mut Vec<Pass>,

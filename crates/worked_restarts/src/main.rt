@@ -4,6 +4,7 @@
 
 mod answer;
 mod audit;
+mod beside;
 mod carriage;
 mod carrier;
 mod changes;
@@ -15,9 +16,11 @@ mod faults;
 mod levers;
 mod point;
 mod read;
+mod reader;
 mod row;
 mod run;
 mod seals;
+mod stale;
 mod stops;
 mod tally;
 
@@ -45,6 +48,7 @@ fn main(rt: HostRuntime) -> Result<()> {
     changes::changes(alloc, &rt, &course, &mut tally)?;
     faults::faults(alloc, &rt, &course, &mut tally)?;
     seals::seals(alloc, &rt, &mut tally)?;
+    tally.run_stale(alloc, &rt)?;
     print!(rt; "{}", tally.report)?;
     println!(rt; "{} rows, {} of them failed", tally.rows, tally.failed)?;
     Ok(())

@@ -1,8 +1,9 @@
+use crate::disk::RowDisk;
 use crate::element::Element;
 use crate::row::{Row, Session};
 use anyhow::{Context, Result};
-use craft_session::{SessionEnd, serve_session};
-use dxc_outside::{MemClock, MemLink, Moment};
+use craft_session::{Place, SessionEnd, serve_session};
+use dxc_outside::{Gate, MemClock, MemLink, Moment};
 use std::alloc::Global;
 use std::sync::Wait;
 
@@ -48,18 +49,10 @@ fn serve<R: Wait>(
 ) -> Result<Option<String>> {
     element.gate.set(alloc, session)?;
     element.levers.set(session.failing, session.shows);
-    let mut link = MemLink::new(
-        session.input.clone()?,
-        Vec::new(alloc),
-        Vec::new(alloc),
-        Vec::new(alloc),
-    );
-    let mut clock = MemClock::new(vec![in alloc; NOON]?);
     let place = element.places.get_mut(number).context("no place is left")?;
-    let end = serve_session(place, &mut link, &mut clock, &mut element.gate, rt);
-    if link.output() != session.output.as_slice() {
-        let written = String::from_utf8_lossy(alloc, link.output())?;
-        return Ok(Some(format!(in alloc; "written was {written}")?));
+    let (end, why) = serve_at(alloc, rt, place, session, &mut element.gate)?;
+    if why.is_some() {
+        return Ok(why);
     }
     if let Some(why) = ended_otherwise(alloc, element, session, end)? {
         return Ok(Some(why));
@@ -67,7 +60,34 @@ fn serve<R: Wait>(
     if let Some(why) = carried_otherwise(alloc, element, session)? {
         return Ok(Some(why));
     }
-    words_otherwise(alloc, rt, element, session)
+    if session.words.is_empty() {
+        return Ok(None);
+    }
+    let words = element.audit.words(alloc, rt)?;
+    words_otherwise(alloc, session, &words)
+}
+
+/// Serves the session at the place. How it ended, and what is otherwise of what was written.
+pub fn serve_at<G: Gate, R: Wait>(
+    alloc: Global,
+    rt: &R,
+    place: &mut Place<RowDisk>,
+    session: &Session,
+    gate: &mut G,
+) -> Result<(SessionEnd, Option<String>)> {
+    let mut link = MemLink::new(
+        session.input.clone()?,
+        Vec::new(alloc),
+        Vec::new(alloc),
+        Vec::new(alloc),
+    );
+    let mut clock = MemClock::new(vec![in alloc; NOON]?);
+    let end = serve_session(place, &mut link, &mut clock, gate, rt);
+    if link.output() == session.output.as_slice() {
+        return Ok((end, None));
+    }
+    let written = String::from_utf8_lossy(alloc, link.output())?;
+    Ok((end, Some(format!(in alloc; "written was {written}")?)))
 }
 
 // What is otherwise of the session's end, and of what gate and disk were asked.
@@ -123,18 +143,9 @@ fn carried_otherwise(
     Ok(None)
 }
 
-// What is otherwise of the register words.
-fn words_otherwise<R: Wait>(
-    alloc: Global,
-    rt: &R,
-    element: &mut Element,
-    session: &Session,
-) -> Result<Option<String>> {
-    if session.words.is_empty() {
-        return Ok(None);
-    }
-    let words = element.audit.words(alloc, rt)?;
-    if words.as_slice() == session.words.as_slice() {
+/// What is otherwise of the register words.
+pub fn words_otherwise(alloc: Global, session: &Session, words: &[u64]) -> Result<Option<String>> {
+    if words == session.words.as_slice() {
         return Ok(None);
     }
     Ok(Some(format!(in alloc; "the registers were {words:?}")?))

@@ -1,9 +1,13 @@
 use crate::read::{Parts, rows_of};
 use crate::run::run_row;
+use crate::stale::run_stale;
 use anyhow::Result;
 use std::alloc::Global;
 use std::fmt::Write as _;
 use std::sync::Wait;
+
+const STALE: &str =
+    "row a worker that holds its frame while circuits are moved\nuse four\nworkers 2\nsession\nuse login\nuse five-listed\nuse five-words\n";
 
 /// How many rows were run, and what those that failed did.
 #[derive(Drop)]
@@ -31,12 +35,27 @@ impl<'a> Tally<'a> {
         for row in &rows_of(alloc, self.parts, text)? {
             let ran = run_row(alloc, rt, row)?;
             calls = ran.calls;
-            self.rows = self.rows.saturating_add(1);
-            if let Some(why) = ran.why {
-                self.failed = self.failed.saturating_add(1);
-                writeln!(self.report, "{}: {why}", row.name)?;
-            }
+            self.count(row.name.as_str(), ran.why)?;
         }
         Ok(calls)
+    }
+
+    /// Runs the row of the worker that holds its frame.
+    pub fn run_stale<R: Wait>(&mut self, alloc: Global, rt: &R) -> Result<()> {
+        for row in &rows_of(alloc, self.parts, STALE)? {
+            let why = run_stale(alloc, rt, row)?;
+            self.count(row.name.as_str(), why)?;
+        }
+        Ok(())
+    }
+
+    // Counts a row.
+    fn count(&mut self, name: &str, why: Option<String>) -> Result<()> {
+        self.rows = self.rows.saturating_add(1);
+        if let Some(why) = why {
+            self.failed = self.failed.saturating_add(1);
+            writeln!(self.report, "{name}: {why}")?;
+        }
+        Ok(())
     }
 }
