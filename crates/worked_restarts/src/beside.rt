@@ -123,8 +123,6 @@ fn bring_or_cut<D: Disk + Drop, R: Wait>(
     let _ = fabric;
     match then {
         Advance::Done => turns::bring(pass, turns, op, p, rolling, rt),
-        Advance::InFrame(_) | Advance::Stopped => {
-            turns::cut(pass, turns, op, p, &rolling, rt);
-        }
+        _ => turns::cut(pass, turns, op, p, &rolling, rt),
     }
 }

@@ -44,17 +44,17 @@ impl Element {
     /// The element that the row's shelf and journal describe.
     pub fn open(alloc: Global, row: &Row) -> Result<Element> {
         let levers = Levers::new(alloc).ok().context("no memory")?;
-        let started = start_row(alloc, row, &levers)?;
-        let crew = crew_of(alloc, &started.fabric, started.seats)?;
+        let disk = disk_of(alloc, row, &levers)?;
+        let Started {
+            shelf,
+            fabric,
+            seats,
+            state,
+        } = start(alloc, row, disk)?;
+        let crew = crew_of(alloc, &fabric, seats)?;
         let sessions = row.sessions.len();
         ensure!(sessions < 100, "{sessions} sessions");
-        let (audit, places) = seat_all(
-            alloc,
-            &started.shelf,
-            &started.fabric,
-            started.state,
-            sessions as u16,
-        )?;
+        let (audit, places) = seat_all(alloc, &shelf, &fabric, state, sessions as u16)?;
         Ok(Element {
             places,
             audit,
@@ -73,23 +73,15 @@ pub struct Started<D: Disk> {
     pub state: State<D>,
 }
 
-/// The controller that the row's shelf and journal describe, with a disk on which these levers are.
-pub fn start_row(alloc: Global, row: &Row, levers: &Arc<Levers>) -> Result<Started<RowDisk>>
-    ensures begins { IfOk result (λ s. Begins RowDisk.told RowDisk.state s.state) }
-    ensures opening { IfOk result (λ s. IsAtOpening (opening_of RowDisk.state s.state) (arc_value s.shelf) (arc_value s.fabric)) }
-    ensures seats { IfOk result (λ s. AreNew (arc_value s.fabric) 0 s.seats.items) }
-{
+/// The disk of the row's journal, with these levers.
+pub fn disk_of(alloc: Global, row: &Row, levers: &Arc<Levers>) -> Result<RowDisk> {
     let held = MemDisk::new(alloc, row.journal.clone()?, Vec::new(alloc));
-    let disk = RowDisk::new(
+    Ok(RowDisk::new(
         held.ok().context("no memory")?,
         row.shown.clone()?,
         row.torn,
         Arc::try_clone(levers)?,
-    );
-    let shelf = shelf_of_shape(alloc, row.modules, row.slots)?;
-    let workers = row.workers;
-    ensure!(1 <= workers && workers <= 8, "{workers} workers");
-    start(alloc, shelf, disk, workers)
+    ))
 }
 
 // A shelf of this shape with all modules equipped, and a user ANNA with the PID bc.
@@ -100,12 +92,15 @@ fn shelf_of_shape(alloc: Global, modules: u16, slots: u16) -> Result<Shelf> {
     shelf_of(alloc, text.as_bytes()).ok().context("no shelf")
 }
 
-fn start<D: Disk + Drop>(alloc: Global, shelf: Shelf, disk: D, workers: u16) -> Result<Started<D>>
-    requires workers { (0 < workers) × (workers ≤ 8) }
+/// A controller of the row's shelf and workers on what the disk's journal came to.
+pub fn start<D: Disk + Drop>(alloc: Global, row: &Row, disk: D) -> Result<Started<D>>
     ensures begins { IfOk result (λ s. Begins D.told D.state s.state) }
     ensures opening { IfOk result (λ s. IsAtOpening (opening_of D.state s.state) (arc_value s.shelf) (arc_value s.fabric)) }
     ensures seats { IfOk result (λ s. AreNew (arc_value s.fabric) 0 s.seats.items) }
 {
+    let shelf = shelf_of_shape(alloc, row.modules, row.slots)?;
+    let workers = row.workers;
+    ensure!(1 <= workers && workers <= 8, "{workers} workers");
     let Ok((fabric, mover, seats)) = Fabric::new(alloc, shelf.shape(), workers) else {
         bail!("no memory");
     };

@@ -37,7 +37,9 @@ pub fn follow(fabric: &Fabric, seat: &mut WorkerSeat, held: Option<u64>) -> Opti
     requires own { seat.old.reader.fabric ≡ fabric.now }
     requires held { IfSome held (λ word. Runs seat.old.reader.worker × HasOutput seat.old.reader.worker.hold) }
 {
-    held?;
+    let Some(_word) = held else {
+        return None;
+    };
     let module = seat.load_mid(fabric);
     let slot = seat.load_in(fabric);
     seat.end_frame(fabric);

@@ -4,7 +4,7 @@ ghost use Rattle.std.specs.Prelude.{◌≡◌};
 use crate::audit::words_in_turn;
 use crate::beside::{Beside, change_beside};
 use crate::carriage::Carriage;
-use crate::element::{Started, next_pass, next_place, next_seat, start_row, turns_of};
+use crate::element::{Started, disk_of, next_pass, next_place, next_seat, start, turns_of};
 use crate::levers::Levers;
 use crate::row::Row;
 use crate::run::{serve_at, words_otherwise};
@@ -48,7 +48,7 @@ pub fn run_stale<R: Wait>(alloc: Global, rt: &R, row: &Row) -> Result<Option<Str
         fabric,
         mut seats,
         state,
-    } = start_row(alloc, row, &levers)?;
+    } = start(alloc, row, disk_of(alloc, row, &levers)?)?;
     let (turns, mut passes) = turns_of(alloc, state, 2)?;
     let mut place = next_place(alloc, 0, &mut passes, &shelf, &fabric, &turns)?;
     let mut pass = next_pass(&mut passes);
