@@ -129,8 +129,8 @@ fn crew_of(alloc: Global, fabric: &Arc<Fabric>, mut seats: Vec<WorkerSeat>) -> R
     Ok(Crew::new(alloc, workers, fabric.shape().ports())?)
 }
 
-// The worker of that number, for the first of the seats that are left.
-fn next_worker(
+/// The worker of that number, for the first of the seats that are left.
+pub fn next_worker(
     alloc: Global,
     number: usize,
     fabric: &Arc<Fabric>,

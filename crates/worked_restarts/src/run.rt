@@ -1,8 +1,8 @@
-use crate::disk::RowDisk;
 use crate::element::Element;
 use crate::row::{Row, Session};
 use anyhow::{Context, Result};
 use craft_session::{Place, SessionEnd, serve_session};
+use dxc_disk::Disk;
 use dxc_outside::{Gate, MemClock, MemLink, Moment};
 use std::alloc::Global;
 use std::sync::Wait;
@@ -68,10 +68,10 @@ fn serve<R: Wait>(
 }
 
 /// Serves the session at the place. How it ended, and what is otherwise of what was written.
-pub fn serve_at<G: Gate, R: Wait>(
+pub fn serve_at<D: Disk + Drop, G: Gate, R: Wait>(
     alloc: Global,
     rt: &R,
-    place: &mut Place<RowDisk>,
+    place: &mut Place<D>,
     session: &Session,
     gate: &mut G,
 ) -> Result<(SessionEnd, Option<String>)> {
