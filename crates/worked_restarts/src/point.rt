@@ -1,5 +1,5 @@
 /// How many register writes the fifth entry makes.
-const WRITES: u64 = 18;
+pub const WRITES: u64 = 18;
 
 /// How many gate places the fifth entry has: before the journal, before each write, and before the end.
 pub const PLACES: u64 = WRITES + 2;

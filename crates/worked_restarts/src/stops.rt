@@ -1,6 +1,6 @@
 //! Rows with a stop at each place of an entry, and at each place of the restart behind it.
 use crate::course::Course;
-use crate::point::{PLACES, Point, writes_asked};
+use crate::point::{PLACES, Point, WRITES, writes_asked};
 use crate::tally::Tally;
 use anyhow::Result;
 use std::alloc::Global;
@@ -9,7 +9,7 @@ use std::sync::Wait;
 /// The entry that needs three moves, behind four others, stopped at its asking of that number.
 pub fn fifth(alloc: Global, course: &Course, asking: u64) -> Result<String> {
     let point = Point::at(asking);
-    let asked = writes_asked(asking, 18);
+    let asked = writes_asked(asking, WRITES);
     let ended = (asking == PLACES - 1) as u8;
     let frame = point.frame();
     let words = course.words_after(alloc, point.made)?;
