@@ -27,14 +27,15 @@ DIGEST = "ba7816bf8f01cfea414140de5dae2223b00361a396177a9cb410ff61f20015ad"
 STAMP = re.compile(rb"\d\d-\d\d-\d\d \d\d:\d\d:\d\d(?=\r\n)")
 
 # What is measured: name, what a unit is, shape, whether the table is full at first, few and many units, their stream; the conventional
-# program's instructions of a unit, and the digest of what it wrote at many.
+# program's instructions of a unit, and the digest of what it wrote at many. Three streams have no digest: two-way connections, edits and
+# equipment weren't served when it was measured, so it denied them there, and made fewer changes.
 STREAMS = [
     ("header", "a retrieved header", (8, 24), False, 2000, 12000, headers,
      877.1, "a733ead2a20e856f86cfef2c29001dd1b4c59bde862d8e192c6e599ece19f90b"),
     ("malformed", "a unit that is no command", (8, 24), False, 2000, 12000, lambda n: refused(8, 24, n),
-     1327.5, "41677afaf279f941726d3e71e727dcbe16f5294a813d7560b06809b9ef817cf7"),
+     1327.5, None),
     ("busy", "an entry whose sides are in use", (8, 24), True, 2000, 12000, lambda n: busy(8, 24, n),
-     1450.8, "0c2c6cf46d3e994622e50fe61f34b44573c6bd0f1250249349c9c0490f60d58d"),
+     1450.8, None),
     ("port", "a retrieval of a port", (8, 24), True, 2000, 12000, lambda n: retrievals(8, 24, n, "{port}"),
      1603.5, "519816feed3cf8d0911cc211f656a068dd4e826d23b6b1d27489d70373bdf1d5"),
     ("module", "a retrieval of a module", (8, 24), True, 2000, 12000, lambda n: retrievals(8, 24, n, "MOD-{module}"),
@@ -42,7 +43,7 @@ STREAMS = [
     ("all", "a retrieval of 192 rows", (8, 24), True, 100, 600, lambda n: retrievals(8, 24, n, "ALL"),
      39399.4, "f992c7c0e6d27893c1477acc1de6d4e014d53c7715ac3a1b254440a51c92c571"),
     ("mixed", "a unit of a mixed stream", (8, 24), False, 2000, 12000, lambda n: mixed(8, 24, n),
-     1978.4, "627bde1aa3c4c5451bd4043f2f60b797a2612811302ce427d575d30d279d0b7d"),
+     1978.4, None),
     ("direct", "an entry with its deletion", (8, 24), False, 200, 1200, direct,
      4606.9, "97047408cc8c5e44b16185589f062af88470bef65680fea068a40f861d746e6f"),
     ("chains8", "the longest chain, with deletion", (8, 2), False, 200, 1200, lambda n: chains(8, n),
@@ -135,7 +136,7 @@ def main():
         for name, what, shape, filled, few, many, stream, plain, digest in STREAMS:
             if wanted(name):
                 (short, _), (long, wrote) = (measured(room, shape, filled, stream(units)) for units in (few, many))
-                sheet.line(name, what, (long - short) / (many - few), plain, "instructions", wrote == digest)
+                sheet.line(name, what, (long - short) / (many - few), plain, "instructions", digest in (None, wrote))
         load = collected([PROGRAM, "load", "0"]) if wanted("load") else None
         if load:
             sheet.line("load", "all of load 0", load[0], LOAD, "instructions")
