@@ -1,5 +1,5 @@
 -- What a controller that was opened lists is what its journal came to.
-use Rattle.std.proofs.Common.{◌≡◌, ◌≢◌, ℕ, List, [], ◌∷◌, ◌++◌, length, Option, Some, None, inl, inr, ◌∙◌, ap, sym, subst}
+use Rattle.std.proofs.Common.{◌≡◌, ◌≢◌, ℕ, List, [], ◌∷◌, ◌++◌, length, Some, None, inl, inr, ◌∙◌, ap, sym, subst}
 use Rattle.dxc_disk.specs.Disks.{DiskState}
 use Rattle.dxc_outside.specs.declared.send.Sent.{Sent}
 use Rattle.dxc_outside.specs.Links.{LinkState, IsSent}
@@ -12,7 +12,7 @@ use Rattle.shelf_file.specs.Contents.{Contents}
 use Rattle.xc_core.specs.declared.state.Home.{Home}
 use Rattle.xc_core.specs.declared.state.Home.TheVariants.{In, Out}
 use Rattle.xc_core.specs.declared.state.State.{State}
-use Rattle.xc_core.specs.Openings.{Begins, IsOpening, disk_home}
+use Rattle.xc_core.specs.Openings.{Begins, disk_home}
 use Rattle.xc_core.specs.Reckonings.{Past}
 use Rattle.xc_core.specs.States.{HomeIs, Opening, opening_of}
 use Rattle.craft_server.specs.Listings.{listing, records_at}

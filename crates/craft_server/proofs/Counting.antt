@@ -1,6 +1,6 @@
 -- Faults, counted one by one.
-use Rattle.std.proofs.Common.{◌≡◌, ◌+◌, ◌≤◌, ◌<◌, ℕ, arith, min}
-use Rattle.dxc_causes.specs.Causes.{Rose, last}
+use Rattle.std.proofs.Common.{◌+◌, ◌≤◌, ℕ, arith}
+use Rattle.dxc_causes.specs.Causes.{Rose}
 use Rattle.craft_server.specs.Serving.{RoseBy}
 
 -- one more fault behind n

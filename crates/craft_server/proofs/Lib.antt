@@ -6,3 +6,5 @@ pub mod Starting
 pub mod Checking
 pub mod Audits
 pub mod Scripting
+pub mod LoadShelf
+pub mod Loading

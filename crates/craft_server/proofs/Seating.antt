@@ -1,15 +1,13 @@
 -- Passes of a new turnstile, and places that have seen nothing.
 use Rattle.std.proofs.Common.{◌≡◌, ◌<◌, ◌+◌, ℕ, suc, arith, true, List, [], ◌∷◌, ◌++◌, length, slice_index_or, Some, refl, sym, ◌∙◌, ap, subst}
 use Rattle.std.specs.List.{slice_get}
-use base.Stored.{Gv}
 use Rattle.dxc_disk.specs.Disks.{DiskState}
-use Rattle.dxc_model.specs.declared.entry.Entry.{Entry}
 use Rattle.fabric_words.specs.Seats.{FabricId}
 use Rattle.shelf_file.specs.Contents.{Contents}
 use Rattle.turnstile.specs.Passing.{ArePasses, Gate, Ident, Token}
 use Rattle.xc_core.specs.declared.state.State.{State}
 use Rattle.xc_core.specs.Openings.{Begins}
-use Rattle.xc_core.specs.Seeing.{Saw, codes}
+use Rattle.xc_core.specs.Seeing.{Saw}
 use Rattle.xc_core.specs.States.{Opening, opening_of}
 use Rattle.xc_core.specs.Turns.{AreNumbered, SawNoneAstray}
 use Rattle.craft_session.specs.Seats.{IsSeated, PlaceAt}

@@ -1,5 +1,5 @@
 -- A controller that was opened, or wasn't.
-use Rattle.std.proofs.Common.{◌≡◌, ◌≤◌, ◌⊎◌, ℕ, List, [], length, Option, Some, Result, Ok, Err, inl, inr, refl, sym, ◌∙◌, ap, subst}
+use Rattle.std.proofs.Common.{◌≡◌, ℕ, List, length, Option, Some, Result, Ok, Err, inl, inr, refl, sym, ◌∙◌, ap, subst}
 use Rattle.std.specs.Prelude.{MatchResult, IfSome}
 use Rattle.std.specs.Arc.{arc_value}
 use Rattle.dxc_causes.specs.Causes.{HasCause}
@@ -30,11 +30,12 @@ handed {J} told old_at mid_at new_at opened d name same is hands t = sym (same t
 
 module _ {D : Type 0} (disk_told : Type 0) (state : D → DiskState) where
   -- the controller on what an opening came to
-  pub started : (failed : Type 0) → ((x : D) → CountsOn (state x)) → (disk : D) (s lent : Contents) (workers : ℕ) (laid : FabricId) (x : Controller D) (r : Result (State D) (OpenFault D)) → arc_value x.shelf ≡ s → lent ≡ s → arc_value x.fabric ≡ laid → r ≡ Ok x.state
+  pub started : (failed : Type 0) → ((x : D) → CountsOn (state x)) → (disk : D) (s lent : Contents) (workers : ℕ) (laid : FabricId) (x : Controller D) (r : Result (State D) (OpenFault D)) → arc_value x.shelf ≡ s → lent ≡ s → arc_value x.fabric ≡ laid → laid.size ≡ record { shape = s.shape; workers = workers } → r ≡ Ok x.state
       → IsOpening disk_told (state disk).reads_as lent laid (opening_of state x.state) → Begins disk_told state x.state → IfSome (disk_of r) (λ d. HasCause (state disk).faults (state d).faults failed) → IfSome (disk_of r) (λ d. Spends opening_room (state disk) (state d))
       → (length x.seats.items ≡ workers) × AreNew laid 0 x.seats.items → IsStarted disk_told state disk s workers x
-  started failed counts disk s lent workers laid x r shelf lent_is fabric is opening begins cause spends seats = record {
+  started failed counts disk s lent workers laid x r shelf lent_is fabric size is opening begins cause spends seats = record {
     shelf = shelf;
+    size = ap (λ (i : FabricId). i.size) fabric ∙ size;
     opening = subst (λ (i : FabricId). IsOpening disk_told (state disk).reads_as s i (opening_of state x.state)) (sym fabric) (subst (λ (y : Contents). IsOpening disk_told (state disk).reads_as y laid (opening_of state x.state)) lent_is opening);
     begins = begins;
     of_disk = opening_of_disk disk_told failed state counts disk x.state begins

@@ -1,7 +1,9 @@
 pub mod Lines
 pub mod Matching
 pub mod Statuses
+pub mod Stocks
 pub mod Openings
+pub mod Loads
 pub mod Places
 pub mod Listings
 pub mod Serving

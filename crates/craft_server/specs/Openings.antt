@@ -1,5 +1,5 @@
 -- What the words name is opened, or why it isn't.
-use Rattle.std.specs.Prelude.{◌≡◌, ◌≢◌, ◌≤◌, ◌⊎◌, ℕ, List, [], length, Option, Some}
+use Rattle.std.specs.Prelude.{◌≡◌, ◌≢◌, ◌⊎◌, ℕ, List, length, Option, Some}
 use Rattle.std.specs.Arc.{arc_value}
 use Rattle.dxc_causes.specs.Causes.{Rose}
 use Rattle.dxc_disk.specs.Disks.{DiskState, IsSound}
@@ -78,6 +78,7 @@ module _ {D : Type 0} (disk_told : Type 0) (state : D → DiskState) where
   -- It started on the shelf, with so many workers, on a fabric of its own; the state stands for no entry behind what the disk's journal came to.
   pub record IsStarted (disk : D) (s : Contents) (workers : ℕ) (x : Controller D) : Type 0 where
     pub shelf : arc_value x.shelf ≡ s
+    pub size : (arc_value x.fabric).size ≡ record { shape = s.shape; workers = workers }
     pub opening : IsOpening disk_told (state disk).reads_as s (arc_value x.fabric) (opening_of state x.state)
     pub begins : Begins disk_told state x.state
     pub of_disk : IsOpeningOf (state disk) (opening_of state x.state)

@@ -15,9 +15,10 @@ use Rattle.craft_server.specs.declared.status.Status.{Status}
 use Rattle.craft_server.specs.declared.status.Status.TheVariants.{BadWords, NoMemory}
 use Rattle.craft_server.specs.Lines.{IsLine}
 use Rattle.craft_server.specs.Listings.{listing}
+use Rattle.craft_server.specs.Loads.{IsLoad}
 use Rattle.craft_server.specs.Openings.{Found, Opens, Sources}
 use Rattle.craft_server.specs.Scripts.{RanSession}
-use Rattle.craft_server.specs.Serving.{IsServing, named_in, workers_in}
+use Rattle.craft_server.specs.Serving.{IsServing, named_in}
 use Rattle.craft_server.specs.Statuses.{status_of_sent}
 
 -- whether opener, disk, terminal and clock tell what they hold
@@ -83,9 +84,17 @@ module _ (told : Told) {D : Type 0} (state : D → DiskState) where
   abbrev pub OpensFor : Line → (before after : Lent D) → Status → Type 0
   OpensFor l before after status = Opens told.opener told.disk state (named_in l) before.sources after.sources (IsUntouched before after) (Ran l before after status) status
 
-  -- what a line did; the load mode isn't there yet
+  -- the load was run, with opener, clock and spawner untouched
+  pub record RanLoad (number : ℕ) (before after : Lent D) (status : Status) : Type 0 where
+    pub load : IsLoad number told.terminal before.terminal after.terminal before.sources.stops after.sources.stops status
+    pub opener : after.sources.opener ≡ before.sources.opener
+    pub journal_at : after.sources.journal_at ≡ before.sources.journal_at
+    pub clock : after.clock ≡ before.clock
+    pub spawner : after.spawner ≡ before.spawner
+
+  -- what a line did
   abbrev pub IsRunOf : Line → (before after : Lent D) → Status → Type 0
-  IsRunOf (Load number) before after status = (after ≡ before) × (status ≡ BadWords)
+  IsRunOf (Load number) before after status = RanLoad number before after status
   IsRunOf (Script shelf journal) before after status = OpensFor (Script shelf journal) before after status
   IsRunOf (Check shelf journal) before after status = OpensFor (Check shelf journal) before after status
   IsRunOf (Serve shelf journal address lines workers) before after status = OpensFor (Serve shelf journal address lines workers) before after status

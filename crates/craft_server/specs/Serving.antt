@@ -1,5 +1,5 @@
 -- The serving of callers, and the program's jobs.
-use Rattle.std.specs.Prelude.{◌≡◌, ◌≢◌, ℕ, ◌+◌, ◌≤◌, ◌⊎◌, min, true, List, []}
+use Rattle.std.specs.Prelude.{◌≡◌, ◌≢◌, ℕ, ◌+◌, ◌≤◌, ◌⊎◌, min, true, []}
 use Rattle.dxc_causes.specs.Causes.{Rose, last}
 use Rattle.dxc_outside.specs.Threads.{SpawnerState}
 use Rattle.craft_server.specs.declared.line.Line.{Line}

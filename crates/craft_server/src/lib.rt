@@ -6,6 +6,7 @@ mod frames;
 mod jobs;
 mod line;
 mod links;
+mod load;
 mod matching;
 mod number;
 mod opening;
@@ -15,6 +16,9 @@ mod script;
 mod serve;
 mod sessions;
 mod status;
+mod stock;
+#[cfg(test)]
+mod tests;
 mod threads;
 
 pub use frames::FrameJob;

@@ -67,8 +67,8 @@ fn shelf_of_file<O: Opener>(alloc: Global, opener: &mut O, name: &str) -> Result
     }
 }
 
-// The controller on the shelf and on what the disk's journal came to, on a new fabric.
-fn start<D: Disk + Drop, G: Gate>(
+/// The controller on the shelf and on what the disk's journal came to, on a new fabric.
+pub(crate) fn start<D: Disk + Drop, G: Gate>(
     alloc: Global,
     shelf: Shelf,
     disk: D,

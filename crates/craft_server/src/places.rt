@@ -1,5 +1,5 @@
 //! The places of one state.
-ghost use Rattle.std.specs.Prelude.{◌≡◌, ◌<◌, ◌+◌, IfOk, length, vec_len};
+ghost use Rattle.std.specs.Prelude.{◌≡◌, ◌<◌, ◌+◌, true, IfOk, length, vec_len};
 ghost use Rattle.std.specs.Arc.{arc_value};
 ghost use Rattle.xc_core.specs.Openings.{Begins};
 ghost use Rattle.xc_core.specs.States.{opening_of};
@@ -15,7 +15,7 @@ use std::sync::Arc;
 use turnstile::{Pass, Turnstile};
 use xc_core::State;
 
-type Turns<D> = Arc<Turnstile<State<D>>>;
+pub(crate) type Turns<D> = Arc<Turnstile<State<D>>>;
 
 /// So many places at the state, on the shelf and on the fabric that the state's Provisioner writes. They have the numbers from 0 on.
 pub(crate) fn open_places<D: Disk + Drop>(
@@ -86,4 +86,22 @@ fn next_place<D: Disk + Drop>(
         return Err(NoMemory);
     };
     Place::new(alloc, pass, number, shelf, fabric, turns)
+}
+
+/// The one place at the state, and a pass that no session uses.
+pub(crate) fn open_place<D: Disk + Drop>(
+    alloc: Global,
+    shelf: &Arc<Shelf>,
+    fabric: &Arc<Fabric>,
+    state: State<D>,
+) -> Result<(Place<D>, Pass, Turns<D>), NoMemory>
+    requires begins { Begins D.told D.state state }
+    requires opening { IsAtOpening (opening_of D.state state) (arc_value shelf.now) (arc_value fabric.now) }
+    ensures turns { IfOk result (λ r. (arc_value r.2).first ≡ state) }
+    ensures place { IfOk result (λ r. r.0 ≡ place_at (arc_value shelf.now) (opening_of D.state state) 2 0) }
+    ensures pass { IfOk result (λ r. (r.1.free ≡ true) × (r.1.id ≡ (arc_value r.2).id)) }
+{
+    let (turns, mut passes) = turns_of(alloc, state, 2)?;
+    let place = next_place(alloc, 0, &mut passes, shelf, fabric, &turns)?;
+    Ok((place, passes.remove(0), turns))
 }

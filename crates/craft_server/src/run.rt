@@ -1,10 +1,11 @@
 ghost use Rattle.std.specs.Prelude.{◌≡◌};
-ghost use Rattle.craft_server.specs.Lines.{IsLine, IsLoad};
+ghost use Rattle.craft_server.specs.Lines.{IsLine};
 ghost use Rattle.craft_server.specs.declared.line.Line.{Line as ALine};
 ghost use Rattle.craft_server.specs.Openings.{sources};
 ghost use Rattle.craft_server.specs.Runs.{IsRun, lent, told_by};
 
 use crate::check::run_check;
+use crate::load::run_load;
 use crate::opening::Names;
 use crate::script::run_script;
 use crate::{Line, Status, WordsFault, line_of, serve_all};
@@ -13,12 +14,13 @@ use std::alloc::Global;
 use std::sync::Wait;
 
 /// Runs a line of words: `script SHELF JOURNAL`, `check SHELF JOURNAL` or `serve SHELF JOURNAL ADDRESS LINES WORKERS`, by the names of
-/// a shelf file, which is read in the form that `shelf_of` tells, and of a journal, which is made where it is new. The controller
-/// starts on what the journal stands for.
+/// a shelf file, which is read in the form that `shelf_of` tells, and of a journal, which is made where it is new; or `load NUMBER`. The
+/// controller starts on what the journal stands for; that of `load` on a new journal in memory.
 ///
 /// `script` serves one session over the terminal; `check` writes each row of the table and the number of records to it; `serve`
-/// serves 16 callers of the address at a time, and carries the frames of the lines with 1 to 8 workers. The gate is asked while the
-/// controller starts and, in `script`, before a change is journalled, before each register write and before the table takes a change.
+/// serves 16 callers of the address at a time, and carries the frames of the lines with 1 to 8 workers. `load` serves one session
+/// that is sent the load script of the number, with a frame behind each command, and writes one line that sums it up. The gate is asked
+/// while the controller starts and, in `script` and `load`, before a change is journalled, before each register write and before the table takes a change.
 pub fn dxc_run<O: Opener, K: Link, C: Clock, G: Gate, P: Spawner, R: Wait>(
     alloc: Global,
     words: &[Name],
@@ -31,7 +33,7 @@ pub fn dxc_run<O: Opener, K: Link, C: Clock, G: Gate, P: Spawner, R: Wait>(
 ) -> Status
 where
     <O::Listener as Listener>::Link: Send + 'static,
-    ensures words { result ≡ Status.BadWords → (l : ALine) → IsLine words.now l → IsLoad l }
+    ensures words { result ≡ Status.BadWords → (l : ALine) → IsLine words.now l → ⊥ }
     ensures run { IsRun (told_by O.told O.Journal.told K.told C.told) O.Journal.state words.now (lent (sources (O.state opener.old) (O.journal_at opener.old) (G.stops gate.old)) (K.state terminal.old) (C.coming clock.old) (P.state spawner.old)) (lent (sources (O.state opener.new) (O.journal_at opener.new) (G.stops gate.new)) (K.state terminal.new) (C.coming clock.new) (P.state spawner.new)) result }
 {
     let line = match line_of(alloc, words) {
@@ -55,7 +57,6 @@ where
             run_check(alloc, opener, names, terminal, gate)
         }
         Line::Serve { .. } => serve_all(alloc, opener, &line, gate, spawner, rt),
-        // Nothing serves this mode yet.
-        Line::Load { .. } => Status::BadWords,
+        Line::Load { number } => run_load(alloc, *number, terminal, gate, rt),
     }
 }

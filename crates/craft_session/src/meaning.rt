@@ -1,9 +1,10 @@
 ghost use Rattle.std.specs.Prelude.{◌≡◌, ◌≤◌, true, length};
+ghost use Rattle.tl1_text.specs.Spans.{AreBlocksOf};
 ghost use Rattle.tl1_text.specs.Units.{whole};
 ghost use Rattle.dxc_secu.specs.Users.{user_of};
 ghost use Rattle.tl1_command.specs.Commands.{asked_by, IsAptCommand};
 ghost use Rattle.craft_session.specs.Asks.{IsAptAsk, is_known, user_after};
-ghost use Rattle.craft_session.specs.Meanings.{asks, table_ask, log_in, is_other_user as other_user, session_ask};
+ghost use Rattle.craft_session.specs.Meanings.{asks, tag_of, table_ask, log_in, is_other_user as other_user, session_ask};
 
 use crate::ask::Ask;
 use dxc_model::{Cause, Op, SessionUser};
@@ -11,19 +12,33 @@ use dxc_secu::{login, same_user};
 use shelf_file::Shelf;
 use tl1_command::{Command, command_of};
 use tl1_text::grammar::blocks;
+use tl1_text::{Blocks, Ctag, ctag_in, ctag_of};
 
-/// What a whole unit asks of the session of a user.
-pub fn ask_of(shelf: &Shelf, user: SessionUser, unit: &[u8]) -> Ask
+/// The tag of a whole unit, and what the unit asks of the session of a user.
+pub fn ask_of(shelf: &Shelf, user: SessionUser, unit: &[u8]) -> (Option<Ctag>, Ask)
     requires short { length unit.now ≤ 2047 }
+    requires known { is_known (length shelf.now.users) user ≡ true }
+    ensures tag { result.0 ≡ tag_of (whole unit.now) }
+    ensures ask { result.1 ≡ asks shelf.now user (whole unit.now) }
+    ensures apt { IsAptAsk shelf.now.shape result.1 }
+    ensures known { is_known (length shelf.now.users) (user_after user result.1) ≡ true }
+{
+    let Ok(found) = blocks(unit) else {
+        return (ctag_of(unit), Ask::Refused(Cause::BadText));
+    };
+    (ctag_in(unit, &found), ask_in(shelf, user, unit, &found))
+}
+
+/// What a unit in the grammar asks. The blocks are the unit's.
+fn ask_in(shelf: &Shelf, user: SessionUser, unit: &[u8], found: &Blocks) -> Ask
+    requires short { length unit.now ≤ 2047 }
+    requires blocks { AreBlocksOf unit.now found.now.block.items }
     requires known { is_known (length shelf.now.users) user ≡ true }
     ensures ask { result ≡ asks shelf.now user (whole unit.now) }
     ensures apt { IsAptAsk shelf.now.shape result }
     ensures known { is_known (length shelf.now.users) (user_after user result) ≡ true }
 {
-    let Ok(found) = blocks(unit) else {
-        return Ask::Refused(Cause::BadText);
-    };
-    match command_of(shelf.shape(), shelf.sid(), user, unit, &found) {
+    match command_of(shelf.shape(), shelf.sid(), user, unit, found) {
         Ok(command) => served(shelf, user, unit, command),
         Err(cause) => Ask::Refused(cause),
     }

@@ -36,7 +36,7 @@ use dxc_model::Cause;
 use dxc_outside::{Clock, Gate, Got, Link, Sent, write_all};
 use std::sync::Wait;
 use tl1_answer::change_text;
-use tl1_text::{Ctag, UnitKind, ctag_of};
+use tl1_text::{Ctag, UnitKind};
 use xc_core::turns::Looked;
 
 const READS: u64 = 1 << 32;
@@ -94,8 +94,7 @@ fn serve_unit<K: Link, C: Clock, G: Gate, D: Disk + Drop, R: Wait>(
     match kind {
         UnitKind::More => Progress::On,
         UnitKind::Whole => {
-            let tag = ctag_of(desk.reader.unit());
-            let ask = ask_of(&desk.shelf, desk.attending.user, desk.reader.unit());
+            let (tag, ask) = ask_of(&desk.shelf, desk.attending.user, desk.reader.unit());
             attend(desk, link, clock, gate, rt, tag, ask)
         }
         UnitKind::TooLong => {

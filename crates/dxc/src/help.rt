@@ -6,6 +6,7 @@ const HELP: &str = "dxc: the controller of a digital cross-connect
   dxc check SHELF JOURNAL     the connections that the journal comes to, and how many records it has
   dxc serve SHELF JOURNAL ADDRESS LINES WORKERS
                               sessions over TCP, 16 at a time, and 1 to 8 workers that carry frames
+  dxc load NUMBER             10,000 commands drawn from the number, on a journal in memory, and what they came to
   dxc --help                  this text
   dxc --version               the version
 
@@ -18,6 +19,10 @@ LINES names files: worker W reads the frames of LINES.in, a byte for each port, 
   printf 'ACT-USER::ANNA:1::bc;ENT-CRS-T0::DS0-1-1,DS0-2-1:2;' | dxc script office.toml office.journal
   dxc check office.toml office.journal
   dxc serve office.toml office.journal 127.0.0.1:3083 office 2
+  dxc load 0
+
+NUMBER is from 0 to 18446744073709551615. Equal numbers give equal lines: how many commands were completed and denied, how many
+connections there are at the end and how many switches were made, and how many bytes 10,000 frames carried, one behind each command.
 
 SHELF is the name of a shelf file, which tells the element's name, its shape and its users, such as office.toml:
 

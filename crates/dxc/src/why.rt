@@ -52,6 +52,7 @@ fn words_behind(mode: &str) -> Option<usize> {
     match mode {
         "script" | "check" => Some(2),
         "serve" => Some(5),
+        "load" => Some(1),
         _ => None,
     }
 }
@@ -68,7 +69,7 @@ fn word_at_fault(words: &[Name]) -> Option<&Name> {
     if words.len() <= behind {
         return None;
     }
-    // One too many, or else the number of workers.
+    // One too many, or else a number: of workers, or of the load.
     words.get(behind + 1).or(words.last())
 }
 

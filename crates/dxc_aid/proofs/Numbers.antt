@@ -16,6 +16,14 @@ pub data Digits (n : ℕ) : List ℕ → Type 0 where
 tens : (n : ℕ) → n ≤ 99 → n / 10 < 10
 tens n le = omega (arith, le)
 
+pub decimal_one : (n : ℕ) → n < 10 → decimal n ≡ (48 + n) ∷ []
+decimal_one n lt = decimal_digit n lt
+
+pub decimal_two : (n : ℕ) → 10 ≤ n → n < 100 → decimal n ≡ (48 + n / 10) ∷ (48 + n % 10) ∷ []
+decimal_two n ge lt =
+    let fits : n < 2 ^ 64 = omega (arith, lt) in
+    rw (decimal_step n ge fits, decimal_digit (n / 10) (tens n (omega (arith, lt)))) (refl)
+
 by_size : (n : ℕ) (c : Bool) → nat_lt n 10 ≡ c → n ≤ 99 → Digits n (decimal n)
 by_size n true c_is le =
     let lt : n < 10 = (let test : nat_lt n 10 ≡ true = c_is in grind (arith, nat_tests, test)) in

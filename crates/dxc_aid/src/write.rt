@@ -38,12 +38,20 @@ fn append(out: &mut ArrayVec<u8, 128>, text: &[u8])
     let _ = out.try_extend_from_slice(text);
 }
 
-/// Appends a number of at most five digits, in decimal.
+/// Appends a number of at most five digits, in decimal. Shapes have numbers of one or two, which are written at once.
+#[tactic(auto, using(crate::proofs::Numbers::decimal_one))]
 fn append_number(out: &mut ArrayVec<u8, 128>, number: u16)
     requires { array_vec_len out.old + 5 ≤ 128 }
     ensures digits { out.new.items ≡ out.old.items ++ decimal number }
     ensures short { array_vec_len out.new ≤ array_vec_len out.old + 5 }
 {
-    let mut buffer = itoa::Buffer::new();
-    append(out, buffer.format(number).as_bytes());
+    if number < 10 {
+        out.push(b'0' + number as u8);
+    } else if number < 100 {
+        out.push(b'0' + (number / 10) as u8);
+        out.push(b'0' + (number % 10) as u8);
+    } else {
+        let mut buffer = itoa::Buffer::new();
+        append(out, buffer.format(number).as_bytes());
+    }
 }

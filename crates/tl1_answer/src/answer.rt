@@ -4,6 +4,7 @@ ghost use Rattle.tl1_answer.specs.Messages.{head, report as whole_report, with_l
 
 use crate::append::append;
 use crate::message::{append_head, append_line, append_report};
+use crate::stamp::Stamp;
 use arrayvec::ArrayVec;
 use dxc_outside::Moment;
 use std::marker::Model;
@@ -35,6 +36,7 @@ pub struct Answer {
     block: ArrayVec<u8, 4096>,
     head: usize,
     unended: bool,
+    stamp: Stamp,
 }
 
 impl Model for Answer {
@@ -60,6 +62,7 @@ impl Answer {
             block: ArrayVec::new(),
             head: 0,
             unended: false,
+            stamp: Stamp::of(Moment::FIRST),
         }
     }
 
@@ -71,7 +74,8 @@ impl Answer {
         ensures some { IsBegun self.new }
     {
         self.block.clear();
-        append_head(&mut self.block, sid, moment, ctag, code);
+        self.stamp.show(moment);
+        append_head(&mut self.block, sid, &self.stamp, ctag, code);
         self.head = self.block.len();
         self.unended = true;
     }
@@ -120,7 +124,8 @@ impl Answer {
         ensures { self.new ≡ alone (whole_report sid.now moment atag text.now) }
     {
         self.block.clear();
-        append_report(&mut self.block, sid, moment, atag, text);
+        self.stamp.show(moment);
+        append_report(&mut self.block, sid, &self.stamp, atag, text);
         self.head = 0;
         self.unended = false;
     }

@@ -1,7 +1,6 @@
 // Appends to buffers of fixed size.
 ghost use Rattle.std.specs.Prelude.{◌≡◌, ◌≤◌, ◌+◌, ◌++◌, length, decimal};
 ghost use Rattle.arrayvec.specs.ArrayVec.{array_vec_len};
-ghost use Rattle.tl1_answer.specs.Messages.{two};
 
 use arrayvec::ArrayVec;
 
@@ -11,17 +10,6 @@ pub fn append<const N: usize>(out: &mut ArrayVec<u8, N>, text: &[u8])
     ensures len { array_vec_len out.new ≡ array_vec_len out.old + length text.now }
 {
     let _ = out.try_extend_from_slice(text);
-}
-
-/// A number below 100, in two digits.
-pub fn append_two<const N: usize>(out: &mut ArrayVec<u8, N>, number: u8)
-    requires room { array_vec_len out.old + 2 ≤ N }
-    requires small { number ≤ 99 }
-    ensures items { out.new.items ≡ out.old.items ++ two number }
-    ensures len { array_vec_len out.new ≡ array_vec_len out.old + 2 }
-{
-    out.push(b'0' + number / 10);
-    out.push(b'0' + number % 10);
 }
 
 /// A number of at most twenty digits, in decimal.

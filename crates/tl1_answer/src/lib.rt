@@ -5,6 +5,7 @@ mod answer;
 mod append;
 pub mod laws;
 mod message;
+mod stamp;
 mod text;
 
 pub use answer::{Answer, Code, Fits};

@@ -1,72 +1,48 @@
 // The bytes of headers, lines and whole reports.
-ghost use Rattle.std.specs.Prelude.{◌≡◌, ◌≤◌, ◌+◌, length, option_map};
+ghost use Rattle.std.specs.Prelude.{◌≡◌, ◌≤◌, ◌+◌, ◌++◌, length, codes, option_map};
 ghost use Rattle.arrayvec.specs.ArrayVec.{array_vec_len};
-ghost use Rattle.dxc_outside.specs.Moments.{IsMoment};
 ghost use Rattle.tl1_answer.specs.Messages.{header, or_zero, code_text, head, report as whole_report, with_line};
 
 use crate::answer::Code;
-use crate::append::{append, append_number, append_two};
+use crate::append::{append, append_number};
+use crate::stamp::Stamp;
 use arrayvec::ArrayVec;
-use dxc_outside::Moment;
 use tl1_text::{Ctag, Sid};
 
-fn append_header(out: &mut ArrayVec<u8, 4096>, sid: &Sid, moment: Moment)
+fn append_header(out: &mut ArrayVec<u8, 4096>, sid: &Sid, stamp: &Stamp)
     requires empty { array_vec_len out.old ≡ 0 }
-    requires moment { IsMoment moment }
-    ensures items { out.new.items ≡ header sid.now moment }
+    ensures items { out.new.items ≡ header sid.now stamp.now }
     ensures short { array_vec_len out.new ≤ 46 }
 {
     append(out, b"\r\n\n   ");
     append(out, sid.bytes());
-    append(out, b" ");
-    append_two(out, moment.year);
-    append(out, b"-");
-    append_two(out, moment.month);
-    append(out, b"-");
-    append_two(out, moment.day);
-    append(out, b" ");
-    append_two(out, moment.hour);
-    append(out, b":");
-    append_two(out, moment.minute);
-    append(out, b":");
-    append_two(out, moment.second);
-    append(out, b"\r\n");
+    append(out, stamp.bytes());
 }
 
 pub fn append_head(
     out: &mut ArrayVec<u8, 4096>,
     sid: &Sid,
-    moment: Moment,
+    stamp: &Stamp,
     ctag: Option<&Ctag>,
     code: Code,
 )
     requires empty { array_vec_len out.old ≡ 0 }
-    requires moment { IsMoment moment }
-    ensures items { out.new.items ≡ head sid.now moment (option_map (λ t. t.now) ctag.entry) code }
+    ensures items { out.new.items ≡ head sid.now stamp.now (option_map (λ t. t.now) ctag.entry) code }
     ensures short { array_vec_len out.new ≤ 64 }
     ensures some { 1 ≤ array_vec_len out.new }
 {
-    append_header(out, sid, moment);
+    append_header(out, sid, stamp);
     append(out, b"M  ");
     append(out, tag_text(ctag));
-    append(out, b" ");
-    append(out, completion(code));
-    append(out, b"\r\n");
+    append_completion(out, code);
 }
 
-pub fn append_report(
-    out: &mut ArrayVec<u8, 4096>,
-    sid: &Sid,
-    moment: Moment,
-    atag: u64,
-    text: &[u8],
-)
+pub fn append_report(out: &mut ArrayVec<u8, 4096>, sid: &Sid, stamp: &Stamp, atag: u64, text: &[u8])
     requires empty { array_vec_len out.old ≡ 0 }
-    requires moment { IsMoment moment }
     requires short { length text.now ≤ 128 }
-    ensures { out.new.items ≡ whole_report sid.now moment atag text.now }
+    ensures { out.new.items ≡ whole_report sid.now stamp.now atag text.now }
 {
-    append_header(out, sid, moment);
+    append_header(out, sid, stamp);
     append(out, b"A  ");
     append_number(out, atag);
     append(out, b" REPT DBCHG\r\n");
@@ -84,13 +60,16 @@ pub fn append_line(out: &mut ArrayVec<u8, 4096>, text: &[u8])
     append(out, b"\r\n");
 }
 
-fn completion(code: Code) -> &'static [u8]
-    ensures text { result.now ≡ code_text code }
-    ensures short { length result.now ≤ 6 }
+/// The completion code behind a blank, and the line's end.
+#[tactic(auto, using(crate::proofs::Headers::completion_is))]
+fn append_completion(out: &mut ArrayVec<u8, 4096>, code: Code)
+    requires { array_vec_len out.old + 9 ≤ 4096 }
+    ensures items { out.new.items ≡ out.old.items ++ codes " " ++ code_text code ++ codes "\r\n" }
+    ensures short { array_vec_len out.new ≤ array_vec_len out.old + 9 }
 {
     match code {
-        Code::Compld => b"COMPLD",
-        Code::Deny => b"DENY",
+        Code::Compld => append(out, b" COMPLD\r\n"),
+        Code::Deny => append(out, b" DENY\r\n"),
     }
 }
 

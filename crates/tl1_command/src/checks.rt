@@ -95,6 +95,9 @@ fn has_general(unit: &[u8], blocks: &Blocks) -> bool
     requires blocks { AreBlocksOf unit.now blocks.now.block.items }
     ensures { result ≡ general_there (map (block_at unit.now) blocks.now.block.items) }
 {
+    if block_text(unit, blocks, 4).is_empty() {
+        return false;
+    }
     let values = values_at(unit, blocks, 4);
     has_value_from(unit, &values, 0)
 }

@@ -1,4 +1,5 @@
 pub mod Steps
+pub mod Runs
 pub mod Once
 pub mod Walks
 pub mod Finds
@@ -7,6 +8,8 @@ pub mod BlockFacts
 pub mod CutSteps
 pub mod Slices
 pub mod ValueSteps
+pub mod Plains
 pub mod CutBlocks
 pub mod TagFacts
 pub mod Totals
+pub mod Tables

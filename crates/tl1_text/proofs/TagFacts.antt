@@ -1,8 +1,12 @@
 -- The CTAG of a text in the grammar is its fourth block.
-use Rattle.std.proofs.Common.{◌≡◌, ℕ, Bool, true, false, List, [], ◌∷◌, ◌++◌, not, ◌&&◌, ◌==◌, Some, refl, sym, ◌∙◌, ap, append_assoc, append-nil}
+use Rattle.std.proofs.Common.{◌≡◌, ℕ, ◌≤◌, Bool, true, false, List, [], ◌∷◌, ◌++◌, length, map, get_or, arith, not, ◌&&◌, ◌==◌, Some, refl, sym, ◌∙◌, ap, append_assoc, append-nil}
 use Rattle.std.specs.List.{list_all}
 use Rattle.tl1_text.specs.Grammar.{is_plain, is_inner, IsParam, plain, quoted, AreParams, last_param, more_params, Block, AreBlocks, last_block, more_blocks, IsCommandText}
 use Rattle.tl1_text.specs.Tags.{as_ctag, flip, before_colon, behind_colon, ctag_of}
+use Rattle.std.proofs.lemmas.List.{length-map}
+use Rattle.tl1_text.specs.declared.span.Span.{Span}
+use Rattle.tl1_text.specs.Spans.{text_at, block_at, AreBlocksOf}
+use Rattle.tl1_text.proofs.BlockFacts.{blocks_found}
 use Rattle.tl1_text.proofs.Walks.{both, plain_not, inner_not}
 
 -- a text that no colon parts, from one state of quotes to another
@@ -67,3 +71,15 @@ tag_is text code tid aid tag others is =
     let two = behind_of one.rest tid aid (tag ∷ others) one.blocks in
     let three = behind_of two.rest aid tag others two.blocks in
     rw (one.is, two.is, three.is, first_of three.rest tag others three.blocks) (refl)
+
+-- a unit has four blocks at least
+pub four_blocks : (unit : List ℕ) (spans : List Span) → AreBlocksOf unit spans → 4 ≤ length spans
+four_blocks unit spans are = omega (arith, (blocks_found unit (map (block_at unit) spans) are.reading).least, length-map spans (block_at unit))
+
+pub tag_by_blocks : (unit : List ℕ) (spans : List Span) (d : Span) → AreBlocksOf unit spans → ctag_of unit ≡ as_ctag (text_at unit (get_or spans 3 d))
+tag_by_blocks unit [] d are = absurd (omega (arith, four_blocks unit [] are))
+tag_by_blocks unit (code ∷ []) d are = absurd (omega (arith, four_blocks unit (code ∷ []) are))
+tag_by_blocks unit (code ∷ tid ∷ []) d are = absurd (omega (arith, four_blocks unit (code ∷ tid ∷ []) are))
+tag_by_blocks unit (code ∷ tid ∷ aid ∷ []) d are = absurd (omega (arith, four_blocks unit (code ∷ tid ∷ aid ∷ []) are))
+tag_by_blocks unit (code ∷ tid ∷ aid ∷ tag ∷ others) d are =
+    tag_is unit (block_at unit code) (block_at unit tid) (block_at unit aid) (block_at unit tag) (map (block_at unit) others) (blocks_found unit (map (block_at unit) (code ∷ tid ∷ aid ∷ tag ∷ others)) are.reading)

@@ -1,5 +1,5 @@
 -- A text of the grammar, read from its first byte to its last.
-use Rattle.std.specs.Prelude.{ℕ, Bool, true, false, List, [], ◌∷◌, ◌-◌, length, nat_le, nat_lt, ◌==◌, ◌&&◌, if◌then◌else◌, Option, Some, None}
+use Rattle.std.specs.Prelude.{◌≡◌, ℕ, ◌≤◌, ◌<◌, Bool, true, false, List, [], ◌∷◌, ◌-◌, length, slice_index, nat_le, nat_lt, ◌==◌, ◌&&◌, if◌then◌else◌, Option, Some, None}
 use Rattle.std.specs.Option.{option_map, option_map_or, option_and_then}
 use Rattle.std.specs.List.{list_all}
 use Rattle.std.specs.Char.{is_ascii_alphanumeric}
@@ -13,6 +13,17 @@ is_outside Start = true
 is_outside Plain = true
 is_outside Quoted = false
 is_outside Closed = true
+
+-- a place at which plain bytes may stand
+abbrev pub takes_plain : Place → Bool
+takes_plain Start = true
+takes_plain Plain = true
+takes_plain Quoted = false
+takes_plain Closed = false
+
+-- the bytes from a place up to another are plain
+abbrev pub ArePlain : List ℕ → ℕ → ℕ → Type 0
+ArePlain text from end = (k : ℕ) → from ≤ k → k < end → is_plain (slice_index text k) ≡ true
 
 -- the place in a parameter behind one byte more, where the byte may stand here
 abbrev pub after : Place → ℕ → Option Place

@@ -1,6 +1,9 @@
 ghost use Rattle.std.specs.Prelude.{◌≡◌, ◌≤◌, true, false, length, option_map};
 ghost use Rattle.tl1_text.specs.Tags.{is_ctag as reads_as_ctag, is_alphanumeric, is_zeros, as_ctag, ctag_of as tag_in, before_colon as front, behind_colon as back};
+ghost use Rattle.tl1_text.specs.Spans.{AreBlocksOf};
 
+use crate::letter::is_letter_or_digit;
+use crate::span::Blocks;
 use arrayvec::ArrayVec;
 use std::marker::Model;
 
@@ -58,7 +61,7 @@ fn is_ctag(bytes: &[u8]) -> bool
 fn alphanumeric(bytes: &[u8]) -> bool
     ensures { result ≡ is_alphanumeric bytes.now }
 {
-    bytes.iter().all(|b| b.is_ascii_alphanumeric())
+    bytes.iter().all(|b| is_letter_or_digit(*b))
 }
 
 fn zeros(bytes: &[u8]) -> bool
@@ -78,6 +81,14 @@ pub fn ctag_of(unit: &[u8]) -> Option<Ctag>
     let aid = behind_colon(tid)?;
     let rest = behind_colon(aid)?;
     Ctag::of(before_colon(rest))
+}
+
+/// The same by the unit's blocks, with no further pass over its bytes.
+pub fn ctag_in(unit: &[u8], blocks: &Blocks) -> Option<Ctag>
+    requires { AreBlocksOf unit.now blocks.now.block.items }
+    ensures { result ≡ tag_in unit.now }
+{
+    Ctag::of(blocks.block[3].text(unit))
 }
 
 /// The bytes before the first colon outside quotes, or all of them.

@@ -3,7 +3,7 @@ ghost use Rattle.std.specs.Prelude.{◌≡◌, ◌≤◌, ◌<◌, ◌+◌, ℕ,
 ghost use Rattle.tl1_text.specs.Walk.{blocks_of};
 ghost use Rattle.tl1_text.specs.Cuts.{IsCutTo, IsCut};
 
-use crate::place::Place;
+use crate::place::{Place, plain_end};
 use crate::span::Span;
 use arrayvec::ArrayVec;
 
@@ -29,6 +29,23 @@ impl Cutting {
             params: 1,
             place: Place::Start,
         }
+    }
+
+    /// Passes the plain bytes that may stand here, and tells where they end.
+    fn pass(&mut self, unit: &[u8], from: usize) -> usize
+        requires cut { IsCutTo unit.now from self.old }
+        ensures cut { IsCutTo unit.now result self.new }
+        ensures forwards { from ≤ result }
+        ensures within { result ≤ length unit.now }
+    {
+        if !self.place.takes_plain() {
+            return from;
+        }
+        let end = plain_end(unit, from, unit.len());
+        if from < end {
+            self.place = Place::Plain;
+        }
+        end
     }
 
     /// Reads one byte more; None where the unit isn't in the grammar.
@@ -84,8 +101,13 @@ pub fn cut(unit: &[u8]) -> Option<ArrayVec<Span, 10>>
     ensures { MatchOption result (blocks_of unit.now ≡ None) (λ found. IsCut unit.now found.items) }
 {
     let mut cutting = Cutting::new();
-    for at in 0..unit.len() {
-        cutting.step(unit, at)?;
+    let mut at = 0;
+    while at < unit.len() {
+        at = cutting.pass(unit, at);
+        if at < unit.len() {
+            cutting.step(unit, at)?;
+            at += 1;
+        }
     }
     cutting.end(unit)
 }

@@ -4,6 +4,7 @@ ghost use Rattle.tl1_text.specs.Walk.{are_words, blocks_of};
 ghost use Rattle.tl1_text.specs.Spans.{AreBlocksOf};
 
 use crate::cutting::cut;
+use crate::letter::is_letter_or_digit;
 use crate::span::{BadText, Blocks};
 
 /// The blocks of a unit's text; BadText exactly where the text isn't in the grammar.
@@ -36,7 +37,7 @@ fn is_code(text: &[u8]) -> bool
             }
             left -= 1;
             begun = false;
-        } else if b.is_ascii_alphanumeric() {
+        } else if is_letter_or_digit(b) {
             begun = true;
         } else {
             return false;

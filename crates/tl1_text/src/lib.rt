@@ -5,13 +5,14 @@ mod ctag;
 mod cutting;
 pub mod grammar;
 pub mod laws;
+mod letter;
 mod place;
 mod reader;
 mod sid;
 mod span;
 mod values;
 
-pub use ctag::{Ctag, ctag_of};
+pub use ctag::{Ctag, ctag_in, ctag_of};
 pub use reader::{Fed, UnitKind, UnitReader};
 pub use sid::Sid;
 pub use span::{BadText, Blocks, Span};

@@ -1,6 +1,6 @@
-ghost use Rattle.std.specs.Prelude.{◌≡◌, ◌&&◌, ◌==◌};
+ghost use Rattle.std.specs.Prelude.{◌≡◌, ◌≤◌, ◌&&◌, ◌==◌, length};
 ghost use Rattle.tl1_text.specs.Grammar.{is_plain as plain, is_inner as inner};
-ghost use Rattle.tl1_text.specs.Walk.{is_outside as outside, after as behind};
+ghost use Rattle.tl1_text.specs.Walk.{is_outside as outside, takes_plain as plain_may_follow, after as behind, ArePlain};
 
 /// Where a reader stands in a parameter.
 #[derive(Clone, Copy, Debug, PartialEq, Eq)]
@@ -26,6 +26,16 @@ impl Place {
         }
     }
 
+    /// Whether plain bytes may stand here.
+    pub fn takes_plain(self) -> bool
+        ensures { result ≡ plain_may_follow self }
+    {
+        match self {
+            Place::Start | Place::Plain => true,
+            Place::Quoted | Place::Closed => false,
+        }
+    }
+
     /// Whether this byte is the mark, and parts.
     pub fn is_parted(self, b: u8, mark: u8) -> bool
         ensures { result ≡ (outside self && (b == mark)) }
@@ -47,10 +57,37 @@ impl Place {
     }
 }
 
+/// Where the plain bytes that begin at `from` end.
+pub fn plain_end(text: &[u8], from: usize, end: usize) -> usize
+    requires forwards { from ≤ end }
+    requires within { end ≤ length text.now }
+    ensures forwards { from ≤ result }
+    ensures within { result ≤ end }
+    ensures plain { ArePlain text.now from result }
+{
+    for at in from..end {
+        if !is_plain(text[at]) {
+            return at;
+        }
+    }
+    end
+}
+
+// Each byte that may stand outside quotes at its own place, and a comma at every other place.
+static PLAIN: [u8; 256] = *b"\
+    ,,,,,,,,,,,,,,,,,,,,,,,,,,,,,,,,\
+    ,!,#$%&'()*+,-./0123456789,,<=>?\
+    @ABCDEFGHIJKLMNOPQRSTUVWXYZ[\\]^_\
+    `abcdefghijklmnopqrstuvwxyz{|}~,\
+    ,,,,,,,,,,,,,,,,,,,,,,,,,,,,,,,,\
+    ,,,,,,,,,,,,,,,,,,,,,,,,,,,,,,,,\
+    ,,,,,,,,,,,,,,,,,,,,,,,,,,,,,,,,\
+    ,,,,,,,,,,,,,,,,,,,,,,,,,,,,,,,,";
+
 fn is_plain(b: u8) -> bool
     ensures { result ≡ plain b }
 {
-    matches!(b, 0x21..=0x7e) && !matches!(b, b'"' | b',' | b':' | b';')
+    PLAIN[b as usize] != b','
 }
 
 fn is_inner(b: u8) -> bool

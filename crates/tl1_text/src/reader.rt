@@ -1,9 +1,10 @@
 // Reads units out of pieces of a stream.
 ghost use Rattle.std.specs.Prelude.{◌≡◌, ◌≤◌, ◌<◌, ◌+◌, ℕ, List, [], ◌∷◌, ◌++◌, length, take, true, false};
-ghost use Rattle.tl1_text.specs.Reading.{Holds, IsKind};
-ghost use Rattle.tl1_text.specs.Units.{is_gap as gap, is_quoted};
+ghost use Rattle.tl1_text.specs.Reading.{Holds, IsKind, IsRun};
+ghost use Rattle.tl1_text.specs.Units.{is_gap as gap, is_quoted, Begins};
 
 use arrayvec::ArrayVec;
+use memchr::memchr2;
 use std::marker::Model;
 
 /// A unit has at most so many bytes, the `;` that ends it among them.
@@ -73,14 +74,18 @@ impl UnitReader {
         ensures some { 0 < length piece.now → 0 < result.taken }
         ensures short { result.unit ≡ UnitKind.Whole → length self.new.kept ≤ 2047 }
     {
-        for at in 0..piece.len() {
-            match self.take(piece[at]) {
-                UnitKind::More => {}
-                unit => {
-                    return Fed {
-                        taken: at + 1,
-                        unit,
-                    };
+        let mut at = 0;
+        while at < piece.len() {
+            at += self.take_run(&piece[at..]);
+            if at < piece.len() {
+                match self.take(piece[at]) {
+                    UnitKind::More => at += 1,
+                    unit => {
+                        return Fed {
+                            taken: at + 1,
+                            unit,
+                        };
+                    }
                 }
             }
         }
@@ -95,6 +100,20 @@ impl UnitReader {
         ensures { result.now ≡ self.now.kept }
     {
         self.kept.as_slice()
+    }
+
+    /// Takes the bytes in front of the first `;` or quote, and answers how many these are: none before a unit's first byte.
+    fn take_run(&mut self, rest: &[u8]) -> usize
+        ensures within { result ≤ length rest.now }
+        ensures held { (bs : List ℕ) → Holds bs (hand self.old) → Holds (bs ++ take result rest.now) (hand self.new) }
+    {
+        self.begin();
+        if self.kept.is_empty() && begins_with_gap(rest) {
+            return 0;
+        }
+        let count = run_of(rest);
+        keep_run(&mut self.kept, &rest[..count]);
+        count
     }
 
     fn take(&mut self, b: u8) -> UnitKind
@@ -144,6 +163,38 @@ fn keep(kept: &mut ArrayVec<u8, 2048>, quoted: &mut bool, b: u8) -> UnitKind
     kept.push(b);
     *quoted = *quoted != (b == b'"');
     UnitKind::More
+}
+
+/// Keeps bytes among which are neither `;` nor quotes, as far as there is room for them.
+fn keep_run(kept: &mut ArrayVec<u8, 2048>, text: &[u8])
+    requires run { IsRun text.now }
+    requires begins { kept.old.items ≡ [] → Begins text.now }
+    ensures held { (bs : List ℕ) → Holds bs kept.old.items → Holds (bs ++ text.now) kept.new.items }
+    ensures quoted { is_quoted kept.new.items ≡ is_quoted kept.old.items }
+{
+    let room = kept.remaining_capacity();
+    if text.len() <= room {
+        let _ = kept.try_extend_from_slice(text);
+    } else {
+        let _ = kept.try_extend_from_slice(&text[..room]);
+    }
+}
+
+/// How many bytes stand in front of the first `;` or quote.
+fn run_of(text: &[u8]) -> usize
+    ensures within { result ≤ length text.now }
+    ensures run { IsRun (take result text.now) }
+{
+    match memchr2(b';', b'"', text) {
+        Some(at) => at,
+        None => text.len(),
+    }
+}
+
+fn begins_with_gap(text: &[u8]) -> bool
+    ensures { result ≡ false → Begins text.now }
+{
+    !text.is_empty() && is_gap(text[0])
 }
 
 /// A blank, CR or LF.

@@ -5,7 +5,7 @@ ghost use Rattle.tl1_text.specs.Walk.{values_of, is_outside};
 ghost use Rattle.tl1_text.specs.Spans.{IsIn, IsBlockIn, text_at};
 ghost use Rattle.tl1_text.specs.Values.{AreFoundTo, Leads};
 
-use crate::place::Place;
+use crate::place::{Place, plain_end};
 use crate::span::Span;
 use arrayvec::ArrayVec;
 
@@ -27,6 +27,23 @@ impl Values {
             start: block.start as usize,
             place: Place::Start,
         }
+    }
+
+    /// Passes the plain bytes that may stand here, and tells where they end.
+    fn pass(&mut self, unit: &[u8], block: Span, from: usize) -> usize
+        requires found { AreFoundTo unit.now block from self.old }
+        ensures found { AreFoundTo unit.now block result self.new }
+        ensures forwards { from ≤ result }
+        ensures within { result ≤ block.end }
+    {
+        if !self.place.takes_plain() {
+            return from;
+        }
+        let end = plain_end(unit, from, block.end as usize);
+        if from < end {
+            self.place = Place::Plain;
+        }
+        end
     }
 
     /// Reads one byte more.
@@ -83,8 +100,14 @@ pub fn params(unit: &[u8], block: Span) -> ArrayVec<Span, 8>
     ensures within { All (IsIn unit.now) result.items }
 {
     let mut values = Values::new(unit, block);
-    for at in block.start as usize..block.end as usize {
-        values.step(unit, block, at);
+    let end = block.end as usize;
+    let mut at = block.start as usize;
+    while at < end {
+        at = values.pass(unit, block, at);
+        if at < end {
+            values.step(unit, block, at);
+            at += 1;
+        }
     }
     values.end(unit, block)
 }

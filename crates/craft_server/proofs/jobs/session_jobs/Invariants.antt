@@ -1,4 +1,4 @@
-use Rattle.std.proofs.Common.{◌≡◌, ◌≤◌, ◌+◌, length}
+use Rattle.std.proofs.Common.{◌≡◌, ◌≤◌, length}
 use Rattle.craft_server.proofs.jobs.session_jobs.Given as goal
 
 abbrev pub invariant-loop-place : goal.invariant-loop-place

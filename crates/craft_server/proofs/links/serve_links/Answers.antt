@@ -1,4 +1,4 @@
-use Rattle.std.proofs.Common.{◌≡◌, ◌≤◌, ◌<◌, ◌+◌, ◌∙◌, ℕ, arith, rules}
+use Rattle.std.proofs.Common.{◌∙◌, arith, rules}
 use Rattle.craft_server.proofs.Counting.{rose_more}
 use Rattle.craft_server.proofs.links.serve_links.Goals as goal
 

@@ -1,9 +1,7 @@
-use Rattle.std.proofs.Common.{◌≡◌, ◌<◌, ◌∙◌, ℕ, length, sym, ap, subst}
+use Rattle.std.proofs.Common.{◌∙◌}
 use Rattle.std.specs.Arc.{arc_value}
 use Rattle.turnstile.specs.Passing.{Gate}
 use Rattle.xc_core.specs.declared.state.State.{State}
-use Rattle.xc_core.specs.Openings.{Begins}
-use Rattle.craft_session.specs.Seats.{IsSeated}
 use Rattle.craft_server.proofs.Seating.{first_fresh, seated}
 use Rattle.craft_server.proofs.places.next_place.Goals as goal
 

@@ -1,4 +1,4 @@
-use Rattle.std.proofs.Common.{rules, ◌≡◌, ◌+◌, ℕ, arith, length, sym, ◌∙◌, ap, subst}
+use Rattle.std.proofs.Common.{rules, ℕ, arith, ◌∙◌, ap}
 use Rattle.std.specs.Arc.{arc_value}
 use Rattle.xc_core.specs.States.{opening_of}
 use Rattle.craft_server.specs.Places.{place_at}

@@ -1,6 +1,5 @@
-use Rattle.std.proofs.Common.{sym, ap, subst}
-use Rattle.std.specs.Arc.{arc_value}
-use Rattle.turnstile.specs.Passing.{Gate, Ident}
+use Rattle.std.proofs.Common.{sym, subst}
+use Rattle.turnstile.specs.Passing.{Gate}
 use Rattle.xc_core.specs.declared.state.State.{State}
 use Rattle.craft_server.specs.Places.{AreFresh}
 use Rattle.craft_server.proofs.Seating.{all_fresh}

@@ -1,4 +1,5 @@
-use Rattle.std.proofs.Common.{◌≡◌, ◌+◌, inr, refl, sym, ap, ap₂, subst}
+use Rattle.std.proofs.Common.{◌≡◌, ◌+◌, ℕ, inr, refl, sym, ap, ap₂, subst}
+use Rattle.dxc_outside.specs.Links.{LinkState}
 use Rattle.shelf_file.specs.Contents.{Contents}
 use Rattle.xc_core.specs.States.{Opening}
 use Rattle.craft_server.specs.declared.line.Line.{Line}
@@ -6,6 +7,7 @@ use Rattle.craft_server.specs.Openings.{named, sources}
 use Rattle.craft_server.specs.Runs.{IsCheck, IsRunOf, IsUntouched, RanCheck, RanScript, RanServe, lent, told_by}
 use Rattle.craft_server.specs.Scripts.{RanSession}
 use Rattle.craft_server.specs.Serving.{IsServing, named_in, workers_in}
+use Rattle.craft_server.proofs.Loading.{load_words}
 use Rattle.craft_server.proofs.Starting.{opens_for}
 use Rattle.craft_server.proofs.run.dxc_run.Goals as goal
 
@@ -53,3 +55,15 @@ returns-in-Serve-clause-run g c =
     (λ u. record { terminal = refl; clock = refl; spawner = u })
     (λ s d o one. record { serving = subst (λ (l : Line). IsServing (workers_in l + 16) before.sources.opener.faults after.sources.opener.faults before.spawner after.spawner status) c.in-Serve.is one.1; terminal = refl; clock = refl; gate = one.0 }) c.serve_all.ensures in
     inr (c.in-Ok.line, c.in-Ok.ensures.line, subst (λ (l : Line). IsRunOf told state l before after status) (sym c.in-Serve.is) ran)
+
+pub returns-clause-run : goal.returns-clause-run
+returns-clause-run g c =
+    let told = told_by g.O.Opener.told g.O.Journal.Disk.told g.K.Link.told g.C.Clock.told in
+    let state = g.O.Journal.Disk.state in
+    let at = λ (stops : ℕ) (terminal : LinkState). lent (sources (g.O.Opener.state c.args.opener.now) (g.O.Opener.journal_at c.args.opener.now) stops) terminal (g.C.Clock.coming c.args.clock.now) (g.P.Spawner.state c.args.spawner.now) in
+    let before = at (g.G.Gate.stops c.args.gate.now) (g.K.Link.state c.args.terminal.now) in
+    let after = at (g.G.Gate.stops c.run_load.new.gate) (g.K.Link.state c.run_load.new.terminal) in
+    inr (c.in-Ok.line, c.in-Ok.ensures.line, subst (λ (l : Line). IsRunOf told state l before after c.run_load.result) (sym c.in-Load.is) (record { load = c.run_load.ensures; opener = refl; journal_at = refl; clock = refl; spawner = refl }))
+
+pub returns-clause-words : goal.returns-clause-words
+returns-clause-words g c = λ bad l is. load_words c.in-Load.number g.K.Link.told (g.K.Link.state c.args.terminal.now) (g.K.Link.state c.run_load.new.terminal) (g.G.Gate.stops c.args.gate.now) (g.G.Gate.stops c.run_load.new.gate) c.run_load.result c.run_load.ensures bad

@@ -1,9 +1,35 @@
-use Rattle.std.proofs.Common.{refl, sym, ap, ◌∙◌, subst, ◌≡◌, ◌+◌, ℕ, List, [], ◌∷◌, ◌++◌, length, take, take_all, get_or, ◌<◌, arith, append_assoc, append-nil}
+use Rattle.std.proofs.Common.{refl, sym, ap, ◌∙◌, subst, ◌≡◌, ◌+◌, ℕ, zero, suc, List, [], ◌∷◌, ◌++◌, length, take, drop, take_all, get_or, ◌<◌, ◌-◌, arith, append_assoc}
+use Rattle.std.proofs.lemmas.Grind.{common_steps}
 use Rattle.std.proofs.lemmas.List.{take_more}
 use Rattle.tl1_text.specs.declared.reader.UnitKind.{UnitKind}
 use Rattle.tl1_text.specs.declared.reader.UnitKind.TheVariants.{More}
 use Rattle.tl1_text.specs.Reading.{Holds, Reader, hand, Made, IsFed}
 use Rattle.tl1_text.proofs.reader.UnitReader.feed.Goals as goal
+
+sum_zero : (n : ℕ) → n ≡ 0 + n
+sum_zero n = omega arith
+
+sum_suc : (i n : ℕ) → suc (i + n) ≡ suc i + n
+sum_suc i n = omega arith
+
+no_front : (n : ℕ) → take {A = ℕ} n [] ≡ []
+no_front zero = refl
+no_front (suc n) = refl
+
+taken_nothing : (i n : ℕ) → ◌≡◌ {A = List ℕ} [] (take (i + n) [])
+taken_nothing i n = sym (no_front (i + n))
+
+two_parts : (piece : List ℕ) (i n : ℕ) → take i piece ++ take n (drop i piece) ≡ take (i + n) piece
+two_parts piece zero n = ap (λ (k : ℕ). take k piece) (sum_zero n)
+two_parts [] (suc i) zero = taken_nothing (suc i) zero
+two_parts [] (suc i) (suc n) = taken_nothing (suc i) (suc n)
+two_parts (b ∷ piece) (suc i) n = ap (λ (l : List ℕ). b ∷ l) (two_parts piece i n) ∙ ap (λ (k : ℕ). take k (b ∷ piece)) (sum_suc i n)
+
+all_behind : (piece : List ℕ) (i : ℕ) → take (length piece - i) (drop i piece) ≡ drop i piece
+all_behind piece i = take_all (length piece - i) (drop i piece) (grind (arith, common_steps))
+
+behind_run : (bs piece kept : List ℕ) (i n : ℕ) → Holds ((bs ++ take i piece) ++ take n (take (length piece - i) (drop i piece))) kept → Holds (bs ++ take (i + n) piece) kept
+behind_run bs piece kept i n = subst (λ (l : List ℕ). Holds l kept) (ap (λ (l : List ℕ). (bs ++ take i piece) ++ take n l) (all_behind piece i) ∙ append_assoc bs (take i piece) (take n (drop i piece)) ∙ ap (λ (l : List ℕ). bs ++ l) (two_parts piece i n))
 
 joined : (bs piece : List ℕ) (i : ℕ) → i < length piece → (bs ++ take i piece) ++ get_or piece i 0 ∷ [] ≡ bs ++ take (i + 1) piece
 joined bs piece i lt = append_assoc bs (take i piece) (get_or piece i 0 ∷ []) ∙ ap (λ (l : List ℕ). bs ++ l) (sym (take_more piece i 0 lt))
@@ -16,20 +42,22 @@ on bs piece i kind r lt is made =
     let now = subst (λ (l : List ℕ). Made l More r) (joined bs piece i lt) (subst (λ k. Made ((bs ++ take i piece) ++ get_or piece i 0 ∷ []) k r) is made) in
     now
 
-pub loop-at-init : goal.loop-at-init
-loop-at-init c = λ bs holds. subst (λ (l : List ℕ). Holds l (hand c.args.self.now)) (sym (append-nil bs)) holds
+pub loop-at-preserved-in-More : goal.loop-at-preserved-in-More
+loop-at-preserved-in-More c = record {
+  held = λ bs holds.
+      let run = behind_run bs c.args.piece.now _ c.loop-at.at c.take_run-at.result (c.take_run-at.ensures.held (bs ++ take c.loop-at.at c.args.piece.now) (c.loop-at.invariant.held bs holds)) in
+      let made = c.take.ensures.made (bs ++ take (c.loop-at.at + c.take_run-at.result) c.args.piece.now) run in
+      on bs c.args.piece.now (c.loop-at.at + c.take_run-at.result) _ _ c.if-at-piece.true c.in-More.is made;
+  within = omega (arith, c.if-at-piece.true);
+}
 
-pub loop-at-preserved : goal.loop-at-preserved
-loop-at-preserved c = λ bs holds.
-    let made = c.take.ensures.made (bs ++ take c.loop-at.at c.args.piece.now) (c.loop-at.invariant bs holds) in
-    on bs c.args.piece.now c.loop-at.at _ _ c.loop-at-test.true c.in-More.is made
-
-pub returns-in_default-clause-fed : goal.returns-in_default-clause-fed
-returns-in_default-clause-fed c = λ bs holds.
-    let made = c.take.ensures.made (bs ++ take c.loop-at.at c.args.piece.now) (c.loop-at.invariant bs holds) in
-    fed bs c.args.piece.now c.loop-at.at _ _ c.loop-at-test.true c.in_default.not-More made
-
-pub returns-clause-fed : goal.returns-clause-fed
-returns-clause-fed c = λ bs holds.
-    let whole : take c.loop-at.at c.args.piece.now ≡ c.args.piece.now = take_all c.loop-at.at c.args.piece.now (omega arith) in
-    record { within = omega arith; all = λ _. refl; made = subst (λ (l : List ℕ). Holds (bs ++ l) (hand c.loop-at.self)) (whole ∙ sym (take_all (length c.args.piece.now) c.args.piece.now (omega arith))) (c.loop-at.invariant bs holds) }
+pub returns-in_default : goal.returns-in_default
+returns-in_default c = record {
+  fed = λ bs holds.
+      let run = behind_run bs c.args.piece.now _ c.loop-at.at c.take_run-at.result (c.take_run-at.ensures.held (bs ++ take c.loop-at.at c.args.piece.now) (c.loop-at.invariant.held bs holds)) in
+      let made = c.take.ensures.made (bs ++ take (c.loop-at.at + c.take_run-at.result) c.args.piece.now) run in
+      fed bs c.args.piece.now (c.loop-at.at + c.take_run-at.result) _ _ c.if-at-piece.true c.in_default.not-More made;
+  within = omega (arith, c.if-at-piece.true);
+  some = λ _. omega arith;
+  short = c.take.ensures.short;
+}

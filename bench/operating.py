@@ -1,0 +1,58 @@
+#!/usr/bin/env python3
+"""Runs each example of a document as it stands, and compares what it writes with what the document says.
+
+usage: bench/operating.py [DOCUMENT]     (docs/OPERATING.md where nothing is given)
+
+An example is a block marked `sh` and the block marked `text` behind it; a block without one must only succeed. All run in bash, in
+order, in one new folder. Dates and times of headers, carriage returns, and blank lines beyond one are left out of the comparison. The first call of the
+launcher builds the program, which isn't timed.
+"""
+import os
+import re
+import subprocess
+import sys
+import tempfile
+
+TOP = os.path.dirname(os.path.dirname(os.path.abspath(__file__)))
+BLOCK = re.compile(r"^```(sh|text)\n(.*?)^```$", re.MULTILINE | re.DOTALL)
+MOMENT = re.compile(r"\b\d\d-\d\d-\d\d \d\d:\d\d:\d\d\b")
+SECONDS = 60
+
+
+def examples(text):
+    """Each block of commands with the text that is wanted of it, None where none is."""
+    blocks = BLOCK.findall(text)
+    for at, (kind, commands) in enumerate(blocks):
+        if kind == "sh":
+            behind = blocks[at + 1 : at + 2]
+            yield commands, behind[0][1] if behind and behind[0][0] == "text" else None
+
+
+def masked(text):
+    """The text without dates, carriage returns, and blank lines beyond one."""
+    return re.sub(r"\n{3,}", "\n\n", MOMENT.sub("YY-MM-DD HH:MM:SS", text.replace("\r", ""))).strip("\n")
+
+
+def main():
+    document = sys.argv[1] if len(sys.argv) > 1 else os.path.join(TOP, "docs", "OPERATING.md")
+    with open(document, encoding="utf-8") as file:
+        text = file.read()
+    subprocess.run([os.path.join(TOP, "dxc"), "--version"], check=True, stdout=subprocess.DEVNULL)
+    world = dict(os.environ, DXC=TOP, PATH=TOP + os.pathsep + os.environ["PATH"], LC_ALL="C")
+    failed = count = 0
+    with tempfile.TemporaryDirectory() as folder:
+        for commands, wanted in examples(text):
+            ran = subprocess.run(
+                ["bash", "-c", commands], cwd=folder, env=world, stdin=subprocess.DEVNULL, stdout=subprocess.PIPE, stderr=subprocess.STDOUT, timeout=SECONDS, check=False
+            )
+            written = masked(ran.stdout.decode())
+            count += 1
+            if written != masked(wanted) if wanted is not None else ran.returncode != 0:
+                failed += 1
+                print(f"--- commands\n{commands}--- wanted\n{wanted}--- written\n{written}\n--- status {ran.returncode}")
+    print(f"{count} examples, {failed} failed")
+    sys.exit(failed > 0)
+
+
+if __name__ == "__main__":
+    main()

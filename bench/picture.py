@@ -1,0 +1,59 @@
+#!/usr/bin/env python3
+"""Compares what tools/picture reads out of a journal with what `dxc check` says of it, over journals of random commands.
+
+usage: bench/picture.py [ROUNDS]     (20 where nothing is given)
+
+The picture's own rule of chains must find each new leg's middle free, and give the connections that the program lists.
+"""
+import os
+import random
+import subprocess
+import sys
+import tempfile
+
+TOP = os.path.dirname(os.path.dirname(os.path.abspath(__file__)))
+PROGRAM = os.path.join(TOP, "crates", "dxc", "out", "dxc")
+PICTURE = os.path.join(TOP, "tools", "picture")
+DIGEST = "ba7816bf8f01cfea414140de5dae2223b00361a396177a9cb410ff61f20015ad"
+
+
+def ran(words, **more):
+    return subprocess.run(words, capture_output=True, text=True, check=True, **more).stdout
+
+
+def commands(modules, slots, count):
+    yield "ACT-USER::ANNA:1::bc;"
+    entered = []
+    for _ in range(count):
+        if entered and random.random() < 0.4:
+            yield f"DLT-CRS-T0::{entered.pop(random.randrange(len(entered)))}:1;"
+            continue
+        pair = ",".join(f"DS0-{random.randint(1, modules)}-{random.randint(1, slots)}" for _ in range(2))
+        entered.append(pair)
+        yield f"ENT-CRS-T0::{pair}:1::{random.choice(('1WAY', '2WAY'))};"
+        if random.random() < 0.2:
+            yield f"ED-CRS-T0::{pair}:1::{random.choice(('1WAY', '2WAY'))};"
+
+
+def main():
+    rounds = int(sys.argv[1]) if len(sys.argv) > 1 else 20
+    records = 0
+    for number in range(rounds):
+        modules, slots = random.choice(((2, 1), (3, 2), (4, 4), (8, 6)))
+        with tempfile.TemporaryDirectory() as folder:
+            shelf, journal = os.path.join(folder, "shelf.toml"), os.path.join(folder, "j")
+            with open(shelf, "w", encoding="utf-8") as file:
+                file.write(f'sid = "DXC1"\nmodules = {modules}\nslots = {slots}\n[[user]]\nuid = "ANNA"\nclass = "S"\nsalt = "61"\ndigest = "{DIGEST}"\n')
+            ran([PROGRAM, "script", shelf, journal], input="".join(commands(modules, slots, 300)))
+            wanted = ran([PROGRAM, "check", shelf, journal])
+            found = ran([PICTURE, "--rows", journal])
+            if found != wanted:
+                sys.exit(f"bench/picture.py: round {number}, {modules} by {slots}: the picture has\n{found}and check says\n{wanted}")
+            if ran([PICTURE, journal]).count("<path") < wanted.count("WAY"):
+                sys.exit(f"bench/picture.py: round {number}: a connection isn't drawn")
+            records += int(wanted.rsplit(" ", 1)[1])
+    print(f"{rounds} journals, {records} records: the picture reads what check says")
+
+
+if __name__ == "__main__":
+    main()

@@ -1,0 +1,138 @@
+ghost use Rattle.std.specs.Prelude.{◌≡◌, ◌↔◌, [], IfOk, IsTrue};
+ghost use Rattle.std.specs.Arc.{arc_value};
+ghost use Rattle.dxc_model.specs.Operations.{ArePorts, IsApt};
+ghost use Rattle.fabric_core.specs.State.{new_worker};
+ghost use Rattle.fabric_words.specs.Seats.{FabricId};
+ghost use Rattle.bench_changes.specs.Elements.{IsNew, IsReady, IsTaken, Takes, entry, deletion};
+
+use anyhow::{Context, Result, bail, ensure};
+use dxc_disk::{Disk, MemDisk};
+use dxc_model::{Cct, Conn, Op};
+use dxc_num::{Leg, Shape};
+use dxc_outside::{AlwaysGo, Gate};
+use fabric_words::{Fabric, WorkerSeat};
+use roll_engine::Advance;
+use shelf_file::{Shelf, shelf_of};
+use std::alloc::Global;
+use std::sync::Arc;
+use xc_core::{Begun, Core, Provisioner, State, begin, drive, finish};
+
+/// What the opening of a journal takes of its disk's room, and the most that its 65,536 records take.
+const ROOM: usize = 131_079 + 65_536 * 40;
+
+/// A cross-connect without sessions: its registers, its table, and the Provisioner that changes both, over a journal in memory.
+#[derive(Drop)]
+pub struct Element {
+    pub fabric: Arc<Fabric>,
+    pub state: State<MemDisk>,
+    pub p: Provisioner<MemDisk>,
+}
+
+/// A shelf of this shape with all modules equipped.
+fn shelf(alloc: Global, shape: Shape) -> Result<Shelf> {
+    let text = format!(in alloc;
+        "sid = \"DXC1\"\nmodules = {}\nslots = {}\n[[user]]\nuid = \"ANNA\"\nclass = \"S\"\nsalt = \"61\"\ndigest = \"{:064}\"\n",
+        shape.modules(),
+        shape.slots(),
+        0
+    )?;
+    shelf_of(alloc, text.as_bytes()).ok().context("no shelf")
+}
+
+/// A controller over a disk, on a new fabric of the shelf's shape, and the seat of its only worker.
+fn start<D: Disk + Drop>(
+    alloc: Global,
+    shelf: &Shelf,
+    disk: D,
+) -> Result<(Fabric, WorkerSeat, State<D>)>
+    ensures started { IfOk result (λ t. IsNew D.told D.state t.0 t.2) }
+    ensures seat { IfOk result (λ t. t.1.reader ≡ record { fabric = t.0; worker = new_worker 0 }) }
+{
+    let Ok((fabric, mover, mut seats)) = Fabric::new(alloc, shelf.shape(), 1) else {
+        bail!("no memory");
+    };
+    let seat = seats.remove(0);
+    let Ok(state) = Core::open(alloc, shelf, disk, mover, &fabric, &mut AlwaysGo) else {
+        bail!("no journal");
+    };
+    Ok((fabric, seat, state))
+}
+
+/// Takes the Provisioner of a controller that was started.
+fn taken<D: Disk + Drop>(state: &mut State<D>) -> Result<Provisioner<D>>
+    ensures { (f : FabricId) → IsNew D.told D.state f state.old → IfOk result (IsTaken D.told D.state f state.new) }
+{
+    let p = state.take_out().context("no Provisioner")?;
+    ensure!(!p.halted(), "halted");
+    Ok(p)
+}
+
+/// An element of this shape on which nothing is joined, and the seat of its only worker.
+pub fn open(alloc: Global, shape: Shape) -> Result<(Element, WorkerSeat)>
+    ensures ready { IfOk result (λ t. IsReady t.0) }
+    ensures seat { IfOk result (λ t. t.1.reader ≡ record { fabric = arc_value t.0.fabric; worker = new_worker 0 }) }
+{
+    let shelf = shelf(alloc, shape)?;
+    let Ok(disk) = MemDisk::with_room(alloc, Vec::new(alloc), Vec::new(alloc), ROOM) else {
+        bail!("no memory");
+    };
+    let (fabric, seat, mut state) = start(alloc, &shelf, disk)?;
+    let p = taken(&mut state)?;
+    let fabric = Arc::new(alloc, fabric)?;
+    Ok((Element { fabric, state, p }, seat))
+}
+
+/// Makes a change of registers and table. An error: it was denied, or held up.
+fn change<G: Gate>(element: &mut Element, op: &Op, gate: &mut G) -> Result<()>
+    requires apt { IsApt element.old.state.table.shape op.now }
+    requires ready { IsReady element.old }
+    ensures ready { IfOk result (λ _. IsReady element.new) }
+    ensures taken { IfOk result (λ _. Takes element.old.state.table op.now element.new.state.table) }
+{
+    let mut rolling = match begin(&mut element.p, &element.state.table, op, gate) {
+        Begun::Rolling(rolling) => rolling,
+        _ => bail!("a change is denied"),
+    };
+    match drive(&mut element.p, &element.fabric, &mut rolling, gate) {
+        Advance::Done => {}
+        _ => bail!("a change is held up"),
+    }
+    let _change = finish(&mut element.state, &mut element.p, rolling);
+    Ok(())
+}
+
+fn are_ports(shape: Shape, leg: Leg) -> bool
+    ensures { IsTrue result ↔ ArePorts shape leg.input leg.output }
+{
+    leg.input.0 < shape.ports() && leg.output.0 < shape.ports() && leg.input.0 != leg.output.0
+}
+
+/// Enters the one-way connection of a leg. An error: it was denied, or held up.
+pub fn enter<G: Gate>(element: &mut Element, leg: Leg, gate: &mut G) -> Result<()>
+    requires { IsReady element.old }
+    ensures ready { IfOk result (λ _. IsReady element.new) }
+    ensures taken { IfOk result (λ _. Takes element.old.state.table (entry leg) element.new.state.table) }
+{
+    ensure!(are_ports(element.state.table.shape(), leg), "no two ports");
+    let conn = Conn {
+        from: leg.input,
+        to: leg.output,
+        cct: Cct::OneWay,
+    };
+    change(element, &Op::Enter(conn), gate)
+}
+
+/// Deletes the connection of a leg. An error: it was denied, or held up.
+pub fn delete<G: Gate>(element: &mut Element, leg: Leg, gate: &mut G) -> Result<()>
+    requires { IsReady element.old }
+    ensures ready { IfOk result (λ _. IsReady element.new) }
+    ensures taken { IfOk result (λ _. Takes element.old.state.table (deletion leg) element.new.state.table) }
+{
+    ensure!(are_ports(element.state.table.shape(), leg), "no two ports");
+    let op = Op::Delete {
+        from: leg.input,
+        to: leg.output,
+        cct: None,
+    };
+    change(element, &op, gate)
+}

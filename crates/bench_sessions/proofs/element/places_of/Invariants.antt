@@ -1,0 +1,13 @@
+use Rattle.std.proofs.Common.{◌≡◌, ◌+◌, length}
+use Rattle.std.specs.Prelude.{vec_capacity}
+use Rattle.std.specs.Arc.{arc_value}
+use Rattle.craft_server.specs.Places.{AreFresh}
+use Rattle.bench_sessions.proofs.element.places_of.Given as goal
+
+abbrev pub invariant-loop-number : goal.invariant-loop-number
+invariant-loop-number g l = record {
+  fresh : AreFresh (arc_value l.turns).id l.number l.passes.items;
+  left : length l.passes.items + l.number ≡ l.fn.count;
+  made : length l.places.items ≡ l.number;
+  room : vec_capacity l.places ≡ l.fn.count;
+}

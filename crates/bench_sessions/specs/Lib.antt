@@ -1,0 +1,3 @@
+pub mod Served
+pub mod Streams
+pub mod Texts

@@ -1,0 +1,81 @@
+-- What the load mode does.
+use Rattle.std.specs.Prelude.{◌≡◌, ◌⊎◌, ◌*◌, ◌<◌, ℕ, true, List, [], ◌∷◌, codes}
+use Rattle.dxc_causes.specs.Causes.{Rose}
+use Rattle.dxc_disk.specs.declared.mem_disk.MemDisk.{MemDisk}
+use Rattle.dxc_disk.specs.MemView.{mem_state}
+use Rattle.dxc_outside.specs.declared.send.Sent.{Sent}
+use Rattle.dxc_outside.specs.Links.{LinkState, IsSent}
+use Rattle.dxc_model.specs.declared.user.Class.TheVariants.{P}
+use Rattle.dxc_model.specs.Equipment.{has_bit}
+use Rattle.fabric_core.specs.declared.worker.Worker.{Worker}
+use Rattle.fabric_words.specs.Seats.{FabricId}
+use Rattle.shelf_file.specs.Contents.{Contents}
+use Rattle.xc_core.specs.Openings.{IsOpening}
+use Rattle.xc_core.specs.States.{Opening}
+use Rattle.craft_session.specs.declared.end.SessionEnd.TheVariants.{End}
+use Rattle.craft_session.specs.Meanings.{language}
+use Rattle.craft_session.specs.Seats.{SeatAt}
+use Rattle.craft_session.specs.Sessions.{IsServed}
+use Rattle.dxc_load.specs.declared.summary.Summary.{Summary}
+use Rattle.dxc_load.specs.Carrying.{carried_in}
+use Rattle.dxc_load.specs.Codes.{coded_in, compld, deny}
+use Rattle.dxc_load.specs.Script.{load_moment, load_shape}
+use Rattle.dxc_load.specs.Sending.{unread}
+use Rattle.dxc_load.specs.Summaries.{summary_line}
+use Rattle.craft_server.specs.declared.opening.Controller.{Controller}
+use Rattle.craft_server.specs.declared.status.Status.{Status}
+use Rattle.craft_server.specs.declared.status.Status.TheVariants.{NoMemory, Stopped}
+use Rattle.craft_server.specs.Openings.{IsStarted}
+use Rattle.craft_server.specs.Places.{place_at}
+use Rattle.craft_server.specs.Statuses.{status_of_sent}
+use Rattle.craft_server.specs.Stocks.{IsLeft}
+
+-- the digest of the user's salt and PID: SHA-256 of the bytes abc
+abbrev pub load_digest : List ℕ
+load_digest =
+    186 ∷ 120 ∷ 22 ∷ 191 ∷ 143 ∷ 1 ∷ 207 ∷ 234 ∷ 65 ∷ 65 ∷ 64 ∷ 222 ∷ 93 ∷ 174 ∷ 34 ∷ 35
+    ∷ 176 ∷ 3 ∷ 97 ∷ 163 ∷ 150 ∷ 23 ∷ 122 ∷ 156 ∷ 180 ∷ 16 ∷ 255 ∷ 97 ∷ 242 ∷ 0 ∷ 21 ∷ 173 ∷ []
+
+-- the element of the load, as its shelf file describes it
+abbrev pub load_file : List ℕ
+load_file = codes "sid=\"LOAD\"\nmodules=8\nslots=24\n[[user]]\nuid=\"LOAD\"\nclass=\"P\"\nsalt=\"61\"\ndigest=\"ba7816bf8f01cfea414140de5dae2223b00361a396177a9cb410ff61f20015ad\"\n"
+
+-- all modules of its shape are equipped, and it has one user
+pub record IsLoadShelf (s : Contents) : Type 0 where
+  pub sid : s.sid ≡ codes "LOAD"
+  pub shape : s.shape ≡ load_shape
+  pub equipped : (m : ℕ) → m < 8 → has_bit s.equipped m ≡ true
+  pub users : s.users ≡ record { name = codes "LOAD"; class = P; salt = 97 ∷ []; digest = load_digest } ∷ []
+
+-- The script was sent to a session on a new journal, and all of it was read. The codes are those of its responses, connections and switches are what
+-- it left, and the bytes are those that a worker noted in 10,000 frames.
+pub record IsLoaded (number : ℕ) (v : Summary) : Type 0 where
+  pub shelf : Contents
+  pub is_shelf : IsLoadShelf shelf
+  pub fabric : FabricId
+  pub opening : Opening
+  pub opened : IsOpening (Unit {0}) [] shelf fabric opening
+  pub link : LinkState
+  pub seat : SeatAt
+  pub served : IsServed (language shelf) (Unit {0}) (Unit {0}) (unread number) link (load_moment ∷ []) (load_moment ∷ []) (place_at shelf opening 2 0).seat seat End
+  pub all_read : link.left ≡ []
+  pub completed : v.codes.completed ≡ coded_in compld link.written
+  pub denied : v.codes.denied ≡ coded_in deny link.written
+  pub left : IsLeft (Unit {0}) mem_state opening (record { connections = v.connections; switches = v.switches })
+  pub worker : Worker
+  pub frames : worker.frame ≡ 2 * 10000
+  pub carried : v.carried ≡ carried_in worker.notes
+
+-- a controller of the load
+abbrev pub IsLoadStarted : Controller MemDisk → Type 0
+IsLoadStarted x = (disk : MemDisk) × ((mem_state disk).reads_as ≡ []) × ((s : Contents) × IsLoadShelf s × IsStarted (Unit {0}) mem_state disk s 1 x)
+
+-- memory was wanting, or the gate stopped
+abbrev pub NotLoaded : (stops later : ℕ) → Status → Type 0
+NotLoaded stops later status = (status ≡ NoMemory) ⊎ ((status ≡ Stopped) × Rose stops later)
+
+-- the summary was written to the link, or a part of it where a write failed; or nothing was, and why
+abbrev pub IsLoad : (number : ℕ) (told : Type 0) (k l : LinkState) (stops later : ℕ) → Status → Type 0
+IsLoad number told k l stops later status =
+    ((l ≡ k) × NotLoaded stops later status)
+    ⊎ ((v : Summary) × IsLoaded number v × (later ≡ stops) × ((sent : Sent) × IsSent told k l sent (summary_line v) × (status ≡ status_of_sent sent)))

@@ -1,0 +1,130 @@
+//! The load script, run by one session on a journal in memory.
+ghost use Rattle.std.specs.Prelude.{◌≡◌, ◌≤◌, ◌⊎◌, ◌^◌, [], IfOk, MatchResult};
+ghost use Rattle.dxc_disk.specs.Fresh.{IsFresh};
+ghost use Rattle.dxc_disk.specs.MemView.{mem_state};
+ghost use Rattle.craft_server.specs.Loads.{IsLoad, IsLoadStarted, IsLoadShelf, IsLoaded, NotLoaded};
+
+use crate::Status;
+use crate::opening::{Controller, start};
+use crate::places::open_place;
+use crate::stock::stock_of;
+use arrayvec::ArrayVec;
+use craft_session::{SessionEnd, serve_session};
+use dxc_causes::NoMemory;
+use dxc_disk::MemDisk;
+use dxc_load::{LoadClock, LoadLink, Summary, codes_in};
+use dxc_model::Conn;
+use dxc_outside::{Gate, Link, write_all};
+use shelf_file::{Shelf, ShelfFault, shelf_of};
+use std::alloc::Global;
+use std::sync::{Arc, Wait};
+
+/// The element of the load: 8 modules of 24 slots, all equipped, and one user, whose PID is bc.
+const SHELF: &[u8] = b"sid=\"LOAD\"
+modules=8
+slots=24
+[[user]]
+uid=\"LOAD\"
+class=\"P\"
+salt=\"61\"
+digest=\"ba7816bf8f01cfea414140de5dae2223b00361a396177a9cb410ff61f20015ad\"
+";
+
+fn load_shelf(alloc: Global) -> Result<Shelf, NoMemory>
+    ensures { IfOk result IsLoadShelf }
+{
+    match shelf_of(alloc, SHELF) {
+        Ok(shelf) => Ok(shelf),
+        Err(ShelfFault::NoMemory) => Err(NoMemory),
+        Err(_) => unreachable!(),
+    }
+}
+
+/// How many calls and bytes the journal's disk has room for.
+const DISK_ROOM: usize = 1 << 21;
+
+// A new disk, none of whose calls is to fail.
+fn load_disk(alloc: Global) -> Result<MemDisk, NoMemory>
+    ensures { IfOk result (λ d. IsFresh (mem_state d) [] [] (2 ^ 21)) }
+{
+    MemDisk::with_room(alloc, Vec::new(alloc), Vec::new(alloc), DISK_ROOM)
+}
+
+// The controller of the load, with one worker.
+fn load_controller<G: Gate>(alloc: Global, gate: &mut G) -> Result<Controller<MemDisk>, Status>
+    ensures started { MatchResult result IsLoadStarted (NotLoaded (G.stops gate.old) (G.stops gate.new)) }
+    ensures unstopped { MatchResult result (λ x. G.stops gate.new ≡ G.stops gate.old) (λ s. G.stops gate.old ≤ G.stops gate.new) }
+{
+    let (Ok(shelf), Ok(disk)) = (load_shelf(alloc), load_disk(alloc)) else {
+        return Err(Status::NoMemory);
+    };
+    start(alloc, shelf, disk, 1, gate)
+}
+
+/// How many bytes of responses are kept.
+const WRITTEN_ROOM: usize = 1 << 21;
+
+// Serves the script of that number, and tells what it came to.
+fn loaded<G: Gate, R: Wait>(
+    alloc: Global,
+    number: u64,
+    gate: &mut G,
+    rt: &R,
+) -> Result<Summary, Status>
+    ensures loaded { MatchResult result (IsLoaded number) (NotLoaded (G.stops gate.old) (G.stops gate.new)) }
+    ensures unstopped { MatchResult result (λ v. G.stops gate.new ≡ G.stops gate.old) (λ s. G.stops gate.old ≤ G.stops gate.new) }
+{
+    let Controller {
+        shelf,
+        fabric,
+        mut seats,
+        state,
+    } = load_controller(alloc, gate)?;
+    let (Ok(mut rows), Ok(written)) = (
+        Vec::with_capacity(alloc, shelf.shape().ports() as usize),
+        Vec::with_capacity(alloc, WRITTEN_ROOM),
+    ) else {
+        return Err(Status::NoMemory);
+    };
+    let Ok((mut place, mut pass, turns)) = open_place(alloc, &shelf, &fabric, state) else {
+        return Err(Status::NoMemory);
+    };
+    let mut link = LoadLink::new(number, fabric, seats.remove(0), written);
+    let end = serve_session(&mut place, &mut link, &mut LoadClock, gate, rt);
+    // Its clause tells that not all reads were made before the script's end.
+    let _reads = link.reads();
+    match end {
+        SessionEnd::End => {}
+        // There was no room for what it wrote.
+        SessionEnd::WriteFault => return Err(Status::NoMemory),
+        SessionEnd::Stopped => return Err(Status::Stopped),
+        SessionEnd::ReadFault => unreachable!(),
+        SessionEnd::Spent => unreachable!(),
+    }
+    let stock = stock_of(&mut pass, &turns, &mut rows, rt);
+    Ok(Summary {
+        codes: codes_in(link.written()),
+        connections: stock.connections,
+        switches: stock.switches,
+        carried: link.carried(),
+    })
+}
+
+/// Runs the load script of that number, and writes its summary to the terminal.
+pub(crate) fn run_load<K: Link, G: Gate, R: Wait>(
+    alloc: Global,
+    number: u64,
+    terminal: &mut K,
+    gate: &mut G,
+    rt: &R,
+) -> Status
+    ensures { IsLoad number K.told (K.state terminal.old) (K.state terminal.new) (G.stops gate.old) (G.stops gate.new) result }
+{
+    let summary = match loaded(alloc, number, gate, rt) {
+        Ok(summary) => summary,
+        Err(status) => return status,
+    };
+    let mut line = ArrayVec::new();
+    summary.write_line(&mut line);
+    Status::of_sent(write_all(terminal, line.as_slice()))
+}

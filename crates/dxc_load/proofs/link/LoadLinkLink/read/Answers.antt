@@ -1,0 +1,13 @@
+use Rattle.std.proofs.Common.{◌≢◌, rules}
+use Rattle.dxc_outside.specs.declared.link.Got.TheVariants.{End}
+use Rattle.arrayvec.specs.ArrayVec.{array_vec_len}
+use Rattle.dxc_load.proofs.Sending.{few_reads}
+use Rattle.dxc_load.proofs.link.LoadLinkLink.read.Goals as goal
+
+pub invariant_of-self-clause-few : goal.invariant_of-self-clause-few
+invariant_of-self-clause-few c = λ on.
+    let self = c.args.self.now in
+    let e = c.next_piece-got.ensures in
+    let now = c.next_piece-got.new in
+    let some : c.next_piece-got.result ≢ End = search rules in
+    (few_reads self.ended self.reads self.sent self.at (array_vec_len self.text) now.sent now.at c.saturating_add-self.result self.few (λ ended. let all = self.all ended in (all.1, all.2)) (e.last some) (e.further some) c.saturating_add-self.ensures, e.short some)

@@ -1,0 +1,104 @@
+// The date and time of a header.
+ghost use Rattle.std.specs.Prelude.{◌≡◌, ◌≤◌, ◌+◌, ◌/◌, ◌%◌, length};
+ghost use Rattle.dxc_outside.specs.Moments.{IsMoment};
+ghost use Rattle.tl1_answer.specs.Messages.{stamp_text};
+
+use dxc_outside::Moment;
+use std::marker::Model;
+
+/// A moment with its text. Most headers show the moment of the one before, so its text is kept.
+#[derive(Drop)]
+pub struct Stamp {
+    moment: Moment,
+    text: [u8; 20],
+}
+
+impl Model for Stamp {
+    ghost use Rattle.std.specs.Prelude.{◌≡◌};
+    ghost use Rattle.dxc_outside.specs.declared.clock.Moment.{Moment};
+    ghost use Rattle.tl1_answer.specs.Messages.{stamp_text};
+
+    ghost Value = { Moment };
+
+    ghost view = { λ s. s.moment };
+
+    ghost invariant = { λ s. s.text ≡ stamp_text s.moment };
+}
+
+impl Stamp {
+    pub fn of(moment: Moment) -> Stamp
+        requires { IsMoment moment }
+        ensures { result ≡ moment }
+    {
+        let text = text_of(moment);
+        Stamp { moment, text }
+    }
+
+    /// Shows a moment; its text is written anew only where it is another one.
+    pub fn show(&mut self, moment: Moment)
+        requires { IsMoment moment }
+        ensures { self.new ≡ moment }
+    {
+        if self.moment != moment {
+            self.text = text_of(moment);
+            self.moment = moment;
+        }
+    }
+
+    pub fn bytes(&self) -> &[u8]
+        ensures bytes { result.now ≡ stamp_text self.now }
+        ensures len { length result.now ≡ 20 }
+    {
+        &self.text
+    }
+}
+
+fn text_of(moment: Moment) -> [u8; 20]
+    requires { IsMoment moment }
+    ensures { result ≡ stamp_text moment }
+{
+    let Moment {
+        year,
+        month,
+        day,
+        hour,
+        minute,
+        second,
+    } = moment;
+    [
+        b' ',
+        tens(year),
+        ones(year),
+        b'-',
+        tens(month),
+        ones(month),
+        b'-',
+        tens(day),
+        ones(day),
+        b' ',
+        tens(hour),
+        ones(hour),
+        b':',
+        tens(minute),
+        ones(minute),
+        b':',
+        tens(second),
+        ones(second),
+        b'\r',
+        b'\n',
+    ]
+}
+
+fn tens(number: u8) -> u8
+    requires { number ≤ 99 }
+    ensures { result ≡ 48 + number / 10 }
+{
+    b'0' + number / 10
+}
+
+fn ones(number: u8) -> u8
+    requires { number ≤ 99 }
+    ensures { result ≡ 48 + number % 10 }
+{
+    b'0' + number % 10
+}

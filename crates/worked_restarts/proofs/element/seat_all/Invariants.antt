@@ -1,0 +1,10 @@
+use Rattle.std.proofs.Common.{◌≡◌, ◌+◌, length}
+use Rattle.std.specs.Arc.{arc_value}
+use Rattle.craft_server.specs.Places.{AreFresh}
+use Rattle.worked_restarts.proofs.element.seat_all.Given as goal
+
+abbrev pub invariant-loop-number : goal.invariant-loop-number
+invariant-loop-number g l = record {
+  fresh : AreFresh (arc_value l.turns).id l.number l.passes.items;
+  left : length l.passes.items + l.number ≡ l.fn.count + 1;
+}

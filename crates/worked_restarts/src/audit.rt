@@ -1,0 +1,143 @@
+//! What the registers hold between sessions.
+ghost use Rattle.std.specs.Prelude.{◌≡◌, ◌↔◌, IsTrue, List};
+ghost use Rattle.std.specs.Arc.{arc_value};
+ghost use Rattle.dxc_model.specs.declared.entry.Entry.{Entry};
+ghost use Rattle.fabric_words.specs.Places.{IsRegInside};
+ghost use Rattle.xc_core.specs.States.{Opening, StandsFor};
+ghost use Rattle.craft_session.specs.Seats.{IsSeated, seat_at};
+
+use anyhow::{Result, bail};
+use dxc_disk::Disk;
+use dxc_num::{Middle, Port, Reg, Shape};
+use fabric_words::Fabric;
+use std::alloc::Global;
+use std::marker::Model;
+use std::sync::{Arc, Wait};
+use turnstile::{Pass, Turnstile};
+use xc_core::{Provisioner, State};
+
+/// One who looks at all registers in a turn.
+#[derive(Drop)]
+pub struct Audit<D: Disk> {
+    pass: Pass,
+    turns: Arc<Turnstile<State<D>>>,
+    fabric: Arc<Fabric>,
+}
+
+impl<D: Disk> Model for Audit<D> {
+    ghost use Rattle.craft_session.specs.Seats.{SeatAt, seat_coded};
+
+    ghost Value = { SeatAt };
+
+    ghost coded = { seat_coded };
+
+    ghost use Rattle.std.specs.Arc.{arc_value};
+    ghost use Rattle.craft_session.specs.Seats.{IsSeated, seat_at};
+
+    ghost view = { λ s. seat_at D.state s.pass (arc_value s.turns) };
+
+    ghost invariant = { λ s. IsSeated D.told D.state s.pass (arc_value s.turns) (arc_value s.fabric) };
+}
+
+impl<D: Disk + Drop> Audit<D> {
+    pub fn new(pass: Pass, turns: Arc<Turnstile<State<D>>>, fabric: Arc<Fabric>) -> Audit<D>
+        requires { IsSeated D.told D.state pass (arc_value turns) (arc_value fabric) }
+    {
+        Audit {
+            pass,
+            turns,
+            fabric,
+        }
+    }
+
+    /// All register words: IN by module and middle, MID by middle and module, OUT by port.
+    pub fn words<R: Wait>(&mut self, alloc: Global, rt: &R) -> Result<Vec<u64>> {
+        words_in_turn(alloc, &mut self.pass, &self.turns, &self.fabric, rt)
+    }
+}
+
+/// The words as a turn of the pass finds them. It adds nothing to the history.
+pub fn words_in_turn<D: Disk + Drop, R: Wait>(
+    alloc: Global,
+    pass: &mut Pass,
+    turns: &Turnstile<State<D>>,
+    fabric: &Fabric,
+    rt: &R,
+) -> Result<Vec<u64>>
+    requires { IsSeated D.told D.state pass.old turns.now fabric.now }
+    ensures { IsSeated D.told D.state pass.new turns.now fabric.now }
+{
+    let mut turn = turns.enter(pass, rt);
+    let words = words_of(alloc, turn.state_mut(), fabric);
+    turns.back(pass, turn);
+    words
+}
+
+// The words that the state's Provisioner reads.
+fn words_of<D: Disk + Drop>(
+    alloc: Global,
+    state: &mut State<D>,
+    fabric: &Fabric,
+) -> Result<Vec<u64>>
+    requires { (o : Opening) × (h : List Entry) × StandsFor D.told D.state o state.old h × (o.site.fabric ≡ fabric.now) }
+    ensures { state.new ≡ state.old }
+{
+    let Some(mut p) = state.take_out() else {
+        bail!("the Provisioner is out");
+    };
+    let words = load_all(alloc, &mut p, fabric);
+    state.bring_home(p);
+    words
+}
+
+fn load_all<D: Disk>(alloc: Global, p: &mut Provisioner<D>, fabric: &Fabric) -> Result<Vec<u64>>
+    requires { p.old.mover.fabric ≡ fabric.now }
+    ensures { p.new ≡ p.old }
+{
+    let mut words = Vec::new(alloc);
+    for reg in &registers(alloc, fabric.shape())? {
+        words.push(load(p, fabric, *reg))?;
+    }
+    Ok(words)
+}
+
+// The register's word; 0 where there is no such register.
+fn load<D: Disk>(p: &mut Provisioner<D>, fabric: &Fabric, reg: Reg) -> u64
+    requires { p.old.mover.fabric ≡ fabric.now }
+    ensures { p.new ≡ p.old }
+{
+    if is_inside(fabric.shape(), reg) {
+        p.load(fabric, reg)
+    } else {
+        0
+    }
+}
+
+fn is_inside(shape: Shape, reg: Reg) -> bool
+    ensures { IsTrue result ↔ IsRegInside shape reg }
+{
+    match reg {
+        Reg::In(module, middle) => module < shape.modules() && middle.0 as u16 <= shape.slots(),
+        Reg::Mid(middle, module) => middle.0 as u16 <= shape.slots() && module < shape.modules(),
+        Reg::Out(port) => port.0 < shape.ports(),
+    }
+}
+
+// All registers of the shape.
+fn registers(alloc: Global, shape: Shape) -> Result<Vec<Reg>> {
+    let mut registers = Vec::new(alloc);
+    for module in 0..shape.modules() {
+        for middle in 0..shape.slots() as u8 + 1 {
+            registers.push(Reg::In(module, Middle(middle)))?;
+        }
+    }
+    for middle in 0..shape.slots() as u8 + 1 {
+        for module in 0..shape.modules() {
+            registers.push(Reg::Mid(Middle(middle), module))?;
+        }
+    }
+    for port in 0..shape.ports() {
+        registers.push(Reg::Out(Port(port)))?;
+    }
+    Ok(registers)
+}

@@ -1,0 +1,235 @@
+//! The opening of an element on a disk, with a place for each session of a row.
+ghost use Rattle.std.specs.Prelude.{◌≡◌, ◌≤◌, ◌<◌, ◌+◌, IfOk, ℕ, [], length, true};
+ghost use Rattle.std.specs.Arc.{arc_value};
+ghost use Rattle.fabric_core.specs.State.{new_worker};
+ghost use Rattle.fabric_words.specs.New.{AreNew};
+ghost use Rattle.fabric_words.specs.Seats.{FabricId};
+ghost use Rattle.turnstile.specs.Passing.{Ident};
+ghost use Rattle.xc_core.specs.Openings.{Begins};
+ghost use Rattle.xc_core.specs.States.{opening_of};
+ghost use Rattle.craft_server.specs.Places.{AreFresh, IsAtOpening};
+
+use crate::audit::Audit;
+use crate::carriage::Carriage;
+use crate::carrier::Carrier;
+use crate::crew::Crew;
+use crate::disk::RowDisk;
+use crate::levers::Levers;
+use crate::row::Row;
+use anyhow::{Context, Result, bail, ensure};
+use craft_session::Place;
+use dxc_disk::{Disk, MemDisk};
+use dxc_outside::AlwaysGo;
+use fabric_words::{Fabric, WorkerSeat};
+use shelf_file::{Shelf, shelf_of};
+use std::alloc::Global;
+use std::sync::Arc;
+use turnstile::{Pass, Turnstile};
+use xc_core::{Core, State};
+
+/// The turnstile of an element.
+pub type Turns<D> = Arc<Turnstile<State<D>>>;
+
+/// An element on which a row's sessions are served.
+#[derive(Drop)]
+pub struct Element {
+    /// A place for each session, in their order.
+    pub places: Vec<Place<RowDisk>>,
+    pub audit: Audit<RowDisk>,
+    pub gate: Carrier,
+    pub levers: Arc<Levers>,
+}
+
+impl Element {
+    /// The element that the row's shelf and journal describe.
+    pub fn open(alloc: Global, row: &Row) -> Result<Element> {
+        let levers = Levers::new(alloc).ok().context("no memory")?;
+        let disk = disk_of(alloc, row, &levers)?;
+        let Started {
+            shelf,
+            fabric,
+            seats,
+            state,
+        } = start(alloc, row, disk)?;
+        let crew = crew_of(alloc, &fabric, seats)?;
+        let sessions = row.sessions.len();
+        ensure!(sessions < 100, "{sessions} sessions");
+        let (audit, places) = seat_all(alloc, &shelf, &fabric, state, sessions as u16)?;
+        Ok(Element {
+            places,
+            audit,
+            gate: Carrier::new(alloc, crew),
+            levers,
+        })
+    }
+}
+
+/// A controller that has started, on a new fabric with a seat for each worker.
+#[derive(Drop)]
+pub struct Started<D: Disk> {
+    pub shelf: Arc<Shelf>,
+    pub fabric: Arc<Fabric>,
+    pub seats: Vec<WorkerSeat>,
+    pub state: State<D>,
+}
+
+/// The disk of the row's journal, with these levers.
+pub fn disk_of(alloc: Global, row: &Row, levers: &Arc<Levers>) -> Result<RowDisk> {
+    let held = MemDisk::new(alloc, row.journal.clone()?, Vec::new(alloc));
+    Ok(RowDisk::new(
+        held.ok().context("no memory")?,
+        row.shown.clone()?,
+        row.torn,
+        Arc::try_clone(levers)?,
+    ))
+}
+
+// A shelf of this shape with all modules equipped, and a user ANNA with the PID bc.
+fn shelf_of_shape(alloc: Global, modules: u16, slots: u16) -> Result<Shelf> {
+    let text = format!(in alloc;
+        "sid = \"DXC1\"\nmodules = {modules}\nslots = {slots}\n[[user]]\nuid = \"ANNA\"\nclass = \"S\"\nsalt = \"61\"\ndigest = \"ba7816bf8f01cfea414140de5dae2223b00361a396177a9cb410ff61f20015ad\"\n"
+    )?;
+    shelf_of(alloc, text.as_bytes()).ok().context("no shelf")
+}
+
+/// A controller of the row's shelf and workers on what the disk's journal came to.
+pub fn start<D: Disk + Drop>(alloc: Global, row: &Row, disk: D) -> Result<Started<D>>
+    ensures begins { IfOk result (λ s. Begins D.told D.state s.state) }
+    ensures opening { IfOk result (λ s. IsAtOpening (opening_of D.state s.state) (arc_value s.shelf) (arc_value s.fabric)) }
+    ensures seats { IfOk result (λ s. AreNew (arc_value s.fabric) 0 s.seats.items) }
+{
+    let shelf = shelf_of_shape(alloc, row.modules, row.slots)?;
+    let workers = row.workers;
+    ensure!(1 <= workers && workers <= 8, "{workers} workers");
+    let Ok((fabric, mover, seats)) = Fabric::new(alloc, shelf.shape(), workers) else {
+        bail!("no memory");
+    };
+    let Ok(state) = Core::open(alloc, &shelf, disk, mover, &fabric, &mut AlwaysGo) else {
+        bail!("not opened");
+    };
+    let (Ok(shelf), Ok(fabric)) = (Arc::new(alloc, shelf), Arc::new(alloc, fabric)) else {
+        bail!("no memory");
+    };
+    Ok(Started {
+        shelf,
+        fabric,
+        seats,
+        state,
+    })
+}
+
+// The workers of these seats.
+fn crew_of(alloc: Global, fabric: &Arc<Fabric>, mut seats: Vec<WorkerSeat>) -> Result<Crew>
+    requires { AreNew (arc_value fabric.now) 0 seats.items }
+{
+    let mut workers = Vec::new(alloc);
+    for number in 0..seats.len() {
+        workers.push(next_worker(alloc, number, fabric, &mut seats)?)?;
+    }
+    Ok(Crew::new(alloc, workers, fabric.shape().ports())?)
+}
+
+/// The worker of that number, for the first of the seats that are left.
+pub fn next_worker(
+    alloc: Global,
+    number: usize,
+    fabric: &Arc<Fabric>,
+    seats: &mut Vec<WorkerSeat>,
+) -> Result<Carriage>
+    requires some { 0 < length seats.old.items }
+    requires new { AreNew (arc_value fabric.now) number seats.old.items }
+    ensures fewer { length seats.new.items + 1 ≡ length seats.old.items }
+    ensures new { AreNew (arc_value fabric.now) (number + 1) seats.new.items }
+{
+    let _ = number;
+    let seat = next_seat(seats);
+    let fabric = Arc::try_clone(fabric)?;
+    Carriage::new(alloc, fabric, seat).ok().context("no memory")
+}
+
+/// The seat with the lowest number that is left.
+pub fn next_seat(seats: &mut Vec<WorkerSeat>) -> WorkerSeat
+    requires some { 0 < length seats.old.items }
+    ensures seat { (f : FabricId) → (n : ℕ) → AreNew f n seats.old.items → (result.reader ≡ record { fabric = f; worker = new_worker n }) × AreNew f (n + 1) seats.new.items }
+    ensures fewer { length seats.new.items + 1 ≡ length seats.old.items }
+{
+    seats.remove(0)
+}
+
+// One who looks at the registers, and so many places.
+fn seat_all<D: Disk + Drop>(
+    alloc: Global,
+    shelf: &Arc<Shelf>,
+    fabric: &Arc<Fabric>,
+    state: State<D>,
+    count: u16,
+) -> Result<(Audit<D>, Vec<Place<D>>)>
+    requires few { count < 100 }
+    requires begins { Begins D.told D.state state }
+    requires opening { IsAtOpening (opening_of D.state state) (arc_value shelf.now) (arc_value fabric.now) }
+{
+    let (turns, mut passes) = turns_of(alloc, state, count + 1)?;
+    let pass = next_pass(&mut passes);
+    let audit = Audit::new(pass, Arc::try_clone(&turns)?, Arc::try_clone(fabric)?);
+    let mut places = Vec::new(alloc);
+    for number in 1..count + 1 {
+        places.push(next_place(alloc, number, &mut passes, shelf, fabric, &turns)?)?;
+    }
+    Ok((audit, places))
+}
+
+/// The turnstile of the state, and its passes.
+pub fn turns_of<D: Disk + Drop>(
+    alloc: Global,
+    state: State<D>,
+    count: u16,
+) -> Result<(Turns<D>, Vec<Pass>)>
+    requires some { 0 < count }
+    requires begins { Begins D.told D.state state }
+    ensures turns { IfOk result (λ r. ((arc_value r.0).first ≡ state) × ((arc_value r.0).passes ≡ count)) }
+    ensures each { IfOk result (λ r. length r.1.items ≡ count) }
+    ensures fresh { IfOk result (λ r. AreFresh (arc_value r.0).id 0 r.1.items) }
+{
+    let Ok((turns, passes)) = Turnstile::new(alloc, state, count) else {
+        bail!("no memory");
+    };
+    let Ok(turns) = Arc::new(alloc, turns) else {
+        bail!("no memory");
+    };
+    Ok((turns, passes))
+}
+
+/// The pass with the lowest number that is left.
+pub fn next_pass(passes: &mut Vec<Pass>) -> Pass
+    requires some { 0 < length passes.old.items }
+    ensures pass { (id : Ident) → (n : ℕ) → AreFresh id n passes.old.items → (result ≡ record { number = n; free = true; id = id; seen = [] }) × AreFresh id (n + 1) passes.new.items }
+    ensures fewer { length passes.new.items + 1 ≡ length passes.old.items }
+{
+    passes.remove(0)
+}
+
+/// A place for the pass of that number.
+pub fn next_place<D: Disk + Drop>(
+    alloc: Global,
+    number: u16,
+    passes: &mut Vec<Pass>,
+    shelf: &Arc<Shelf>,
+    fabric: &Arc<Fabric>,
+    turns: &Turns<D>,
+) -> Result<Place<D>>
+    requires some { 0 < length passes.old.items }
+    requires within { number < (arc_value turns.now).passes }
+    requires fresh { AreFresh (arc_value turns.now).id number passes.old.items }
+    requires begins { Begins D.told D.state (arc_value turns.now).first }
+    requires opening { IsAtOpening (opening_of D.state (arc_value turns.now).first) (arc_value shelf.now) (arc_value fabric.now) }
+    ensures fresh { AreFresh (arc_value turns.now).id (number + 1) passes.new.items }
+    ensures fewer { length passes.new.items + 1 ≡ length passes.old.items }
+{
+    let pass = next_pass(passes);
+    let shelf = Arc::try_clone(shelf)?;
+    let fabric = Arc::try_clone(fabric)?;
+    let turns = Arc::try_clone(turns)?;
+    Place::new(alloc, pass, number, shelf, fabric, turns)
+        .ok()
+        .context("no memory")
+}

@@ -1,0 +1,148 @@
+//! The row in which a worker follows an OUT word that was switched since it loaded it.
+ghost use Rattle.std.specs.Prelude.{◌≡◌, ◌<◌, IfOk};
+ghost use Rattle.std.specs.Arc.{arc_value};
+ghost use Rattle.dxc_num.specs.Dimensions.{ports};
+ghost use Rattle.fabric_core.specs.Working.{CanBegin};
+ghost use Rattle.fabric_words.specs.New.{AreNew};
+ghost use Rattle.xc_core.specs.Openings.{Begins};
+ghost use Rattle.xc_core.specs.States.{opening_of};
+ghost use Rattle.craft_session.specs.Seats.{IsSeated};
+ghost use Rattle.craft_server.specs.Places.{IsAtOpening};
+
+use crate::audit::words_in_turn;
+use crate::beside::{Beside, change_beside};
+use crate::element::{
+    Started, Turns, disk_of, next_pass, next_place, next_seat, next_worker, start, turns_of,
+};
+use crate::levers::Levers;
+use crate::row::{Row, Session};
+use crate::run::{serve_at, words_otherwise};
+use anyhow::{Context, Result, bail, ensure};
+use craft_session::Place;
+use dxc_disk::Disk;
+use dxc_model::{Cct, Conn, Op};
+use dxc_num::Port;
+use dxc_outside::AlwaysGo;
+use fabric_words::{Fabric, WorkerSeat};
+use roll_engine::Advance;
+use shelf_file::Shelf;
+use std::alloc::Global;
+use std::sync::{Arc, Wait};
+use turnstile::{Pass, Turnstile};
+use xc_core::State;
+
+/// From DS0-1-2 to DS0-1-1.
+const ENTRY: Op = Op::Enter(Conn {
+    from: Port(1),
+    to: Port(0),
+    cct: Cct::OneWay,
+});
+
+/// DS0-2-2.
+const OUTPUT: Port = Port(3);
+
+/// Worker 1 holds the word of switch 1 over middle 0. Three writes are made; the fourth clears the MID word that it may still follow. It does so,
+/// to slot 0 of module 1, and ends its frame; then the other fifteen are made.
+const WANTED: Beside = Beside {
+    held: Some(257),
+    first: Advance::InFrame(1),
+    asked: 4,
+    followed: Some((2, 1)),
+    then: Advance::Done,
+    asked_in_all: 19,
+};
+
+/// The row's first session, the entry by another place, and the row's second session. Some: what isn't as it must be.
+pub fn run_stale<R: Wait>(alloc: Global, rt: &R, row: &Row) -> Result<Option<String>> {
+    let (Some(before), Some(behind)) = (row.sessions.get(0), row.sessions.get(1)) else {
+        bail!("two sessions are wanted");
+    };
+    let levers = Levers::new(alloc).ok().context("no memory")?;
+    let Started {
+        shelf,
+        fabric,
+        seats,
+        state,
+    } = start(alloc, row, disk_of(alloc, row, &levers)?)?;
+    let late = second_seat(alloc, &fabric, seats)?;
+    let Seated { turns, place, pass } = seat_two(alloc, &shelf, &fabric, state)?;
+    between(
+        alloc, rt, &turns, &fabric, place, pass, late, before, behind,
+    )
+}
+
+// Has the first of two workers carry a frame, and gives the seat of the second.
+fn second_seat(
+    alloc: Global,
+    fabric: &Arc<Fabric>,
+    mut seats: Vec<WorkerSeat>,
+) -> Result<WorkerSeat>
+    requires { AreNew (arc_value fabric.now) 0 seats.items }
+    ensures own { IfOk result (λ s. s.reader.fabric ≡ arc_value fabric.now) }
+    ensures rests { IfOk result (λ s. CanBegin s.reader.worker) }
+{
+    ensure!(seats.len() == 2, "two workers are wanted");
+    let mut early = next_worker(alloc, 0, fabric, &mut seats)?;
+    early.carry();
+    Ok(next_seat(&mut seats))
+}
+
+/// A place of a turnstile, and one more pass.
+#[derive(Drop)]
+struct Seated<D: Disk> {
+    turns: Turns<D>,
+    place: Place<D>,
+    pass: Pass,
+}
+
+fn seat_two<D: Disk + Drop>(
+    alloc: Global,
+    shelf: &Arc<Shelf>,
+    fabric: &Arc<Fabric>,
+    state: State<D>,
+) -> Result<Seated<D>>
+    requires begins { Begins D.told D.state state }
+    requires opening { IsAtOpening (opening_of D.state state) (arc_value shelf.now) (arc_value fabric.now) }
+    ensures seated { IfOk result (λ s. IsSeated D.told D.state s.pass (arc_value s.turns) (arc_value fabric.now)) }
+    ensures ports { IfOk result (λ s. 1 < ports (opening_of D.state (arc_value s.turns).first).first.fold.table.shape) }
+{
+    ensure!(shelf.shape().ports() > 1, "two ports are wanted");
+    let (turns, mut passes) = turns_of(alloc, state, 2)?;
+    let place = next_place(alloc, 0, &mut passes, shelf, fabric, &turns)?;
+    let pass = next_pass(&mut passes);
+    Ok(Seated { turns, place, pass })
+}
+
+// The sessions, and the entry between them.
+fn between<D: Disk + Drop, R: Wait>(
+    alloc: Global,
+    rt: &R,
+    turns: &Turnstile<State<D>>,
+    fabric: &Fabric,
+    mut place: Place<D>,
+    mut pass: Pass,
+    mut late: WorkerSeat,
+    before: &Session,
+    behind: &Session,
+) -> Result<Option<String>>
+    requires seated { IsSeated D.told D.state pass turns.now fabric.now }
+    requires ports { 1 < ports (opening_of D.state turns.now.first).first.fold.table.shape }
+    requires own { late.reader.fabric ≡ fabric.now }
+    requires rests { CanBegin late.reader.worker }
+{
+    if let (_, Some(why)) = serve_at(alloc, rt, &mut place, before, &mut AlwaysGo)? {
+        return Ok(Some(why));
+    }
+    let beside = change_beside(
+        alloc, &mut pass, turns, fabric, &ENTRY, &mut late, OUTPUT, rt,
+    )?;
+    if beside != WANTED {
+        return Ok(Some(format!(in alloc; "it came to {beside:?}")?));
+    }
+    let words = words_in_turn(alloc, &mut pass, turns, fabric, rt)?;
+    if let Some(why) = words_otherwise(alloc, behind, &words)? {
+        return Ok(Some(why));
+    }
+    let (_, why) = serve_at(alloc, rt, &mut place, behind, &mut AlwaysGo)?;
+    Ok(why)
+}

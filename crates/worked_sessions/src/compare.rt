@@ -1,0 +1,73 @@
+//! What was written and carried, beside what must be.
+
+use crate::lines::{IDLE, byte_of, is_of_worker};
+use crate::meeting::Meeting;
+use crate::row::{Row, Session};
+use anyhow::Result;
+use std::alloc::Global;
+
+/// What the session was written otherwise than it must.
+pub fn fault_of_session(
+    alloc: Global,
+    session: &Session,
+    output: Option<&[u8]>,
+) -> Result<Option<String>> {
+    let name = session.name.as_str();
+    let Some(output) = output else {
+        return Ok(Some(format!(in alloc; "session {name} has no end")?));
+    };
+    if output == session.wanted.as_slice() {
+        return Ok(None);
+    }
+    let written = String::from_utf8_lossy(alloc, output)?;
+    Ok(Some(format!(in alloc; "session {name} was written {written}")?))
+}
+
+/// What the frames carried otherwise than they must.
+pub fn fault_of_frames(
+    alloc: Global,
+    row: &Row,
+    stands: &[(u16, u16)],
+    meeting: &Meeting,
+) -> Result<Option<String>> {
+    if meeting.astray() != 0 {
+        return Ok(Some(format!(in alloc; "{} bytes went astray", meeting.astray())?));
+    }
+    for worker in 0..row.workers {
+        let Some(frames) = meeting.last_frames(worker as usize) else {
+            return Ok(Some(format!(in alloc; "worker {worker} has no end")?));
+        };
+        if let Some(port) = wrong_output(row, stands, worker, frames) {
+            return Ok(Some(format!(in alloc; "worker {worker} carried port {port} otherwise")?));
+        }
+    }
+    Ok(None)
+}
+
+// The first output that the worker's last two frames carry otherwise than these connections.
+fn wrong_output(row: &Row, stands: &[(u16, u16)], worker: u16, frames: &[u8]) -> Option<u16> {
+    let ports = row.size.ports();
+    if frames.len() != 2 * ports as usize {
+        return Some(ports);
+    }
+    let (even, odd) = frames.split_at(ports as usize);
+    for port in 0..ports {
+        if even.get(port as usize).copied() != Some(wanted_byte(row, stands, worker, port, 0))
+            || odd.get(port as usize).copied() != Some(wanted_byte(row, stands, worker, port, 1))
+        {
+            return Some(port);
+        }
+    }
+    None
+}
+
+// What the worker must write for the output in a frame of this number.
+fn wanted_byte(row: &Row, stands: &[(u16, u16)], worker: u16, output: u16, frame: u8) -> u8 {
+    if !is_of_worker(output, row.size.slots, worker, row.workers) {
+        return IDLE;
+    }
+    match stands.iter().find(|(_, to)| *to == output) {
+        Some((input, _)) => byte_of(*input, frame),
+        None => IDLE,
+    }
+}

@@ -1,0 +1,48 @@
+//! Runs worked rows of several sessions at once, which stand as text in `rows.txt`, through the program's one call: each session and
+//! each frame worker on a thread of its own. It compares what each session was written and what the frames carried with what they say.
+#![tactic(auto)]
+
+mod asked;
+mod audit;
+mod compare;
+mod cue;
+mod gate;
+mod heard;
+mod lines;
+mod link;
+mod listener;
+mod meeting;
+mod opener;
+mod plain;
+mod random;
+mod read;
+mod row;
+mod run;
+mod wanted;
+
+use crate::read::rows_of;
+use crate::run::run_row;
+use anyhow::Result;
+use std::fs;
+
+fn main(rt: HostRuntime) -> Result<()> {
+    let alloc = rt.alloc();
+    let text = fs::read_to_string(&rt, "rows.txt")?;
+    let rows = rows_of(alloc, text.as_str())?;
+    let mut runs = 0u64;
+    let mut failed = 0u64;
+    for row in &rows {
+        for asking in row.first..=row.last {
+            if let Some(why) = run_row(&rt, &rt, row, asking)? {
+                println!(rt; "{} {asking}: {why}", row.name)?;
+                failed = failed.saturating_add(1);
+            }
+            runs = runs.saturating_add(1);
+        }
+    }
+    println!(rt;
+        "{runs} runs of {} rows, {failed} of them failed",
+        rows.len()
+    )?;
+    Ok(())
+}

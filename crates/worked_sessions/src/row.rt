@@ -1,0 +1,155 @@
+use crate::asked::Ask;
+use crate::cue::Cue;
+use crate::gate::Act;
+use crate::meeting::Meeting;
+use crate::plain::Spot;
+use anyhow::{Context, Result, ensure};
+use std::alloc::Global;
+
+/// The points that a row's text may name are below this number.
+pub const POINTS: usize = 64;
+
+/// No point has this number.
+pub const NEVER: usize = usize::MAX;
+
+/// A connection that is known to stand for a time: each frame that begins and ends within it carries the input's byte.
+#[derive(Clone, Copy)]
+pub struct Carried {
+    /// It stands when this point was come to,
+    pub from: usize,
+    /// and until this one is.
+    pub until: usize,
+    pub input: u16,
+    pub output: u16,
+    /// Whether it stood when the frame in hand began.
+    pub stands: bool,
+}
+
+impl Carried {
+    /// It stands for good when the point was come to.
+    pub fn from_point(from: usize, input: u16, output: u16) -> Carried {
+        Carried {
+            from,
+            until: NEVER,
+            input,
+            output,
+            stands: false,
+        }
+    }
+
+    /// Looks whether it stands, where a frame begins.
+    pub fn look(&mut self, meeting: &Meeting) {
+        self.stands = meeting.was_reached(self.from);
+    }
+
+    /// Whether it stood all the time since that look.
+    pub fn stood(&self, meeting: &Meeting) -> bool {
+        self.stands && !meeting.was_reached(self.until)
+    }
+}
+
+/// A technician's session: what comes from him, and what he must be written.
+#[derive(Drop)]
+pub struct Session {
+    pub name: String,
+    pub cues: Vec<Cue>,
+    pub wanted: Vec<u8>,
+    /// In place of that, what its units ask: they are tagged by their numbers, from 1.
+    pub asked: Vec<Ask>,
+    /// The point that is come to where it is over.
+    pub over: Option<usize>,
+    /// What its gate does at the asking of the row's number.
+    pub act: Option<Act>,
+}
+
+impl Session {
+    pub fn new(alloc: Global, name: &str) -> Result<Session> {
+        Ok(Session {
+            name: name.to_string(alloc)?,
+            cues: Vec::new(alloc),
+            wanted: Vec::new(alloc),
+            asked: Vec::new(alloc),
+            over: None,
+            act: None,
+        })
+    }
+
+    /// The text comes next.
+    pub fn send(&mut self, alloc: Global, text: &str) -> Result<()> {
+        let mut bytes = Vec::new(alloc);
+        bytes.extend_from_slice(text.as_bytes())?;
+        self.cues.push(Cue::Send(bytes))?;
+        Ok(())
+    }
+}
+
+/// The modules of an element and the slots of each.
+#[derive(Clone, Copy)]
+pub struct Size {
+    pub modules: u16,
+    pub slots: u16,
+}
+
+impl Size {
+    pub fn ports(self) -> u16 {
+        self.modules.saturating_mul(self.slots)
+    }
+
+    /// The number of the port, from 0.
+    pub fn port(self, spot: Spot) -> Result<u16> {
+        let module = spot.module.checked_sub(1).context("modules begin at 1")?;
+        let slot = spot.slot.checked_sub(1).context("slots begin at 1")?;
+        ensure!(
+            module < self.modules && slot < self.slots,
+            "the element has no such port"
+        );
+        module
+            .checked_mul(self.slots)
+            .and_then(|first| first.checked_add(slot))
+            .context("too many ports")
+    }
+}
+
+/// Sessions side by side on one new journal, and frame workers beside them.
+#[derive(Drop)]
+pub struct Row {
+    pub name: String,
+    pub shelf: String,
+    /// The element's name, as headers have it.
+    pub sid: String,
+    pub size: Size,
+    pub workers: u16,
+    /// Its points are below this number.
+    pub points: usize,
+    /// Where its sessions are random: up to which module it is equipped at first.
+    pub equipped: Option<u16>,
+    /// It is run for each number from the first to the last.
+    pub first: u64,
+    pub last: u64,
+    pub carried: Vec<Carried>,
+    /// Which input each output carries when all sessions are over, of those that carry one.
+    pub stands: Vec<(u16, u16)>,
+    pub sessions: Vec<Session>,
+}
+
+impl Row {
+    pub fn new(alloc: Global, name: &str) -> Result<Row> {
+        Ok(Row {
+            name: name.to_string(alloc)?,
+            shelf: "".to_string(alloc)?,
+            sid: "DXC1".to_string(alloc)?,
+            size: Size {
+                modules: 2,
+                slots: 1,
+            },
+            workers: 1,
+            points: POINTS,
+            equipped: None,
+            first: 0,
+            last: 0,
+            carried: Vec::new(alloc),
+            stands: Vec::new(alloc),
+            sessions: Vec::new(alloc),
+        })
+    }
+}
