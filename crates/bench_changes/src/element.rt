@@ -11,11 +11,11 @@ use dxc_model::{Cct, Conn, Op};
 use dxc_num::{Leg, Shape};
 use dxc_outside::{AlwaysGo, Gate};
 use fabric_words::{Fabric, WorkerSeat};
-use roll_engine::Advance;
+use roll_engine::{Advance, Rolling};
 use shelf_file::{Shelf, shelf_of};
 use std::alloc::Global;
 use std::sync::Arc;
-use xc_core::{Begun, Core, Provisioner, State, begin, drive, finish};
+use xc_core::{Begun, Core, Driver, Provisioner, State, begin, drive, finish};
 
 /// What the opening of a journal takes of its disk's room, and the most that its 65,536 records take.
 const ROOM: usize = 131_079 + 65_536 * 40;
@@ -62,7 +62,8 @@ fn start<D: Disk + Drop>(
 fn taken<D: Disk + Drop>(state: &mut State<D>) -> Result<Provisioner<D>>
     ensures { (f : FabricId) → IsNew D.told D.state f state.old → IfOk result (IsTaken D.told D.state f state.new) }
 {
-    let p = state.take_out().context("no Provisioner")?;
+    let driver = state.take_out().context("no Provisioner")?;
+    let Driver { p, rolling: _ } = Box::into_inner(driver);
     ensure!(!p.halted(), "halted");
     Ok(p)
 }
@@ -89,15 +90,16 @@ fn change<G: Gate>(element: &mut Element, op: &Op, gate: &mut G) -> Result<()>
     ensures ready { IfOk result (λ _. IsReady element.new) }
     ensures taken { IfOk result (λ _. Takes element.old.state.table op.now element.new.state.table) }
 {
-    let mut rolling = match begin(&mut element.p, &element.state.table, op, gate) {
-        Begun::Rolling(rolling) => rolling,
+    let mut rolling = Rolling::cold();
+    match begin(&mut element.p, &mut rolling, &element.state.table, op, gate) {
+        Begun::Rolling => {}
         _ => bail!("a change is denied"),
-    };
+    }
     match drive(&mut element.p, &element.fabric, &mut rolling, gate) {
         Advance::Done => {}
         _ => bail!("a change is held up"),
     }
-    let _change = finish(&mut element.state, &mut element.p, rolling);
+    let _change = finish(&mut element.state, &mut element.p, &rolling);
     Ok(())
 }
 

@@ -5,19 +5,19 @@ use Rattle.dxc_model.specs.declared.entry.Entry.{Entry}
 use Rattle.dxc_model.specs.declared.op.Selection.TheVariants.{All}
 use Rattle.dxc_model.specs.Histories.{IsLegal, IsRestartDue, changes_of, table_after}
 use Rattle.dxc_model.specs.Tables.{rows}
-use Rattle.xc_core.specs.declared.provisioner.Provisioner.{Provisioner}
 use Rattle.xc_core.specs.declared.state.Home.TheVariants.{In}
 use Rattle.xc_core.specs.declared.state.State.{State}
+use Rattle.xc_core.specs.Provisioners.{Boxed}
 use Rattle.xc_core.specs.Reckonings.{Past, ReckonsTo}
 use Rattle.xc_core.specs.States.{Opening, rules_of}
 use Rattle.craft_server.specs.declared.stock.Stock.{Stock}
 
 -- the connections of a state's table, and the switches of its Provisioner, which is home
 pub record IsStock {D : Type 0} (x : State D) (s : Stock) : Type 0 where
-  pub provisioner : Provisioner D
-  pub is_home : x.home ≡ In provisioner
+  pub driver : Boxed D
+  pub is_home : x.home ≡ In driver
   pub connections : s.connections ≡ length (rows x.table All)
-  pub switches : s.switches ≡ length provisioner.mover.mover.log
+  pub switches : s.switches ≡ length driver.value.p.mover.mover.log
 
 -- Behind a history from the opening on: the connections of the plain table after it, and, unless a restart is due, the switches of its changes, each
 -- by its planned work.

@@ -82,11 +82,12 @@ fn words_of<D: Disk + Drop>(
     requires { (o : Opening) × (h : List Entry) × StandsFor D.told D.state o state.old h × (o.site.fabric ≡ fabric.now) }
     ensures { state.new ≡ state.old }
 {
-    let Some(mut p) = state.take_out() else {
+    let Some(mut driver) = state.take_out() else {
         bail!("the Provisioner is out");
     };
-    let words = load_all(alloc, &mut p, fabric);
-    state.bring_home(p);
+    let held = &mut *driver;
+    let words = load_all(alloc, &mut held.p, fabric);
+    state.bring_home(driver);
     words
 }
 

@@ -16,12 +16,12 @@ use dxc_model::Op;
 use dxc_num::Port;
 use dxc_outside::MemGate;
 use fabric_words::{Fabric, WorkerSeat};
-use roll_engine::{Advance, Rolling};
+use roll_engine::Advance;
 use std::alloc::Global;
 use std::sync::Wait;
 use turnstile::{Pass, Turnstile};
 use xc_core::turns::{self, Took};
-use xc_core::{Provisioner, State, drive};
+use xc_core::{Driver, State, drive};
 
 /// What mover and worker came to.
 #[derive(Clone, Copy, Debug, PartialEq, Eq)]
@@ -59,12 +59,12 @@ pub fn change_beside<D: Disk + Drop, R: Wait>(
     ensures seated { IfOk result (λ b. IsSeated D.told D.state pass.new turns.now fabric.now) }
 {
     let mut gate = MemGate::new(Vec::new(alloc));
-    let Took::Rolling(p, rolling) = turns::take(pass, turns, op, &mut gate, rt) else {
+    let Took::Rolling(driver) = turns::take(pass, turns, op, &mut gate, rt) else {
         bail!("no work came of it");
     };
     let held = hold(fabric, reader, output);
     Ok(drive_beside(
-        pass, turns, fabric, op, p, rolling, reader, held, &mut gate, rt,
+        pass, turns, fabric, op, driver, reader, held, &mut gate, rt,
     ))
 }
 
@@ -73,8 +73,7 @@ fn drive_beside<D: Disk + Drop, R: Wait>(
     turns: &Turnstile<State<D>>,
     fabric: &Fabric,
     op: &Op,
-    mut p: Provisioner<D>,
-    mut rolling: Rolling,
+    mut driver: Box<Driver<D>>,
     reader: &mut WorkerSeat,
     held: Option<u64>,
     gate: &mut MemGate,
@@ -82,17 +81,18 @@ fn drive_beside<D: Disk + Drop, R: Wait>(
 ) -> Beside
     requires pass { HasPass turns.now pass.old }
     requires fabric { (opening_of D.state turns.now.first).site.fabric ≡ fabric.now }
-    requires taken { (h : List Entry) × Saw (opening_of D.state turns.now.first) pass.old.seen h × HasTaken D.told D.state (opening_of D.state turns.now.first) pass.old.number op.now h p rolling }
+    requires taken { (h : List Entry) × Saw (opening_of D.state turns.now.first) pass.old.seen h × HasTaken D.told D.state (opening_of D.state turns.now.first) pass.old.number op.now h driver.value.p driver.value.rolling }
     requires own { reader.old.reader.fabric ≡ fabric.now }
     requires held { IfSome held (λ word. Runs reader.old.reader.worker × HasOutput reader.old.reader.worker.hold) }
     ensures seated { IsSeated D.told D.state pass.new turns.now fabric.now }
 {
-    let first = drive(&mut p, fabric, &mut rolling, gate);
+    let out = &mut *driver;
+    let first = drive(&mut out.p, fabric, &mut out.rolling, gate);
     let asked = gate.asked();
     let followed = follow(fabric, reader, held);
-    let then = drive(&mut p, fabric, &mut rolling, gate);
+    let then = drive(&mut out.p, fabric, &mut out.rolling, gate);
     let asked_in_all = gate.asked();
-    bring_or_cut(pass, turns, fabric, op, p, rolling, then, rt);
+    bring_or_cut(pass, turns, fabric, op, driver, then, rt);
     Beside {
         held,
         first,
@@ -109,20 +109,19 @@ fn bring_or_cut<D: Disk + Drop, R: Wait>(
     turns: &Turnstile<State<D>>,
     fabric: &Fabric,
     op: &Op,
-    p: Provisioner<D>,
-    rolling: Rolling,
+    driver: Box<Driver<D>>,
     then: Advance,
     rt: &R,
 )
     requires pass { HasPass turns.now pass.old }
     requires fabric { (opening_of D.state turns.now.first).site.fabric ≡ fabric.now }
-    requires taken { (h : List Entry) × Saw (opening_of D.state turns.now.first) pass.old.seen h × HasTaken D.told D.state (opening_of D.state turns.now.first) pass.old.number op.now h p rolling }
-    requires done { then ≡ Advance.Done → rest_of rolling ≡ [] }
+    requires taken { (h : List Entry) × Saw (opening_of D.state turns.now.first) pass.old.seen h × HasTaken D.told D.state (opening_of D.state turns.now.first) pass.old.number op.now h driver.value.p driver.value.rolling }
+    requires done { then ≡ Advance.Done → rest_of driver.value.rolling ≡ [] }
     ensures { IsSeated D.told D.state pass.new turns.now fabric.now }
 {
     let _ = fabric;
     match then {
-        Advance::Done => turns::bring(pass, turns, op, p, rolling, rt),
-        _ => turns::cut(pass, turns, op, p, &rolling, rt),
+        Advance::Done => turns::bring(pass, turns, op, driver, rt),
+        _ => turns::cut(pass, turns, op, driver, rt),
     }
 }

@@ -13,4 +13,4 @@ drive_beside-requires-clause-taken g c =
     let o = opening_of g.D.Disk.state c.args.turns.now.first in
     let took = c.in-Rolling.ensures.took w.0 w.1 in
     let seen = (w.0 ++ took.0.later) ++ entry c.args.pass.now.number c.args.op.now Taken ∷ [] in
-    (seen, took.0.saw, subst (λ (n : ℕ). HasTaken g.D.Disk.told g.D.Disk.state o n c.args.op.now seen c.in-Rolling.p c.in-Rolling.rolling) (sym c.take.ensures.pass.1) took.1)
+    (seen, took.0.saw, subst (λ (n : ℕ). HasTaken g.D.Disk.told g.D.Disk.state o n c.args.op.now seen c.in-Rolling.driver.value.p c.in-Rolling.driver.value.rolling) (sym c.take.ensures.pass.1) took.1)
