@@ -12,9 +12,9 @@ pub record Dimensions : Type 0 where
 -- the limits of modules and slots
 pub record IsInLimits (d : Dimensions) : Type 0 where
   pub least_modules : 2 ≤ d.modules
-  pub most_modules : d.modules ≤ 32
+  pub most_modules : d.modules ≤ 64
   pub least_slots : 1 ≤ d.slots
-  pub most_slots : d.slots ≤ 32
+  pub most_slots : d.slots ≤ 96
 
 abbrev pub ports : Dimensions → ℕ
 ports d = d.modules * d.slots
