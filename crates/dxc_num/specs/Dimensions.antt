@@ -30,6 +30,10 @@ slot_of d p = p.0 % d.slots
 abbrev pub IsModule : Dimensions → ℕ → Type 0
 IsModule d m = m < d.modules
 
+-- a working middle: not the spare, which is behind them
+abbrev pub IsWorking : Dimensions → ℕ → Type 0
+IsWorking d k = k < d.slots
+
 abbrev pub IsPort : Dimensions → Port → Type 0
 IsPort d p = p.0 < ports d
 
