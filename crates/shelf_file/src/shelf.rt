@@ -86,10 +86,11 @@ impl Shelf {
         self.user(user).class
     }
 
-    /// A user's salt.
+    /// A user's salt, at most 32 bytes.
     pub fn salt(&self, user: u16) -> &[u8]
         requires { user < length self.now.users }
-        ensures { option_map (λ e. e.salt) (slice_get self.now.users user) ≡ Some result.now }
+        ensures salt { option_map (λ e. e.salt) (slice_get self.now.users user) ≡ Some result.now }
+        ensures short { length result.now ≤ 32 }
     {
         self.user(user).salt.as_slice()
     }

@@ -13,7 +13,7 @@ use dxc_model::{Cause, CommandCode, SessionUser, entitled};
 use tl1_text::{Blocks, Ctag, Sid, Span};
 
 /// The TID is neither empty nor the SID, case aside.
-fn is_other_target(sid: &Sid, target: &[u8]) -> bool
+pub fn is_other_target(sid: &Sid, target: &[u8]) -> bool
     ensures { result ≡ other_target sid.now target.now }
 {
     !target.is_empty() && !target.eq_ignore_ascii_case(sid.bytes())
@@ -44,6 +44,7 @@ fn is_missing(form: Form, unit: &[u8], named: Named) -> bool
     requires first { IsIn unit.now named.first }
     requires second { IsIn unit.now named.second }
     requires value { IsIn unit.now named.value }
+    requires label { IsIn unit.now named.label }
     ensures { result ≡ misses form (named_by unit.now named) }
 {
     let first = named.first.text(unit).is_empty();
@@ -70,12 +71,12 @@ fn has_too_many(
     ensures { result ≡ too_many form (map (block_at unit.now) blocks.now.block.items) }
 {
     has_value_from(unit, aids, form.aids)
-        || has_value_from(unit, payload, form.value.named())
+        || has_value_from(unit, payload, form.values())
         || has_further(unit, blocks)
 }
 
 /// A parameter of a payload block behind the first isn't empty.
-fn has_further(unit: &[u8], blocks: &Blocks) -> bool
+pub fn has_further(unit: &[u8], blocks: &Blocks) -> bool
     requires short { length unit.now ≤ 2047 }
     requires blocks { AreBlocksOf unit.now blocks.now.block.items }
     ensures { result ≡ list_any (has_from 0) (drop 6 (map (block_at unit.now) blocks.now.block.items)) }
@@ -90,7 +91,7 @@ fn has_further(unit: &[u8], blocks: &Blocks) -> bool
 }
 
 /// A parameter of the general block isn't empty.
-fn has_general(unit: &[u8], blocks: &Blocks) -> bool
+pub fn has_general(unit: &[u8], blocks: &Blocks) -> bool
     requires short { length unit.now ≤ 2047 }
     requires blocks { AreBlocksOf unit.now blocks.now.block.items }
     ensures { result ≡ general_there (map (block_at unit.now) blocks.now.block.items) }
