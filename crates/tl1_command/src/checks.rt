@@ -20,8 +20,8 @@ pub fn is_other_target(sid: &Sid, target: &[u8]) -> bool
 }
 
 /// Nobody is logged in, and the command isn't ACT-USER.
-fn is_not_logged_in(user: SessionUser, code: CommandCode) -> bool
-    ensures { result ≡ not_logged_in user code }
+fn is_not_logged_in(user: &SessionUser, code: CommandCode) -> bool
+    ensures { result ≡ not_logged_in user.now code }
 {
     match user {
         SessionUser::Nobody => !matches!(code, CommandCode::ActUser),
@@ -30,12 +30,12 @@ fn is_not_logged_in(user: SessionUser, code: CommandCode) -> bool
 }
 
 /// Somebody is logged in whose class isn't in the command's column.
-fn is_not_entitled(user: SessionUser, code: CommandCode) -> bool
-    ensures { result ≡ not_entitled user code }
+fn is_not_entitled(user: &SessionUser, code: CommandCode) -> bool
+    ensures { result ≡ not_entitled user.now code }
 {
     match user {
         SessionUser::Nobody => false,
-        SessionUser::User { class, .. } => !entitled(class, code),
+        SessionUser::User { class, .. } => !entitled(*class, code),
     }
 }
 
@@ -103,7 +103,7 @@ pub fn has_general(unit: &[u8], blocks: &Blocks) -> bool
 /// The first cause of those that code, user and the parts of the unit show, before the parameters are read.
 pub fn refusal(
     sid: &Sid,
-    user: SessionUser,
+    user: &SessionUser,
     code: CommandCode,
     unit: &[u8],
     blocks: &Blocks,
@@ -112,7 +112,7 @@ pub fn refusal(
     requires short { length unit.now ≤ 2047 }
     requires blocks { AreBlocksOf unit.now blocks.now.block.items }
     requires parts { AreParts unit.now (map (block_at unit.now) blocks.now.block.items) parts.now }
-    ensures { result ≡ first_refusal sid.now user code (map (block_at unit.now) blocks.now.block.items) }
+    ensures { result ≡ first_refusal sid.now user.now code (map (block_at unit.now) blocks.now.block.items) }
 {
     let form = form_of(code);
     if Ctag::of(block_text(unit, blocks, 3)).is_none() {
