@@ -85,8 +85,8 @@ module _ (d : Dimensions) (limits : IsInLimits d) where
   parts_at : (text a b : List ℕ) (at : ℕ) → position (λ b. b == 45) text ≡ Some at → take at text ≡ a → drop (at + 1) text ≡ b → text ≡ a ++ 45 ∷ b
   parts_at text a b at is one two = at_dash text at is ∙ ap₂ (λ (x y : List ℕ). x ++ 45 ∷ y) one two
 
-  numbered : (text : List ℕ) (p : Port) → port_of_numbers d text ≡ Some p → IsNumbered text p
-  numbered text p is =
+  parted : (text : List ℕ) (p : Port) → port_of_numbers d text ≡ Some p → IsNumbered text p
+  parted text p is =
       let at = then_some (λ (at : ℕ). option_and_then (λ (number : ℕ). option_map (λ (slot : ℕ). port_at d number slot) (option_and_then (up_to d.slots) (number_of (drop (at + 1) text)))) (option_and_then (up_to d.modules) (number_of (take at text)))) (position (λ b. b == 45) text) p is in
       let number = then_some (λ (number : ℕ). option_map (λ (slot : ℕ). port_at d number slot) (option_and_then (up_to d.slots) (number_of (drop (at.0 + 1) text)))) (option_and_then (up_to d.modules) (number_of (take at.0 text))) p at.1.1 in
       let slot = map_some (λ (slot : ℕ). port_at d number.0 slot) (option_and_then (up_to d.slots) (number_of (drop (at.0 + 1) text))) p number.1.1 in
@@ -137,7 +137,7 @@ module _ (d : Dimensions) (limits : IsInLimits d) where
   unfolding port_named
   port_is text p is =
       let rest = then_some (port_of_numbers d) (behind (codes "DS0-") text) p is in
-      let found = numbered rest.0 p rest.1.1 in
+      let found = parted rest.0 p rest.1.1 in
       let one : module_of d p + 1 ≡ found.number = ap (λ (q : Port). module_of d q + 1) (sym found.port) ∙ module_at found.number found.slot found.least_number found.least_slot found.most_slot in
       let two : slot_of d p + 1 ≡ found.slot = ap (λ (q : Port). slot_of d q + 1) (sym found.port) ∙ slot_at found.number found.slot found.least_slot found.most_slot in
       let name : codes "DS0-" ++ rest.0 ≡ port_name d p = ap (λ (l : List ℕ). codes "DS0-" ++ l) found.text_is ∙ sym (joined found.number found.slot) ∙ ap₂ (λ (a b : ℕ). ((codes "DS0-" ++ decimal a) ++ codes "-") ++ decimal b) (sym one) (sym two) in

@@ -4,7 +4,7 @@ ghost use Rattle.dxc_model.specs.Labels.{is_label as reads_as_label, is_label_by
 use std::marker::Model;
 
 /// What an office calls a connection: at most 24 bytes of ASCII text without `"`. An empty one is none.
-#[derive(Clone, Copy, Debug, PartialEq, Eq)]
+#[derive(Clone, Copy, Debug)]
 pub struct Label {
     bytes: [u8; 24],
     count: u8,
@@ -63,6 +63,26 @@ impl Label {
     }
 }
 
+impl PartialEq for Label {
+    ghost use Rattle.std.specs.Prelude.{bytes_eq};
+    ghost use Rattle.std.specs.Cmp.{partial_equiv_from_equiv};
+    ghost use Rattle.std.specs.Cmp.Lexicographic.{nat_list_eq_equiv};
+
+    ghost eq = { bytes_eq };
+
+    ghost laws = { partial_equiv_from_equiv nat_list_eq_equiv };
+
+    fn eq(&self, other: &Label) -> bool {
+        self.bytes() == other.bytes()
+    }
+}
+
+impl Eq for Label {
+    ghost use Rattle.std.specs.Cmp.Lexicographic.{nat_list_eq_equiv};
+
+    ghost laws = { nat_list_eq_equiv };
+}
+
 impl Default for Label {
     ghost use Rattle.std.specs.Prelude.{◌≡◌, []};
 
@@ -91,5 +111,5 @@ fn are_all_label_bytes(text: &[u8]) -> bool
 fn is_label_byte(b: u8) -> bool
     ensures { result ≡ may_stand b }
 {
-    matches!(b, b' '..=b'~') && b != b'"'
+    (b' '..=b'~').contains(&b) && b != b'"'
 }

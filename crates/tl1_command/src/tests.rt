@@ -2,21 +2,16 @@
 ghost use Rattle.std.specs.Prelude.{◌≤◌, length};
 
 use crate::{Command, command_of};
-use dxc_model::{Cause, Cct, Class, Conn, Op, Selection, SessionUser};
-use dxc_num::{Port, Shape};
+use dxc_model::{Cause, Cct, Class, Conn, Label, Op, Selection, SessionUser, Uid};
+use dxc_num::{Middle, Port, Shape};
 use std::test::Fail;
 use tl1_text::Sid;
 use tl1_text::grammar::blocks;
 
-const ANNA: SessionUser = SessionUser::User {
-    index: 0,
-    class: Class::S,
-};
-
-const CARA: SessionUser = SessionUser::User {
-    index: 1,
-    class: Class::R,
-};
+fn user(class: Class) -> SessionUser {
+    let uid = Uid::of(b"ANNA").unwrap_or_default();
+    SessionUser::User { uid, class }
+}
 
 /// The meaning of a unit in a shape of 2 by 1 of the SID DXC1; None where it isn't in the grammar.
 fn meaning(user: SessionUser, unit: &[u8]) -> Option<Result<Command, Cause>>
@@ -33,12 +28,18 @@ fn conn(cct: Cct) -> Conn {
         from: Port(0),
         to: Port(1),
         cct,
+        label: Label::default(),
     }
+}
+
+fn labelled(cct: Cct, text: &[u8]) -> Conn {
+    let label = Label::of(text).unwrap_or_default();
+    Conn { label, ..conn(cct) }
 }
 
 #[test]
 fn commands_are_understood(rt: HostRuntime) -> Result<(), Fail> {
-    let rows: [(&[u8], Op); 12] = [
+    let rows: [(&[u8], Op); 17] = [
         (
             b"ENT-CRS-T0::DS0-1-1,DS0-2-1:1",
             Op::Enter(conn(Cct::OneWay)),
@@ -79,11 +80,25 @@ fn commands_are_understood(rt: HostRuntime) -> Result<(), Fail> {
         ),
         (b"ENT-EQPT::MOD-1:3", Op::EnterModule(0)),
         (b"DLT-EQPT::MOD-2:3", Op::DeleteModule(1)),
+        (
+            b"ENT-CRS-T0::DS0-1-1,DS0-2-1:1::1WAY,\"CIRCUIT 7\"",
+            Op::Enter(labelled(Cct::OneWay, b"CIRCUIT 7")),
+        ),
+        (
+            b"ENT-CRS-T0::DS0-1-1,DS0-2-1:1::,C8",
+            Op::Enter(labelled(Cct::OneWay, b"C8")),
+        ),
+        (
+            b"ED-CRS-T0::DS0-1-1,DS0-2-1:2::2WAY,abcdefghijklmnopqrstuvwx",
+            Op::Edit(labelled(Cct::TwoWay, b"abcdefghijklmnopqrstuvwx")),
+        ),
+        (b"RMV-MID::MID-1:6", Op::TakeOut(Middle(0))),
+        (b"rst-mid::mid-1:8", Op::PutBack(Middle(0))),
         (b"INIT-SYS:::2", Op::Restart),
     ];
     for (unit, op) in rows {
         if unit.len() <= 2047 {
-            assert_eq!(rt; meaning(ANNA, unit), Some(Ok(Command::Table(op))));
+            assert_eq!(rt; meaning(user(Class::S), unit), Some(Ok(Command::Table(op))));
         }
     }
     Ok(())
@@ -91,49 +106,70 @@ fn commands_are_understood(rt: HostRuntime) -> Result<(), Fail> {
 
 #[test]
 fn the_first_cause_is_told(rt: HostRuntime) -> Result<(), Fail> {
-    let rows: [(SessionUser, &[u8], Cause); 22] = [
-        (ANNA, b"RTRV-XYZ:::1", Cause::UnknownCommand),
-        (ANNA, b"RTRV-XYZ:OTHER::000", Cause::UnknownCommand),
-        (ANNA, b"RTRV-HDR:OTHER::000", Cause::BadCtag),
-        (ANNA, b"RTRV-HDR:::1234567", Cause::BadCtag),
+    let anna = user(Class::S);
+    let cara = user(Class::R);
+    let rows: [(SessionUser, &[u8], Cause); 29] = [
+        (anna, b"RTRV-XYZ:::1", Cause::UnknownCommand),
+        (anna, b"RTRV-XYZ:OTHER::000", Cause::UnknownCommand),
+        (anna, b"RTRV-HDR:OTHER::000", Cause::BadCtag),
+        (anna, b"RTRV-HDR:::1234567", Cause::BadCtag),
         (
             SessionUser::Nobody,
             b"RTRV-HDR:OTHER::7",
             Cause::OtherTarget,
         ),
         (SessionUser::Nobody, b"RTRV-HDR:dxc1::7", Cause::NotLoggedIn),
-        (CARA, b"ENT-CRS-T0:::1", Cause::NotEntitled),
-        (CARA, b"INIT-SYS:::1", Cause::NotEntitled),
-        (ANNA, b"ENT-CRS-T0::DS0-1-1:1", Cause::Missing),
-        (ANNA, b"ENT-CRS-T0::DS0-1-1,\"\":1", Cause::Missing),
-        (ANNA, b"ED-CRS-T0::DS0-1-1,DS0-2-1:1", Cause::Missing),
-        (ANNA, b"ENT-CRS-T0::DS0-1-1:1:N", Cause::Missing),
-        (ANNA, b"RTRV-HDR::DS0-1-1:1:N", Cause::TooMany),
-        (ANNA, b"ENT-CRS-T0::DS0-1-1,DS0-2-1,X:1", Cause::TooMany),
+        (cara, b"ENT-CRS-T0:::1", Cause::NotEntitled),
+        (cara, b"INIT-SYS:::1", Cause::NotEntitled),
+        (anna, b"ENT-CRS-T0::DS0-1-1:1", Cause::Missing),
+        (anna, b"ENT-CRS-T0::DS0-1-1,\"\":1", Cause::Missing),
+        (anna, b"ED-CRS-T0::DS0-1-1,DS0-2-1:1", Cause::Missing),
+        (anna, b"ENT-CRS-T0::DS0-1-1:1:N", Cause::Missing),
+        (anna, b"RTRV-HDR::DS0-1-1:1:N", Cause::TooMany),
+        (anna, b"ENT-CRS-T0::DS0-1-1,DS0-2-1,X:1", Cause::TooMany),
         (
-            ANNA,
-            b"ENT-CRS-T0::DS0-1-1,DS0-2-1:1::1WAY,X",
+            anna,
+            b"ENT-CRS-T0::DS0-1-1,DS0-2-1:1::1WAY,X,Y",
             Cause::TooMany,
         ),
         (
-            ANNA,
+            anna,
             b"ENT-CRS-T0::DS0-1-1,DS0-2-1:1::1WAY::,X",
             Cause::TooMany,
         ),
         (
-            ANNA,
+            anna,
             b"ENT-CRS-T0::DS0-1-1,DS0-2-1:1:N:3WAY",
             Cause::GeneralBlock,
         ),
         (
-            ANNA,
+            anna,
             b"ENT-CRS-T0::DS0-1-1,DS0-9-1:1::3WAY",
             Cause::BadValue,
         ),
-        (ANNA, b"ENT-CRS-T0::DS0-01-1,DS0-2-1:1", Cause::BadAid),
-        (ANNA, b"ENT-CRS-T0::DS0-3-1,DS0-3-1:1", Cause::BadAid),
-        (ANNA, b"ENT-CRS-T0::DS0-1-1,ds0-1-1:1", Cause::SamePort),
-        (ANNA, b"ALW-MSG-ALL::MOD-1:1", Cause::BadAid),
+        (anna, b"ENT-CRS-T0::DS0-01-1,DS0-2-1:1", Cause::BadAid),
+        (anna, b"ENT-CRS-T0::DS0-3-1,DS0-3-1:1", Cause::BadAid),
+        (anna, b"ENT-CRS-T0::DS0-1-1,ds0-1-1:1", Cause::SamePort),
+        (anna, b"ALW-MSG-ALL::MOD-1:1", Cause::BadAid),
+        (
+            anna,
+            b"DLT-CRS-T0::DS0-1-1,DS0-2-1:1::1WAY,X",
+            Cause::TooMany,
+        ),
+        (
+            anna,
+            b"ED-CRS-T0::DS0-1-1,DS0-2-1:1::,C8",
+            Cause::Missing,
+        ),
+        (
+            anna,
+            b"ENT-CRS-T0::DS0-1-1,DS0-9-1:1::1WAY,abcdefghijklmnopqrstuvwxy",
+            Cause::BadValue,
+        ),
+        (anna, b"RMV-MID::MID-2:1", Cause::BadAid),
+        (anna, b"RMV-MID::MID-0:1", Cause::BadAid),
+        (anna, b"RST-MID:::1", Cause::Missing),
+        (cara, b"RST-MID::MID-1:1", Cause::NotEntitled),
     ];
     for (user, unit, cause) in rows {
         if unit.len() <= 2047 {
