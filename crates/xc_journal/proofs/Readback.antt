@@ -102,3 +102,6 @@ entry_read v bytes change l e is = (ap read_change is ∙ change_back change l e
 
 pub never : {b : Bool} → b ≡ false → b ≡ true → ⊥
 never off on = absurd cc
+
+pub no_change : {c : Change} → None ≡ Some c → ⊥
+no_change e = cc

@@ -1,7 +1,10 @@
 use Rattle.std.proofs.Common.{◌∙◌, sym}
 use Rattle.xc_journal.specs.Spelling.{spelling}
-use Rattle.xc_journal.proofs.Readback.{entry_read, never, some_same}
+use Rattle.xc_journal.proofs.Readback.{entry_read, never, no_change, some_same}
 use Rattle.xc_journal.proofs.read.entry_of.Goals as goal
+
+pub returns-in_err-change-clause-only : goal.returns-in_err-change-clause-only
+returns-in_err-change-clause-only c change choices e is = absurd (no_change (c.in_err-change.ensures.change ∙ (entry_read c.args.version c.args.bytes.now change choices e is).0))
 
 pub returns-then-not-is_same-clause-only : goal.returns-then-not-is_same-clause-only
 returns-then-not-is_same-clause-only c change choices e is =
