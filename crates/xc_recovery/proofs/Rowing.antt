@@ -1,6 +1,7 @@
 -- The rows of a checkpoint come to its table and colouring.
-use Rattle.std.proofs.Common.{◌≡◌, ◌≢◌, ◌⊎◌, ◌↔◌, ℕ, ◌+◌, ◌<◌, ◌≤◌, Bool, true, false, not, ◌||◌, Option, Some, None, Ok, is_some, List, [], ◌∷◌, ◌++◌, length, map, get_or, sym, refl, ap, ap₂, ◌∙◌, inl, inr, subst, ⊎_elim, arith, append_assoc, append-nil}
-use Rattle.std.specs.Prelude.{nat_lt, IfSome, IsTrue}
+use Rattle.std.proofs.Common.{zero, suc, ◌≡◌, ◌≢◌, ◌⊎◌, ◌↔◌, ℕ, ◌+◌, ◌<◌, ◌≤◌, Bool, true, false, not, ◌||◌, Option, Some, None, Ok, is_some, List, [], ◌∷◌, ◌++◌, length, map, get_or, sym, refl, ap, ap₂, ◌∙◌, inl, inr, subst, ⊎_elim, arith, append_assoc, append-nil}
+use Rattle.std.specs.Prelude.{nat_lt, option_map, slice_get, IfSome, IsTrue}
+use Rattle.std.proofs.lemmas.Option.{slice_get-map, slice_get_within}
 use Rattle.std.specs.List.{list_any, AllByRecursion}
 use Rattle.std.proofs.lemmas.Bool.{cases_lt, eq-eqb}
 use Rattle.std.proofs.lemmas.List.{ext_get_or, length-map}
@@ -8,7 +9,9 @@ use Rattle.dxc_num.specs.declared.port.Leg.{Leg}
 use Rattle.dxc_num.specs.declared.port.Middle.{Middle}
 use Rattle.dxc_num.specs.declared.port.Port.{Port}
 use Rattle.dxc_num.specs.declared.port.Route.{Route}
-use Rattle.dxc_num.specs.Dimensions.{Dimensions, IsPort, IsWorking, module_of, ports}
+use Rattle.dxc_num.specs.Dimensions.{Dimensions, IsPort, IsWorking, leg_between, module_of, ports}
+use Rattle.dxc_model.specs.declared.conn.Cct.{Cct}
+use Rattle.dxc_model.specs.declared.conn.Cct.TheVariants.{OneWay, TwoWay}
 use Rattle.dxc_model.specs.declared.conn.Conn.{Conn}
 use Rattle.dxc_model.specs.declared.op.Op.TheVariants as asks
 use Rattle.dxc_model.specs.declared.op.Change.{Change}
@@ -17,7 +20,7 @@ use Rattle.dxc_model.specs.Denials.{is_blocked, is_unequipped}
 use Rattle.dxc_model.specs.Equipment.{empty_table, modules_in}
 use Rattle.dxc_model.specs.Operations.{ArePorts}
 use Rattle.dxc_model.specs.Sides.{uses_side, user_of}
-use Rattle.dxc_model.specs.Tables.{Board, IsOfShape, IsOrdered, Side, in_use, is_before, is_equipped, legs, legs_of, needs_side}
+use Rattle.dxc_model.specs.Tables.{Board, IsOfShape, IsOrdered, Side, in_use, is_before, is_equipped, legs, legs_between, legs_of, needs_side}
 use Rattle.dxc_model.specs.Tables.Side.{input_of, output_of}
 use Rattle.dxc_model.specs.Verdicts.{MayTake, effect, judged, put}
 use Rattle.dxc_model.proofs.Apart.{Apart, apart_of, rises_of}
@@ -49,7 +52,7 @@ use Rattle.xc_recovery.specs.Folds.{Folded, FoldsTo, Makes, none_folded, with_ch
 use Rattle.xc_recovery.specs.Laws.{CheckpointsStand}
 use Rattle.xc_recovery.specs.Placings.{IsPlaced, idle}
 use Rattle.xc_journal.specs.Spelling.{spelling}
-use Rattle.xc_recovery.specs.Rows.{middle_in, out_rows, row_of, standing}
+use Rattle.xc_recovery.specs.Rows.{checkpoint, middle_in, out_rows, row_of, standing}
 use Rattle.xc_recovery.proofs.Folding.{none_held, none_placed}
 use Rattle.xc_recovery.proofs.HeldLegs.{does_proper}
 use Rattle.xc_recovery.proofs.Placing.{placed_after, tasks_ready}
@@ -216,7 +219,7 @@ module _ (t : Board) (c : Colouring) (p : IsPlaced t c) (s : IsOfShape t) (fits 
       let same = entered done k ks e in
       let m = n + switches_in (ops_writes os) in
       let next = rows_stand ks (done ++ k ∷ []) (after_ops os b) os m (e ∙ sym (append_assoc done (k ∷ []) ks))
-          (subst (λ (u : Board). IsPlaced u (after_ops os b)) same (placed_after (partial done) b (Enter k) makes.0.choices os placed makes.0.granted makes.0.works)) makes.1 in
+      (subst (λ (u : Board). IsPlaced u (after_ops os b)) same (placed_after (partial done) b (Enter k) makes.0.choices os placed makes.0.granted makes.0.works)) makes.1 in
       (next.0, next.1, (Enter k, os, makes.0, subst (λ (u : Board). FoldsTo Two (folded u (after_ops os b) os m) (map (row_of c) ks) (folded t c next.0 next.1)) (sym same) next.2))
 
   -- The middle that is out is taken out of the empty table first.
@@ -257,3 +260,30 @@ module _ (t : Board) (c : Colouring) (p : IsPlaced t c) (s : IsOfShape t) (fits 
 
 pub checkpoints_stand : CheckpointsStand
 checkpoints_stand t c equipped p s fits same = stands_from t c p s fits equipped same t.out refl
+
+-- The legs of a connection at some place of the table stand.
+some_conn : (c k : Conn) → Some c ≡ Some k → c ≡ k
+some_conn c k e = cc
+
+at_legs : (l : Leg) (cs : List Conn) (i : ℕ) (k : Conn) → slice_get cs i ≡ Some k → Among l (legs_of k) → Among l (legs cs)
+at_legs l [] i k at m = let low = slice_get_within [] i k at in absurd (let z : ⊥ = omega arith in z)
+at_legs l (c ∷ cs) zero k at m = among_left l (legs_of c) (legs cs) (subst (λ (x : Conn). Among l (legs_of x)) (sym (some_conn c k at)) m)
+at_legs l (c ∷ cs) (suc i) k at m = among_right l (legs_of c) (legs cs) (at_legs l cs i k at m)
+
+pub held_at : (t : Board) (c : Colouring) (i : ℕ) (k : Conn) → IsPlaced t c → slice_get t.conns i ≡ Some k → (l : Leg) → Among l (legs_of k) → IsHeld c l
+held_at t c i k p at l m = (p.legs_held l).1 (at_legs l t.conns i k at m)
+
+pub row_at : (t : Board) (c : Colouring) (i : ℕ) (o : Option Conn) → o ≡ slice_get t.conns i → option_map (row_of c) o ≡ slice_get (map (row_of c) t.conns) i
+row_at t c i o at = ap (option_map (row_of c)) at ∙ sym (slice_get-map (row_of c) t.conns i)
+
+-- the rows of a table with all middles in service, or one out
+pub rows_in : (t : Board) (c : Colouring) → t.out ≡ None → map (row_of c) t.conns ≡ checkpoint t c
+rows_in t c e = λ i. out_rows (sym e i) ++ map (row_of c) t.conns
+
+pub rows_out : (t : Board) (c : Colouring) (m : Middle) → t.out ≡ Some m → spelling (TakeOut m) [] ∷ map (row_of c) t.conns ≡ checkpoint t c
+rows_out t c m e = λ i. out_rows (sym e i) ++ map (row_of c) t.conns
+
+-- both legs of a connection are its legs
+pub first_leg : (x y : Port) (w : Cct) → Among (leg_between x y) (legs_between x y w)
+first_leg x y OneWay = inl refl
+first_leg x y TwoWay = inl refl
