@@ -86,6 +86,14 @@ straight_as None b l m p r low other free =
 straight_as (Some q) b l m p r low other free =
     ((low, (other, free)), joins_direct_out b q.0 l m (straight l m) p (record { inside = r.0; unused = r.1; middle = r.2; empty = r.3 }) low (other, free) (refl, refl, refl))
 
+-- all that stands in the second colouring stands so in the first
+abbrev IsPartOf : Colouring → Colouring → Type 0
+IsPartOf c b = (l : Leg) (k : ℕ) → Holds b l k → Holds c l k
+
+-- the table with these connections alone
+abbrev partial : Board → List Conn → Board
+partial t done = record t { conns = done }
+
 -- Legs that stand in a colouring, joined straight at their middles.
 module _ (out : Option Middle) (c : Colouring) (proper : IsProperColouring c) (empty : IsEmpty c (idle c.shape out)) where
   abbrev pub stand : Leg → LegOp
@@ -94,16 +102,12 @@ module _ (out : Option Middle) (c : Colouring) (proper : IsProperColouring c) (e
   here : (l : Leg) → IsHeld c l → Holds c l (standing c l).middle.0
   here l held = subst (Holds c l) (sym (ap (λ (o : Option Route). (middle_in o).0) held.1)) held.1
 
-  -- all that stands stands in that colouring
-  abbrev pub IsPart : Colouring → Type 0
-  IsPart b = (l : Leg) (k : ℕ) → Holds b l k → Holds c l k
-
-  free_there : (b : Colouring) (l : Leg) (k : ℕ) → b.shape ≡ c.shape → IsPart b → IsUnused b l → Holds c l k → IsFreeFor b l k
+  free_there : (b : Colouring) (l : Leg) (k : ℕ) → b.shape ≡ c.shape → IsPartOf c b → IsUnused b l → Holds c l k → IsFreeFor b l k
   free_there b l k shape part unused held s v h same =
       let e = proper.apart s k v l (part v k h) held (subst (λ (d : Dimensions). module_on d s v ≡ module_on d s l) shape same) in
       unused.output v k h (ap (λ (x : Leg). x.output.0) e)
 
-  does_stand : (b : Colouring) (l : Leg) → IsProperColouring b → b.shape ≡ c.shape → IsPart b → IsReady out b (Join l) → IsHeld c l → JoinsAs out b l (standing c l) (stand l)
+  does_stand : (b : Colouring) (l : Leg) → IsProperColouring b → b.shape ≡ c.shape → IsPartOf c b → IsReady out b (Join l) → IsHeld c l → JoinsAs out b l (standing c l) (stand l)
   does_stand b l p shape part r held =
       let m : Middle = (standing c l).middle in
       straight_as out b l m p r
@@ -111,14 +115,14 @@ module _ (out : Option Middle) (c : Colouring) (proper : IsProperColouring c) (e
       (λ e. empty l (subst (Holds c l) (e ∙ ap (λ (d : Dimensions). idle d out) shape) (here l held)))
       (free_there b l m.0 shape part r.1 (here l held))
 
-  part_more : (b : Colouring) (l : Leg) → IsProperColouring b → IsPart b → IsReady out b (Join l) → IsHeld c l → IsPart (after_op (stand l) b)
+  part_more : (b : Colouring) (l : Leg) → IsProperColouring b → IsPartOf c b → IsReady out b (Join l) → IsHeld c l → IsPartOf c (after_op (stand l) b)
   part_more b l p part r held v q g =
       let m : Middle = (standing c l).middle in ⊎_elim
       (λ (e : (v ≡ l) × (q ≡ m.0)). subst (λ (w : Leg × ℕ). Holds c w.0 w.1) (λ i. (sym e.0 i, sym e.1 i)) (here l held))
       (λ (e : (v.output.0 ≢ l.output.0) × Holds b v q). part v q e.1)
       (held_before b l v m.0 q (out_low b l p r.0) g)
 
-  pub joins_stand : (ls : List Leg) (b : Colouring) → IsProperColouring b → b.shape ≡ c.shape → IsPart b → AreReady out b (joins ls) → ((l : Leg) → Among l ls → IsHeld c l) → WorksBy out b (joins ls) (map (standing c) ls) (map stand ls) × IsPart (after_ops (map stand ls) b)
+  pub joins_stand : (ls : List Leg) (b : Colouring) → IsProperColouring b → b.shape ≡ c.shape → IsPartOf c b → AreReady out b (joins ls) → ((l : Leg) → Among l ls → IsHeld c l) → WorksBy out b (joins ls) (map (standing c) ls) (map stand ls) × IsPartOf c (after_ops (map stand ls) b)
   joins_stand [] b p shape part r held = (tt, part)
   joins_stand (l ∷ ls) b p shape part r held =
       let does = does_stand b l p shape part r.0 (held l (inl refl)) in
@@ -149,114 +153,105 @@ among_legs : (l : Leg) (done : List Conn) (k : Conn) (ks : List Conn) → Among 
 among_legs l [] k ks m = among_left l (legs_of k) (legs ks) m
 among_legs l (d ∷ ds) k ks m = among_right l (legs_of d) (legs (ds ++ k ∷ ks)) (among_legs l ds k ks m)
 
--- A table whose connections may be spelled, with its colouring.
-module _ (t : Board) (c : Colouring) (p : IsPlaced t c) (s : IsOfShape t) (fits : AllByRecursion FitsConn t.conns) where
-  -- the table with these connections alone
-  abbrev partial : List Conn → Board
-  partial done = record t { conns = done }
+-- The next connection of a table may be entered behind those in front of it.
+module _ (t : Board) (c : Colouring) (p : IsPlaced t c) (s : IsOfShape t) (fits : AllByRecursion FitsConn t.conns) (done : List Conn) (k : Conn) (ks : List Conn) (e : t.conns ≡ done ++ k ∷ ks) where
+  apart : Apart (done ++ k ∷ ks)
+  apart = subst Apart e (apart_of t.conns p.table.apart)
 
-  abbrev Part : Colouring → Type 0
-  Part b = (l : Leg) (k : ℕ) → Holds b l k → Holds c l k
+  at_k : (P : Conn → Type 0) → AllByRecursion P t.conns → P k
+  at_k P all = each_at P done k ks (subst (AllByRecursion P) e all)
 
-  -- The next connection of the table may be entered behind those in front of it.
-  module _ (done : List Conn) (k : Conn) (ks : List Conn) (e : t.conns ≡ done ++ k ∷ ks) where
-    apart : Apart (done ++ k ∷ ks)
-    apart = subst Apart e (apart_of t.conns p.table.apart)
+  unblocked_leg : (l : Leg) → Among l (legs_of k) → is_blocked (partial t done) l ≡ false
+  unblocked_leg l m = ap₂ (λ (a b : Bool). a || b)
+      (not_in_use (partial t done) (input_of l.input) (front_unused (input_of l.input) done k ks apart (leg_uses l k m)))
+      (not_in_use (partial t done) (output_of l.output) (front_unused (output_of l.output) done k ks apart (among_any (needs_side (output_of l.output)) l (legs_of k) m (eq-eqb l.output.0 l.output.0 refl))))
 
-    at_k : (P : Conn → Type 0) → AllByRecursion P t.conns → P k
-    at_k P all = each_at P done k ks (subst (AllByRecursion P) e all)
+  clear : IsClear (partial t done) (asks.Enter k)
+  clear = let here = at_k (λ d. IsTrue (is_equipped t (module_of t.shape d.from)) × IsTrue (is_equipped t (module_of t.shape d.to))) p.table.equipped in record {
+    equipped = ap₂ (λ (a b : Bool). not a || not b) here.0 here.1;
+    free = none_any (is_blocked (partial t done)) (legs_of k) unblocked_leg;
+    other = refl;
+    idle = refl;
+    bare = refl;
+    there = refl;
+    all_in = refl;
+    its_out = refl;
+  }
 
-    unblocked_leg : (l : Leg) → Among l (legs_of k) → is_blocked (partial done) l ≡ false
-    unblocked_leg l m = ap₂ (λ (a b : Bool). a || b)
-        (not_in_use (partial done) (input_of l.input) (front_unused (input_of l.input) done k ks apart (leg_uses l k m)))
-        (not_in_use (partial done) (output_of l.output) (front_unused (output_of l.output) done k ks apart (among_any (needs_side (output_of l.output)) l (legs_of k) m (eq-eqb l.output.0 l.output.0 refl))))
+  pub may_enter : MayTake (partial t done) (Enter k)
+  may_enter = let here = at_k (λ d. IsPort t.shape d.from × IsPort t.shape d.to) s.ports in record {
+    apt = record { from = here.0; to = here.1; unequal = at_k (λ d. d.from.0 ≢ d.to.0) p.table.unequal };
+    says = ap (λ o. judged o (Some (Enter k))) (none_of (partial t done) (asks.Enter k) clear);
+  }
 
-    clear : IsClear (partial done) (asks.Enter k)
-    clear = let here = at_k (λ d. IsTrue (is_equipped t (module_of t.shape d.from)) × IsTrue (is_equipped t (module_of t.shape d.to))) p.table.equipped in record {
-      equipped = ap₂ (λ (a b : Bool). not a || not b) here.0 here.1;
-      free = none_any (is_blocked (partial done)) (legs_of k) unblocked_leg;
-      other = refl;
-      idle = refl;
-      bare = refl;
-      there = refl;
-      all_in = refl;
-      its_out = refl;
-    }
+  pub entered : effect (partial t done) (Enter k) ≡ partial t (done ++ k ∷ [])
+  entered = ap (partial t) (put_last k done ks (rises_of (done ++ k ∷ ks) apart (subst (IsOrdered is_before) e p.table.order)))
 
-    pub may_enter : MayTake (partial done) (Enter k)
-    may_enter = let here = at_k (λ d. IsPort t.shape d.from × IsPort t.shape d.to) s.ports in record {
-      apt = record { from = here.0; to = here.1; unequal = at_k (λ d. d.from.0 ≢ d.to.0) p.table.unequal };
-      says = ap (λ o. judged o (Some (Enter k))) (none_of (partial done) (asks.Enter k) clear);
-    }
+  pub row_makes : (b : Colouring) → IsPlaced (partial t done) b → IsPartOf c b → Makes 2 (partial t done) b (row_of c k) (Enter k) (map (stand t.out c p.colouring p.empty) (legs_of k)) × IsPartOf c (after_ops (map (stand t.out c p.colouring p.empty) (legs_of k)) b)
+  row_makes b placed part =
+      let ready = tasks_ready (partial t done) b placed (Enter k) may_enter in
+      let work = joins_stand t.out c p.colouring p.empty (legs_of k) b placed.colouring (placed.shape ∙ sym p.shape) part ready (λ l m. (p.legs_held l).1 (subst (λ (cs : List Conn). Among l (legs cs)) (sym e) (among_legs l done k ks m))) in (
+        record {
+          choices = map (standing c) (legs_of k);
+          entry = record { fits = at_k FitsConn fits; number = length-map (legs_of k) (standing c); old = λ no. absurd (let z : ⊥ = omega arith in z) };
+          spelled = refl;
+          granted = may_enter;
+          works = work.0;
+        },
+        work.1,
+      )
 
-    pub entered : effect (partial done) (Enter k) ≡ partial (done ++ k ∷ [])
-    entered = ap partial (put_last k done ks (rises_of (done ++ k ∷ ks) apart (subst (IsOrdered is_before) e p.table.order)))
+rows_stand : (t : Board) (c : Colouring) (p : IsPlaced t c) (s : IsOfShape t) (fits : AllByRecursion FitsConn t.conns) (rest done : List Conn) (b : Colouring) (ops : List LegOp) (n : ℕ) → t.conns ≡ done ++ rest → IsPlaced (partial t done) b → IsPartOf c b
+    → (os : List LegOp) × (m : ℕ) × FoldsTo Two (folded (partial t done) b ops n) (map (row_of c) rest) (folded t c os m)
+rows_stand t c p s fits [] done b ops n e placed part =
+    let all = e ∙ append-nil done in
+    let shape = placed.shape ∙ sym p.shape in
+    let colours = same_colouring b c shape (placed.colouring.size ∙ ap ports shape ∙ sym p.colouring.size) part (λ l h. (placed.legs_held l).1 (subst (λ (cs : List Conn). Among l (legs cs)) all ((p.legs_held l).0 h))) in
+    (ops, n, λ i. folded (partial t (all i)) (sym colours i) ops n)
+rows_stand t c p s fits (k ∷ ks) done b ops n e placed part =
+    let os = map (stand t.out c p.colouring p.empty) (legs_of k) in
+    let makes = row_makes t c p s fits done k ks e b placed part in
+    let same = entered t c p s fits done k ks e in
+    let m = n + switches_in (ops_writes os) in
+    let next = rows_stand t c p s fits ks (done ++ k ∷ []) (after_ops os b) os m (e ∙ sym (append_assoc done (k ∷ []) ks))
+    (subst (λ (u : Board). IsPlaced u (after_ops os b)) same (placed_after (partial t done) b (Enter k) makes.0.choices os placed makes.0.granted makes.0.works)) makes.1 in
+    (next.0, next.1, (Enter k, os, makes.0, subst (λ (u : Board). FoldsTo Two (folded u (after_ops os b) os m) (map (row_of c) ks) (folded t c next.0 next.1)) (sym same) next.2))
 
-    pub row_makes : (b : Colouring) → IsPlaced (partial done) b → Part b → Makes 2 (partial done) b (row_of c k) (Enter k) (map (stand t.out c p.colouring p.empty) (legs_of k)) × Part (after_ops (map (stand t.out c p.colouring p.empty) (legs_of k)) b)
-    row_makes b placed part =
-        let ready = tasks_ready (partial done) b placed (Enter k) may_enter in
-        let work = joins_stand t.out c p.colouring p.empty (legs_of k) b placed.colouring (placed.shape ∙ sym p.shape) part ready (λ l m. (p.legs_held l).1 (subst (λ (cs : List Conn). Among l (legs cs)) (sym e) (among_legs l done k ks m))) in (
-          record {
-            choices = map (standing c) (legs_of k);
-            entry = record { fits = at_k FitsConn fits; number = length-map (legs_of k) (standing c); old = λ no. absurd (let z : ⊥ = omega arith in z) };
-            spelled = refl;
-            granted = may_enter;
-            works = work.0;
-          },
-          work.1,
-        )
+-- The middle that is out is taken out of the empty table first.
+module _ (t : Board) (c : Colouring) (p : IsPlaced t c) (s : IsOfShape t) (fits : AllByRecursion FitsConn t.conns) (equipped : ℕ) (same : modules_in t.shape equipped ≡ t.equipped) where
+  first : IsPlaced (empty_table t.shape equipped) (no_legs t.shape)
+  first = none_placed t.shape equipped
 
-  rows_stand : (rest done : List Conn) (b : Colouring) (ops : List LegOp) (n : ℕ) → t.conns ≡ done ++ rest → IsPlaced (partial done) b → Part b
-      → (os : List LegOp) × (m : ℕ) × FoldsTo Two (folded (partial done) b ops n) (map (row_of c) rest) (folded t c os m)
-  rows_stand [] done b ops n e placed part =
-      let all = e ∙ append-nil done in
-      let shape = placed.shape ∙ sym p.shape in
-      let colours = same_colouring b c shape (placed.colouring.size ∙ ap ports shape ∙ sym p.colouring.size) part (λ l h. (placed.legs_held l).1 (subst (λ (cs : List Conn). Among l (legs cs)) all ((p.legs_held l).0 h))) in
-      (ops, n, λ i. folded (partial (all i)) (sym colours i) ops n)
-  rows_stand (k ∷ ks) done b ops n e placed part =
-      let os = map (stand t.out c p.colouring p.empty) (legs_of k) in
-      let makes = row_makes done k ks e b placed part in
-      let same = entered done k ks e in
-      let m = n + switches_in (ops_writes os) in
-      let next = rows_stand ks (done ++ k ∷ []) (after_ops os b) os m (e ∙ sym (append_assoc done (k ∷ []) ks))
-      (subst (λ (u : Board). IsPlaced u (after_ops os b)) same (placed_after (partial done) b (Enter k) makes.0.choices os placed makes.0.granted makes.0.works)) makes.1 in
-      (next.0, next.1, (Enter k, os, makes.0, subst (λ (u : Board). FoldsTo Two (folded u (after_ops os b) os m) (map (row_of c) ks) (folded t c next.0 next.1)) (sym same) next.2))
+  no_part : IsPartOf c (no_legs t.shape)
+  no_part l k h = absurd (none_held t.shape l k h)
 
-  -- The middle that is out is taken out of the empty table first.
-  module _ (equipped : ℕ) (same : modules_in t.shape equipped ≡ t.equipped) where
-    first : IsPlaced (empty_table t.shape equipped) (no_legs t.shape)
-    first = none_placed t.shape equipped
+  abbrev none_moved : List LegOp
+  none_moved = op.Shift (record { items = [] }) ∷ []
 
-    no_part : Part (no_legs t.shape)
-    no_part l k h = absurd (none_held t.shape l k h)
+  take_makes : (m : Middle) → t.out ≡ Some m → Makes 2 (empty_table t.shape equipped) (no_legs t.shape) (spelling (TakeOut m) []) (TakeOut m) none_moved
+  take_makes m e = record {
+    choices = [];
+    entry = record { fits = tt; number = refl; old = λ no. absurd (let z : ⊥ = omega arith in z) };
+    spelled = refl;
+    granted = record {
+      apt = subst (λ (o : Option Middle). IfSome o (λ q. IsWorking t.shape q.0)) e s.out;
+      says = ap (λ o. judged o (Some (TakeOut m))) (none_of (empty_table t.shape equipped) (asks.TakeOut m) (record { equipped = refl; free = refl; other = refl; idle = refl; bare = refl; there = refl; all_in = refl; its_out = refl }));
+    };
+    works = (refl, (op.Shift (record { items = [] }), ([], record { each = λ x. ((λ a. absurd a), (λ h. none_held t.shape x m.0 h)); order = tt }, refl), refl));
+  }
 
-    abbrev none_moved : List LegOp
-    none_moved = op.Shift (record { items = [] }) ∷ []
-
-    take_makes : (m : Middle) → t.out ≡ Some m → Makes 2 (empty_table t.shape equipped) (no_legs t.shape) (spelling (TakeOut m) []) (TakeOut m) none_moved
-    take_makes m e = record {
-      choices = [];
-      entry = record { fits = tt; number = refl; old = λ no. absurd (let z : ⊥ = omega arith in z) };
-      spelled = refl;
-      granted = record {
-        apt = subst (λ (o : Option Middle). IfSome o (λ q. IsWorking t.shape q.0)) e s.out;
-        says = ap (λ o. judged o (Some (TakeOut m))) (none_of (empty_table t.shape equipped) (asks.TakeOut m) (record { equipped = refl; free = refl; other = refl; idle = refl; bare = refl; there = refl; all_in = refl; its_out = refl }));
-      };
-      works = (refl, (op.Shift (record { items = [] }), ([], record { each = λ x. ((λ a. absurd a), (λ h. none_held t.shape x m.0 h)); order = tt }, refl), refl));
-    }
-
-    pub stands_from : (o : Option Middle) → t.out ≡ o → (os : List LegOp) × (m : ℕ) × FoldsTo Two (none_folded t.shape equipped) (out_rows o ++ map (row_of c) t.conns) (folded t c os m)
-    stands_from None e =
-        let same_table : empty_table t.shape equipped ≡ partial [] = λ i. record { shape = t.shape; conns = []; equipped = same i; out = sym e i } in
-        let rest = rows_stand t.conns [] (no_legs t.shape) [] 0 refl (subst (λ (u : Board). IsPlaced u (no_legs t.shape)) same_table first) no_part in
-        (rest.0, rest.1, subst (λ (u : Board). FoldsTo Two (folded u (no_legs t.shape) [] 0) (map (row_of c) t.conns) (folded t c rest.0 rest.1)) (sym same_table) rest.2)
-    stands_from (Some m) e =
-        let makes = take_makes m e in
-        let n = 0 + switches_in (ops_writes none_moved) in
-        let same_table : effect (empty_table t.shape equipped) (TakeOut m) ≡ partial [] = λ i. record { shape = t.shape; conns = []; equipped = same i; out = sym e i } in
-        let placed = placed_after (empty_table t.shape equipped) (no_legs t.shape) (TakeOut m) [] none_moved first makes.granted makes.works in
-        let rest = rows_stand t.conns [] (no_legs t.shape) none_moved n refl (subst (λ (u : Board). IsPlaced u (no_legs t.shape)) same_table placed) no_part in
-        (rest.0, rest.1, (TakeOut m, none_moved, makes, subst (λ (u : Board). FoldsTo Two (folded u (no_legs t.shape) none_moved n) (map (row_of c) t.conns) (folded t c rest.0 rest.1)) (sym same_table) rest.2))
+  pub stands_from : (o : Option Middle) → t.out ≡ o → (os : List LegOp) × (m : ℕ) × FoldsTo Two (none_folded t.shape equipped) (out_rows o ++ map (row_of c) t.conns) (folded t c os m)
+  stands_from None e =
+      let same_table : empty_table t.shape equipped ≡ partial t [] = λ i. record { shape = t.shape; conns = []; equipped = same i; out = sym e i } in
+      let rest = rows_stand t c p s fits t.conns [] (no_legs t.shape) [] 0 refl (subst (λ (u : Board). IsPlaced u (no_legs t.shape)) same_table first) no_part in
+      (rest.0, rest.1, subst (λ (u : Board). FoldsTo Two (folded u (no_legs t.shape) [] 0) (map (row_of c) t.conns) (folded t c rest.0 rest.1)) (sym same_table) rest.2)
+  stands_from (Some m) e =
+      let makes = take_makes m e in
+      let n = 0 + switches_in (ops_writes none_moved) in
+      let same_table : effect (empty_table t.shape equipped) (TakeOut m) ≡ partial t [] = λ i. record { shape = t.shape; conns = []; equipped = same i; out = sym e i } in
+      let placed = placed_after (empty_table t.shape equipped) (no_legs t.shape) (TakeOut m) [] none_moved first makes.granted makes.works in
+      let rest = rows_stand t c p s fits t.conns [] (no_legs t.shape) none_moved n refl (subst (λ (u : Board). IsPlaced u (no_legs t.shape)) same_table placed) no_part in
+      (rest.0, rest.1, (TakeOut m, none_moved, makes, subst (λ (u : Board). FoldsTo Two (folded u (no_legs t.shape) none_moved n) (map (row_of c) t.conns) (folded t c rest.0 rest.1)) (sym same_table) rest.2))
 
 pub checkpoints_stand : CheckpointsStand
 checkpoints_stand t c equipped p s fits same = stands_from t c p s fits equipped same t.out refl
