@@ -21,7 +21,7 @@ module _ {D : Type 0} (told : Type 0) (state : D → DiskState) (b : Past) (p : 
       (home_on told (state p.journal.0) (state j.0) p.journal.1 j.1 b p.doubt h.journal (λ t. (mends t).kept) (ap (λ (x : Book). x.head) book) (λ t. (mends t).same) None
       (λ marked. absurd (never (ap (λ (x : Book). x.to_mend) book) marked))
       (tried_on told (state p.journal.0) (state j.0) p.journal.1 j.1 b p.doubt h.journal (λ t. (mends t).kept) (ap (λ (x : Book). x.head) book) (λ t. (mends t).same)
-      (λ tried. sym (ap (λ (x : Book). is_tried x.spare) book) ∙ tried) (ap next_head book) (λ t. (mends t).lines)))
+      (λ tried. sym (ap (λ (x : Book). is_tried x.spare) book) ∙ tried) (ap next_head book) (λ t _. (mends t).lines)))
 
   -- or isn't, and all is as it was
   pub unsettled_home : {T E : Type 0} (e : E) → (told → Mends {T = T} {E = E} (state p.journal.0) (state j.0) p.journal.1 j.1 (Err e)) → j.1 ≡ p.journal.1 → IsHome told state b (with_journal p j p.doubt)
@@ -30,7 +30,7 @@ module _ {D : Type 0} (told : Type 0) (state : D → DiskState) (b : Past) (p : 
       (doubts_on told (state p.journal.0) (state j.0) p.journal.1 j.1 b p.doubt h.journal (λ t. (mends t).kept) (ap (λ (x : Book). x.head) book) (λ t. (mends t).same)
       (λ marked. ap (λ (x : Book). x.to_mend) (sym book) ∙ marked) (λ t _. (mends t).err))
       (tried_on told (state p.journal.0) (state j.0) p.journal.1 j.1 b p.doubt h.journal (λ t. (mends t).kept) (ap (λ (x : Book). x.head) book) (λ t. (mends t).same)
-      (λ tried. sym (ap (λ (x : Book). is_tried x.spare) book) ∙ tried) (ap next_head book) (λ t. (mends t).lines)))
+      (λ tried. sym (ap (λ (x : Book). is_tried x.spare) book) ∙ tried) (ap next_head book) (λ t _. (mends t).lines)))
 
 -- at any moment of it
 pub mend_left : {D : Type 0} (told : Type 0) (state : D → DiskState) (b : Past) (p : Provisioner D) → IsHome told state b p → told → {T E : Type 0} (result : Result T E) (new : DiskState) (after : Book) → Mends (state p.journal.0) new p.journal.1 after result → LeavesOnly (state p.journal.0) new (IsOldOrDoubted b p.doubt)
