@@ -122,16 +122,6 @@ bad_record d e a b book i t c old new bad =
       },
     )
 
--- what holds of a crash at any moment of a call holds still where only looks came behind it
-pub looked_on : (a b c : DiskState) (P : List ℕ → Type 0) → IsDisk b → LeavesOnly a b P → Looks b c → LeavesOnly a c P
-looked_on a b c P disk first looks =
-    let image_has : (x : List ℕ) → c.may_leave x → P x = λ x image. first.each x (disk.counts_now a.moment x first.later (looks.crash x image)) in
-    record {
-      later = omega (arith, first.later, looks.time.later);
-      each = λ x left. ⊎_elim (λ mid. first.each x mid) (λ image. image_has x image) (looks.time.nothing_else a.moment x first.later left);
-      before = λ t x le left. ⊎_elim (λ mid. first.before t x le mid) (λ image. inr (image_has x image)) (looks.time.nothing_else t x (omega (arith, le, first.later)) left);
-    }
-
 -- the moments of an opening, and of looks behind it
 pub leaves_opened : (shelf : Contents) (a b c : DiskState) (result : Result Book JournalWhy) → IsDisk b → ((IsNew a.reads_as → ⊥) → OpensOld shelf.shape a b result) → (IsNew a.reads_as → OpensNew shelf.shape shelf.equipped a b result)
     → Looks b c → LeavesOpened shelf a c

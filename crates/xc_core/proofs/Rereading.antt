@@ -1,7 +1,7 @@
 -- The journal of a halted Provisioner before and after it is read anew.
 use Rattle.std.proofs.Common.{◌≡◌, ◌≢◌, ◌⊎◌, inl, inr, ⊎_elim, ℕ, ◌+◌, ◌<◌, true, false, List, [], ◌∷◌, ◌++◌, length, take, drop, get_or, Option, Some, None, Ok, Err, sym, refl, ap, ◌∙◌, subst, arith}
 use Rattle.std.specs.Prelude.{Result}
-use Rattle.dxc_disk.specs.Disks.{DiskState, IsDisk, IsSettled, Leaves, LeavesOnly}
+use Rattle.dxc_disk.specs.Disks.{DiskState, IsDisk, IsSettled, Leaves, LeavesOnly, Looks}
 use Rattle.dxc_num.specs.Dimensions.{Dimensions}
 use Rattle.dxc_model.specs.declared.op.Change.{Change}
 use Rattle.dxc_model.specs.Tables.{Board}
@@ -12,7 +12,7 @@ use Rattle.journal_core.specs.declared.head.Head.{Head}
 use Rattle.journal_core.specs.Areas.{version_number}
 use Rattle.journal_core.specs.Headers.{Stands, StandsAlike}
 use Rattle.journal_core.specs.Books.{IsKept, IsWhole, doubted, is_tried, listed, next_head, rows}
-use Rattle.journal_core.specs.Turns.{Keeps, MayStand}
+use Rattle.journal_core.specs.Turns.{Continues, Keeps, MayStand}
 use Rattle.journal_core.proofs.AcknowledgeSteps.{keeps_may}
 use Rattle.journal_core.proofs.BookMends.{kept_stands}
 use Rattle.journal_core.proofs.HeaderSteps.{never}
@@ -47,7 +47,7 @@ use Rattle.xc_core.specs.Provisioners.{HasRoom, KeepsPast}
 use Rattle.xc_core.specs.Restarts.{HasWay, IsHalted, IsKnown, IsListOf, IsOnWay, IsOwnWay, Lists, TakesUp}
 use Rattle.xc_core.specs.Recoveries.{IsAstray, IsListed, ReadIs}
 use Rattle.xc_core.proofs.Halting.{taken_placed, taken_so_far}
-use Rattle.xc_core.proofs.Journalling.{doubts_on, home_on, journalled_home, may_doubt, more_by, tried_on, untried}
+use Rattle.xc_core.proofs.Journalling.{doubts_on, home_on, journalled_home, looked_on, may_doubt, more_by, tried_on, untried}
 use Rattle.xc_core.proofs.Recovering.{way_limits}
 use Rattle.xc_core.proofs.Rolling.{within}
 
@@ -345,3 +345,7 @@ module _ {D : Type 0} (told : Type 0) (state : D → DiskState) (b : Past) (p : 
 
   pub anew_good : told → (result : Result Work ReplayFault) (i : ℕ) → Replays j.1.shape j.1.head (listed j.1 (state j.0).reads_as) result second.table second.matrix → result ≢ Err (BadRecord i)
   anew_good = never_bad told state b p h j second read_book read_shape room read_whole read_still r.kept r.settled r.stands r.found
+
+-- what a reading keeps, it keeps behind a look
+pub read_on : (a b c : DiskState) (book : Book) → IsDisk b → Keeps a b book → Looks b c → Keeps a c book
+read_on a b c book disk keeps looks = looked_on a b c (λ x. Continues book.shape book.head (listed book a.reads_as) x ⊎ ((is_tried book.spare ≡ true) × Stands book.shape (next_head book) (rows book a.reads_as) x)) disk keeps looks
