@@ -1,4 +1,5 @@
-ghost use Rattle.std.specs.Prelude.{◌≡◌, ◌≤◌, ◌∷◌, ◌++◌, drop, length};
+ghost use Rattle.std.specs.Prelude.{◌≡◌, ◌≤◌, ◌∷◌, ◌++◌, drop, length, true};
+ghost use Rattle.dxc_model.specs.Labels.{is_label};
 ghost use Rattle.xc_journal.specs.Spelling.{spelling, front, change_bytes, choice_bytes, cct_byte, conn_bytes, module_bytes, middle_bytes, label_bytes};
 ghost use Rattle.xc_journal.specs.Spelling.{label_of as label_in};
 
@@ -107,7 +108,8 @@ fn label_of(change: &Change) -> Label
 
 // Its length and its bytes, filled up with zeros.
 fn of_label(label: &Label) -> [u8; 25]
-    ensures { result ≡ label_bytes label.now }
+    ensures bytes { result ≡ label_bytes label.now }
+    ensures label { is_label label.now ≡ true }
 {
     let text = label.bytes();
     let mut bytes = [0; 25];
@@ -120,7 +122,8 @@ fn of_label(label: &Label) -> [u8; 25]
 /// joins or parts legs: one or two for a one-way or two-way connection that is entered or deleted, at most one for an edit, none
 /// for a module or a middle.
 pub fn record_of(change: &Change, choices: &ArrayVec<Choice, 2>) -> [u8; 64]
-    ensures { result ≡ spelling change.now choices.now.items }
+    ensures spelled { result ≡ spelling change.now choices.now.items }
+    ensures label { is_label (label_in change.now) ≡ true }
 {
     let mut record = [0; 64];
     record[..14].copy_from_slice(&front_of(change, choices.as_slice()));

@@ -16,4 +16,4 @@ pub choices_at-requires-held : goal.choices_at-requires-held
 choices_at-requires-held c l m = held_at c.args.table.now c.args.matrix.now c.args.i c.in_ok-conn.conn c.requires (sym c.in_ok-conn.ensures) l m
 
 pub returns : goal.returns
-returns c = ap Some (c.record_of.ensures ∙ ap (λ (hs : List Choice). spelling (Enter c.in_ok-conn.conn) hs) c.choices_at.ensures) ∙ row_at c.args.table.now c.args.matrix.now c.args.i _ c.in_ok-conn.ensures
+returns c = ap Some (c.record_of.ensures.spelled ∙ ap (λ (hs : List Choice). spelling (Enter c.in_ok-conn.conn) hs) c.choices_at.ensures) ∙ row_at c.args.table.now c.args.matrix.now c.args.i _ c.in_ok-conn.ensures
