@@ -9,7 +9,7 @@ use Rattle.dxc_num.specs.declared.port.Leg.{Leg}
 use Rattle.dxc_num.specs.declared.port.Middle.{Middle}
 use Rattle.dxc_num.specs.declared.port.Port.{Port}
 use Rattle.dxc_num.specs.declared.port.Route.{Route}
-use Rattle.dxc_num.specs.Dimensions.{Dimensions, IsPort, IsWorking, leg_between, module_of, ports}
+use Rattle.dxc_num.specs.Dimensions.{Dimensions, IsPort, IsWorking, leg_back, leg_between, module_of, ports}
 use Rattle.dxc_model.specs.declared.conn.Cct.{Cct}
 use Rattle.dxc_model.specs.declared.conn.Cct.TheVariants.{OneWay, TwoWay}
 use Rattle.dxc_model.specs.declared.conn.Conn.{Conn}
@@ -282,3 +282,6 @@ rows_out t c m e = λ i. out_rows (sym e i) ++ map (row_of c) t.conns
 pub first_leg : (x y : Port) (w : Cct) → Among (leg_between x y) (legs_between x y w)
 first_leg x y OneWay = inl refl
 first_leg x y TwoWay = inl refl
+
+pub second_leg : (x y : Port) (w : Cct) (l b : Leg) → w ≡ TwoWay → l ≡ leg_between x y → b ≡ leg_back l → Among b (legs_between x y w)
+second_leg x y w l b is e f = subst (λ (v : Cct). Among b (legs_between x y v)) (sym is) (inr (inl (sym (f ∙ ap leg_back e))))

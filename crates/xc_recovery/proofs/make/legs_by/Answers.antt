@@ -2,7 +2,15 @@ use Rattle.std.proofs.Common.{sym, subst, ◌≡◌, ◌∙◌, ap, arith, ◌+�
 use Rattle.roll_plan.specs.declared.op.LegOp.{LegOp}
 use Rattle.paull_matrix.specs.Colourings.{Colouring}
 use Rattle.xc_recovery.proofs.Making.{IsMidway, at_first, all_done, may_make, one_more}
+use Rattle.xc_recovery.proofs.Spelled.{works_length}
 use Rattle.xc_recovery.proofs.make.legs_by.Goals as goal
+
+pub returns-then-len-choices-clause-made : goal.returns-then-len-choices-clause-made
+returns-then-len-choices-clause-made c ops w =
+    let n = c.len.ensures.value in
+    let other = c.if-len-choices.true in
+    let same = works_length c.args.out c.args.matrix.now c.args.tasks.now.items c.args.choices.now ops w in
+    let z : ⊥ = omega arith in z
 
 pub loop-i-init : goal.loop-i-init
 loop-i-init c = at_first c.args.out c.args.matrix.now c.args.tasks.now.items c.args.choices.now c.new.result.items c.requires c.new.ensures
