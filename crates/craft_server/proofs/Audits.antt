@@ -27,7 +27,7 @@ none_lasts P Q l = no_end l.before l.entry l.behind l.whole
 
 module _ {D : Type 0} (told : Type 0) (state : D → DiskState) where
   records_home : (o : Opening) (b : Past) (x : Home D) → HomeIs told state o b [] x → records_at x ≡ length b.records
-  records_home o b (In p) at = elim at.1.stage [ inl h ↦ h.0.counted | inr h ↦ absurd (none_lasts _ _ h.1) ]
+  records_home o b (In d) at = elim at.1.stage [ inl h ↦ h.0.counted | inr h ↦ absurd (none_lasts _ _ h.1) ]
   records_home o b Out at = let no = at.1 in cc
 
   -- the Provisioner of a state that begins is at home

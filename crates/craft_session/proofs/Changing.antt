@@ -16,8 +16,7 @@ use Rattle.dxc_model.specs.Operations.{IsApt}
 use Rattle.dxc_model.specs.Steps.{IsFault}
 use Rattle.dxc_model.specs.Histories.{IsRestartDue, IsStopped}
 use Rattle.dxc_model.specs.declared.entry.Entry.{Entry}
-use Rattle.roll_engine.specs.Rollings.{RollingAt}
-use Rattle.xc_core.specs.declared.provisioner.Provisioner.{Provisioner}
+use Rattle.xc_core.specs.Provisioners.{Boxed}
 use Rattle.xc_core.specs.declared.turns.Took.{Took}
 use Rattle.xc_core.specs.declared.turns.Took.TheVariants as took
 use Rattle.xc_core.specs.States.{Opening}
@@ -168,8 +167,8 @@ module _ (o : Opening) (own : ℕ) (h : List Entry) where
 
   -- the Provisioner was taken, and the work carried out
   module _ {D : Type 0} (told : Type 0) (state : D → DiskState) (op : Op) (seen : List Gv) (t : Took D) (at : TookIs told state o own h op seen t) where
-    pub took_rolling : (p : Provisioner D) (r : RollingAt) → t ≡ took.Rolling p r → (turn : Turned o own h (entry own op Taken) seen) × HasTaken told state o own op ((h ++ turn.later) ++ entry own op Taken ∷ []) p r
-    took_rolling p r is = subst (λ (x : Took D). TookIs told state o own h op seen x) is at
+    pub took_rolling : (d : Boxed D) → t ≡ took.Rolling d → (turn : Turned o own h (entry own op Taken) seen) × HasTaken told state o own op ((h ++ turn.later) ++ entry own op Taken ∷ []) d.value.p d.value.rolling
+    took_rolling d is = subst (λ (x : Took D). TookIs told state o own h op seen x) is at
 
     pub took_denied : (q : Cause) → t ≡ took.Denied q → ChangedIs o own h op seen (Denied q)
     took_denied q is =
@@ -206,8 +205,8 @@ module _ (o : Opening) (own : ℕ) (h : List Entry) where
   mended_cut asked seen x = (turned_passed (entry own Restart Cut) seen x.0, x.1)
 
   module _ {D : Type 0} (told : Type 0) (state : D → DiskState) (asked : Op) (seen : List Gv) (t : Restarting D) (at : RestartIs told state o own h asked seen t) where
-    pub restart_rolling : (p : Provisioner D) (r : RollingAt) → t ≡ restarting.Rolling p r → (turn : Turned o own h (entry own Restart Taken) seen) × HasRestart told state o own asked ((h ++ turn.later) ++ entry own Restart Taken ∷ []) p r
-    restart_rolling p r is = subst (λ (x : Restarting D). RestartIs told state o own h asked seen x) is at
+    pub restart_rolling : (d : Boxed D) → t ≡ restarting.Rolling d → (turn : Turned o own h (entry own Restart Taken) seen) × HasRestart told state o own asked ((h ++ turn.later) ++ entry own Restart Taken ∷ []) d.value.p d.value.rolling
+    restart_rolling d is = subst (λ (x : Restarting D). RestartIs told state o own h asked seen x) is at
 
     pub restart_failed : (q : Cause) → t ≡ restarting.Failed q → MendedIs o own h asked seen (mended.Denied q)
     restart_failed q is =

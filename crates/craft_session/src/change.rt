@@ -25,7 +25,7 @@ use roll_engine::{Advance, Rolling};
 use std::sync::Wait;
 use turnstile::{Pass, Turnstile};
 use xc_core::turns::{self, Took};
-use xc_core::{Provisioner, State, drive};
+use xc_core::{Driver, Provisioner, State, drive};
 
 /// What came of a changing command.
 #[derive(Clone, Copy, Debug, PartialEq, Eq)]
@@ -75,31 +75,30 @@ fn carry_out<D: Disk + Drop, G: Gate, R: Wait>(
     turns: &Turnstile<State<D>>,
     fabric: &Fabric,
     op: &Op,
-    p: Provisioner<D>,
-    rolling: Rolling,
+    driver: Box<Driver<D>>,
     gate: &mut G,
     rt: &R,
 ) -> Changed
     requires pass { HasPass turns.now pass.old }
     requires fabric { (opening_of D.state turns.now.first).site.fabric ≡ fabric.now }
-    requires taken { (h : List Entry) × Saw (opening_of D.state turns.now.first) pass.old.seen h × HasTaken D.told D.state (opening_of D.state turns.now.first) pass.old.number op.now h p rolling }
+    requires taken { (h : List Entry) × Saw (opening_of D.state turns.now.first) pass.old.seen h × HasTaken D.told D.state (opening_of D.state turns.now.first) pass.old.number op.now h driver.value.p driver.value.rolling }
     ensures pass { HasPass turns.now pass.new × (pass.new.number ≡ pass.old.number) }
     ensures changed { (h : List Entry) → Saw (opening_of D.state turns.now.first) pass.old.seen h → ChangedIs (opening_of D.state turns.now.first) pass.old.number h op.now pass.new.seen result }
     ensures astray { SawNoneAstray D.told pass.new.seen }
     ensures done { result ≢ Changed.Stopped → G.stops gate.new ≡ G.stops gate.old }
     ensures stopped { result ≡ Changed.Stopped → Rose (G.stops gate.old) (G.stops gate.new) }
     ensures later { G.stops gate.old ≤ G.stops gate.new }
-    ensures asked { ((result ≡ Changed.Done) × RollAsked (G.asked gate.old gate.new) (length (rest_of rolling)) Pass1.Go) ⊎ ((result ≡ Changed.Stopped) × RollAsked (G.asked gate.old gate.new) (length (rest_of rolling)) Pass1.Stop) }
+    ensures asked { ((result ≡ Changed.Done) × RollAsked (G.asked gate.old gate.new) (length (rest_of driver.value.rolling)) Pass1.Go) ⊎ ((result ≡ Changed.Stopped) × RollAsked (G.asked gate.old gate.new) (length (rest_of driver.value.rolling)) Pass1.Stop) }
 {
-    let mut p = p;
-    let mut rolling = rolling;
-    match roll(&mut p, fabric, &mut rolling, gate, rt) {
+    let mut driver = driver;
+    let held = &mut *driver;
+    match roll(&mut held.p, fabric, &mut held.rolling, gate, rt) {
         Pass1::Go => {
-            turns::bring(pass, turns, op, p, rolling, rt);
+            turns::bring(pass, turns, op, driver, rt);
             Changed::Done
         }
         Pass1::Stop => {
-            turns::cut(pass, turns, op, p, &rolling, rt);
+            turns::cut(pass, turns, op, driver, rt);
             Changed::Stopped
         }
     }
@@ -129,8 +128,8 @@ pub fn change<D: Disk + Drop, G: Gate, R: Wait>(
 {
     for _ in rt.forever() {
         match turns::take(pass, turns, op, gate, rt) {
-            Took::Rolling(p, rolling) => {
-                return carry_out(pass, turns, fabric, op, p, rolling, gate, rt);
+            Took::Rolling(driver) => {
+                return carry_out(pass, turns, fabric, op, driver, gate, rt);
             }
             Took::Denied(cause) => return Changed::Denied(cause),
             Took::Stopped => return Changed::Stopped,

@@ -16,11 +16,10 @@ use dxc_disk::Disk;
 use dxc_model::{Cause, Op};
 use dxc_outside::{Gate, Pass1};
 use fabric_words::Fabric;
-use roll_engine::Rolling;
 use std::sync::Wait;
 use turnstile::{Pass, Turnstile};
 use xc_core::restarts::{Restarting, cut_restart, end_restart, restart};
-use xc_core::{Provisioner, State};
+use xc_core::{Driver, State};
 
 /// What came of turns in which a restart was to be made.
 #[derive(Clone, Copy, Debug, PartialEq, Eq)]
@@ -41,31 +40,30 @@ fn resume<D: Disk + Drop, G: Gate, R: Wait>(
     turns: &Turnstile<State<D>>,
     fabric: &Fabric,
     asked: &Op,
-    p: Provisioner<D>,
-    rolling: Rolling,
+    driver: Box<Driver<D>>,
     gate: &mut G,
     rt: &R,
 ) -> Mended
     requires pass { HasPass turns.now pass.old }
     requires fabric { (opening_of D.state turns.now.first).site.fabric ≡ fabric.now }
-    requires restart { (h : List Entry) × Saw (opening_of D.state turns.now.first) pass.old.seen h × HasRestart D.told D.state (opening_of D.state turns.now.first) pass.old.number asked.now h p rolling }
+    requires restart { (h : List Entry) × Saw (opening_of D.state turns.now.first) pass.old.seen h × HasRestart D.told D.state (opening_of D.state turns.now.first) pass.old.number asked.now h driver.value.p driver.value.rolling }
     ensures pass { HasPass turns.now pass.new × (pass.new.number ≡ pass.old.number) }
     ensures mended { (h : List Entry) → Saw (opening_of D.state turns.now.first) pass.old.seen h → MendedIs (opening_of D.state turns.now.first) pass.old.number h asked.now pass.new.seen result }
     ensures astray { SawNoneAstray D.told pass.new.seen }
     ensures going { result ≢ Mended.Stopped → G.stops gate.new ≡ G.stops gate.old }
     ensures stopped { result ≡ Mended.Stopped → Rose (G.stops gate.old) (G.stops gate.new) }
     ensures later { G.stops gate.old ≤ G.stops gate.new }
-    ensures asked { ((result ≡ Mended.Ready) × RollAsked (G.asked gate.old gate.new) (length (rest_of rolling)) Pass1.Go) ⊎ ((result ≡ Mended.Stopped) × RollAsked (G.asked gate.old gate.new) (length (rest_of rolling)) Pass1.Stop) }
+    ensures asked { ((result ≡ Mended.Ready) × RollAsked (G.asked gate.old gate.new) (length (rest_of driver.value.rolling)) Pass1.Go) ⊎ ((result ≡ Mended.Stopped) × RollAsked (G.asked gate.old gate.new) (length (rest_of driver.value.rolling)) Pass1.Stop) }
 {
-    let mut p = p;
-    let mut rolling = rolling;
-    match roll(&mut p, fabric, &mut rolling, gate, rt) {
+    let mut driver = driver;
+    let held = &mut *driver;
+    match roll(&mut held.p, fabric, &mut held.rolling, gate, rt) {
         Pass1::Go => {
-            end_restart(pass, turns, asked, p, rolling, rt);
+            end_restart(pass, turns, asked, driver, rt);
             Mended::Ready
         }
         Pass1::Stop => {
-            cut_restart(pass, turns, asked, p, &rolling, rt);
+            cut_restart(pass, turns, asked, driver, rt);
             Mended::Stopped
         }
     }
@@ -93,9 +91,7 @@ pub fn mend<D: Disk + Drop, G: Gate, R: Wait>(
     ensures asked { MendAsked (G.asked gate.old gate.new) result }
 {
     match restart(pass, turns, fabric, asked, gate, rt) {
-        Restarting::Rolling(p, rolling) => {
-            resume(pass, turns, fabric, asked, p, rolling, gate, rt)
-        }
+        Restarting::Rolling(driver) => resume(pass, turns, fabric, asked, driver, gate, rt),
         Restarting::Failed(cause) => Mended::Denied(cause),
         Restarting::Stopped => Mended::Stopped,
         Restarting::Waits => Mended::Waits,

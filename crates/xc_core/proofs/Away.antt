@@ -23,7 +23,7 @@ use Rattle.xc_core.specs.declared.provisioner.Provisioner.{Provisioner}
 use Rattle.xc_core.specs.declared.state.Home.TheVariants.{In}
 use Rattle.xc_core.specs.declared.state.State.{State}
 use Rattle.xc_core.specs.Reckonings.{Past, ReckonsTo, changed}
-use Rattle.xc_core.specs.Provisioners.{Rolls, ground_of, with_halt}
+use Rattle.xc_core.specs.Provisioners.{Boxed, Rolls, ground_of, with_halt}
 use Rattle.xc_core.specs.Restarts.{IsHalted}
 use Rattle.xc_core.specs.Finishes.{Finishes}
 use Rattle.xc_core.specs.States.{Opening, IsHomeAfter, IsPaid, IsReadyOrHalted, IsUnsettled, SpendsOf, StandsFor, cost, fault_in, faults_in, most_room, room_in, rules_of, with_home}
@@ -118,8 +118,8 @@ module _ {D : Type 0} (told : Type 0) (state : D → DiskState) where
 
     -- halted, and no change was made
     pub comes_halted : (e : Entry) (q : Provisioner D) → e.place ≡ own → e.op ≡ op → e.outcome ≡ Cut → Fits (rules_of o) h e → ground_of q ≡ ground_of p → q.journal ≡ p.journal → CountsOn (state q.journal.0)
-        → IsHalted told state t.now q → ((x : Op) → q.doubt ≡ Some x → IsUnsettled (h ++ e ∷ []) x) → StandsFor told state o (with_home (In q) s) (h ++ e ∷ [])
-    comes_halted e q place same cut fits ground journal counts halted doubt =
+        → IsHalted told state t.now q → ((x : Op) → q.doubt ≡ Some x → IsUnsettled (h ++ e ∷ []) x) → (d : Boxed D) → d.value.p ≡ q → StandsFor told state o (with_home (In d) s) (h ++ e ∷ [])
+    comes_halted e q place same cut fits ground journal counts halted doubt d is =
         let none : fault_in e.outcome ≡ 0 = ap fault_in cut in
         let costs : cost e.outcome ≡ most_room = ap cost cut in
         let unchanged = changes_same h e (ap made cut) in
@@ -132,7 +132,7 @@ module _ {D : Type 0} (told : Type 0) (state : D → DiskState) where
           turns = turns_more None h e st.turns (waits_own e place same (subst BringsHome (sym cut) tt));
           paid = paid_now e q journal none costs counts;
           astray = astray_more told h e st.astray (λ k x. let y : Cut ≡ Failed JournalAstray = sym cut ∙ x in cc);
-          home = (home_now e place, in_now t.now e q ground journal none costs (inr (halted, lasts_now (λ y. IsCut y ⊎ IsFailedRestart y) IsRestarted h e (inl cut))) doubt);
+          home = (home_now e place, subst (λ (x : Provisioner D). IsHomeAfter told state o t.now (h ++ e ∷ []) x) (sym is) (in_now t.now e q ground journal none costs (inr (halted, lasts_now (λ y. IsCut y ⊎ IsFailedRestart y) IsRestarted h e (inl cut))) doubt));
         }
 
   module _ (o : Opening) (s : State D) (h : List Entry) (st : StandsFor told state o s h) (own : ℕ) (op : Op) (p : Provisioner D) (r : RollingAt) (t : HasTaken told state o own op h p r) where
@@ -140,40 +140,40 @@ module _ {D : Type 0} (told : Type 0) (state : D → DiskState) where
     granted_here = subst (λ (b : Board). Grants b op t.change) (out_table o s h st own op p t.out) t.rolls.granted
 
     -- all its writes were made, and the table took it
-    pub stands_done : (q : Provisioner D) (table : Board) (answer : Change) → Finishes told state t.out.now t.change r table q answer → ground_of q ≡ ground_of p → q.journal ≡ p.journal → CountsOn (state q.journal.0)
-        → StandsFor told state o (record s { table = table; reports = with_one answer s.reports; home = In q }) (h ++ entry own op (Done answer) ∷ [])
-    stands_done q table answer end ground journal counts = subst (λ (c : Change). StandsFor told state o (record s { table = table; reports = with_one c s.reports; home = In q }) (h ++ entry own op (Done c) ∷ [])) (sym end.change) (by end.table_is)
+    pub stands_done : (d : Boxed D) (table : Board) (answer : Change) → Finishes told state t.out.now t.change r table d.value.p answer → ground_of d.value.p ≡ ground_of p → d.value.p.journal ≡ p.journal → CountsOn (state d.value.p.journal.0)
+        → StandsFor told state o (record s { table = table; reports = with_one answer s.reports; home = In d }) (h ++ entry own op (Done answer) ∷ [])
+    stands_done d table answer end ground journal counts = subst (λ (c : Change). StandsFor told state o (record s { table = table; reports = with_one c s.reports; home = In d }) (h ++ entry own op (Done c) ∷ [])) (sym end.change) (by end.table_is)
       where
-        by : table ≡ effect t.out.now.fold.table t.change → StandsFor told state o (record s { table = table; reports = with_one t.change s.reports; home = In q }) (h ++ entry own op (Done t.change) ∷ [])
+        by : table ≡ effect t.out.now.fold.table t.change → StandsFor told state o (record s { table = table; reports = with_one t.change s.reports; home = In d }) (h ++ entry own op (Done t.change) ∷ [])
         by is =
             let ops = r.work.ops.items in
             let b = t.out.now in
-            let d = entry own op (Done t.change) in
-            let one = changes_one h d t.change refl in
+            let e = entry own op (Done t.change) in
+            let one = changes_one h e t.change refl in
             record {
               now = changed b t.change ops;
               reckoned = subst (λ (cs : List Change). ReckonsTo o.first cs (changed b t.change ops)) (sym one) (reckons_more o.first b (changes_of h) t.change ops t.out.reckoned t.rolls.planned);
               table = is;
               reports = ap (with_one t.change) st.reports ∙ recent_more (changes_of h) t.change ∙ ap recent_of (sym one);
-              legal = legal_more (rules_of o) h d st.legal (fits_by (rules_of o) h d (effect (table_after o.first.fold.table h) t.change, (granted_here, refl)) (limit_met told state o h b t.out.reckoned op t.change None (Done t.change) granted_here (inl t.within) refl) tt);
-              turns = turns_more None h d st.turns (waits_own o s h st own op p t.out d refl refl tt);
-              paid = paid_now o s h st own op p t.out d q journal refl refl counts;
-              astray = astray_more told h d st.astray (λ k x. let y : Done t.change ≡ Failed JournalAstray = x in cc);
+              legal = legal_more (rules_of o) h e st.legal (fits_by (rules_of o) h e (effect (table_after o.first.fold.table h) t.change, (granted_here, refl)) (limit_met told state o h b t.out.reckoned op t.change None (Done t.change) granted_here (inl t.within) refl) tt);
+              turns = turns_more None h e st.turns (waits_own o s h st own op p t.out e refl refl tt);
+              paid = paid_now o s h st own op p t.out e d.value.p journal refl refl counts;
+              astray = astray_more told h e st.astray (λ k x. let y : Done t.change ≡ Failed JournalAstray = x in cc);
               home = (
-                home_now o s h st own op p t.out d refl,
-                in_now o s h st own op p t.out (changed b t.change ops) d q ground journal refl refl
-                    (inl (end.home, λ stopped. t.unstopped (lasts_before IsCut IsRestarted h d stopped (λ x. let y : Done t.change ≡ Cut = x in cc))))
+                home_now o s h st own op p t.out e refl,
+                in_now o s h st own op p t.out (changed b t.change ops) e d.value.p ground journal refl refl
+                    (inl (end.home, λ stopped. t.unstopped (lasts_before IsCut IsRestarted h e stopped (λ x. let y : Done t.change ≡ Cut = x in cc))))
                     (λ x asked. absurd (let k : None ≡ Some x = sym end.settled ∙ asked in cc)),
               );
             }
 
     -- a stop came while its work was under way
-    pub stands_cut : CountsOn (state p.journal.0) → StandsFor told state o (with_home (In (with_halt true p)) s) (h ++ entry own op Cut ∷ [])
-    stands_cut counts =
-        let d = entry own op Cut in
+    pub stands_cut : CountsOn (state p.journal.0) → (d : Boxed D) → d.value.p ≡ with_halt true p → StandsFor told state o (with_home (In d) s) (h ++ entry own op Cut ∷ [])
+    stands_cut counts d marked =
+        let e = entry own op Cut in
         let x = t.rolls in
-        comes_halted o s h st own op p t.out d (with_halt true p) refl refl refl
-        (fits_by (rules_of o) h d (table_after o.first.fold.table h, (inr (t.change, granted_here), refl)) (limit_met told state o h t.out.now t.out.reckoned op t.change None Cut granted_here (inl t.within) refl) tt)
+        comes_halted o s h st own op p t.out e (with_halt true p) refl refl refl
+        (fits_by (rules_of o) h e (table_after o.first.fold.table h, (inr (t.change, granted_here), refl)) (limit_met told state o h t.out.now t.out.reckoned op t.change None Cut granted_here (inl t.within) refl) tt)
         refl refl counts
         (halted_rolls told state t.out.now op t.change (with_halt true p) r refl (record {
           ready = refl;
@@ -188,4 +188,5 @@ module _ {D : Type 0} (told : Type 0) (state : D → DiskState) where
           alone = x.alone;
           few = x.few;
         }))
-        (λ y asked. lasts_now (λ z. IsDoubtful z × (z.op ≡ y)) IsSettling h d (inl refl, (let k : Some op ≡ Some y = sym t.rolls.doubt ∙ asked in cc)))
+        (λ y asked. lasts_now (λ z. IsDoubtful z × (z.op ≡ y)) IsSettling h e (inl refl, (let k : Some op ≡ Some y = sym t.rolls.doubt ∙ asked in cc)))
+        d marked

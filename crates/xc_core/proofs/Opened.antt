@@ -51,10 +51,10 @@ use Rattle.xc_core.specs.declared.state.State.{State}
 use Rattle.xc_core.specs.Reckonings.{Past}
 use Rattle.xc_core.specs.Journals.{IsAtHome}
 use Rattle.xc_core.specs.declared.second.Second.{Second}
-use Rattle.xc_core.specs.Provisioners.{HasRoom, ground_of}
+use Rattle.xc_core.specs.Provisioners.{Boxed, HasRoom, ground_of}
 use Rattle.roll_engine.proofs.Joining.{few_switches}
 use Rattle.xc_core.proofs.Pasts.{none_held}
-use Rattle.xc_core.specs.States.{Opening, StandsFor, opening_at, opening_of, recorded}
+use Rattle.xc_core.specs.States.{IsHomeAfter, Opening, StandsFor, opening_at, opening_of, recorded}
 use Rattle.xc_core.specs.Openings.{Begins, HasBadRecord, IsFoldOf, IsOpening, LeavesOpened}
 use Rattle.xc_core.proofs.Journalling.{looked_on, untried}
 use Rattle.xc_core.proofs.Recovering.{comes_once}
@@ -170,17 +170,18 @@ recorded_is book file counts =
     ap (λ (n : ℕ). listed book file ++ replicate n []) (let e : book.count - length (listed book file) ≡ 0 = omega (arith, counts) in e) ∙ append-nil (listed book file)
 
 -- The state that stands for no entry. The disk was a at the start, b when the journal was opened, and the journal is j after its replay.
-module _ {D : Type 0} (told : Type 0) (state : D → DiskState) (shelf : Contents) (fabric : FabricId) (a b : DiskState) (book : Book) (j : D × Book) (t : Board) (c : Colouring) (last : Work) (v : MoverAt) (origin : Origin D) (reports : Recent) (spent : ℕ) (second : Second) where
+module _ {D : Type 0} (told : Type 0) (state : D → DiskState) (shelf : Contents) (fabric : FabricId) (a b : DiskState) (book : Book) (j : D × Book) (t : Board) (c : Colouring) (last : Work) (v : MoverAt) (origin : Origin D) (reports : Recent) (spent : ℕ) (second : Second) (d : Boxed D) where
   abbrev at_home : Provisioner D
   at_home = record { matrix = c; journal = j; mover = v; doubt = None; changes = 0; halted = false; spent = spent; second = second }
 
   abbrev begun : State D
-  begun = record { table = t; reports = reports; home = In at_home; origin = origin }
+  begun = record { table = t; reports = reports; home = In d; origin = origin }
 
   module _
       (fresh : reports ≡ no_changes)
       (table_kept : origin.table.value ≡ t)
-      (provisioner_kept : origin.provisioner.value ≡ at_home)
+      (behind : d.value.p ≡ at_home)
+      (provisioner_kept : origin.provisioner.value ≡ d.value.p)
       (last_kept : origin.last.value ≡ last)
       (old : told → (IsNew a.reads_as → ⊥) → OpensOld shelf.shape a b (Ok book))
       (new : told → IsNew a.reads_as → OpensNew shelf.shape (made_head shelf.equipped) a b (Ok book))
@@ -209,7 +210,7 @@ module _ {D : Type 0} (told : Type 0) (state : D → DiskState) (shelf : Content
     opening = record { site = ground_of at_home; records = recorded j.1 (state j.0).reads_as; first = first; faults = (state j.0).faults; margin = (state j.0).margin; room = (state j.0).room }
 
     opening_is : opening_of state begun ≡ opening
-    opening_is = λ k. opening_at state (table_kept k) (provisioner_kept k) (last_kept k)
+    opening_is = λ k. opening_at state (table_kept k) ((provisioner_kept ∙ behind) k) (last_kept k)
 
     -- the journal was well kept when it was opened
     was_kept : told → IsKept b book
@@ -279,7 +280,7 @@ module _ {D : Type 0} (told : Type 0) (state : D → DiskState) (shelf : Content
       astray = λ t. tt;
       home = (
         refl,
-        record {
+        subst (λ (x : Provisioner D). IsHomeAfter told state opening first [] x) (sym behind) (record {
           ground = refl;
           stage = inl (
             record {
@@ -305,7 +306,7 @@ module _ {D : Type 0} (told : Type 0) (state : D → DiskState) (shelf : Content
           doubt = λ op asked. absurd cc;
           faults = omega arith;
           spends = λ enough. record { room = omega arith; margin = omega arith };
-        },
+        }),
       );
     }
 
@@ -318,8 +319,8 @@ module _ {D : Type 0} (told : Type 0) (state : D → DiskState) (shelf : Content
       record {
         stands = subst (λ (o : Opening). StandsFor told state o begun []) (sym opening_is) stands_opened;
         disk = j.0;
-        is_home = refl;
-        counts = ap Some (sym (recorded_number j.1 (state j.0).reads_as) ∙ ap (λ (o : Opening). length o.records) (sym opening_is));
+        is_home = ap (λ (x : Provisioner D). Some x.journal.0) behind;
+        counts = ap (λ (x : Provisioner D). Some x.journal.1.count) behind ∙ ap Some (sym (recorded_number j.1 (state j.0).reads_as) ∙ ap (λ (o : Opening). length o.records) (sym opening_is));
         faults = ap (λ (o : Opening). o.faults) opening_is;
         margin = ap (λ (o : Opening). o.margin) opening_is;
         room = ap (λ (o : Opening). o.room) opening_is;

@@ -26,7 +26,7 @@ use Rattle.xc_core.specs.declared.provisioner.Provisioner.{Provisioner}
 use Rattle.xc_core.specs.declared.state.Home.TheVariants.{In, Out}
 use Rattle.xc_core.specs.declared.state.State.{State}
 use Rattle.xc_core.specs.Reckonings.{Past, ReckonsTo}
-use Rattle.xc_core.specs.Provisioners.{IsHome, ground_of}
+use Rattle.xc_core.specs.Provisioners.{Boxed, IsHome, ground_of}
 use Rattle.xc_core.specs.Restarts.{IsHalted, Resumes, TakesUp}
 use Rattle.xc_core.specs.Endings.{Ends, reports_with}
 use Rattle.xc_core.specs.States.{Opening, HomeIs, IsReadyOrHalted, IsUnsettled, LimitBehind, StandsFor, faults_in, most_room, rules_of, with_home}
@@ -56,8 +56,8 @@ due_now own asked q h due = elim due [
 module _ {D : Type 0} (told : Type 0) (state : D → DiskState) where
   module _ (o : Opening) (s : State D) (h : List Entry) (st : StandsFor told state o s h) where
     -- what a turn finds that takes the Provisioner for a restart
-    pub found_stage : (p : Provisioner D) → s.home ≡ In p → IsReadyOrHalted told state st.now h p
-    found_stage p is = let at : HomeIs told state o st.now h (In p) = subst (HomeIs told state o st.now h) is st.home in at.1.stage
+    pub found_stage : (d : Boxed D) → s.home ≡ In d → IsReadyOrHalted told state st.now h d.value.p
+    found_stage d is = let at : HomeIs told state o st.now h (In d) = subst (HomeIs told state o st.now h) is st.home in at.1.stage
 
     -- p is what calls left of the Provisioner q, which was home
     module _ (q p : Provisioner D) (was : IsIn told state o h q) (ground : ground_of p ≡ ground_of q) (later : (state q.journal.0).faults ≤ (state p.journal.0).faults) (spent : Spends most_room (state q.journal.0) (state p.journal.0))
@@ -78,13 +78,13 @@ module _ {D : Type 0} (told : Type 0) (state : D → DiskState) where
 
       module _ (counts : CountsOn (state p.journal.0)) where
         -- a stop came in it
-        pub restart_stopped : IsHalted told state st.now p → StandsFor told state o (with_home (In p) s) (h ++ entry own Restart Cut ∷ [])
-        restart_stopped halted =
+        pub restart_stopped : IsHalted told state st.now p → (d : Boxed D) → d.value.p ≡ p → StandsFor told state o (with_home (In d) s) (h ++ entry own Restart Cut ∷ [])
+        restart_stopped halted d same =
             let e = entry own Restart Cut in
             home_by told state o s h st q p was ground later spent counts e refl refl refl (fits_by (rules_of o) h e (table_after o.first.fold.table h, (inl refl, refl)) (λ c granted. absurd granted.apt) tt)
             (λ t x. let y : Cut ≡ Failed JournalAstray = x in cc) (no_fault told state o s h st q p was ground later spent e refl)
             (inr (halted, lasts_now (λ x. IsCut x ⊎ IsFailedRestart x) IsRestarted h e (inl refl)))
-            (λ x here. unsettled_more h e x (cut_settles_not own Restart) (was.doubt x (kept x here)))
+            (λ x here. unsettled_more h e x (cut_settles_not own Restart) (was.doubt x (kept x here))) d same
 
         -- it failed: the operation that asked for it is entered so
         module _ (asked : Op) (driven : IsDriven asked) (cause : Cause) (fault : IsFault cause) where
@@ -95,20 +95,20 @@ module _ {D : Type 0} (told : Type 0) (state : D → DiskState) where
               (m.0, (st.now, st.reckoned, m.1), inl fault)
 
           failed_home : IsPlaced st.now.fold.table st.now.fold.colours → (told → cause ≢ JournalAstray) → min (o.faults + faults_in (h ++ entry own asked (Failed cause) ∷ [])) last ≤ (state p.journal.0).faults → IsReadyOrHalted told state st.now (h ++ entry own asked (Failed cause) ∷ []) p
-              → StandsFor told state o (with_home (In p) s) (h ++ entry own asked (Failed cause) ∷ [])
-          failed_home placed not_astray faults stage =
+              → (d : Boxed D) → d.value.p ≡ p → StandsFor told state o (with_home (In d) s) (h ++ entry own asked (Failed cause) ∷ [])
+          failed_home placed not_astray faults stage d same =
               let e = entry own asked (Failed cause) in
               home_by told state o s h st q p was ground later spent counts e refl refl refl (fits_by (rules_of o) h e (table_after o.first.fold.table h, (inr (fault, driven), refl)) (limits_fault placed) tt)
               (λ t x. not_astray t (let y : Failed cause ≡ Failed JournalAstray = x in cc)) faults stage
-              (λ x here. unsettled_more h e x (failed_settles_not own asked cause) (was.doubt x (kept x here)))
+              (λ x here. unsettled_more h e x (failed_settles_not own asked cause) (was.doubt x (kept x here))) d same
 
           pub restart_failed : IsDueFor asked h → IsHalted told state st.now p → (told → cause ≢ JournalAstray) → min (o.faults + faults_in (h ++ entry own asked (Failed cause) ∷ [])) last ≤ (state p.journal.0).faults
-              → StandsFor told state o (with_home (In p) s) (h ++ entry own asked (Failed cause) ∷ [])
+              → (d : Boxed D) → d.value.p ≡ p → StandsFor told state o (with_home (In d) s) (h ++ entry own asked (Failed cause) ∷ [])
           restart_failed due halted not_astray faults = failed_home halted.past.placed not_astray faults (inr (halted, due_now own asked cause h due))
 
           -- before it, so that the Provisioner is home as it was
           pub restart_unsettled : IsHome told state st.now p → (IsStopped h → ⊥) → (told → cause ≢ JournalAstray) → min (o.faults + faults_in (h ++ entry own asked (Failed cause) ∷ [])) last ≤ (state p.journal.0).faults
-              → StandsFor told state o (with_home (In p) s) (h ++ entry own asked (Failed cause) ∷ [])
+              → (d : Boxed D) → d.value.p ≡ p → StandsFor told state o (with_home (In d) s) (h ++ entry own asked (Failed cause) ∷ [])
           restart_unsettled home unstopped not_astray faults = failed_home home.past.placed not_astray faults (inl (home, λ stopped. unstopped (lasts_before IsCut IsRestarted h (entry own asked (Failed cause)) stopped (λ x. let y : Failed cause ≡ Cut = x in cc))))
 
       -- the disk counted its fault, or the journal is astray
@@ -152,9 +152,9 @@ module _ {D : Type 0} (told : Type 0) (state : D → DiskState) where
     halted_out = resumes_halted told state b t.lacking t.behind p r t.resumes
 
     -- the change that was lacking, if one was, is in table, matrix and registers
-    pub stands_restarted : (q : Provisioner D) (table : Board) (answer : Option Change) → Ends told state b t.lacking t.behind table q answer → ground_of q ≡ ground_of p → q.journal ≡ p.journal → CountsOn (state q.journal.0)
-        → StandsFor told state o (record s { table = table; reports = reports_with answer s.reports; home = In q }) (h ++ entry own Restart (Restarted answer) ∷ [])
-    stands_restarted q table answer end ground journal counts = subst (λ (x : Option Change). StandsFor told state o (record s { table = table; reports = reports_with x s.reports; home = In q }) (h ++ entry own Restart (Restarted x) ∷ [])) (sym end.change) (by t.lacking t.resumes.taken)
+    pub stands_restarted : (d : Boxed D) (table : Board) (answer : Option Change) → Ends told state b t.lacking t.behind table d.value.p answer → ground_of d.value.p ≡ ground_of p → d.value.p.journal ≡ p.journal → CountsOn (state d.value.p.journal.0)
+        → StandsFor told state o (record s { table = table; reports = reports_with answer s.reports; home = In d }) (h ++ entry own Restart (Restarted answer) ∷ [])
+    stands_restarted d table answer end ground journal counts = subst (λ (x : Option Change). StandsFor told state o (record s { table = table; reports = reports_with x s.reports; home = In d }) (h ++ entry own Restart (Restarted x) ∷ [])) (sym end.change) (by t.lacking t.resumes.taken)
       where
         reckoned : (l : Option Change) → TakesUp b p.doubt l t.behind → ReckonsTo o.first (changes_of (h ++ entry own Restart (Restarted l) ∷ [])) t.behind
         reckoned None taken = subst (λ (w : List Change × Past). ReckonsTo o.first w.0 w.1) (λ i. (sym (changes_same h (entry own Restart (Restarted None)) refl) i, sym taken i)) t.out.reckoned
@@ -172,7 +172,7 @@ module _ {D : Type 0} (told : Type 0) (state : D → DiskState) where
         reports None = st.reports ∙ ap recent_of (sym (changes_same h (entry own Restart (Restarted None)) refl))
         reports (Some c) = ap (with_one c) st.reports ∙ recent_more (changes_of h) c ∙ ap recent_of (sym (changes_one h (entry own Restart (Restarted (Some c))) c refl))
 
-        by : (l : Option Change) → TakesUp b p.doubt l t.behind → StandsFor told state o (record s { table = table; reports = reports_with l s.reports; home = In q }) (h ++ entry own Restart (Restarted l) ∷ [])
+        by : (l : Option Change) → TakesUp b p.doubt l t.behind → StandsFor told state o (record s { table = table; reports = reports_with l s.reports; home = In d }) (h ++ entry own Restart (Restarted l) ∷ [])
         by l taken =
             let e = entry own Restart (Restarted l) in
             record {
@@ -182,19 +182,20 @@ module _ {D : Type 0} (told : Type 0) (state : D → DiskState) where
               reports = reports l;
               legal = legal_more (rules_of o) h e st.legal (fits l taken);
               turns = turns_more None h e st.turns (waits_own told state o s h st own Restart p t.out e refl refl tt);
-              paid = paid_now told state o s h st own Restart p t.out e q journal refl refl counts;
+              paid = paid_now told state o s h st own Restart p t.out e d.value.p journal refl refl counts;
               astray = astray_more told h e st.astray (λ k x. let y : Restarted l ≡ Failed JournalAstray = x in cc);
               home = (
                 home_now told state o s h st own Restart p t.out e refl,
-                in_now told state o s h st own Restart p t.out t.behind e q ground journal refl refl
+                in_now told state o s h st own Restart p t.out t.behind e d.value.p ground journal refl refl
                     (inl (end.home, lasts_no_more IsCut IsRestarted h e (λ x. let y : Restarted l ≡ Cut = x in cc) (l, refl)))
                     (λ x here. absurd (let k : None ≡ Some x = sym end.doubt ∙ here in cc)),
               );
             }
 
     -- a stop came while the work was under way
-    pub stands_restart_cut : CountsOn (state p.journal.0) → StandsFor told state o (with_home (In p) s) (h ++ entry own Restart Cut ∷ [])
-    stands_restart_cut counts =
+    pub stands_restart_cut : CountsOn (state p.journal.0) → (d : Boxed D) → d.value.p ≡ p → StandsFor told state o (with_home (In d) s) (h ++ entry own Restart Cut ∷ [])
+    stands_restart_cut counts d same =
         let e = entry own Restart Cut in
         comes_halted told state o s h st own Restart p t.out e p refl refl refl (fits_by (rules_of o) h e (table_after o.first.fold.table h, (inl refl, refl)) (λ c granted. absurd granted.apt) tt) refl refl counts halted_out
         (λ x here. unsettled_more h e x (cut_settles_not own Restart) (t.doubt x here))
+        d same

@@ -25,12 +25,12 @@ use Rattle.xc_core.specs.declared.state.Home.{Home}
 use Rattle.xc_core.specs.declared.state.Home.TheVariants.{In, Out}
 use Rattle.xc_core.specs.declared.state.State.{State}
 use Rattle.xc_core.specs.Reckonings.{HasWork, Meets, Past, ReckonsTo}
-use Rattle.xc_core.specs.Provisioners.{IsHome, Rolls, ground_of, with_halt}
+use Rattle.xc_core.specs.Provisioners.{Boxed, IsHome, Rolls, ground_of, with_halt}
 use Rattle.xc_core.specs.Restarts.{IsHalted}
 use Rattle.xc_core.proofs.Halting.{halted_home}
 use Rattle.xc_core.proofs.Pasts.{past_marked}
 use Rattle.xc_core.specs.Begins.{IsOverLimit, IsWithin, MayDoubt}
-use Rattle.xc_core.specs.States.{Opening, IsPaid, LimitBehind, SpendsOf, rules_of, IsUnsettled, HomeIs, StandsFor, cost, fault_in, faults_in, most_room, room_in, with_home}
+use Rattle.xc_core.specs.States.{Opening, IsHomeAfter, IsPaid, LimitBehind, SpendsOf, rules_of, IsUnsettled, HomeIs, StandsFor, cost, fault_in, faults_in, most_room, room_in, with_home}
 use Rattle.xc_core.specs.Seeing.{HasTaken, IsOut, Rests, entry}
 use Rattle.xc_core.proofs.Entries.{answered_settles_not, astray_more, changes_same, cut_settles_not, denied_settles_not, failed_settles_not, held_still, limit_no_fault, limit_not_astray, one_fault, over_limit, paid_counted, paid_same, room_more, same_faults, spends_at, spends_one, unsettled_more, waits_reading}
 use Rattle.xc_core.proofs.Granting.{granted_once}
@@ -74,17 +74,17 @@ module _ {D : Type 0} (told : Type 0) (state : D → DiskState) where
     there P x = subst P now_is x
 
     -- a Provisioner at home
-    pub found_in : (p : Provisioner D) → s.home ≡ In p → IsIn o h p
-    found_in p is =
-        let at : HomeIs told state o st.now h (In p) = subst (HomeIs told state o st.now h) is st.home in
+    pub found_in : (d : Boxed D) → s.home ≡ In d → IsIn o h d.value.p
+    found_in d is =
+        let at : HomeIs told state o st.now h (In d) = subst (HomeIs told state o st.now h) is st.home in
         record { ground = at.1.ground; nobody = at.0; doubt = at.1.doubt; faults = at.1.faults; spends = at.1.spends }
 
     -- which isn't halted, is ready
-    pub ready_home : (p : Provisioner D) → s.home ≡ In p → p.halted ≡ false → IsReadyAfter o st.now h p
-    ready_home p is ready =
-        let at : HomeIs told state o st.now h (In p) = subst (HomeIs told state o st.now h) is st.home in
+    pub ready_home : (d : Boxed D) → s.home ≡ In d → d.value.p.halted ≡ false → IsReadyAfter o st.now h d.value.p
+    ready_home d is ready =
+        let at : HomeIs told state o st.now h (In d) = subst (HomeIs told state o st.now h) is st.home in
         elim at.1.stage [
-          | inl a ↦ record { is_in = found_in p is; home = a.0; unstopped = a.1 }
+          | inl a ↦ record { is_in = found_in d is; home = a.0; unstopped = a.1 }
           | inr b ↦ absurd (let e : true ≡ false = sym b.0.halted ∙ ready in cc)
         ]
 
@@ -105,7 +105,7 @@ module _ {D : Type 0} (told : Type 0) (state : D → DiskState) where
         }
 
     home_read : (e : Entry) (x : Home D) → fault_in e.outcome ≡ 0 → cost e.outcome ≡ 0 → (IsCut e → ⊥) → (IsRestarted e → ⊥) → (IsSettling e → ⊥) → holder_after (holder None h) e ≡ holder None h → HomeIs told state o st.now h x → HomeIs told state o st.now (h ++ e ∷ []) x
-    home_read e (In p) none free not_cut not_restarted not_settled held at = (
+    home_read e (In d) none free not_cut not_restarted not_settled held at = (
       holder_more None h e ∙ held ∙ at.0,
       record {
         ground = at.1.ground;
@@ -114,8 +114,8 @@ module _ {D : Type 0} (told : Type 0) (state : D → DiskState) where
           | inr b ↦ inr (b.0, lasts_more (λ x. IsCut x ⊎ IsFailedRestart x) IsRestarted h e b.1 not_restarted)
         ];
         doubt = λ op is. unsettled_more h e op not_settled (at.1.doubt op is);
-        faults = same_faults o.faults (state p.journal.0).faults (state p.journal.0).faults h e none at.1.faults (omega arith);
-        spends = spends_at o (room_in h) (room_in (h ++ e ∷ [])) (state p.journal.0) (let room = room_more h e in omega (arith, room, free)) at.1.spends;
+        faults = same_faults o.faults (state d.value.p.journal.0).faults (state d.value.p.journal.0).faults h e none at.1.faults (omega arith);
+        spends = spends_at o (room_in h) (room_in (h ++ e ∷ [])) (state d.value.p.journal.0) (let room = room_more h e in omega (arith, room, free)) at.1.spends;
       },
     )
     home_read e Out none free not_cut not_restarted not_settled held at = (at.0, holder_more None h e ∙ held ∙ at.1)
@@ -134,12 +134,12 @@ module _ {D : Type 0} (told : Type 0) (state : D → DiskState) where
 
       pub home_by : CountsOn (state p.journal.0) → (e : Entry) → made e.outcome ≡ None → taker e.outcome e ≡ None → cost e.outcome ≡ most_room → Fits (rules_of o) h e → (told → e.outcome ≢ Failed JournalAstray) → min (o.faults + faults_in (h ++ e ∷ [])) last ≤ (state p.journal.0).faults
           → (IsHome told state st.now p × (IsStopped (h ++ e ∷ []) → ⊥)) ⊎ (IsHalted told state st.now p × IsRestartDue (h ++ e ∷ [])) → ((x : Op) → p.doubt ≡ Some x → IsUnsettled (h ++ e ∷ []) x)
-          → StandsFor told state o (with_home (In p) s) (h ++ e ∷ [])
-      home_by counts e none free costs fits not_astray faults stage doubt =
+          → (d : Boxed D) → d.value.p ≡ p → StandsFor told state o (with_home (In d) s) (h ++ e ∷ [])
+      home_by counts e none free costs fits not_astray faults stage doubt d is =
           let room = room_more h e in
           let spends = spends_at o (room_in h + most_room) (room_in (h ++ e ∷ [])) (state p.journal.0) (omega (arith, room, costs)) (spends_one o (room_in h) most_room (state q.journal.0) (state p.journal.0) was.spends spent) in
-          stands_on (with_home (In p) s) e refl refl none fits (subst (λ (x : Option Entry). WaitsFor x e) (sym was.nobody) tt) (paid_counted o (h ++ e ∷ []) (state p.journal.0) counts faults spends) not_astray
-          (holder_more None h e ∙ ap (λ (x : Option Entry). holder_after x e) was.nobody ∙ free, record { ground = ground ∙ was.ground; stage = stage; doubt = doubt; faults = faults; spends = spends })
+          stands_on (with_home (In d) s) e refl refl none fits (subst (λ (x : Option Entry). WaitsFor x e) (sym was.nobody) tt) (paid_counted o (h ++ e ∷ []) (state p.journal.0) counts faults spends) not_astray
+          (holder_more None h e ∙ ap (λ (x : Option Entry). holder_after x e) was.nobody ∙ free, subst (λ (x : Provisioner D). IsHomeAfter told state o st.now (h ++ e ∷ []) x) (sym is) (record { ground = ground ∙ was.ground; stage = stage; doubt = doubt; faults = faults; spends = spends }))
 
       -- or the turn ends with the Provisioner out
       abbrev pub out_of : (op : Op) (own : ℕ) → IsOut told state o own op (h ++ entry own op Taken ∷ []) p
@@ -166,13 +166,13 @@ module _ {D : Type 0} (told : Type 0) (state : D → DiskState) where
     module _ (own : ℕ) (op : Op) (q p : Provisioner D) (ready : IsReadyAfter o st.now h q) (ground : ground_of p ≡ ground_of q)
         (later : (state q.journal.0).faults ≤ (state p.journal.0).faults) (spent : Spends most_room (state q.journal.0) (state p.journal.0)) where
       module _ (counts : CountsOn (state p.journal.0)) where
-        home_same : (e : Entry) → made e.outcome ≡ None → taker e.outcome e ≡ None → cost e.outcome ≡ most_room → Fits (rules_of o) h e → e.outcome ≢ Failed JournalAstray → fault_in e.outcome ≡ 0 → (IsCut e → ⊥) → (IsSettling e → ⊥) → p ≡ q → StandsFor told state o (with_home (In p) s) (h ++ e ∷ [])
+        home_same : (e : Entry) → made e.outcome ≡ None → taker e.outcome e ≡ None → cost e.outcome ≡ most_room → Fits (rules_of o) h e → e.outcome ≢ Failed JournalAstray → fault_in e.outcome ≡ 0 → (IsCut e → ⊥) → (IsSettling e → ⊥) → p ≡ q → (d : Boxed D) → d.value.p ≡ p → StandsFor told state o (with_home (In d) s) (h ++ e ∷ [])
         home_same e none free costs fits not_astray clean not_cut not_settled is = home_by q p ready.is_in ground later spent counts e none free costs fits (λ t. not_astray) (no_fault q p ready.is_in ground later spent e clean)
             (inl (subst (λ (x : Provisioner D). IsHome told state st.now x) (sym is) ready.home, λ stopped. ready.unstopped (lasts_before IsCut IsRestarted h e stopped not_cut)))
             (λ x asked. unsettled_more h e x not_settled (ready.is_in.doubt x (sym (ap (λ (y : Provisioner D). y.doubt) is) ∙ asked)))
 
         -- the table denies it
-        pub stands_denied : (c : Cause) → Refuses st.now.fold.table op c → p ≡ q → StandsFor told state o (with_home (In p) s) (h ++ entry own op (Denied c) ∷ [])
+        pub stands_denied : (c : Cause) → Refuses st.now.fold.table op c → p ≡ q → (d : Boxed D) → d.value.p ≡ p → StandsFor told state o (with_home (In d) s) (h ++ entry own op (Denied c) ∷ [])
         stands_denied c refuses is =
             let e = entry own op (Denied c) in
             let refused = there (λ t. Refuses t op c) refuses in
@@ -181,7 +181,7 @@ module _ {D : Type 0} (told : Type 0) (state : D → DiskState) where
             (λ x. let y : Denied c ≡ Failed JournalAstray = x in cc) refl (λ x. let y : Denied c ≡ Cut = x in cc) (denied_settles_not own op c) is
 
         -- a limit stands against it
-        pub stands_failed : (c : Cause) → IsOverLimit st.now op c → p ≡ q → StandsFor told state o (with_home (In p) s) (h ++ entry own op (Failed c) ∷ [])
+        pub stands_failed : (c : Cause) → IsOverLimit st.now op c → p ≡ q → (d : Boxed D) → d.value.p ≡ p → StandsFor told state o (with_home (In d) s) (h ++ entry own op (Failed c) ∷ [])
         stands_failed c over is =
             let e = entry own op (Failed c) in
             let granted = there (λ t. Grants t op over.0) over.1 in
@@ -190,7 +190,7 @@ module _ {D : Type 0} (told : Type 0) (state : D → DiskState) where
             (limit_not_astray c (over_limit st.now op c over)) (limit_no_fault c (over_limit st.now op c over)) (λ x. let y : Failed c ≡ Cut = x in cc) (failed_settles_not own op c) is
 
         -- the disk failed
-        pub stands_faulted : IsWithin st.now op → MayDoubt op q.doubt p.doubt → Rose (state q.journal.0).faults (state p.journal.0).faults → IsHome told state st.now p → StandsFor told state o (with_home (In p) s) (h ++ entry own op (Failed DiskFault) ∷ [])
+        pub stands_faulted : IsWithin st.now op → MayDoubt op q.doubt p.doubt → Rose (state q.journal.0).faults (state p.journal.0).faults → IsHome told state st.now p → (d : Boxed D) → d.value.p ≡ p → StandsFor told state o (with_home (In d) s) (h ++ entry own op (Failed DiskFault) ∷ [])
         stands_faulted within may rose home =
             let e = entry own op (Failed DiskFault) in
             let granted = there (λ t. Grants t op within.0) within.1 in
@@ -208,7 +208,7 @@ module _ {D : Type 0} (told : Type 0) (state : D → DiskState) where
             ])
 
         -- a stop came before its record was in the journal
-        pub stands_held : IsWithin st.now op → p ≡ with_halt true q → StandsFor told state o (with_home (In p) s) (h ++ entry own op Cut ∷ [])
+        pub stands_held : IsWithin st.now op → p ≡ with_halt true q → (d : Boxed D) → d.value.p ≡ p → StandsFor told state o (with_home (In d) s) (h ++ entry own op Cut ∷ [])
         stands_held within is =
             let e = entry own op Cut in
             let granted = there (λ t. Grants t op within.0) within.1 in

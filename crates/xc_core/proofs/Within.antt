@@ -17,13 +17,15 @@ use Rattle.dxc_model.proofs.FirstCauses.{refusals_are_first}
 use Rattle.roll_engine.specs.Rollings.{RollingAt}
 use Rattle.xc_core.specs.declared.beginning.Begun.{Begun}
 use Rattle.xc_core.specs.declared.beginning.Begun.TheVariants as begun
+use Rattle.std.specs.Box.{with_value}
+use Rattle.xc_core.specs.declared.provisioner.Driver.{Driver}
 use Rattle.xc_core.specs.declared.provisioner.Provisioner.{Provisioner}
 use Rattle.xc_core.specs.declared.state.Home.{Home}
 use Rattle.xc_core.specs.declared.state.Home.TheVariants.{In, Out}
 use Rattle.xc_core.specs.declared.state.State.{State}
 use Rattle.xc_core.specs.declared.turns.Took.TheVariants as took
 use Rattle.xc_core.specs.Reckonings.{Past}
-use Rattle.xc_core.specs.Provisioners.{IsHome, ground_of, with_halt}
+use Rattle.xc_core.specs.Provisioners.{Boxed, IsHome, ground_of, with_halt}
 use Rattle.xc_core.specs.Begins.{BegunIs}
 use Rattle.xc_core.specs.States.{Opening, HomeIs, StandsFor, most_room, with_home}
 use Rattle.xc_core.specs.Seeing.{entry, refused}
@@ -72,58 +74,72 @@ module _ {D : Type 0} (told : Type 0) (state : D → DiskState) (counts : (d : D
     home = subst (λ (y : Home D). HomeIs told state o st.now h y) is st.home;
   }
 
+  -- the box that was borrowed is the one that was home
+  pub held_home : (d : Boxed D) (v : Driver D) → v ≡ d.value → s.home ≡ In d → s.home ≡ In (with_value d v)
+  held_home d v same is = is ∙ ap (λ (x : Driver D). In (with_value d x)) (sym same)
+
   -- it waits for a restart
-  pub was_halted : (own : ℕ) (op : Op) (p : Provisioner D) → s.home ≡ In p → p.halted ≡ true → TakenIs told state o own h op (with_home (In p) s) took.Halted
-  was_halted own op p is halted = elim (found_stage told state o s h st p is) [
+  pub was_halted : (own : ℕ) (op : Op) (d : Boxed D) → s.home ≡ In d → d.value.p.halted ≡ true → TakenIs told state o own h op (with_home (In d) s) took.Halted
+  was_halted own op d is halted = elim (found_stage told state o s h st d is) [
     | inl a ↦ absurd (let e : false ≡ true = sym a.0.ready ∙ halted in cc)
-    | inr b ↦ (stands_back (In p) is, b.1)
+    | inr b ↦ (stands_back (In d) is, b.1)
   ]
 
-  module _ (p : Provisioner D) (is : s.home ≡ In p) (ready : p.halted ≡ false) where
+  module _ (d : Boxed D) (is : s.home ≡ In d) (ready : d.value.p.halted ≡ false) where
+    abbrev p : Provisioner D
+    p = d.value.p
+
     -- the Provisioner that was taken may begin
     pub may_begin : (b : Past) × IsHome told state b p × (b.fold.table ≡ s.table)
-    may_begin = (st.now, (ready_home told state o s h st p is ready).home, sym st.table)
+    may_begin = (st.now, (ready_home told state o s h st d is ready).home, sym st.table)
 
-    module _ (own : ℕ) (op : Op) (q : Provisioner D) (ground : ground_of q ≡ ground_of p) (later : (state p.journal.0).faults ≤ (state q.journal.0).faults) (spent : Spends most_room (state p.journal.0) (state q.journal.0))
-        (how : Begun) (begins : (b : Past) → IsHome told state b p → b.fold.table ≡ s.table → BegunIs told state b op p q how) where
+    -- what the planning left of it
+    module _ (own : ℕ) (op : Op) (e : Boxed D) (ground : ground_of e.value.p ≡ ground_of p) (later : (state p.journal.0).faults ≤ (state e.value.p.journal.0).faults) (spent : Spends most_room (state p.journal.0) (state e.value.p.journal.0))
+        (how : Begun) (begins : (b : Past) → IsHome told state b p → b.fold.table ≡ s.table → BegunIs told state b op p e.value.p e.value.rolling how) where
+      abbrev q : Provisioner D
+      q = e.value.p
+
+      abbrev r : RollingAt
+      r = e.value.rolling
+
       abbrev was : IsReadyAfter told state o st.now h p
-      was = ready_home told state o s h st p is ready
+      was = ready_home told state o s h st d is ready
 
-      said : BegunIs told state st.now op p q how
+      said : BegunIs told state st.now op p q r how
       said = begins st.now was.home (sym st.table)
 
       -- its work is planned
-      pub was_planned : (r : RollingAt) → how ≡ begun.Rolling r → TakenIs told state o own h op (with_home Out s) (took.Rolling q r)
-      was_planned r how_is =
-          let x = subst (λ (y : Begun). BegunIs told state st.now op p q y) how_is said in (
+      pub was_planned : how ≡ begun.Rolling → TakenIs told state o own h op (with_home Out s) (took.Rolling e)
+      was_planned how_is =
+          let x = subst (λ (y : Begun). BegunIs told state st.now op p q r y) how_is said in (
             stands_taken told state o s h st own op p q was ground later spent x.change r x.within x.rolls,
             has_taken told state o s h st own op p q was ground later spent x.change r x.within x.rolls,
           )
 
-      entered : (x y : Outcome) → x ≡ y → StandsFor told state o (with_home (In q) s) (h ++ entry own op y ∷ []) → StandsFor told state o (with_home (In q) s) (h ++ entry own op x ∷ [])
-      entered x y same at = subst (λ (z : Outcome). StandsFor told state o (with_home (In q) s) (h ++ entry own op z ∷ [])) (sym same) at
+      entered : (x y : Outcome) → x ≡ y → StandsFor told state o (with_home (In e) s) (h ++ entry own op y ∷ []) → StandsFor told state o (with_home (In e) s) (h ++ entry own op x ∷ [])
+      entered x y same at = subst (λ (z : Outcome). StandsFor told state o (with_home (In e) s) (h ++ entry own op z ∷ [])) (sym same) at
 
       -- it was denied
-      pub was_denied : (cause : Cause) → how ≡ begun.Denied cause → (how ≡ begun.Denied DiskFault → Rose (state p.journal.0).faults (state q.journal.0).faults) → TakenIs told state o own h op (with_home (In q) s) (took.Denied cause)
+      pub was_denied : (cause : Cause) → how ≡ begun.Denied cause → (how ≡ begun.Denied DiskFault → Rose (state p.journal.0).faults (state q.journal.0).faults) → TakenIs told state o own h op (with_home (In e) s) (took.Denied cause)
       was_denied cause how_is faulty =
-          let x = subst (λ (y : Begun). BegunIs told state st.now op p q y) how_is said in
+          let x = subst (λ (y : Begun). BegunIs told state st.now op p q r y) how_is said in
           let on = counts q.journal.0 in (
             elim x.1 [
               | inl same ↦ elim same.0 [
-                | inl r ↦ entered (refused cause) (outcome.Denied cause) (refused_denied st.now.fold.table op cause r) (stands_denied told state o s h st own op p q was ground later spent on cause r same.1)
-                | inr l ↦ entered (refused cause) (outcome.Failed cause) (refused_limit cause (over_limit st.now op cause l)) (stands_failed told state o s h st own op p q was ground later spent on cause l same.1)
+                | inl refuses ↦ entered (refused cause) (outcome.Denied cause) (refused_denied st.now.fold.table op cause refuses) (stands_denied told state o s h st own op p q was ground later spent on cause refuses same.1 e refl)
+                | inr l ↦ entered (refused cause) (outcome.Failed cause) (refused_limit cause (over_limit st.now op cause l)) (stands_failed told state o s h st own op p q was ground later spent on cause l same.1 e refl)
               ]
-              | inr fault ↦ entered (refused cause) (outcome.Failed DiskFault) (ap refused fault.0) (stands_faulted told state o s h st own op p q was ground later spent on fault.1 fault.2 (faulty (how_is ∙ ap begun.Denied fault.0)) x.0)
+              | inr fault ↦ entered (refused cause) (outcome.Failed DiskFault) (ap refused fault.0) (stands_faulted told state o s h st own op p q was ground later spent on fault.1 fault.2 (faulty (how_is ∙ ap begun.Denied fault.0)) x.0 e refl)
             ],
             was.unstopped,
             elim x.1 [
-              | inl same ↦ elim same.0 [ inl r ↦ refused_not_astray st.now.fold.table op cause r | inr l ↦ limit_no_astray cause (over_limit st.now op cause l) ]
+              | inl same ↦ elim same.0 [ inl refuses ↦ refused_not_astray st.now.fold.table op cause refuses | inr l ↦ limit_no_astray cause (over_limit st.now op cause l) ]
               | inr fault ↦ (λ is. let no_fault : DiskFault ≡ JournalAstray = sym fault.0 ∙ is in cc)
             ],
           )
 
       -- the gate stopped before its record was journalled
-      pub was_held : how ≡ begun.Stopped → TakenIs told state o own h op (with_home (In (with_halt true q)) s) took.Stopped
-      was_held how_is =
-          let x = subst (λ (y : Begun). BegunIs told state st.now op p q y) how_is said in
-          (stands_held told state o s h st own op p (with_halt true q) was ground later spent (counts q.journal.0) x.1 (ap (λ (y : Provisioner D). with_halt true y) x.2), was.unstopped)
+      pub was_held : how ≡ begun.Stopped → (f : Boxed D) → f.value.p ≡ with_halt true q → TakenIs told state o own h op (with_home (In f) s) took.Stopped
+      was_held how_is f marked =
+          let x = subst (λ (y : Begun). BegunIs told state st.now op p q r y) how_is said in
+          (stands_held told state o s h st own op p (with_halt true q) was ground later spent (counts q.journal.0) x.1 (ap (λ (y : Provisioner D). with_halt true y) x.2) f marked, was.unstopped)

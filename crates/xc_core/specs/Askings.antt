@@ -24,13 +24,13 @@ asked_before _ = []
 
 -- where an operation began: before the journal is called, if it came to that
 abbrev pub asked_at_begin : Begun → List GatePlace
-asked_at_begin (begun.Rolling r) = Journal ∷ []
+asked_at_begin begun.Rolling = Journal ∷ []
 asked_at_begin (begun.Denied q) = asked_before q
 asked_at_begin begun.Stopped = Journal ∷ []
 
 -- in a turn in which one was to begin
 abbrev pub asked_at_take : {D : Type 0} → Took D → List GatePlace
-asked_at_take (took.Rolling p r) = Journal ∷ []
+asked_at_take (took.Rolling d) = Journal ∷ []
 asked_at_take (took.Denied q) = asked_before q
 asked_at_take took.Stopped = Journal ∷ []
 asked_at_take took.Halted = []
@@ -38,7 +38,7 @@ asked_at_take took.Waits = []
 
 -- in a turn in which a restart was to begin: before the journal is read again, if it came to that, which a failed mend keeps it from
 abbrev pub RestartAsked : {D : Type 0} → (List GatePlace → Type 0) → Restarting D → Type 0
-RestartAsked asked (restarting.Rolling p r) = asked (Journal ∷ [])
+RestartAsked asked (restarting.Rolling d) = asked (Journal ∷ [])
 RestartAsked asked (restarting.Failed DiskFault) = asked [] ⊎ asked (Journal ∷ [])
 RestartAsked asked (restarting.Failed q) = asked (Journal ∷ [])
 RestartAsked asked restarting.Stopped = asked (Journal ∷ [])

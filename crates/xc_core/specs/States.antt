@@ -134,7 +134,7 @@ module _ {D : Type 0} (told : Type 0) (state : D → DiskState) where
 
   -- the Provisioner is out where a place took it and hasn't brought it home; then nothing is said of it
   abbrev pub HomeIs : Opening → Past → List Entry → Home D → Type 0
-  HomeIs o b h (In p) = (holder None h ≡ None) × IsHomeAfter o b h p
+  HomeIs o b h (In d) = (holder None h ≡ None) × IsHomeAfter o b h d.value.p
   HomeIs o b h Out = (t : Entry) × (holder None h ≡ Some t)
 
   -- the state is that after the history

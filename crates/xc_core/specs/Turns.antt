@@ -40,7 +40,7 @@ SawNoneAstray told seen = told → (h : List Entry) → seen ≡ codes h → IsN
 
 -- the outcome with which a turn ends in which a change was to begin; none where it is given back
 abbrev pub outcome_of : {D : Type 0} → Took D → Option Outcome
-outcome_of (Rolling p r) = Some Taken
+outcome_of (Rolling d) = Some Taken
 outcome_of (Denied q) = Some (refused q)
 outcome_of Stopped = Some Cut
 outcome_of Halted = None
@@ -48,7 +48,7 @@ outcome_of Waits = None
 
 -- operation and outcome of the entry with which a turn ends in which a restart was to begin; none where it is given back
 abbrev pub restart_entry_of : {D : Type 0} → Op → Restarting D → Option (Op × Outcome)
-restart_entry_of asked (restarting.Rolling p r) = Some (Restart, Taken)
+restart_entry_of asked (restarting.Rolling d) = Some (Restart, Taken)
 restart_entry_of asked (restarting.Failed q) = Some (asked, Failed q)
 restart_entry_of asked restarting.Stopped = Some (Restart, Cut)
 restart_entry_of asked restarting.Waits = None
@@ -56,7 +56,7 @@ restart_entry_of asked restarting.Waits = None
 module _ {D : Type 0} (told : Type 0) (state : D → DiskState) where
   -- the state of a turn in which a change was to begin, behind the history
   abbrev pub TakenIs : Opening → ℕ → List Entry → Op → State D → Took D → Type 0
-  TakenIs o own h op s (Rolling p r) = StandsFor told state o s (h ++ entry own op Taken ∷ []) × HasTaken told state o own op (h ++ entry own op Taken ∷ []) p r
+  TakenIs o own h op s (Rolling d) = StandsFor told state o s (h ++ entry own op Taken ∷ []) × HasTaken told state o own op (h ++ entry own op Taken ∷ []) d.value.p d.value.rolling
   TakenIs o own h op s (Denied q) = StandsFor told state o s (h ++ entry own op (refused q) ∷ []) × (IsStopped h → ⊥) × (q ≢ JournalAstray)
   TakenIs o own h op s Stopped = StandsFor told state o s (h ++ entry own op Cut ∷ []) × (IsStopped h → ⊥)
   TakenIs o own h op s Halted = StandsFor told state o s h × IsRestartDue h
@@ -64,7 +64,7 @@ module _ {D : Type 0} (told : Type 0) (state : D → DiskState) where
 
   -- what the place has seen behind it
   abbrev pub TookIs : Opening → ℕ → List Entry → Op → List Gv → Took D → Type 0
-  TookIs o own h op then_seen (Rolling p r) = (t : Turned o own h (entry own op Taken) then_seen) × HasTaken told state o own op ((h ++ t.later) ++ entry own op Taken ∷ []) p r
+  TookIs o own h op then_seen (Rolling d) = (t : Turned o own h (entry own op Taken) then_seen) × HasTaken told state o own op ((h ++ t.later) ++ entry own op Taken ∷ []) d.value.p d.value.rolling
   TookIs o own h op then_seen (Denied q) = (t : Turned o own h (entry own op (refused q)) then_seen) × (IsStopped (h ++ t.later) → ⊥) × (q ≢ JournalAstray)
   TookIs o own h op then_seen Stopped = (t : Turned o own h (entry own op Cut) then_seen) × (IsStopped (h ++ t.later) → ⊥)
   TookIs o own h op then_seen Halted = (t : TurnedBack o own h then_seen) × IsRestartDue (h ++ t.later)
@@ -72,14 +72,14 @@ module _ {D : Type 0} (told : Type 0) (state : D → DiskState) where
 
   -- the state of a turn in which a restart was to begin
   abbrev pub RestartingIs : Opening → ℕ → List Entry → Op → State D → Restarting D → Type 0
-  RestartingIs o own h asked s (restarting.Rolling p r) = StandsFor told state o s (h ++ entry own Restart Taken ∷ []) × HasRestart told state o own asked (h ++ entry own Restart Taken ∷ []) p r
+  RestartingIs o own h asked s (restarting.Rolling d) = StandsFor told state o s (h ++ entry own Restart Taken ∷ []) × HasRestart told state o own asked (h ++ entry own Restart Taken ∷ []) d.value.p d.value.rolling
   RestartingIs o own h asked s (restarting.Failed q) = StandsFor told state o s (h ++ entry own asked (Failed q) ∷ []) × IsFault q × IsDueFor asked h
   RestartingIs o own h asked s restarting.Stopped = StandsFor told state o s (h ++ entry own Restart Cut ∷ []) × IsDueFor asked h
   RestartingIs o own h asked s restarting.Waits = StandsFor told state o s h
 
   -- what the place has seen behind it
   abbrev pub RestartIs : Opening → ℕ → List Entry → Op → List Gv → Restarting D → Type 0
-  RestartIs o own h asked then_seen (restarting.Rolling p r) = (t : Turned o own h (entry own Restart Taken) then_seen) × HasRestart told state o own asked ((h ++ t.later) ++ entry own Restart Taken ∷ []) p r
+  RestartIs o own h asked then_seen (restarting.Rolling d) = (t : Turned o own h (entry own Restart Taken) then_seen) × HasRestart told state o own asked ((h ++ t.later) ++ entry own Restart Taken ∷ []) d.value.p d.value.rolling
   RestartIs o own h asked then_seen (restarting.Failed q) = (t : Turned o own h (entry own asked (Failed q)) then_seen) × IsFault q × IsDueFor asked (h ++ t.later)
   RestartIs o own h asked then_seen restarting.Stopped = (t : Turned o own h (entry own Restart Cut) then_seen) × IsDueFor asked (h ++ t.later)
   RestartIs o own h asked then_seen restarting.Waits = TurnedBack o own h then_seen

@@ -12,13 +12,12 @@ ghost use Rattle.xc_core.specs.States.{Opening, StandsFor};
 ghost use Rattle.xc_core.specs.Turns.{TakenIs, outcome_of as outcome_for};
 
 use crate::beginning::{Begun, begin};
-use crate::provisioner::{Provisioner, halt};
+use crate::provisioner::{Driver, halt};
 use crate::state::{State, finish};
 use crate::turns::Took;
 use dxc_disk::Disk;
 use dxc_model::{Cause, Change, Op, Outcome};
 use dxc_outside::Gate;
-use roll_engine::Rolling;
 
 /// Takes the Provisioner out and plans the operation; where it doesn't come to a work, the Provisioner is home again.
 pub fn take<D: Disk + Drop, G: Gate>(state: &mut State<D>, op: &Op, gate: &mut G) -> Took<D>
@@ -31,48 +30,50 @@ pub fn take<D: Disk + Drop, G: Gate>(state: &mut State<D>, op: &Op, gate: &mut G
     ensures later { G.stops gate.old ≤ G.stops gate.new }
     ensures asked { G.asked gate.old gate.new (asked_at_take result) }
 {
-    let Some(mut p) = state.take_out() else {
+    let Some(mut driver) = state.take_out() else {
         return Took::Waits;
     };
-    if p.halted() {
-        state.bring_home(p);
+    let held = &mut *driver;
+    if held.p.halted() {
+        state.bring_home(driver);
         return Took::Halted;
     }
-    match begin(&mut p, &state.table, op, gate) {
-        Begun::Rolling(rolling) => Took::Rolling(p, rolling),
+    match begin(&mut held.p, &mut held.rolling, &state.table, op, gate) {
+        Begun::Rolling => Took::Rolling(driver),
         Begun::Denied(cause) => {
-            state.bring_home(p);
+            state.bring_home(driver);
             Took::Denied(cause)
         }
         Begun::Stopped => {
-            halt(&mut p);
-            state.bring_home(p);
+            halt(&mut held.p);
+            state.bring_home(driver);
             Took::Stopped
         }
     }
 }
 
 /// Lets the table take the change, and brings the Provisioner home.
-pub fn bring<D: Disk + Drop>(state: &mut State<D>, p: Provisioner<D>, rolling: Rolling) -> Change
-    requires taken { (o : Opening) × (own : ℕ) × (h : List Entry) × (op : Op) × (o.first.changes ≡ 0) × StandsFor D.told D.state o state.old h × HasTaken D.told D.state o own op h p rolling }
-    requires done { rest_of rolling ≡ [] }
-    ensures done { (o : Opening) → (own : ℕ) → (h : List Entry) → (op : Op) → StandsFor D.told D.state o state.old h → HasTaken D.told D.state o own op h p rolling → StandsFor D.told D.state o state.new (h ++ entry own op (Done result) ∷ []) }
+pub fn bring<D: Disk + Drop>(state: &mut State<D>, driver: Box<Driver<D>>) -> Change
+    requires taken { (o : Opening) × (own : ℕ) × (h : List Entry) × (op : Op) × (o.first.changes ≡ 0) × StandsFor D.told D.state o state.old h × HasTaken D.told D.state o own op h driver.value.p driver.value.rolling }
+    requires done { rest_of driver.value.rolling ≡ [] }
+    ensures done { (o : Opening) → (own : ℕ) → (h : List Entry) → (op : Op) → StandsFor D.told D.state o state.old h → HasTaken D.told D.state o own op h driver.value.p driver.value.rolling → StandsFor D.told D.state o state.new (h ++ entry own op (Done result) ∷ []) }
     ensures origin { state.new.origin ≡ state.old.origin }
 {
-    let mut p = p;
-    let change = finish(state, &mut p, rolling);
-    state.bring_home(p);
+    let mut driver = driver;
+    let held = &mut *driver;
+    let change = finish(state, &mut held.p, &held.rolling);
+    state.bring_home(driver);
     change
 }
 
 /// Brings the Provisioner home halted.
-pub fn cut<D: Disk + Drop>(state: &mut State<D>, p: Provisioner<D>)
-    ensures cut { (o : Opening) → (own : ℕ) → (h : List Entry) → (op : Op) → (r : RollingAt) → StandsFor D.told D.state o state.old h → HasTaken D.told D.state o own op h p r → StandsFor D.told D.state o state.new (h ++ entry own op Cut ∷ []) }
+pub fn cut<D: Disk + Drop>(state: &mut State<D>, driver: Box<Driver<D>>)
+    ensures cut { (o : Opening) → (own : ℕ) → (h : List Entry) → (op : Op) → (r : RollingAt) → StandsFor D.told D.state o state.old h → HasTaken D.told D.state o own op h driver.value.p r → StandsFor D.told D.state o state.new (h ++ entry own op Cut ∷ []) }
     ensures origin { state.new.origin ≡ state.old.origin }
 {
-    let mut p = p;
-    halt(&mut p);
-    state.bring_home(p);
+    let mut driver = driver;
+    halt(&mut driver.p);
+    state.bring_home(driver);
 }
 
 /// How a denied operation is entered: what the table denies is Denied, what a limit or the disk stood against has Failed.
@@ -92,7 +93,7 @@ pub fn outcome_of<D: Disk>(took: &Took<D>) -> Option<Outcome>
     ensures { result ≡ outcome_for took.now }
 {
     match took {
-        Took::Rolling(_, _) => Some(Outcome::Taken),
+        Took::Rolling(_) => Some(Outcome::Taken),
         Took::Denied(cause) => Some(refused(*cause)),
         Took::Stopped => Some(Outcome::Cut),
         Took::Halted | Took::Waits => None,

@@ -23,6 +23,6 @@ pub use beginning::{Begun, begin};
 pub use fault::OpenFault;
 pub use opening::Core;
 pub use origin::Origin;
-pub use provisioner::{Provisioner, drive, halt, settle};
+pub use provisioner::{Driver, Provisioner, drive, halt, settle};
 pub use recovery::{Recovered, end_recovery, recover};
 pub use state::{Home, State, finish};

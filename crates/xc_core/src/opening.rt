@@ -16,14 +16,14 @@ ghost use Rattle.xc_core.specs.States.{opening_of};
 
 use crate::fault::OpenFault;
 use crate::origin::Origin;
-use crate::provisioner::Provisioner;
+use crate::provisioner::{Driver, Provisioner};
 use crate::second::Second;
 use crate::state::{Home, State};
 use dbchg_reports::Reports;
 use dxc_causes::NoMemory;
 use dxc_disk::Disk;
 use dxc_model::Table;
-use dxc_outside::Gate;
+use dxc_outside::{Gate, Pass1};
 use fabric_words::{Fabric, MoverSeat};
 use journal_core::Journal;
 use paull_matrix::Matrix;
@@ -40,7 +40,7 @@ impl Core {
     /// The state that the disk's journal stands for, on a new fabric of the shelf's shape, with each leg joined at its middle. In a new
     /// file a journal of the shelf's equipped modules is made.
     ///
-    /// Memory is taken first. It takes at most 131,081 of the disk's room.
+    /// Memory is taken before the journal is opened, but for the Provisioner's place, which is taken when the records are read. It takes at most 131,081 of the disk's room.
     pub fn open<D: Disk + Drop, G: Gate>(
         alloc: Global,
         shelf: &Shelf,
@@ -86,10 +86,6 @@ impl Core {
             Err(ReplayFault::BadRecord(i)) => return Err(OpenFault::BadRecord(i)),
             Err(ReplayFault::Disk) => return Err(OpenFault::Disk(journal.close())),
         };
-        let Some(mover) = join_all(&matrix, fabric, mover, gate) else {
-            return Err(OpenFault::Stopped);
-        };
-        let spent = mover.switches();
         let p = Provisioner {
             matrix,
             journal,
@@ -97,43 +93,49 @@ impl Core {
             doubt: None,
             changes: 0,
             halted: false,
-            spent,
+            spent: 0,
             second,
         };
-        let origin = Origin::of(&table, &p, &last);
+        let rolling = Rolling::cold();
+        let Ok(mut driver) = Box::new(alloc, Driver { p, rolling }) else {
+            return Err(OpenFault::NoMemory);
+        };
+        match join_all(&mut driver.p, fabric, gate) {
+            Pass1::Stop => return Err(OpenFault::Stopped),
+            Pass1::Go => {}
+        }
+        let origin = Origin::of(&table, &driver.p, &last);
         Ok(State {
             table,
             reports,
-            home: Home::In(p),
+            home: Home::In(driver),
             origin,
         })
     }
 }
 
-// Joins all legs of the matrix on a new fabric. None: the gate stopped.
-fn join_all<G: Gate>(
-    matrix: &Matrix,
-    fabric: &Fabric,
-    mover: MoverSeat,
-    gate: &mut G,
-) -> Option<MoverSeat>
-    requires own { mover.fabric ≡ fabric.now }
-    requires new { mover.mover ≡ new_mover fabric.now.size }
-    requires shape { matrix.now.shape ≡ fabric.now.size.shape }
-    requires proper { IsProperColouring matrix.now }
-    ensures joined { IfSome result (λ m. (m.fabric ≡ fabric.now) × IsAtRestOn fabric.now.size matrix.now m.mover × (length m.mover.log ≡ switches_in (joins_of matrix.now))) }
-    ensures stopped { IfNone result (Rose (G.stops gate.old) (G.stops gate.new)) }
-    ensures unstopped { IfSome result (λ m. G.stops gate.new ≡ G.stops gate.old) }
+// Joins all legs of the matrix on a new fabric, and notes how many switches that took. Stop: the gate stopped.
+fn join_all<D: Disk, G: Gate>(p: &mut Provisioner<D>, fabric: &Fabric, gate: &mut G) -> Pass1
+    requires own { p.old.mover.fabric ≡ fabric.now }
+    requires new { p.old.mover.mover ≡ new_mover fabric.now.size }
+    requires shape { p.old.matrix.shape ≡ fabric.now.size.shape }
+    requires proper { IsProperColouring p.old.matrix }
+    ensures others { p.new ≡ record p.old { mover = p.new.mover; spent = p.new.spent } }
+    ensures joined { result ≡ Pass1.Go → (p.new.mover.fabric ≡ fabric.now) × IsAtRestOn fabric.now.size p.old.matrix p.new.mover.mover × (length p.new.mover.mover.log ≡ switches_in (joins_of p.old.matrix)) }
+    ensures spent { p.new.spent ≡ length p.new.mover.mover.log }
+    ensures stopped { result ≡ Pass1.Stop → Rose (G.stops gate.old) (G.stops gate.new) }
+    ensures unstopped { result ≡ Pass1.Go → G.stops gate.new ≡ G.stops gate.old }
     ensures later { G.stops gate.old ≤ G.stops gate.new }
-    ensures asked { IfSome result (λ m. G.asked gate.old gate.new (replicate (length (joins_of matrix.now)) Register)) }
-    ensures asked_till { IfNone result ((n : ℕ) × G.asked gate.old gate.new (replicate n Register)) }
+    ensures asked { result ≡ Pass1.Go → G.asked gate.old gate.new (replicate (length (joins_of p.old.matrix)) Register) }
+    ensures asked_till { result ≡ Pass1.Stop → (n : ℕ) × G.asked gate.old gate.new (replicate n Register) }
 {
     // Its clause tells that the fabric's size is within the limits.
-    let _phase = mover.phase();
-    let mut mover = mover;
+    let _phase = p.mover.phase();
     let mut rolling = Rolling::cold();
-    match advance_cold(matrix, fabric, &mut mover, &mut rolling, gate) {
-        Advance::Done => Some(mover),
-        Advance::InFrame(_) | Advance::Stopped => None,
+    let advance = advance_cold(&p.matrix, fabric, &mut p.mover, &mut rolling, gate);
+    p.spent = p.mover.switches();
+    match advance {
+        Advance::Done => Pass1::Go,
+        Advance::InFrame(_) | Advance::Stopped => Pass1::Stop,
     }
 }

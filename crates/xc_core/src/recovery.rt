@@ -177,19 +177,20 @@ pub fn recover<D: Disk, G: Gate>(
 pub fn end_recovery<D: Disk>(
     state: &mut State<D>,
     p: &mut Provisioner<D>,
-    rolling: Rolling,
+    rolling: &Rolling,
 ) -> Option<Change>
-    requires recovers { (b : Past) × (lacking : Option Change) × (g : Past) × Recovers D.told D.state b lacking g p.old rolling × (b.fold.table ≡ state.old.table) }
-    requires done { writes_left p.old rolling ≡ [] }
+    requires recovers { (b : Past) × (lacking : Option Change) × (g : Past) × Recovers D.told D.state b lacking g p.old rolling.now × (b.fold.table ≡ state.old.table) }
+    requires done { writes_left p.old rolling.now ≡ [] }
     requires counted { state.old.reports.newest ≡ p.old.changes }
     ensures ground { ground_of p.new ≡ ground_of p.old }
     ensures journal { p.new.journal ≡ p.old.journal }
     ensures mover { p.new.mover ≡ p.old.mover }
     ensures state { state.new ≡ record state.old { table = state.new.table; reports = reports_with result state.old.reports } }
-    ensures ends { (b : Past) → (lacking : Option Change) → (g : Past) → Resumes D.told D.state b lacking g p.old rolling → b.fold.table ≡ state.old.table → Ends D.told D.state b lacking g state.new.table p.new result }
+    ensures ends { (b : Past) → (lacking : Option Change) → (g : Past) → Resumes D.told D.state b lacking g p.old rolling.now → b.fold.table ≡ state.old.table → Ends D.told D.state b lacking g state.new.table p.new result }
     // A cold one makes other switches: it ends with as many as were made.
-    ensures ends_cold { (b : Past) → (lacking : Option Change) → (g : Past) → Rejoins D.told D.state b lacking g p.old rolling → b.fold.table ≡ state.old.table → Ends D.told D.state b lacking (with_switches (length p.old.mover.mover.log) g) state.new.table p.new result }
+    ensures ends_cold { (b : Past) → (lacking : Option Change) → (g : Past) → Rejoins D.told D.state b lacking g p.old rolling.now → b.fold.table ≡ state.old.table → Ends D.told D.state b lacking (with_switches (length p.old.mover.mover.log) g) state.new.table p.new result }
 {
+    let _ = rolling;
     mem::swap(&mut p.matrix, &mut p.second.matrix);
     let lacking = p.second.lacking;
     take_up(&mut state.table, lacking);

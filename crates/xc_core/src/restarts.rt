@@ -10,14 +10,13 @@ ghost use Rattle.xc_core.specs.Seeing.{HasRestart, Saw};
 ghost use Rattle.xc_core.specs.States.{opening_of};
 ghost use Rattle.xc_core.specs.Turns.{HasPass, RestartCutIs, RestartIs, RestartedIs, SawNoneAstray};
 
-use crate::provisioner::Provisioner;
+use crate::provisioner::Driver;
 use crate::resuming;
 use crate::state::State;
 use dxc_disk::Disk;
 use dxc_model::{Cause, Entry, Op, Outcome};
 use dxc_outside::Gate;
 use fabric_words::Fabric;
-use roll_engine::Rolling;
 use std::sync::Wait;
 use turnstile::{Pass, Turnstile};
 
@@ -25,7 +24,7 @@ use turnstile::{Pass, Turnstile};
 #[derive(Drop)]
 pub enum Restarting<D: Disk> {
     /// The place has the Provisioner, and the rest of the last record's work is found.
-    Rolling(Provisioner<D>, Rolling),
+    Rolling(Box<Driver<D>>),
     /// The disk failed, or the journal reads otherwise than it was written. The Provisioner is home. The entry is that of the operation
     /// for which the restart was to be made.
     Failed(Cause),
@@ -77,20 +76,19 @@ pub fn end_restart<D: Disk + Drop, R: Wait>(
     pass: &mut Pass,
     turns: &Turnstile<State<D>>,
     asked: &Op,
-    p: Provisioner<D>,
-    rolling: Rolling,
+    driver: Box<Driver<D>>,
     rt: &R,
 )
     requires pass { HasPass turns.now pass.old }
-    requires restart { (h : List Entry) × Saw (opening_of D.state turns.now.first) pass.old.seen h × HasRestart D.told D.state (opening_of D.state turns.now.first) pass.old.number asked.now h p rolling }
-    requires done { rest_of rolling ≡ [] }
+    requires restart { (h : List Entry) × Saw (opening_of D.state turns.now.first) pass.old.seen h × HasRestart D.told D.state (opening_of D.state turns.now.first) pass.old.number asked.now h driver.value.p driver.value.rolling }
+    requires done { rest_of driver.value.rolling ≡ [] }
     ensures pass { HasPass turns.now pass.new × (pass.new.number ≡ pass.old.number) }
     ensures restarted { (h : List Entry) → Saw (opening_of D.state turns.now.first) pass.old.seen h → RestartedIs (opening_of D.state turns.now.first) pass.old.number h asked.now pass.new.seen }
     ensures astray { SawNoneAstray D.told pass.new.seen }
 {
     let _ = asked;
     let mut turn = turns.enter(pass, rt);
-    let lacking = resuming::end(turn.state_mut(), p, rolling);
+    let lacking = resuming::end(turn.state_mut(), driver);
     let place = pass.number();
     let op = Op::Restart;
     let outcome = Outcome::Restarted(lacking);
@@ -102,20 +100,18 @@ pub fn cut_restart<D: Disk + Drop, R: Wait>(
     pass: &mut Pass,
     turns: &Turnstile<State<D>>,
     asked: &Op,
-    p: Provisioner<D>,
-    rolling: &Rolling,
+    driver: Box<Driver<D>>,
     rt: &R,
 )
     requires pass { HasPass turns.now pass.old }
-    requires restart { (h : List Entry) × Saw (opening_of D.state turns.now.first) pass.old.seen h × HasRestart D.told D.state (opening_of D.state turns.now.first) pass.old.number asked.now h p rolling.now }
+    requires restart { (h : List Entry) × Saw (opening_of D.state turns.now.first) pass.old.seen h × HasRestart D.told D.state (opening_of D.state turns.now.first) pass.old.number asked.now h driver.value.p driver.value.rolling }
     ensures pass { HasPass turns.now pass.new × (pass.new.number ≡ pass.old.number) }
     ensures cut { (h : List Entry) → Saw (opening_of D.state turns.now.first) pass.old.seen h → RestartCutIs (opening_of D.state turns.now.first) pass.old.number h asked.now pass.new.seen }
     ensures astray { SawNoneAstray D.told pass.new.seen }
 {
     let _ = asked;
-    let _ = rolling;
     let mut turn = turns.enter(pass, rt);
-    resuming::cut(turn.state_mut(), p);
+    resuming::cut(turn.state_mut(), driver);
     let place = pass.number();
     let op = Op::Restart;
     let outcome = Outcome::Cut;

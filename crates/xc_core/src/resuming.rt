@@ -16,7 +16,7 @@ ghost use Rattle.xc_core.specs.Seeing.{HasRestart, entry};
 ghost use Rattle.xc_core.specs.States.{Opening, StandsFor};
 ghost use Rattle.xc_core.specs.Turns.{RestartingIs, restart_entry_of as entry_for};
 
-use crate::provisioner::{Provisioner, halt, settle};
+use crate::provisioner::{Driver, Provisioner, halt, settle};
 use crate::recovery::{Recovered, end_recovery, recover};
 use crate::restarts::Restarting;
 use crate::state::State;
@@ -24,7 +24,6 @@ use dxc_disk::{Disk, DiskFault};
 use dxc_model::{Cause, Change, Op, Outcome};
 use dxc_outside::Gate;
 use fabric_words::Fabric;
-use roll_engine::Rolling;
 
 // Settles the Provisioner and halts it, where it isn't halted.
 fn make_halted<D: Disk>(p: &mut Provisioner<D>) -> Result<(), DiskFault>
@@ -68,60 +67,61 @@ pub fn restart<D: Disk + Drop, G: Gate>(
     ensures later { G.stops gate.old ≤ G.stops gate.new }
     ensures asked { RestartAsked (G.asked gate.old gate.new) result }
 {
-    let Some(mut p) = state.take_out() else {
+    let Some(mut driver) = state.take_out() else {
         return Restarting::Waits;
     };
-    if !goes_for(&p, asked) {
-        state.bring_home(p);
+    let held = &mut *driver;
+    if !goes_for(&held.p, asked) {
+        state.bring_home(driver);
         return Restarting::Waits;
     }
-    match make_halted(&mut p) {
+    match make_halted(&mut held.p) {
         Ok(()) => {}
         Err(DiskFault) => {
-            state.bring_home(p);
+            state.bring_home(driver);
             return Restarting::Failed(Cause::DiskFault);
         }
     }
-    match recover(&mut p, &state.table, fabric, gate) {
-        Recovered::Warm(rolling) => Restarting::Rolling(p, rolling),
+    match recover(&mut held.p, &state.table, fabric, gate) {
+        Recovered::Warm(rolling) => {
+            held.rolling = rolling;
+            Restarting::Rolling(driver)
+        }
         Recovered::Cold(_) | Recovered::Astray(_) => {
-            state.bring_home(p);
+            state.bring_home(driver);
             Restarting::Failed(Cause::JournalAstray)
         }
         Recovered::Fault => {
-            state.bring_home(p);
+            state.bring_home(driver);
             Restarting::Failed(Cause::DiskFault)
         }
         Recovered::Stopped => {
-            state.bring_home(p);
+            state.bring_home(driver);
             Restarting::Stopped
         }
     }
 }
 
 /// Ends the restart: the table takes the change that it lacked, if it lacked one, and the Provisioner is home and ready.
-pub fn end<D: Disk + Drop>(
-    state: &mut State<D>,
-    p: Provisioner<D>,
-    rolling: Rolling,
-) -> Option<Change>
-    requires restart { (o : Opening) × (own : ℕ) × (h : List Entry) × (asked : Op) × (o.first.changes ≡ 0) × StandsFor D.told D.state o state.old h × HasRestart D.told D.state o own asked h p rolling }
-    requires done { rest_of rolling ≡ [] }
-    ensures restarted { (o : Opening) → (own : ℕ) → (h : List Entry) → (asked : Op) → StandsFor D.told D.state o state.old h → HasRestart D.told D.state o own asked h p rolling → StandsFor D.told D.state o state.new (h ++ entry own Restart (Restarted result) ∷ []) }
+pub fn end<D: Disk + Drop>(state: &mut State<D>, driver: Box<Driver<D>>) -> Option<Change>
+    requires restart { (o : Opening) × (own : ℕ) × (h : List Entry) × (asked : Op) × (o.first.changes ≡ 0) × StandsFor D.told D.state o state.old h × HasRestart D.told D.state o own asked h driver.value.p driver.value.rolling }
+    requires done { rest_of driver.value.rolling ≡ [] }
+    ensures restarted { (o : Opening) → (own : ℕ) → (h : List Entry) → (asked : Op) → StandsFor D.told D.state o state.old h → HasRestart D.told D.state o own asked h driver.value.p driver.value.rolling → StandsFor D.told D.state o state.new (h ++ entry own Restart (Restarted result) ∷ []) }
     ensures origin { state.new.origin ≡ state.old.origin }
 {
-    let mut p = p;
-    let lacking = end_recovery(state, &mut p, rolling);
-    state.bring_home(p);
+    let mut driver = driver;
+    let held = &mut *driver;
+    let lacking = end_recovery(state, &mut held.p, &held.rolling);
+    state.bring_home(driver);
     lacking
 }
 
 /// Brings the Provisioner home, halted still.
-pub fn cut<D: Disk + Drop>(state: &mut State<D>, p: Provisioner<D>)
-    ensures cut { (o : Opening) → (own : ℕ) → (h : List Entry) → (asked : Op) → (r : RollingAt) → StandsFor D.told D.state o state.old h → HasRestart D.told D.state o own asked h p r → StandsFor D.told D.state o state.new (h ++ entry own Restart Cut ∷ []) }
+pub fn cut<D: Disk + Drop>(state: &mut State<D>, driver: Box<Driver<D>>)
+    ensures cut { (o : Opening) → (own : ℕ) → (h : List Entry) → (asked : Op) → (r : RollingAt) → StandsFor D.told D.state o state.old h → HasRestart D.told D.state o own asked h driver.value.p r → StandsFor D.told D.state o state.new (h ++ entry own Restart Cut ∷ []) }
     ensures origin { state.new.origin ≡ state.old.origin }
 {
-    state.bring_home(p);
+    state.bring_home(driver);
 }
 
 /// Operation and outcome of the entry with which the turn ends; None where nothing was done.
@@ -129,7 +129,7 @@ pub fn entry_of<D: Disk>(restarting: &Restarting<D>, asked: &Op) -> Option<(Op, 
     ensures { result ≡ entry_for asked.now restarting.now }
 {
     match restarting {
-        Restarting::Rolling(_, _) => Some((Op::Restart, Outcome::Taken)),
+        Restarting::Rolling(_) => Some((Op::Restart, Outcome::Taken)),
         Restarting::Failed(cause) => Some((*asked, Outcome::Failed(*cause))),
         Restarting::Stopped => Some((Op::Restart, Outcome::Cut)),
         Restarting::Waits => None,

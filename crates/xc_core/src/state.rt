@@ -9,7 +9,7 @@ ghost use Rattle.xc_core.specs.Finishes.{Finishes};
 ghost use Rattle.dbchg_reports.specs.Recent.{with_one};
 
 use crate::origin::Origin;
-use crate::provisioner::Provisioner;
+use crate::provisioner::{Driver, Provisioner};
 use dbchg_reports::Reports;
 use dxc_disk::Disk;
 use dxc_model::{Change, Entry, Table};
@@ -21,7 +21,7 @@ use turnstile::Sequential;
 /// Where the Provisioner is.
 #[derive(Drop)]
 pub enum Home<D: Disk> {
-    In(Provisioner<D>),
+    In(Box<Driver<D>>),
     /// A session has it, and makes a change with it.
     Out,
 }
@@ -59,35 +59,35 @@ impl<D: Disk + Drop> State<D> {
     ghost use Rattle.xc_core.specs.declared.state.Home.TheVariants.{In, Out};
 
     /// Takes the Provisioner, where it is home.
-    pub fn take_out(&mut self) -> Option<Provisioner<D>>
+    pub fn take_out(&mut self) -> Option<Box<Driver<D>>>
         ensures state { self.new ≡ record self.old { home = Out } }
-        ensures found { IfSome result (λ p. self.old.home ≡ In p) }
+        ensures found { IfSome result (λ d. self.old.home ≡ In d) }
         ensures none { IfNone result (self.old.home ≡ Out) }
     {
         match mem::replace(&mut self.home, Home::Out) {
-            Home::In(p) => Some(p),
+            Home::In(driver) => Some(driver),
             Home::Out => None,
         }
     }
 
     /// Gives the Provisioner home.
-    pub fn bring_home(&mut self, p: Provisioner<D>)
-        ensures { self.new ≡ record self.old { home = In p } }
+    pub fn bring_home(&mut self, driver: Box<Driver<D>>)
+        ensures { self.new ≡ record self.old { home = In driver } }
     {
-        self.home = Home::In(p);
+        self.home = Home::In(driver);
     }
 }
 
 /// Makes the change in the table and in the matrix, once all its register writes are made, and answers it. The Provisioner is
 /// the one of the `begin` that planned it, and isn't home.
-pub fn finish<D: Disk>(state: &mut State<D>, p: &mut Provisioner<D>, rolling: Rolling) -> Change
-    requires rolls { (b : Past) × (op : Op) × (c : Change) × Rolls D.told D.state b op c p.old rolling × (b.fold.table ≡ state.old.table) }
-    requires done { rest_of rolling ≡ [] }
+pub fn finish<D: Disk>(state: &mut State<D>, p: &mut Provisioner<D>, rolling: &Rolling) -> Change
+    requires rolls { (b : Past) × (op : Op) × (c : Change) × Rolls D.told D.state b op c p.old rolling.now × (b.fold.table ≡ state.old.table) }
+    requires done { rest_of rolling.now ≡ [] }
     requires counted { state.old.reports.newest ≡ p.old.changes }
     ensures ground { ground_of p.new ≡ ground_of p.old }
     ensures journal { p.new.journal ≡ p.old.journal }
     ensures state { state.new ≡ record state.old { table = state.new.table; reports = with_one result state.old.reports } }
-    ensures finishes { (b : Past) → (op : Op) → (c : Change) → Rolls D.told D.state b op c p.old rolling → b.fold.table ≡ state.old.table → Finishes D.told D.state b c rolling state.new.table p.new result }
+    ensures finishes { (b : Past) → (op : Op) → (c : Change) → Rolls D.told D.state b op c p.old rolling.now → b.fold.table ≡ state.old.table → Finishes D.told D.state b c rolling.now state.new.table p.new result }
 {
     let Some(op) = p.doubt else { unreachable!() };
     let Ok(change) = state.table.verdict(&op) else {

@@ -14,13 +14,12 @@ ghost use Rattle.xc_core.specs.States.{opening_of};
 ghost use Rattle.xc_core.specs.Turns.{CutIs, DoneIs, HasPass, LookIs, MarkIs, RowsAre, SawNoneAstray, TookIs};
 
 use crate::inside;
-use crate::provisioner::Provisioner;
+use crate::provisioner::Driver;
 use crate::state::State;
 use dbchg_reports::Since;
 use dxc_disk::Disk;
 use dxc_model::{Cause, Change, Conn, Entry, Op, Outcome, Selection};
 use dxc_outside::Gate;
-use roll_engine::Rolling;
 use std::sync::Wait;
 use turnstile::{Pass, Turnstile};
 
@@ -28,7 +27,7 @@ use turnstile::{Pass, Turnstile};
 #[derive(Drop)]
 pub enum Took<D: Disk> {
     /// The place has the Provisioner, and the change's work is planned and in the journal.
-    Rolling(Provisioner<D>, Rolling),
+    Rolling(Box<Driver<D>>),
     Denied(Cause),
     /// The gate stopped. The Provisioner is home, halted.
     Stopped,
@@ -85,19 +84,18 @@ pub fn bring<D: Disk + Drop, R: Wait>(
     pass: &mut Pass,
     turns: &Turnstile<State<D>>,
     op: &Op,
-    p: Provisioner<D>,
-    rolling: Rolling,
+    driver: Box<Driver<D>>,
     rt: &R,
 )
     requires pass { HasPass turns.now pass.old }
-    requires taken { (h : List Entry) × Saw (opening_of D.state turns.now.first) pass.old.seen h × HasTaken D.told D.state (opening_of D.state turns.now.first) pass.old.number op.now h p rolling }
-    requires done { rest_of rolling ≡ [] }
+    requires taken { (h : List Entry) × Saw (opening_of D.state turns.now.first) pass.old.seen h × HasTaken D.told D.state (opening_of D.state turns.now.first) pass.old.number op.now h driver.value.p driver.value.rolling }
+    requires done { rest_of driver.value.rolling ≡ [] }
     ensures pass { HasPass turns.now pass.new × (pass.new.number ≡ pass.old.number) }
     ensures done { (h : List Entry) → Saw (opening_of D.state turns.now.first) pass.old.seen h → DoneIs (opening_of D.state turns.now.first) pass.old.number h op.now pass.new.seen }
     ensures astray { SawNoneAstray D.told pass.new.seen }
 {
     let mut turn = turns.enter(pass, rt);
-    let change = inside::bring(turn.state_mut(), p, rolling);
+    let change = inside::bring(turn.state_mut(), driver);
     let place = pass.number();
     let outcome = Outcome::Done(change);
     turns.leave(
@@ -116,19 +114,17 @@ pub fn cut<D: Disk + Drop, R: Wait>(
     pass: &mut Pass,
     turns: &Turnstile<State<D>>,
     op: &Op,
-    p: Provisioner<D>,
-    rolling: &Rolling,
+    driver: Box<Driver<D>>,
     rt: &R,
 )
     requires pass { HasPass turns.now pass.old }
-    requires taken { (h : List Entry) × Saw (opening_of D.state turns.now.first) pass.old.seen h × HasTaken D.told D.state (opening_of D.state turns.now.first) pass.old.number op.now h p rolling.now }
+    requires taken { (h : List Entry) × Saw (opening_of D.state turns.now.first) pass.old.seen h × HasTaken D.told D.state (opening_of D.state turns.now.first) pass.old.number op.now h driver.value.p driver.value.rolling }
     ensures pass { HasPass turns.now pass.new × (pass.new.number ≡ pass.old.number) }
     ensures cut { (h : List Entry) → Saw (opening_of D.state turns.now.first) pass.old.seen h → CutIs (opening_of D.state turns.now.first) pass.old.number h op.now pass.new.seen }
     ensures astray { SawNoneAstray D.told pass.new.seen }
 {
-    let _ = rolling;
     let mut turn = turns.enter(pass, rt);
-    inside::cut(turn.state_mut(), p);
+    inside::cut(turn.state_mut(), driver);
     let place = pass.number();
     let outcome = Outcome::Cut;
     turns.leave(

@@ -27,14 +27,14 @@ carry_out-requires-clause-taken g c =
     let w = c.requires.seen in
     let b = c.loop.invariant.mended w.0 w.1 in
     let k = subst (λ (n : ℕ). TookIs g.D.Disk.told g.D.Disk.state (opening_of g.D.Disk.state c.args.turns.now.first) n (w.0 ++ b.front) c.args.op.now c.take.new.pass.seen c.take.result) c.loop.invariant.number (c.take.ensures.took (w.0 ++ b.front) b.saw) in
-    let t = took_rolling (opening_of g.D.Disk.state c.args.turns.now.first) c.args.pass.now.number (w.0 ++ b.front) g.D.Disk.told g.D.Disk.state c.args.op.now c.take.new.pass.seen c.take.result k c.in-Rolling.p c.in-Rolling.rolling c.in-Rolling.is in
-    (((w.0 ++ b.front) ++ t.0.later) ++ entry c.args.pass.now.number c.args.op.now Taken ∷ [], t.0.saw, subst (λ (n : ℕ). HasTaken g.D.Disk.told g.D.Disk.state (opening_of g.D.Disk.state c.args.turns.now.first) n c.args.op.now (((w.0 ++ b.front) ++ t.0.later) ++ entry c.args.pass.now.number c.args.op.now Taken ∷ []) c.in-Rolling.p c.in-Rolling.rolling) (sym (c.take.ensures.pass.1 ∙ c.loop.invariant.number)) t.1)
+    let t = took_rolling (opening_of g.D.Disk.state c.args.turns.now.first) c.args.pass.now.number (w.0 ++ b.front) g.D.Disk.told g.D.Disk.state c.args.op.now c.take.new.pass.seen c.take.result k c.in-Rolling.driver c.in-Rolling.is in
+    (((w.0 ++ b.front) ++ t.0.later) ++ entry c.args.pass.now.number c.args.op.now Taken ∷ [], t.0.saw, subst (λ (n : ℕ). HasTaken g.D.Disk.told g.D.Disk.state (opening_of g.D.Disk.state c.args.turns.now.first) n c.args.op.now (((w.0 ++ b.front) ++ t.0.later) ++ entry c.args.pass.now.number c.args.op.now Taken ∷ []) c.in-Rolling.driver.value.p c.in-Rolling.driver.value.rolling) (sym (c.take.ensures.pass.1 ∙ c.loop.invariant.number)) t.1)
 
 pub returns-in-Rolling-clause-changed : goal.returns-in-Rolling-clause-changed
 returns-in-Rolling-clause-changed g c = λ h saw.
     let b = c.loop.invariant.mended h saw in
     let k = subst (λ (n : ℕ). TookIs g.D.Disk.told g.D.Disk.state (opening_of g.D.Disk.state c.args.turns.now.first) n (h ++ b.front) c.args.op.now c.take.new.pass.seen c.take.result) c.loop.invariant.number (c.take.ensures.took (h ++ b.front) b.saw) in
-    let t = took_rolling (opening_of g.D.Disk.state c.args.turns.now.first) c.args.pass.now.number (h ++ b.front) g.D.Disk.told g.D.Disk.state c.args.op.now c.take.new.pass.seen c.take.result k c.in-Rolling.p c.in-Rolling.rolling c.in-Rolling.is in
+    let t = took_rolling (opening_of g.D.Disk.state c.args.turns.now.first) c.args.pass.now.number (h ++ b.front) g.D.Disk.told g.D.Disk.state c.args.op.now c.take.new.pass.seen c.take.result k c.in-Rolling.driver c.in-Rolling.is in
     let d = mended_back (opening_of g.D.Disk.state c.args.turns.now.first) c.args.pass.now.number h c.loop.pass.seen c.take.new.pass.seen b (taken_passed (opening_of g.D.Disk.state c.args.turns.now.first) c.args.pass.now.number (h ++ b.front) c.args.op.now c.take.new.pass.seen t.0) in
     let r = subst (λ (n : ℕ). ChangedIs (opening_of g.D.Disk.state c.args.turns.now.first) n (h ++ d.front) c.args.op.now c.carry_out.new.pass.seen c.carry_out.result) (c.take.ensures.pass.1 ∙ c.loop.invariant.number) (c.carry_out.ensures.changed (h ++ d.front) d.saw) in
     changed_on (opening_of g.D.Disk.state c.args.turns.now.first) c.args.pass.now.number h c.args.op.now c.take.new.pass.seen c.carry_out.new.pass.seen d c.carry_out.result r
@@ -111,7 +111,7 @@ returns-in-Stopped-mend-clause-changed g c = λ h saw.
 
 pub returns-in-Rolling-clause-asked : goal.returns-in-Rolling-clause-asked
 returns-in-Rolling-clause-asked g c =
-    rolled_asked g.G.Gate.asked g.G.Gate.asked_on c.args.gate.now c.take.new.gate c.carry_out.new.gate c.loop.invariant.asked.0 (length (rest_of c.in-Rolling.rolling)) c.carry_out.result c.loop.invariant.asked.1 (g.G.Gate.asked_on c.args.gate.now c.loop.gate c.take.new.gate c.loop.invariant.asked.0 (Journal ∷ []) c.loop.invariant.asked.2 (subst (λ (x : Took g.row.D.Denot). g.G.Gate.asked c.loop.gate c.take.new.gate (asked_at_take x)) c.in-Rolling.is c.take.ensures.asked)) c.carry_out.ensures.asked
+    rolled_asked g.G.Gate.asked g.G.Gate.asked_on c.args.gate.now c.take.new.gate c.carry_out.new.gate c.loop.invariant.asked.0 (length (rest_of c.in-Rolling.driver.value.rolling)) c.carry_out.result c.loop.invariant.asked.1 (g.G.Gate.asked_on c.args.gate.now c.loop.gate c.take.new.gate c.loop.invariant.asked.0 (Journal ∷ []) c.loop.invariant.asked.2 (subst (λ (x : Took g.row.D.Denot). g.G.Gate.asked c.loop.gate c.take.new.gate (asked_at_take x)) c.in-Rolling.is c.take.ensures.asked)) c.carry_out.ensures.asked
 
 pub returns-in-Denied-clause-asked : goal.returns-in-Denied-clause-asked
 returns-in-Denied-clause-asked g c = denied_asked g.G.Gate.asked g.G.Gate.asked_on c.args.gate.now c.loop.gate c.take.new.gate c.loop.invariant.asked.0 c.loop.invariant.asked.1 c.loop.invariant.asked.2 c.in-Denied.cause (subst (λ (x : Took g.row.D.Denot). g.G.Gate.asked c.loop.gate c.take.new.gate (asked_at_take x)) c.in-Denied.is c.take.ensures.asked)

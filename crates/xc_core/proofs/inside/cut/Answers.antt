@@ -1,16 +1,18 @@
-use Rattle.std.proofs.Common.{[], ◌∷◌, ◌++◌, sym, ◌∙◌, ap, subst}
+use Rattle.std.proofs.Common.{true, [], ◌∷◌, ◌++◌, sym, ◌∙◌, ap, subst}
+use Rattle.std.specs.Box.{with_value}
 use Rattle.dxc_model.specs.declared.entry.Outcome.TheVariants.{Cut}
-use Rattle.xc_core.specs.declared.provisioner.Provisioner.{Provisioner}
-use Rattle.xc_core.specs.declared.state.Home.TheVariants.{In}
+use Rattle.xc_core.specs.declared.provisioner.Driver.{Driver}
 use Rattle.xc_core.specs.declared.state.State.{State}
+use Rattle.xc_core.specs.Provisioners.{Boxed, with_halt}
 use Rattle.xc_core.specs.Seeing.{entry}
-use Rattle.xc_core.specs.States.{StandsFor, with_home}
+use Rattle.xc_core.specs.States.{StandsFor}
 use Rattle.xc_core.proofs.Away.{stands_cut}
 use Rattle.xc_core.proofs.inside.cut.Goals as goal
 
 pub returns-clause-cut : goal.returns-clause-cut
 returns-clause-cut g c = λ o own h op r st t.
     let s = c.args.state.now in
-    let final = c.bring_home.ensures ∙ ap (λ (q : Provisioner g.row.D.Denot). with_home (In q) s) c.halt.ensures in
-    subst (λ (x : State g.row.D.Denot). StandsFor g.D.Disk.told g.D.Disk.state o x (h ++ entry own op Cut ∷ [])) (sym final)
-    (stands_cut g.D.Disk.told g.D.Disk.state o s h st own op c.args.p r t (g.met.D.Disk.counts_on c.args.p.journal.0))
+    let p = c.args.driver.value.p in
+    let left : Boxed g.row.D.Denot = with_value c.args.driver (record { p = c.halt.new.p; rolling = c.deref_mut.result.now.rolling }) in
+    subst (λ (x : State g.row.D.Denot). StandsFor g.D.Disk.told g.D.Disk.state o x (h ++ entry own op Cut ∷ [])) (sym c.bring_home.ensures)
+    (stands_cut g.D.Disk.told g.D.Disk.state o s h st own op p r t (g.met.D.Disk.counts_on p.journal.0) left (c.halt.ensures ∙ ap (λ (x : Driver g.row.D.Denot). with_halt true x.p) c.deref_mut.ensures.value))

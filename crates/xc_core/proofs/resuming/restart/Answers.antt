@@ -1,57 +1,107 @@
 use Rattle.std.proofs.Common.{refl, sym, ◌∙◌, ap, subst, inl, inr}
+use Rattle.std.specs.Box.{with_value}
 use Rattle.dxc_model.specs.declared.cause.Cause.TheVariants.{DiskFault, JournalAstray}
+use Rattle.xc_core.specs.declared.provisioner.Driver.{Driver}
 use Rattle.xc_core.specs.declared.provisioner.Provisioner.{Provisioner}
 use Rattle.xc_core.specs.declared.restarts.Restarting.TheVariants as restarting
 use Rattle.xc_core.specs.declared.state.Home.TheVariants.{In}
 use Rattle.xc_core.specs.declared.state.State.{State}
+use Rattle.xc_core.specs.Provisioners.{Boxed}
 use Rattle.xc_core.specs.States.{with_home}
 use Rattle.xc_core.specs.Turns.{RestartingIs}
 use Rattle.xc_core.proofs.Restored.{found_home, may_recover, was_astray, was_faulty, was_resumed, was_stopped, was_unsettled}
-use Rattle.xc_core.proofs.Within.{stands_back}
+use Rattle.xc_core.proofs.Within.{held_home, stands_back}
 use Rattle.xc_core.proofs.resuming.restart.Goals as goal
 
 pub make_halted-requires : goal.make_halted-requires
-make_halted-requires g c = let w = c.requires.stands in record { home = found_home g.D.Disk.told g.D.Disk.state g.met.D.Disk.counts_on w.0 c.args.state.now w.1 w.2 c.in-Some.p c.in-Some.ensures.found }
+make_halted-requires g c =
+    let w = c.requires.stands in
+    let s = c.args.state.now in
+    let v : Driver g.row.D.Denot = c.deref_mut-held.result.now in
+    let is = held_home g.D.Disk.told g.D.Disk.state g.met.D.Disk.counts_on w.0 s w.1 w.2 c.in-Some.driver v c.deref_mut-held.ensures.value c.in-Some.ensures.found in
+    record { home = found_home g.D.Disk.told g.D.Disk.state g.met.D.Disk.counts_on w.0 s w.1 w.2 (with_value c.in-Some.driver v) is }
 
 pub returns-then-not-goes_for-clause-restarting : goal.returns-then-not-goes_for-clause-restarting
 returns-then-not-goes_for-clause-restarting g c = λ o own h st.
-    let final = c.bring_home.ensures ∙ ap (λ (x : State g.row.D.Denot). with_home (In c.in-Some.p) x) c.take_out.ensures.state in
+    let s = c.args.state.now in
+    let driver = c.in-Some.driver in
+    let v : Driver g.row.D.Denot = c.deref_mut-held.result.now in
+    let held : Boxed g.row.D.Denot = with_value driver v in
+    let is = held_home g.D.Disk.told g.D.Disk.state g.met.D.Disk.counts_on o s h st driver v c.deref_mut-held.ensures.value c.in-Some.ensures.found in
+    let final = c.bring_home.ensures ∙ ap (λ (x : State g.row.D.Denot). with_home (In held) x) c.take_out.ensures.state in
     subst (λ (x : State g.row.D.Denot). RestartingIs g.D.Disk.told g.D.Disk.state o own h c.args.asked.now x restarting.Waits) (sym final)
-    (stands_back g.D.Disk.told g.D.Disk.state g.met.D.Disk.counts_on o c.args.state.now h st (In c.in-Some.p) c.in-Some.ensures.found)
+    (stands_back g.D.Disk.told g.D.Disk.state g.met.D.Disk.counts_on o s h st (In held) is)
 
 pub returns-in-Err-clause-restarting : goal.returns-in-Err-clause-restarting
 returns-in-Err-clause-restarting g c = λ o own h st.
-    let final = c.bring_home-in-Err.ensures ∙ ap (λ (x : State g.row.D.Denot). with_home (In c.make_halted.new.p) x) c.take_out.ensures.state in
+    let s = c.args.state.now in
+    let driver = c.in-Some.driver in
+    let v : Driver g.row.D.Denot = c.deref_mut-held.result.now in
+    let held : Boxed g.row.D.Denot = with_value driver v in
+    let is = held_home g.D.Disk.told g.D.Disk.state g.met.D.Disk.counts_on o s h st driver v c.deref_mut-held.ensures.value c.in-Some.ensures.found in
+    let left : Boxed g.row.D.Denot = with_value driver (record { p = c.make_halted.new.p; rolling = v.rolling }) in
+    let final = c.bring_home-in-Err.ensures ∙ ap (λ (x : State g.row.D.Denot). with_home (In left) x) c.take_out.ensures.state in
     subst (λ (x : State g.row.D.Denot). RestartingIs g.D.Disk.told g.D.Disk.state o own h c.args.asked.now x (restarting.Failed DiskFault)) (sym final)
-    (was_unsettled g.D.Disk.told g.D.Disk.state g.met.D.Disk.counts_on o c.args.state.now h st c.in-Some.p c.in-Some.ensures.found c.make_halted.new.p c.make_halted.ensures.ground c.make_halted.ensures.doubt c.make_halted.ensures.cause.later c.make_halted.ensures.room own c.args.asked.now c.requires.asked (c.if-not-goes_for.ensures.0 refl) c.in-Err.ensures.unsettled (c.in-Err.ensures.cause.cause refl))
+    (was_unsettled g.D.Disk.told g.D.Disk.state g.met.D.Disk.counts_on o s h st held is c.make_halted.new.p c.make_halted.ensures.ground c.make_halted.ensures.doubt c.make_halted.ensures.cause.later c.make_halted.ensures.room own c.args.asked.now c.requires.asked (c.if-not-goes_for.ensures.0 refl) c.in-Err.ensures.unsettled (c.in-Err.ensures.cause.cause refl) left refl)
 
 pub recover-requires-clause-halted : goal.recover-requires-clause-halted
 recover-requires-clause-halted g c =
     let w = c.requires.stands in
-    may_recover g.D.Disk.told g.D.Disk.state g.met.D.Disk.counts_on w.0 c.args.state.now w.1 w.2 c.in-Some.p c.in-Some.ensures.found c.make_halted.new.p c.make_halted.ensures.ground c.make_halted.ensures.doubt c.make_halted.ensures.cause.later c.make_halted.ensures.room 0 c.args.asked.now c.requires.asked (c.if-not-goes_for.ensures.0 refl) c.in-Ok.ensures.halted c.take_out.new.self.table (ap (λ (x : State g.row.D.Denot). x.table) c.take_out.ensures.state)
+    let s = c.args.state.now in
+    let v : Driver g.row.D.Denot = c.deref_mut-held.result.now in
+    let is = held_home g.D.Disk.told g.D.Disk.state g.met.D.Disk.counts_on w.0 s w.1 w.2 c.in-Some.driver v c.deref_mut-held.ensures.value c.in-Some.ensures.found in
+    may_recover g.D.Disk.told g.D.Disk.state g.met.D.Disk.counts_on w.0 s w.1 w.2 (with_value c.in-Some.driver v) is c.make_halted.new.p c.make_halted.ensures.ground c.make_halted.ensures.doubt c.make_halted.ensures.cause.later c.make_halted.ensures.room 0 c.args.asked.now c.requires.asked (c.if-not-goes_for.ensures.0 refl) c.in-Ok.ensures.halted c.take_out.new.self.table (ap (λ (x : State g.row.D.Denot). x.table) c.take_out.ensures.state)
 
 pub returns-in-Warm-clause-restarting : goal.returns-in-Warm-clause-restarting
 returns-in-Warm-clause-restarting g c = λ o own h st.
-    subst (λ (x : State g.row.D.Denot). RestartingIs g.D.Disk.told g.D.Disk.state o own h c.args.asked.now x (restarting.Rolling c.recover.new.p c.in-Warm.rolling)) (sym c.take_out.ensures.state)
-    (was_resumed g.D.Disk.told g.D.Disk.state g.met.D.Disk.counts_on o c.args.state.now h st c.in-Some.p c.in-Some.ensures.found c.make_halted.new.p c.make_halted.ensures.ground c.make_halted.ensures.doubt c.make_halted.ensures.cause.later c.make_halted.ensures.room own c.args.asked.now c.requires.asked (c.if-not-goes_for.ensures.0 refl) c.in-Ok.ensures.halted c.recover.new.p c.recover.ensures.ground (ap (λ (x : Provisioner g.row.D.Denot). x.doubt) c.recover.ensures.others) c.recover.ensures.fault.later c.recover.ensures.room (λ b halted folds same. c.recover.ensures.halted b halted folds (same ∙ sym (ap (λ (x : State g.row.D.Denot). x.table) c.take_out.ensures.state))) c.in-Warm.rolling (λ b halted folds same. c.in-Warm.ensures.resumes b halted folds (same ∙ sym (ap (λ (x : State g.row.D.Denot). x.table) c.take_out.ensures.state))))
+    let s = c.args.state.now in
+    let driver = c.in-Some.driver in
+    let v : Driver g.row.D.Denot = c.deref_mut-held.result.now in
+    let held : Boxed g.row.D.Denot = with_value driver v in
+    let is = held_home g.D.Disk.told g.D.Disk.state g.met.D.Disk.counts_on o s h st driver v c.deref_mut-held.ensures.value c.in-Some.ensures.found in
+    let same = ap (λ (x : State g.row.D.Denot). x.table) c.take_out.ensures.state in
+    let left : Boxed g.row.D.Denot = with_value driver (record { p = c.recover.new.p; rolling = c.in-Warm.rolling }) in
+    subst (λ (x : State g.row.D.Denot). RestartingIs g.D.Disk.told g.D.Disk.state o own h c.args.asked.now x (restarting.Rolling left)) (sym c.take_out.ensures.state)
+    (was_resumed g.D.Disk.told g.D.Disk.state g.met.D.Disk.counts_on o s h st held is c.make_halted.new.p c.make_halted.ensures.ground c.make_halted.ensures.doubt c.make_halted.ensures.cause.later c.make_halted.ensures.room own c.args.asked.now c.requires.asked (c.if-not-goes_for.ensures.0 refl) c.in-Ok.ensures.halted left c.recover.ensures.ground (ap (λ (x : Provisioner g.row.D.Denot). x.doubt) c.recover.ensures.others) c.recover.ensures.fault.later c.recover.ensures.room (λ b halted folds table. c.recover.ensures.halted b halted folds (table ∙ sym same)) (λ b halted folds table. c.in-Warm.ensures.resumes b halted folds (table ∙ sym same)))
 
 pub returns-in-Cold-clause-restarting : goal.returns-in-Cold-clause-restarting
 returns-in-Cold-clause-restarting g c = λ o own h st.
-    let final = c.bring_home-in-Cold.ensures ∙ ap (λ (x : State g.row.D.Denot). with_home (In c.recover.new.p) x) c.take_out.ensures.state in
+    let s = c.args.state.now in
+    let driver = c.in-Some.driver in
+    let v : Driver g.row.D.Denot = c.deref_mut-held.result.now in
+    let held : Boxed g.row.D.Denot = with_value driver v in
+    let is = held_home g.D.Disk.told g.D.Disk.state g.met.D.Disk.counts_on o s h st driver v c.deref_mut-held.ensures.value c.in-Some.ensures.found in
+    let same = ap (λ (x : State g.row.D.Denot). x.table) c.take_out.ensures.state in
+    let left : Boxed g.row.D.Denot = with_value driver (record { p = c.recover.new.p; rolling = v.rolling }) in
+    let final = c.bring_home-in-Cold.ensures ∙ ap (λ (x : State g.row.D.Denot). with_home (In left) x) c.take_out.ensures.state in
     subst (λ (x : State g.row.D.Denot). RestartingIs g.D.Disk.told g.D.Disk.state o own h c.args.asked.now x (restarting.Failed JournalAstray)) (sym final)
-    (was_astray g.D.Disk.told g.D.Disk.state g.met.D.Disk.counts_on o c.args.state.now h st c.in-Some.p c.in-Some.ensures.found c.make_halted.new.p c.make_halted.ensures.ground c.make_halted.ensures.doubt c.make_halted.ensures.cause.later c.make_halted.ensures.room own c.args.asked.now c.requires.asked (c.if-not-goes_for.ensures.0 refl) c.in-Ok.ensures.halted c.recover.new.p c.recover.ensures.ground (ap (λ (x : Provisioner g.row.D.Denot). x.doubt) c.recover.ensures.others) c.recover.ensures.fault.later c.recover.ensures.room (λ b halted folds same. c.recover.ensures.halted b halted folds (same ∙ sym (ap (λ (x : State g.row.D.Denot). x.table) c.take_out.ensures.state))) (λ t. elim c.in-Cold.is [ inl x ↦ c.recover.ensures.warm t x.0 x.1 | inr x ↦ c.recover.ensures.astray t x.0 x.1 ]))
+    (was_astray g.D.Disk.told g.D.Disk.state g.met.D.Disk.counts_on o s h st held is c.make_halted.new.p c.make_halted.ensures.ground c.make_halted.ensures.doubt c.make_halted.ensures.cause.later c.make_halted.ensures.room own c.args.asked.now c.requires.asked (c.if-not-goes_for.ensures.0 refl) c.in-Ok.ensures.halted left c.recover.ensures.ground (ap (λ (x : Provisioner g.row.D.Denot). x.doubt) c.recover.ensures.others) c.recover.ensures.fault.later c.recover.ensures.room (λ b halted folds table. c.recover.ensures.halted b halted folds (table ∙ sym same)) (λ t. elim c.in-Cold.is [ inl x ↦ c.recover.ensures.warm t x.0 x.1 | inr x ↦ c.recover.ensures.astray t x.0 x.1 ]))
 
 pub returns-in-Fault-clause-restarting : goal.returns-in-Fault-clause-restarting
 returns-in-Fault-clause-restarting g c = λ o own h st.
-    let final = c.bring_home-in-Fault.ensures ∙ ap (λ (x : State g.row.D.Denot). with_home (In c.recover.new.p) x) c.take_out.ensures.state in
+    let s = c.args.state.now in
+    let driver = c.in-Some.driver in
+    let v : Driver g.row.D.Denot = c.deref_mut-held.result.now in
+    let held : Boxed g.row.D.Denot = with_value driver v in
+    let is = held_home g.D.Disk.told g.D.Disk.state g.met.D.Disk.counts_on o s h st driver v c.deref_mut-held.ensures.value c.in-Some.ensures.found in
+    let same = ap (λ (x : State g.row.D.Denot). x.table) c.take_out.ensures.state in
+    let left : Boxed g.row.D.Denot = with_value driver (record { p = c.recover.new.p; rolling = v.rolling }) in
+    let final = c.bring_home-in-Fault.ensures ∙ ap (λ (x : State g.row.D.Denot). with_home (In left) x) c.take_out.ensures.state in
     subst (λ (x : State g.row.D.Denot). RestartingIs g.D.Disk.told g.D.Disk.state o own h c.args.asked.now x (restarting.Failed DiskFault)) (sym final)
-    (was_faulty g.D.Disk.told g.D.Disk.state g.met.D.Disk.counts_on o c.args.state.now h st c.in-Some.p c.in-Some.ensures.found c.make_halted.new.p c.make_halted.ensures.ground c.make_halted.ensures.doubt c.make_halted.ensures.cause.later c.make_halted.ensures.room own c.args.asked.now c.requires.asked (c.if-not-goes_for.ensures.0 refl) c.in-Ok.ensures.halted c.recover.new.p c.recover.ensures.ground (ap (λ (x : Provisioner g.row.D.Denot). x.doubt) c.recover.ensures.others) c.recover.ensures.fault.later c.recover.ensures.room (λ b halted folds same. c.recover.ensures.halted b halted folds (same ∙ sym (ap (λ (x : State g.row.D.Denot). x.table) c.take_out.ensures.state))) (c.in-Fault.ensures.fault.cause refl))
+    (was_faulty g.D.Disk.told g.D.Disk.state g.met.D.Disk.counts_on o s h st held is c.make_halted.new.p c.make_halted.ensures.ground c.make_halted.ensures.doubt c.make_halted.ensures.cause.later c.make_halted.ensures.room own c.args.asked.now c.requires.asked (c.if-not-goes_for.ensures.0 refl) c.in-Ok.ensures.halted left c.recover.ensures.ground (ap (λ (x : Provisioner g.row.D.Denot). x.doubt) c.recover.ensures.others) c.recover.ensures.fault.later c.recover.ensures.room (λ b halted folds table. c.recover.ensures.halted b halted folds (table ∙ sym same)) (c.in-Fault.ensures.fault.cause refl))
 
 pub returns-in-Stopped-clause-restarting : goal.returns-in-Stopped-clause-restarting
 returns-in-Stopped-clause-restarting g c = λ o own h st.
-    let final = c.bring_home-in-Stopped.ensures ∙ ap (λ (x : State g.row.D.Denot). with_home (In c.recover.new.p) x) c.take_out.ensures.state in
+    let s = c.args.state.now in
+    let driver = c.in-Some.driver in
+    let v : Driver g.row.D.Denot = c.deref_mut-held.result.now in
+    let held : Boxed g.row.D.Denot = with_value driver v in
+    let is = held_home g.D.Disk.told g.D.Disk.state g.met.D.Disk.counts_on o s h st driver v c.deref_mut-held.ensures.value c.in-Some.ensures.found in
+    let same = ap (λ (x : State g.row.D.Denot). x.table) c.take_out.ensures.state in
+    let left : Boxed g.row.D.Denot = with_value driver (record { p = c.recover.new.p; rolling = v.rolling }) in
+    let final = c.bring_home-in-Stopped.ensures ∙ ap (λ (x : State g.row.D.Denot). with_home (In left) x) c.take_out.ensures.state in
     subst (λ (x : State g.row.D.Denot). RestartingIs g.D.Disk.told g.D.Disk.state o own h c.args.asked.now x restarting.Stopped) (sym final)
-    (was_stopped g.D.Disk.told g.D.Disk.state g.met.D.Disk.counts_on o c.args.state.now h st c.in-Some.p c.in-Some.ensures.found c.make_halted.new.p c.make_halted.ensures.ground c.make_halted.ensures.doubt c.make_halted.ensures.cause.later c.make_halted.ensures.room own c.args.asked.now c.requires.asked (c.if-not-goes_for.ensures.0 refl) c.in-Ok.ensures.halted c.recover.new.p c.recover.ensures.ground (ap (λ (x : Provisioner g.row.D.Denot). x.doubt) c.recover.ensures.others) c.recover.ensures.fault.later c.recover.ensures.room (λ b halted folds same. c.recover.ensures.halted b halted folds (same ∙ sym (ap (λ (x : State g.row.D.Denot). x.table) c.take_out.ensures.state))))
+    (was_stopped g.D.Disk.told g.D.Disk.state g.met.D.Disk.counts_on o s h st held is c.make_halted.new.p c.make_halted.ensures.ground c.make_halted.ensures.doubt c.make_halted.ensures.cause.later c.make_halted.ensures.room own c.args.asked.now c.requires.asked (c.if-not-goes_for.ensures.0 refl) c.in-Ok.ensures.halted left c.recover.ensures.ground (ap (λ (x : Provisioner g.row.D.Denot). x.doubt) c.recover.ensures.others) c.recover.ensures.fault.later c.recover.ensures.room (λ b halted folds table. c.recover.ensures.halted b halted folds (table ∙ sym same)))
 
 pub returns-in-Err-clause-asked : goal.returns-in-Err-clause-asked
 returns-in-Err-clause-asked g c = inl (g.G.Gate.unasked c.args.gate.now)
