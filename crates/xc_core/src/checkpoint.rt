@@ -1,12 +1,11 @@
 //! Writes a table and its legs into the area of the journal that isn't current, and turns to it.
-ghost use Rattle.std.specs.Prelude.{◌≡◌, ◌≤◌, ℕ, true, false, length, Option, OnErr, OnOk, IsErr};
+ghost use Rattle.std.specs.Prelude.{◌≡◌, ℕ, [], true, false, length, Option, OnErr, OnOk, IsErr};
 ghost use Rattle.std.specs.List.{AllByRecursion};
 ghost use Rattle.dxc_causes.specs.Causes.{HasCause};
 ghost use Rattle.dxc_disk.specs.Disks.{IsSound, LeavesOnly, Spends};
 ghost use Rattle.dxc_model.specs.declared.op.Op.{Op};
-ghost use Rattle.journal_core.specs.declared.spare.Spare.TheVariants.{Drafted};
-ghost use Rattle.journal_core.specs.Books.{IsReady, draft_of, is_drafted};
-ghost use Rattle.journal_core.specs.Turns.{Drafts};
+ghost use Rattle.journal_core.specs.declared.spare.Spare.TheVariants.{Drafted, Open};
+ghost use Rattle.journal_core.specs.Books.{IsReady, IsWhole, draft_of, is_drafted, rows};
 ghost use Rattle.xc_journal.specs.Entries.{FitsConn};
 ghost use Rattle.xc_recovery.specs.Placings.{IsPlaced};
 ghost use Rattle.xc_recovery.specs.Rows.{checkpoint};
@@ -26,19 +25,28 @@ fn add_rows<D: Disk>(
     matrix: &Matrix,
 ) -> Result<(), DiskFault>
     requires placed { IsPlaced table.now matrix.now }
+    requires shape { table.now.shape ≡ journal.old.1.shape }
     requires drafted { is_drafted journal.old.1.spare ≡ true }
-    requires empty { (draft_of journal.old.1.spare).rows ≡ 0 }
-    ensures drafts { D.told → Drafts (D.state journal.old.0) (D.state journal.new.0) journal.old.1 journal.new.1 result (checkpoint table.now matrix.now) }
+    requires none { (draft_of journal.old.1.spare).rows ≡ 0 }
+    requires empty { D.told → rows journal.old.1 (D.state journal.old.0).reads_as ≡ [] }
     ensures ok { OnOk result (journal.new.1 ≡ record journal.old.1 { spare = Drafted (record { equipped = (draft_of journal.old.1.spare).equipped; rows = length (checkpoint table.now matrix.now) }) }) }
-    ensures err { OnErr result ((journal.new.1 ≡ record journal.old.1 { spare = journal.new.1.spare }) × (is_drafted journal.new.1.spare ≡ false)) }
-    ensures few { length (checkpoint table.now matrix.now) ≤ 6_145 }
+    ensures err { OnErr result (journal.new.1 ≡ record journal.old.1 { spare = Open }) }
+    ensures rows { D.told → OnOk result (rows journal.new.1 (D.state journal.new.0).reads_as ≡ checkpoint table.now matrix.now) }
+    ensures whole { IsWhole journal.new.1 }
+    ensures home { (b : Past) → (doubt : Option Op) → IsAtHome D.told (D.state journal.old.0) journal.old.1 b doubt → IsAtHome D.told (D.state journal.new.0) journal.new.1 b doubt }
+    ensures any_moment { D.told → (b : Past) → (doubt : Option Op) → IsAtHome D.told (D.state journal.old.0) journal.old.1 b doubt → IsTable b table.now matrix.now → LeavesOnly (D.state journal.old.0) (D.state journal.new.0) (IsOldOrDoubted b doubt) }
     ensures cause { HasCause (D.state journal.old.0).faults (D.state journal.new.0).faults (IsErr result) }
     ensures room { Spends 405_570 (D.state journal.old.0) (D.state journal.new.0) }
     ensures sound { IsSound 405_570 (D.state journal.old.0) → IsErr result → ⊥ }
 {
+    // Its clause tells what a journal always keeps.
+    let _count = journal.count();
     let mut i = 0;
     while let Some(row) = checkpoint_row(table, matrix, i) {
-        journal.add_row(&row)?;
+        match journal.add_row(&row) {
+            Ok(()) => {}
+            Err(DiskFault) => return Err(DiskFault),
+        }
         i += 1;
     }
     Ok(())
@@ -58,13 +66,20 @@ pub(crate) fn write_checkpoint<D: Disk>(
     ensures home { (b : Past) → (doubt : Option Op) → IsAtHome D.told (D.state journal.old.0) journal.old.1 b doubt → IsTable b table.now matrix.now → IsAtHome D.told (D.state journal.new.0) journal.new.1 b doubt }
     ensures ready { OnOk result (IsReady journal.new.1) }
     ensures shape { journal.new.1.shape ≡ journal.old.1.shape }
+    ensures book { IsWhole journal.new.1 }
     ensures whole { journal.old.1.to_mend ≡ false → journal.new.1.to_mend ≡ false }
     ensures any_moment { D.told → (b : Past) → (doubt : Option Op) → IsAtHome D.told (D.state journal.old.0) journal.old.1 b doubt → IsTable b table.now matrix.now → LeavesOnly (D.state journal.old.0) (D.state journal.new.0) (IsOldOrDoubted b doubt) }
     ensures cause { HasCause (D.state journal.old.0).faults (D.state journal.new.0).faults (IsErr result) }
     ensures room { Spends 4_600_042 (D.state journal.old.0) (D.state journal.new.0) }
     ensures sound { IsSound 4_600_042 (D.state journal.old.0) → IsErr result → ⊥ }
 {
-    journal.begin_area(checkpoint_equipment(table))?;
-    add_rows(journal, table, matrix)?;
+    match journal.begin_area(checkpoint_equipment(table)) {
+        Ok(()) => {}
+        Err(DiskFault) => return Err(DiskFault),
+    }
+    match add_rows(journal, table, matrix) {
+        Ok(()) => {}
+        Err(DiskFault) => return Err(DiskFault),
+    }
     journal.turn()
 }
