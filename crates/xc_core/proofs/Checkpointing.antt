@@ -1,20 +1,18 @@
 -- A journal while a checkpoint is written, and turned to.
-use Rattle.std.proofs.Common.{◌≡◌, ℕ, ◌+◌, ◌≤◌, true, false, List, [], ◌∷◌, Option, refl, sym, ◌∙◌, ap, subst}
+use Rattle.std.proofs.Common.{◌≡◌, true, false, List, Option, refl, sym, ◌∙◌, ap, subst}
 use Rattle.std.specs.Prelude.{Result, Ok, Err}
 use Rattle.std.specs.List.{AllByRecursion}
-use Rattle.dxc_num.specs.Dimensions.{Dimensions}
 use Rattle.dxc_disk.specs.Disks.{DiskState, LeavesOnly}
 use Rattle.dxc_model.specs.declared.op.Op.{Op}
 use Rattle.dxc_model.specs.Equipment.{modules_in}
 use Rattle.dxc_model.specs.Tables.{Board, IsOfShape}
 use Rattle.journal_core.specs.declared.book.Book.{Book}
 use Rattle.journal_core.specs.declared.head.Head.{Head}
-use Rattle.journal_core.specs.declared.spare.Draft.{Draft}
 use Rattle.journal_core.specs.declared.spare.Spare.{Spare}
 use Rattle.journal_core.specs.declared.spare.Spare.TheVariants.{Older, Drafted, Tried}
 use Rattle.journal_core.specs.declared.version.Version.TheVariants.{Two}
 use Rattle.journal_core.specs.Headers.{next_generation}
-use Rattle.journal_core.specs.Books.{draft_of, is_drafted, is_tried, listed, next_head, rows, turned}
+use Rattle.journal_core.specs.Books.{draft_of, is_drafted, is_tried, next_head, rows, turned}
 use Rattle.journal_core.specs.Turns.{Drafts, Turns}
 use Rattle.journal_core.proofs.HeaderSteps.{never}
 use Rattle.journal_core.proofs.KeepSteps.{only_weaker}

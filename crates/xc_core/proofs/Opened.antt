@@ -1,10 +1,10 @@
 -- A start of the controller: the disk's journal, its replay, and the joins of all legs.
-use Rattle.std.proofs.Common.{◌≡◌, ◌≢◌, ◌⊎◌, inl, inr, ⊎_elim, ℕ, ◌-◌, ◌<◌, ◌≤◌, ◌^◌, append-nil, length-append, true, false, List, [], ◌++◌, length, None, Some, Result, Ok, Err, refl, sym, ◌∙◌, ap, subst, arith}
+use Rattle.std.proofs.Common.{◌≡◌, ◌≢◌, ◌⊎◌, inl, inr, ⊎_elim, ℕ, ◌-◌, ◌<◌, ◌≤◌, ◌^◌, append-nil, length-append, false, List, [], ◌++◌, length, None, Some, Result, Ok, Err, refl, sym, ◌∙◌, ap, subst, arith}
 use Rattle.std.specs.Prelude.{replicate, slice_index}
 use Rattle.std.proofs.lemmas.List.{length-replicate, length-take}
 use Rattle.std.proofs.lemmas.Bool.Decides.{leb_tells}
 use Rattle.dxc_num.specs.Dimensions.{Dimensions, IsInLimits, ports}
-use Rattle.dxc_disk.specs.Disks.{DiskState, IsDisk, IsSettled, LeavesOnly, Looks}
+use Rattle.dxc_disk.specs.Disks.{DiskState, IsDisk, IsSettled, Looks}
 use Rattle.dxc_disk.proofs.LookSteps.{looks_settled}
 use Rattle.dxc_model.specs.Tables.{Board}
 use Rattle.dxc_model.specs.Histories.{IsCut, IsRestarted}

@@ -1,9 +1,8 @@
 -- A journal that is mended.
-use Rattle.std.proofs.Common.{◌≡◌, ℕ, true, false, List, Option, None, Some, refl, sym, ap, ◌∙◌}
+use Rattle.std.proofs.Common.{◌≡◌, false, None, sym, ap, ◌∙◌}
 use Rattle.std.specs.Prelude.{Result, Ok, Err}
 use Rattle.dxc_disk.specs.Disks.{DiskState, LeavesOnly}
 use Rattle.journal_core.specs.declared.book.Book.{Book}
-use Rattle.journal_core.specs.declared.head.Head.{Head}
 use Rattle.journal_core.specs.Books.{IsWhole, is_tried, next_head}
 use Rattle.journal_core.specs.Turns.{Mends}
 use Rattle.journal_core.proofs.HeaderSteps.{never}

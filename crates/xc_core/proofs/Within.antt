@@ -1,8 +1,7 @@
 -- What a turn does with the state.
-use Rattle.std.proofs.Common.{◌≡◌, ◌≢◌, ◌≤◌, ℕ, arith, true, false, List, [], ◌∷◌, ◌++◌, refl, sym, ◌∙◌, ap, subst, inl, inr}
+use Rattle.std.proofs.Common.{◌≡◌, ◌≢◌, ◌≤◌, ℕ, true, false, List, [], ◌∷◌, ◌++◌, refl, sym, ◌∙◌, ap, subst, inl, inr}
 use Rattle.dxc_causes.specs.Causes.{Rose}
 use Rattle.dxc_disk.specs.Disks.{CountsOn, DiskState, Spends}
-use Rattle.dxc_disk.proofs.DiskSteps.{spends_more}
 use Rattle.dxc_model.specs.declared.cause.Cause.{Cause}
 use Rattle.dxc_model.specs.declared.cause.Cause.TheVariants.{DiskFault, NoMiddle, SwitchLimit, JournalAstray}
 use Rattle.dxc_model.specs.declared.op.Op.{Op}
