@@ -1,5 +1,5 @@
 -- A journal while a checkpoint is written, and turned to.
-use Rattle.std.proofs.Common.{◌≡◌, true, false, List, Option, refl, sym, ◌∙◌, ap, subst}
+use Rattle.std.proofs.Common.{◌≡◌, ℕ, true, false, List, Option, refl, sym, ◌∙◌, ap, subst}
 use Rattle.std.specs.Prelude.{Result, Ok, Err}
 use Rattle.std.specs.List.{AllByRecursion}
 use Rattle.dxc_disk.specs.Disks.{DiskState, LeavesOnly}
