@@ -1,15 +1,21 @@
 -- A journal while a checkpoint is written, and turned to.
-use Rattle.std.proofs.Common.{◌≡◌, ℕ, true, false, List, Option, refl, sym, ◌∙◌, ap, subst}
+use Rattle.std.proofs.Common.{◌≡◌, ℕ, zero, suc, ◌+◌, ◌≤◌, true, false, List, [], ◌∷◌, ◌++◌, length, length-append, map, take, Option, Some, None, refl, sym, ◌∙◌, ap, subst, arith}
+use Rattle.std.specs.Prelude.{slice_get, slice_index}
+use Rattle.std.proofs.lemmas.List.{length-map, slice_get_within}
 use Rattle.std.specs.Prelude.{Result, Ok, Err}
 use Rattle.std.specs.List.{AllByRecursion}
+use Rattle.dxc_num.specs.declared.port.Middle.{Middle}
+use Rattle.dxc_num.specs.Dimensions.{IsInLimits}
 use Rattle.dxc_disk.specs.Disks.{DiskState, LeavesOnly}
+use Rattle.dxc_model.specs.declared.conn.Conn.{Conn}
+use Rattle.dxc_model.proofs.Keeping.{room_of}
 use Rattle.dxc_model.specs.declared.op.Op.{Op}
 use Rattle.dxc_model.specs.Equipment.{modules_in}
 use Rattle.dxc_model.specs.Tables.{Board, IsOfShape}
 use Rattle.journal_core.specs.declared.book.Book.{Book}
 use Rattle.journal_core.specs.declared.head.Head.{Head}
 use Rattle.journal_core.specs.declared.spare.Spare.{Spare}
-use Rattle.journal_core.specs.declared.spare.Spare.TheVariants.{Older, Drafted, Tried}
+use Rattle.journal_core.specs.declared.spare.Spare.TheVariants.{Older, Open, Drafted, Tried}
 use Rattle.journal_core.specs.declared.version.Version.TheVariants.{Two}
 use Rattle.journal_core.specs.Headers.{next_generation}
 use Rattle.journal_core.specs.Books.{draft_of, is_drafted, is_tried, next_head, rows, turned}
@@ -19,10 +25,11 @@ use Rattle.journal_core.proofs.KeepSteps.{only_weaker}
 use Rattle.paull_matrix.specs.Colourings.{Colouring}
 use Rattle.xc_journal.specs.Entries.{FitsConn}
 use Rattle.xc_recovery.specs.Placings.{IsPlaced}
-use Rattle.xc_recovery.specs.Rows.{checkpoint}
+use Rattle.xc_recovery.specs.Rows.{checkpoint, out_rows, row_of}
 use Rattle.xc_recovery.proofs.Rowing.{checkpoints_stand}
 use Rattle.xc_core.specs.Reckonings.{IsTable, Past}
 use Rattle.xc_core.specs.Journals.{IsAtHome, IsOldOrDoubted, IsSoFar}
+use Rattle.xc_core.proofs.Granting.{few_ports}
 use Rattle.xc_core.proofs.Journalling.{doubts_on, home_on, may_called, may_stand}
 
 -- the header of a checkpoint, by what it is of
@@ -94,3 +101,53 @@ module _ (told : Type 0) (old new : DiskState) (before after : Book) (b : Past) 
       (λ marked. let d = home.doubts marked in record { op = d.op; asked = d.asked; bytes = d.bytes; is = d.is; version = d.version; reads = d.reads })
       (λ _. lines t))
       turns.any_moment
+
+-- at most one row takes a middle out, and one enters each connection
+out_few : (o : Option Middle) → length (out_rows o) ≤ 1
+out_few None = omega arith
+out_few (Some m) = omega arith
+
+pub rows_few : (t : Board) (c : Colouring) → IsInLimits t.shape → IsPlaced t c → IsOfShape t → length (checkpoint t c) ≤ 6145
+rows_few t c limits placed of_shape =
+    let room = room_of t placed.table of_shape in
+    let ports_few = few_ports t.shape limits in
+    let conns = length-map t.conns (row_of c) in
+    let whole = length-append (out_rows t.out) (map (row_of c) t.conns) in
+    let one = out_few t.out in
+    omega (arith, room, ports_few, conns, whole, one)
+
+-- each row is sealed
+abbrev IsSealed : List ℕ → Type 0
+IsSealed bytes = slice_index bytes 0 ≡ 165
+
+conns_sealed : (c : Colouring) (ks : List Conn) → AllByRecursion IsSealed (map (row_of c) ks)
+conns_sealed c [] = tt
+conns_sealed c (k ∷ ks) = (refl, conns_sealed c ks)
+
+all_sealed : (c : Colouring) (o : Option Middle) (ks : List Conn) → AllByRecursion IsSealed (out_rows o ++ map (row_of c) ks)
+all_sealed c None ks = conns_sealed c ks
+all_sealed c (Some m) ks = (refl, conns_sealed c ks)
+
+sealed_at : (rs : List (List ℕ)) (i : ℕ) (row : List ℕ) → AllByRecursion IsSealed rs → slice_get rs i ≡ Some row → IsSealed row
+sealed_at [] i row all at = let low = slice_get_within [] i row at in absurd (let z : ⊥ = omega arith in z)
+sealed_at (r ∷ rs) zero row all at = subst IsSealed (let e : Some r ≡ Some row = at in cc) all.0
+sealed_at (r ∷ rs) (suc i) row all at = sealed_at rs i row all.1 at
+
+pub row_sealed : (t : Board) (c : Colouring) (i : ℕ) (row : List ℕ) → Some row ≡ slice_get (checkpoint t c) i → slice_index row 0 ≡ 165
+row_sealed t c i row at = sealed_at (checkpoint t c) i row (all_sealed c t.out t.conns) (sym at)
+
+-- so many rows, and the next one
+pub row_more : (rs : List (List ℕ)) (i : ℕ) (row : List ℕ) → Some row ≡ slice_get rs i → take i rs ++ row ∷ [] ≡ take (i + 1) rs
+row_more [] i row at = let low = slice_get_within [] i row (sym at) in absurd (let z : ⊥ = omega arith in z)
+row_more (r ∷ rs) zero row at = let e : row ≡ r = (let f : Some row ≡ Some r = at in cc) in ap (λ (x : List ℕ). x ∷ []) e
+row_more (r ∷ rs) (suc i) row at = ap (λ (xs : List (List ℕ)). r ∷ xs) (row_more rs i row at)
+
+-- a draft of no row
+drafted_as : (spare : Spare) → is_drafted spare ≡ true → (draft_of spare).rows ≡ 0 → spare ≡ Drafted (record { equipped = (draft_of spare).equipped; rows = 0 })
+drafted_as Older e none = absurd (never refl e)
+drafted_as Open e none = absurd (never refl e)
+drafted_as (Drafted d) e none = λ i. Drafted (record { equipped = d.equipped; rows = none i })
+drafted_as (Tried d) e none = absurd (never refl e)
+
+pub draft_begun : (book : Book) → is_drafted book.spare ≡ true → (draft_of book.spare).rows ≡ 0 → book ≡ record book { spare = Drafted (record { equipped = (draft_of book.spare).equipped; rows = 0 }) }
+draft_begun book drafted none = λ i. record book { spare = drafted_as book.spare drafted none i }

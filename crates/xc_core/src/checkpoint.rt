@@ -1,9 +1,11 @@
 //! Writes a table and its legs into the area of the journal that isn't current, and turns to it.
-ghost use Rattle.std.specs.Prelude.{◌≡◌, ℕ, [], true, false, length, Option, OnErr, OnOk, IsErr};
+ghost use Rattle.std.specs.Prelude.{◌≡◌, ◌≤◌, [], true, false, length, Option, OnErr, OnOk, IsErr};
 ghost use Rattle.std.specs.List.{AllByRecursion};
 ghost use Rattle.dxc_causes.specs.Causes.{HasCause};
 ghost use Rattle.dxc_disk.specs.Disks.{IsSound, LeavesOnly, Spends};
+ghost use Rattle.dxc_num.specs.Dimensions.{IsInLimits};
 ghost use Rattle.dxc_model.specs.declared.op.Op.{Op};
+ghost use Rattle.dxc_model.specs.Tables.{IsOfShape};
 ghost use Rattle.journal_core.specs.declared.spare.Spare.TheVariants.{Drafted, Open};
 ghost use Rattle.journal_core.specs.Books.{IsReady, IsWhole, draft_of, is_drafted, rows};
 ghost use Rattle.xc_journal.specs.Entries.{FitsConn};
@@ -26,6 +28,7 @@ fn add_rows<D: Disk>(
 ) -> Result<(), DiskFault>
     requires placed { IsPlaced table.now matrix.now }
     requires shape { table.now.shape ≡ journal.old.1.shape }
+    requires few { length (checkpoint table.now matrix.now) ≤ 6_145 }
     requires drafted { is_drafted journal.old.1.spare ≡ true }
     requires none { (draft_of journal.old.1.spare).rows ≡ 0 }
     requires empty { D.told → rows journal.old.1 (D.state journal.old.0).reads_as ≡ [] }
@@ -62,6 +65,7 @@ pub(crate) fn write_checkpoint<D: Disk>(
 ) -> Result<(), DiskFault>
     requires placed { IsPlaced table.now matrix.now }
     requires shape { table.now.shape ≡ journal.old.1.shape }
+    requires of_shape { IsOfShape table.now × IsInLimits table.now.shape }
     requires spelled { AllByRecursion FitsConn table.now.conns }
     ensures home { (b : Past) → (doubt : Option Op) → IsAtHome D.told (D.state journal.old.0) journal.old.1 b doubt → IsTable b table.now matrix.now → IsAtHome D.told (D.state journal.new.0) journal.new.1 b doubt }
     ensures ready { OnOk result (IsReady journal.new.1) }
