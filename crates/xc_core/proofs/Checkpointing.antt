@@ -1,7 +1,8 @@
 -- A journal while a checkpoint is written, and turned to.
 use Rattle.std.proofs.Common.{◌≡◌, ℕ, zero, suc, ◌+◌, ◌≤◌, true, false, List, [], ◌∷◌, ◌++◌, length, length-append, map, take, Option, Some, None, refl, sym, ◌∙◌, ap, subst, arith}
 use Rattle.std.specs.Prelude.{slice_get, slice_index}
-use Rattle.std.proofs.lemmas.List.{length-map, slice_get_within}
+use Rattle.std.proofs.lemmas.List.{length-map}
+use Rattle.std.proofs.lemmas.Option.{slice_get_within}
 use Rattle.std.specs.Prelude.{Result, Ok, Err}
 use Rattle.std.specs.List.{AllByRecursion}
 use Rattle.dxc_num.specs.declared.port.Middle.{Middle}
@@ -38,9 +39,9 @@ next_same before after head draft = λ i. record { version = Two; generation = n
 
 drafted_untried : (spare : Spare) → is_drafted spare ≡ true → is_tried spare ≡ false
 drafted_untried Older e = refl
+drafted_untried Open e = refl
 drafted_untried (Drafted d) e = refl
-drafted_untried (Tried d) e = refl
-drafted_untried spare e = refl
+drafted_untried (Tried d) e = absurd (never refl e)
 
 module _ (told : Type 0) (old new : DiskState) (before after : Book) (b : Past) (doubt : Option Op) (home : IsAtHome told old before b doubt) (head : after.head ≡ before.head) (mend : after.to_mend ≡ before.to_mend) where
   -- a step of a checkpoint succeeded
