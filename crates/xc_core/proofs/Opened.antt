@@ -115,9 +115,9 @@ bad_header d h a b w bytes is old new =
 listed_once : (d : Dimensions) (h : Head) (records : List (List ℕ)) (b : DiskState) (book : Book) → IsDisk b → IsWhole book → book.to_mend ≡ false → book.turning ≡ false → IsOpened d b book → Stands d h records b.reads_as → listed book b.reads_as ≡ records
 listed_once d h records b book disk whole mended still opened stands =
     let here : Stands book.shape book.head (listed book b.reads_as) b.reads_as = ⊎_elim
-        (λ old. old)
-        (λ other. ⊎_elim (λ more. absurd (never mended more.0)) (λ turn. absurd (never (untried book whole still) turn.0)) other)
-        (kept_stands b book whole opened.kept b.reads_as disk.reads_now) in
+    (λ old. old)
+    (λ other. ⊎_elim (λ more. absurd (never mended more.0)) (λ turn. absurd (never (untried book whole still) turn.0)) other)
+    (kept_stands b book whole opened.kept b.reads_as disk.reads_now) in
     stands_once d h book.head records (listed book b.reads_as) b.reads_as stands (subst (λ (x : Dimensions). Stands x book.head (listed book b.reads_as) b.reads_as) opened.shape_is here)
 
 -- nor is one with a bad record
@@ -125,8 +125,8 @@ pub bad_record : (d : Dimensions) (h : Head) (a b : DiskState) (book : Book) (i 
     → Replays book.shape book.head (listed book b.reads_as) (Err (BadRecord i)) t c → (IsNew a.reads_as → ⊥) × HasBadRecord a.reads_as d i
 bad_record d h a b book i t c disk whole mended still old new bad =
     let not_new : IsNew a.reads_as → ⊥ = λ n.
-        let f = (new n).founds in
-        absurd (let low : i < length {A = List ℕ} [] = subst (λ (l : List (List ℕ)). i < length l) (listed_once d h [] b book disk whole mended still f.0 f.2) bad.0 in omega (arith, low)) in
+    let f = (new n).founds in
+    absurd (let low : i < length {A = List ℕ} [] = subst (λ (l : List (List ℕ)). i < length l) (listed_once d h [] b book disk whole mended still f.0 f.2) bad.0 in omega (arith, low)) in
     let found = (old not_new).finds in (
       not_new,
       record {

@@ -108,4 +108,3 @@ pub record Rejoins {D : Type 0} (told : Type 0) (state : D → DiskState) (b : P
   pub found : IsFound told state b lacking g p
   pub cold : IsCold r
   pub leading : IsLeading p.mover.fabric.size p.second.matrix (writes_left p r) p.mover.mover
-

@@ -1,12 +1,7 @@
-use Rattle.std.proofs.Common.{◌≡◌, ℕ, ◌+◌, ◌*◌, ◌≤◌, ◌<◌, List, ◌∷◌, ◌++◌, [], true, length, take, refl, sym, ◌∙◌, ap, subst, arith}
-use Rattle.dxc_disk.specs.Disks.{DiskState}
-use Rattle.dxc_disk.proofs.DiskSteps.{spends_more, spends_none, spends_on}
+use Rattle.std.proofs.Common.{◌≡◌, ◌+◌, ◌≤◌, ◌<◌, ap, arith}
 use Rattle.journal_core.specs.declared.book.Book.{Book}
-use Rattle.journal_core.specs.Books.{draft_of, is_drafted, rows}
-use Rattle.journal_core.proofs.KeepSteps.{only_on}
-use Rattle.xc_recovery.specs.Rows.{checkpoint}
-use Rattle.xc_core.specs.Journals.{IsOldOrDoubted}
-use Rattle.xc_core.proofs.Checkpointing.{draft_begun, draft_home, draft_left, row_more, row_sealed, undrafted_home}
+use Rattle.journal_core.specs.Books.{draft_of, is_drafted}
+use Rattle.xc_core.proofs.Checkpointing.{row_sealed}
 use Rattle.xc_core.proofs.checkpoint.add_rows.Goals as goal
 
 pub add_row-requires-clause-drafted : goal.add_row-requires-clause-drafted
