@@ -3,7 +3,7 @@ use Rattle.std.proofs.Common.{◌≡◌, ℕ, zero, suc, ◌+◌, ◌≤◌, tru
 use Rattle.std.specs.Prelude.{slice_get, slice_index}
 use Rattle.std.proofs.lemmas.List.{length-map}
 use Rattle.std.proofs.lemmas.Option.{slice_get_within}
-use Rattle.std.specs.Prelude.{Result, Ok, Err}
+use Rattle.std.specs.Prelude.{Result, Ok, Err, OnOk, OnErr}
 use Rattle.std.specs.List.{AllByRecursion}
 use Rattle.dxc_num.specs.declared.port.Middle.{Middle}
 use Rattle.dxc_num.specs.Dimensions.{IsInLimits}
@@ -92,6 +92,10 @@ module _ (told : Type 0) (old new : DiskState) (before after : Book) (b : Past) 
       let l = (turns t).lines tried in
       let next = next_same before after (ap (λ (x : Book). x.head) book) (ap draft_of l.0) in
       subst (λ (w : Head × List (List ℕ)). IsSoFar b w.0 w.1) (λ i. (sym next i, sym l.1 i)) (lines t))
+
+  pub turn_home : {T E : Type 0} (result : Result T E) → (told → Turns old new before after result) → OnOk result (after ≡ turned before (draft_of before.spare)) → OnErr result (after ≡ record before { spare = after.spare }) → IsAtHome told new after b doubt
+  turn_home (Ok v) turns ok err = turned_home v turns ok
+  turn_home (Err e) turns ok err = unturned_home e turns err
 
   -- at any moment of the turn
   pub turn_left : before.shape ≡ b.fold.table.shape → told → {T E : Type 0} (result : Result T E) → Turns old new before after result → LeavesOnly old new (IsOldOrDoubted b doubt)
