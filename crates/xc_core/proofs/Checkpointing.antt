@@ -156,3 +156,10 @@ drafted_as (Tried d) e none = absurd (never refl e)
 
 pub draft_begun : (book : Book) → is_drafted book.spare ≡ true → (draft_of book.spare).rows ≡ 0 → book ≡ record book { spare = Drafted (record { equipped = (draft_of book.spare).equipped; rows = 0 }) }
 draft_begun book drafted none = λ i. record book { spare = drafted_as book.spare drafted none i }
+
+-- behind the last row there is none
+pub all_rows : (rs : List (List ℕ)) (i : ℕ) → slice_get rs i ≡ None → i ≤ length rs → (i ≡ length rs) × (take i rs ≡ rs)
+all_rows [] zero none low = (refl, refl)
+all_rows [] (suc i) none low = absurd (let z : ⊥ = omega arith in z)
+all_rows (r ∷ rs) zero none low = absurd (let e : Some r ≡ None = none in cc)
+all_rows (r ∷ rs) (suc i) none low = let rest = all_rows rs i none (omega (arith, low)) in (ap suc rest.0, ap (λ (xs : List (List ℕ)). r ∷ xs) rest.1)
