@@ -1,11 +1,13 @@
 -- A journal that is mended.
-use Rattle.std.proofs.Common.{◌≡◌, false, None, sym, ap, ◌∙◌}
+use Rattle.std.proofs.Common.{◌≡◌, inl, inr, ⊎_elim, ℕ, false, List, Option, Some, None, sym, ap, ◌∙◌}
 use Rattle.std.specs.Prelude.{Result, Ok, Err}
 use Rattle.dxc_disk.specs.Disks.{DiskState, LeavesOnly}
 use Rattle.journal_core.specs.declared.book.Book.{Book}
 use Rattle.journal_core.specs.Books.{IsWhole, is_tried, next_head}
 use Rattle.journal_core.specs.Turns.{Mends}
 use Rattle.journal_core.proofs.HeaderSteps.{never}
+use Rattle.journal_core.proofs.KeepSteps.{only_weaker}
+use Rattle.dxc_model.specs.declared.op.Op.{Op}
 use Rattle.xc_core.specs.declared.provisioner.Provisioner.{Provisioner}
 use Rattle.xc_core.specs.Provisioners.{IsHome}
 use Rattle.xc_core.specs.Reckonings.{Past}
@@ -34,3 +36,10 @@ module _ {D : Type 0} (told : Type 0) (state : D → DiskState) (b : Past) (p : 
 -- at any moment of it
 pub mend_left : {D : Type 0} (told : Type 0) (state : D → DiskState) (b : Past) (p : Provisioner D) → IsHome told state b p → told → {T E : Type 0} (result : Result T E) (new : DiskState) (after : Book) → Mends (state p.journal.0) new p.journal.1 after result → LeavesOnly (state p.journal.0) new (IsOldOrDoubted b p.doubt)
 mend_left told state b p h t result new after mends = may_called told (state p.journal.0) p.journal.1 b p.doubt (sym h.past.shape) h.journal t new mends.any_moment
+
+-- what stands beside an operation in doubt stands beside an earlier one, which was the same where there is one still
+doubted_from : (b : Past) (old new : Option Op) → ((op : Op) → new ≡ Some op → old ≡ Some op) → (file : List ℕ) → IsOldOrDoubted b new file → IsOldOrDoubted b old file
+doubted_from b old new kept file is = ⊎_elim (λ was. inl was) (λ more. inr (more.0, kept more.0 more.1, more.2)) is
+
+pub settled_left : (b : Past) (old new : Option Op) (a c : DiskState) → ((op : Op) → new ≡ Some op → old ≡ Some op) → LeavesOnly a c (IsOldOrDoubted b new) → LeavesOnly a c (IsOldOrDoubted b old)
+settled_left b old new a c kept only = only_weaker a c (IsOldOrDoubted b new) (IsOldOrDoubted b old) (λ file is. doubted_from b old new kept file is) only
