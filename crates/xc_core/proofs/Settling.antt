@@ -1,5 +1,5 @@
 -- A journal that is mended.
-use Rattle.std.proofs.Common.{◌≡◌, inl, inr, ⊎_elim, ℕ, false, List, Option, Some, None, sym, ap, ◌∙◌}
+use Rattle.std.proofs.Common.{◌≡◌, ◌⊎◌, inl, inr, ⊎_elim, ℕ, false, List, Option, Some, None, refl, sym, ap, ◌∙◌}
 use Rattle.std.specs.Prelude.{Result, Ok, Err}
 use Rattle.dxc_disk.specs.Disks.{DiskState, LeavesOnly}
 use Rattle.journal_core.specs.declared.book.Book.{Book}
@@ -43,3 +43,8 @@ doubted_from b old new kept file is = ⊎_elim (λ was. inl was) (λ more. inr (
 
 pub settled_left : (b : Past) (old new : Option Op) (a c : DiskState) → ((op : Op) → new ≡ Some op → old ≡ Some op) → LeavesOnly a c (IsOldOrDoubted b new) → LeavesOnly a c (IsOldOrDoubted b old)
 settled_left b old new a c kept only = only_weaker a c (IsOldOrDoubted b new) (IsOldOrDoubted b old) (λ file is. doubted_from b old new kept file is) only
+
+-- it is the same, or there is none
+pub kept_or_none : (old new : Option Op) → ((op : Op) → new ≡ Some op → old ≡ Some op) → (new ≡ old) ⊎ (new ≡ None)
+kept_or_none old None kept = inr refl
+kept_or_none old (Some op) kept = inl (sym (kept op refl))

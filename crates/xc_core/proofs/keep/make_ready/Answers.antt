@@ -1,4 +1,4 @@
-use Rattle.std.proofs.Common.{◌≡◌, ◌∙◌, sym, ap, subst}
+use Rattle.std.proofs.Common.{◌∙◌, sym, ap, subst}
 use Rattle.std.specs.List.{AllByRecursion}
 use Rattle.dxc_num.specs.Dimensions.{IsInLimits}
 use Rattle.dxc_model.specs.Tables.{Board}
@@ -9,7 +9,7 @@ use Rattle.xc_core.specs.Provisioners.{IsHome}
 use Rattle.xc_core.specs.Reckonings.{Past}
 use Rattle.xc_core.proofs.Pasts.{home_with}
 use Rattle.xc_core.proofs.Rolling.{home_limits, placed_as}
-use Rattle.xc_core.proofs.Settling.{settled_left}
+use Rattle.xc_core.proofs.Settling.{kept_or_none, settled_left}
 use Rattle.xc_core.proofs.keep.make_ready.Given as given
 use Rattle.xc_core.proofs.keep.make_ready.Goals as goal
 
@@ -44,3 +44,12 @@ returns-clause-any_moment g c = λ told b home same.
     let h = settled g c b home in
     only_on (g.D.Disk.state a.journal.0) (g.D.Disk.state m.journal.0) (g.D.Disk.state c.write_checkpoint.new.journal.0) (IsOldOrDoubted b a.doubt) (c.settle.ensures.any_moment told b home)
     (settled_left b a.doubt m.doubt (g.D.Disk.state m.journal.0) (g.D.Disk.state c.write_checkpoint.new.journal.0) c.settle.ensures.doubt (c.write_checkpoint.ensures.any_moment told b m.doubt h.journal (sym same, h.past.matrix)))
+
+pub returns-in-Err-clause-doubt : goal.returns-in-Err-clause-doubt
+returns-in-Err-clause-doubt g c = kept_or_none c.args.p.now.doubt c.settle.new.p.doubt c.settle.ensures.doubt
+
+pub returns-then-not-due-clause-doubt : goal.returns-then-not-due-clause-doubt
+returns-then-not-due-clause-doubt g c = kept_or_none c.args.p.now.doubt c.settle.new.p.doubt c.settle.ensures.doubt
+
+pub returns-clause-doubt : goal.returns-clause-doubt
+returns-clause-doubt g c = kept_or_none c.args.p.now.doubt c.settle.new.p.doubt c.settle.ensures.doubt
