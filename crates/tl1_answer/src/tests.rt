@@ -91,11 +91,20 @@ fn texts_of_rows_and_changes(rt: HostRuntime) -> Result<(), Fail> {
     change_text(shape, &Change::PutBack(Middle(0)), &mut out);
     assert_eq!(rt; out.as_slice(), b"\"RST-MID:MID-1\"".as_slice());
     let label = Label::of(b"CIRCUIT 7").ok_or("no label")?;
-    let named = Conn { label, ..conn(0, 102, Cct::OneWay) };
+    let named = Conn {
+        label,
+        ..conn(0, 102, Cct::OneWay)
+    };
     row_text(shape, &named, &mut out);
-    assert_eq!(rt; out.as_slice(), b"\"DS0-1-1,DS0-5-7:1WAY:CIRCUIT 7\"".as_slice());
+    assert_eq!(rt;
+        out.as_slice(),
+        b"\"DS0-1-1,DS0-5-7:1WAY:CIRCUIT 7\"".as_slice()
+    );
     change_text(shape, &Change::Edit(named), &mut out);
-    assert_eq!(rt; out.as_slice(), b"\"ED-CRS-T0:DS0-1-1,DS0-5-7:1WAY:CIRCUIT 7\"".as_slice());
+    assert_eq!(rt;
+        out.as_slice(),
+        b"\"ED-CRS-T0:DS0-1-1,DS0-5-7:1WAY:CIRCUIT 7\"".as_slice()
+    );
     Ok(())
 }
 

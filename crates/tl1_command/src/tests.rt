@@ -156,11 +156,7 @@ fn the_first_cause_is_told(rt: HostRuntime) -> Result<(), Fail> {
             b"DLT-CRS-T0::DS0-1-1,DS0-2-1:1::1WAY,X",
             Cause::TooMany,
         ),
-        (
-            anna,
-            b"ED-CRS-T0::DS0-1-1,DS0-2-1:1::,C8",
-            Cause::Missing,
-        ),
+        (anna, b"ED-CRS-T0::DS0-1-1,DS0-2-1:1::,C8", Cause::Missing),
         (
             anna,
             b"ENT-CRS-T0::DS0-1-1,DS0-9-1:1::1WAY,abcdefghijklmnopqrstuvwxy",
