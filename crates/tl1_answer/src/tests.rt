@@ -75,7 +75,7 @@ fn texts_of_rows_and_changes(rt: HostRuntime) -> Result<(), Fail> {
             b"\"DLT-CRS-T0:DS0-1-1,DS0-5-7:2WAY\"",
         ),
     ] {
-        let (Change::Enter(made) | Change::Edit(made) | Change::Delete(made)) = change else {
+        let (Change::Enter(made) | Change::Edit(made) | Change::Delete(made)) = &change else {
             return Err("no connection".into());
         };
         assert!(rt; made.from.0 < 192 && made.to.0 < 192);
