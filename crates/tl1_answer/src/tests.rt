@@ -108,7 +108,7 @@ fn texts_of_rows_and_changes(rt: HostRuntime) -> Result<(), Fail> {
     Ok(())
 }
 
-/// Every port of 32 by 32 is connected to the one of the next module: the largest answer.
+/// Every port of 32 by 32 is connected to the one of the next module: 1,024 lines.
 #[test]
 fn eight_blocks_of_1024_lines(rt: HostRuntime) -> Result<(), Fail> {
     let shape = Shape::new(32, 32).ok_or("no shape")?;
