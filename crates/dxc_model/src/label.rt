@@ -48,6 +48,7 @@ impl Label {
         })
     }
 
+    /// The bytes as they were written.
     pub fn bytes(&self) -> &[u8]
         ensures bytes { result.now ≡ self.now }
         ensures short { length result.now ≤ 24 }
@@ -56,6 +57,7 @@ impl Label {
         &self.bytes[..self.count as usize]
     }
 
+    /// Whether it is no label.
     pub fn is_empty(&self) -> bool
         ensures { result ≡ (length self.now == 0) }
     {

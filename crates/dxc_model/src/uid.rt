@@ -46,6 +46,7 @@ impl Uid {
         })
     }
 
+    /// The bytes as they were written.
     pub fn bytes(&self) -> &[u8]
         ensures bytes { result.now ≡ self.now }
         ensures short { length result.now ≤ 10 }

@@ -1,14 +1,13 @@
 -- Users as tables describe them.
 use Rattle.std.proofs.Common.{◌≡◌, ℕ, Bool, true, false, if◌then◌else◌, Option, Some, None, List, [], ◌∷◌, length, sym, refl, ap, ◌∙◌, arith, Result, Ok, Err}
 use Rattle.std.specs.Prelude.{option_and_then, option_map, codes}
-use Rattle.std.specs.List.{AllByRecursion}
 use Rattle.std.specs.Result.{result_ok}
 use Rattle.hex.specs.Hex.{decode_sized}
 use Rattle.hex.proofs.HexLemmas.{decode_of-ok, decode_sized-ok, decode_sized-twice}
 use Rattle.toml.specs.Data.{Data, Members, as_str, get_member}
 use Rattle.shelf_file.specs.Contents.{AreUsers, UserEntry}
 use Rattle.shelf_file.specs.Keys.{checked, digest_of, is_uid, uid_of, upper}
-use Rattle.shelf_file.specs.Shelves.{IsDescribed}
+use Rattle.shelf_file.specs.Shelves.{IsDescribed, AreDescribed}
 
 -- the text of a uid in upper case
 abbrev IsUpper : List ℕ → Type 0
@@ -44,7 +43,8 @@ by_digest : (o : Option Data) (digest : List ℕ) → option_and_then digest_of 
 by_digest None digest e = cc
 by_digest (Some d) digest e = by_digits (as_str d) digest e
 
-pub all_described : (us : List Members) (es : List UserEntry) → AreUsers us es → AllByRecursion IsDescribed es
+pub all_described : (us : List Members) (es : List UserEntry) → AreUsers us es → AreDescribed es
+unfolding AreDescribed
 all_described us [] a = tt
 all_described [] (e ∷ es) a = absurd a
 all_described (u ∷ us) (e ∷ es) a = (record { name = by_uid (get_member (codes "uid") u) e.name a.0.name; digest = by_digest (get_member (codes "digest") u) e.digest a.0.digest }, all_described us es a.1)

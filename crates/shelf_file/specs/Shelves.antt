@@ -23,10 +23,13 @@ pub record IsDescribed (e : UserEntry) : Type 0 where
   pub name : (text : List ℕ) × (is_uid text ≡ true) × (upper text ≡ e.name)
   pub digest : length e.digest ≡ 32
 
+unfoldable pub AreDescribed : List UserEntry → Type 0
+AreDescribed es = AllByRecursion IsDescribed es
+
 -- equipment of the shape, 1 to 64 users, and no name of more than 10 bytes
 pub record IsKept (c : Contents) : Type 0 where
   pub equipment : IsEquipment c.shape c.equipped
   pub some : 1 ≤ length c.users
   pub few : length c.users ≤ 64
   pub short : AllByRecursion (λ e. length e.name ≤ 10) c.users
-  pub described : AllByRecursion IsDescribed c.users
+  pub described : AreDescribed c.users

@@ -1,9 +1,8 @@
 ghost use Rattle.std.specs.Prelude.{◌≡◌, ◌<◌, ◌≤◌, Some, IfSome, length, option_map, slice_get, position};
-ghost use Rattle.std.specs.List.{AllByRecursion};
 ghost use Rattle.std.specs.Str.{bytes_eq};
 ghost use Rattle.indexmap.specs.IndexMap.{keys};
 ghost use Rattle.dxc_model.specs.Equipment.{IsEquipment};
-ghost use Rattle.shelf_file.specs.Shelves.{named, is_named, IsDescribed, PassesOnce};
+ghost use Rattle.shelf_file.specs.Shelves.{named, is_named, AreDescribed, PassesOnce};
 
 use crate::user::{Uid, User, upper};
 use dxc_model::Class;
@@ -63,7 +62,7 @@ impl Shelf {
         ensures count { result ≡ length self.now.users }
         ensures some { 1 ≤ result }
         ensures few { result ≤ 64 }
-        ensures described { AllByRecursion IsDescribed self.now.users }
+        ensures described { AreDescribed self.now.users }
     {
         self.users.len() as u16
     }

@@ -75,7 +75,7 @@ fn texts_of_rows_and_changes(rt: HostRuntime) -> Result<(), Fail> {
             b"\"DLT-CRS-T0:DS0-1-1,DS0-5-7:2WAY\"",
         ),
     ] {
-        let (Change::Enter(made) | Change::Edit(made) | Change::Delete(made)) = change else {
+        let (Change::Enter(made) | Change::Edit(made) | Change::Delete(made)) = &change else {
             return Err("no connection".into());
         };
         assert!(rt; made.from.0 < 192 && made.to.0 < 192);
@@ -91,15 +91,24 @@ fn texts_of_rows_and_changes(rt: HostRuntime) -> Result<(), Fail> {
     change_text(shape, &Change::PutBack(Middle(0)), &mut out);
     assert_eq!(rt; out.as_slice(), b"\"RST-MID:MID-1\"".as_slice());
     let label = Label::of(b"CIRCUIT 7").ok_or("no label")?;
-    let named = Conn { label, ..conn(0, 102, Cct::OneWay) };
+    let named = Conn {
+        label,
+        ..conn(0, 102, Cct::OneWay)
+    };
     row_text(shape, &named, &mut out);
-    assert_eq!(rt; out.as_slice(), b"\"DS0-1-1,DS0-5-7:1WAY:CIRCUIT 7\"".as_slice());
+    assert_eq!(rt;
+        out.as_slice(),
+        b"\"DS0-1-1,DS0-5-7:1WAY:CIRCUIT 7\"".as_slice()
+    );
     change_text(shape, &Change::Edit(named), &mut out);
-    assert_eq!(rt; out.as_slice(), b"\"ED-CRS-T0:DS0-1-1,DS0-5-7:1WAY:CIRCUIT 7\"".as_slice());
+    assert_eq!(rt;
+        out.as_slice(),
+        b"\"ED-CRS-T0:DS0-1-1,DS0-5-7:1WAY:CIRCUIT 7\"".as_slice()
+    );
     Ok(())
 }
 
-/// Every port of 32 by 32 is connected to the one of the next module: the largest answer.
+/// Every port of 32 by 32 is connected to the one of the next module: 1,024 lines.
 #[test]
 fn eight_blocks_of_1024_lines(rt: HostRuntime) -> Result<(), Fail> {
     let shape = Shape::new(32, 32).ok_or("no shape")?;

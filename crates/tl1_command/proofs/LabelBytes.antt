@@ -1,13 +1,13 @@
 -- The values of a command's text have none but the bytes of a label.
-use Rattle.std.proofs.Common.{◌≡◌, ℕ, zero, suc, Bool, true, false, not, ◌&&◌, List, [], ◌∷◌, length, nat_lt, if◌then◌else◌, Some, None, Ok, Err, slice_index_or, refl, ap, ◌∙◌, arith}
+use Rattle.std.proofs.Common.{◌≡◌, ℕ, zero, suc, Bool, true, false, not, ◌&&◌, List, [], ◌∷◌, length, nat_lt, if◌then◌else◌, Some, None, Ok, Err, slice_index_or, refl, arith}
 use Rattle.std.specs.List.{list_all, AllByRecursion}
 use Rattle.std.proofs.lemmas.Bool.Decides.{nat_tests}
 use Rattle.dxc_model.specs.declared.cause.Cause.TheVariants.{BadValue}
-use Rattle.dxc_model.specs.Labels.{is_label_byte, are_label_bytes, as_label}
-use Rattle.tl1_text.specs.Grammar.{is_plain, IsParam, plain, quoted, AreParams, last_param, more_params, Block, AreBlocks, last_block, more_blocks, IsCommandText}
+use Rattle.dxc_model.specs.Labels.{is_label_byte, are_label_bytes}
+use Rattle.tl1_text.specs.Grammar.{is_plain, IsParam, plain, quoted, AreParams, last_param, more_params, Block, AreBlocks, last_block, more_blocks}
 use Rattle.tl1_command.specs.Blocks.{no_block, second_value}
 use Rattle.tl1_command.specs.Laws.{LabelsAreShort}
-use Rattle.tl1_command.specs.Meanings.{label_named, or_cause}
+use Rattle.tl1_command.specs.Meanings.{or_cause}
 
 both : (a b : Bool) → (a && b) ≡ true → (a ≡ true) × (b ≡ true)
 both true b is = (refl, is)

@@ -141,5 +141,10 @@ fn conn(from: Port, to: Port, cct: Option<Cct>, label: Label) -> Conn
     ensures { result ≡ record { from = from; to = to; cct = one_way_or cct; label = label } }
 {
     let cct = or_one_way(cct);
-    Conn { from, to, cct, label }
+    Conn {
+        from,
+        to,
+        cct,
+        label,
+    }
 }

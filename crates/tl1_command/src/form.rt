@@ -64,8 +64,14 @@ pub fn form_of(code: CommandCode) -> Form
         CommandCode::EntCrsT0 => (2, Need::Required, Need::Optional, Need::Optional),
         CommandCode::EdCrsT0 => (2, Need::Required, Need::Required, Need::Optional),
         CommandCode::DltCrsT0 => (2, Need::Required, Need::Optional, Need::Never),
-        CommandCode::EntEqpt | CommandCode::DltEqpt => (1, Need::Required, Need::Never, Need::Never),
-        CommandCode::RmvMid | CommandCode::RstMid => (1, Need::Required, Need::Never, Need::Never),
+        CommandCode::EntEqpt | CommandCode::DltEqpt | CommandCode::RmvMid | CommandCode::RstMid => {
+            (1, Need::Required, Need::Never, Need::Never)
+        }
     };
-    Form { aids, aid, value, label }
+    Form {
+        aids,
+        aid,
+        value,
+        label,
+    }
 }

@@ -8,19 +8,28 @@ use std::test::Fail;
 use tl1_text::Sid;
 use tl1_text::grammar::blocks;
 
-fn user(class: Class) -> SessionUser {
+const ANNA: Option<Class> = Some(Class::S);
+
+const CARA: Option<Class> = Some(Class::R);
+
+const NOBODY: Option<Class> = None;
+
+fn user(class: Option<Class>) -> SessionUser {
     let uid = Uid::of(b"ANNA").unwrap_or_default();
-    SessionUser::User { uid, class }
+    match class {
+        Some(class) => SessionUser::User { uid, class },
+        None => SessionUser::Nobody,
+    }
 }
 
-/// The meaning of a unit in a shape of 2 by 1 of the SID DXC1; None where it isn't in the grammar.
-fn meaning(user: SessionUser, unit: &[u8]) -> Option<Result<Command, Cause>>
+/// The meaning of a unit of somebody of this class in a shape of 2 by 1 of the SID DXC1; None where it isn't in the grammar.
+fn meaning(class: Option<Class>, unit: &[u8]) -> Option<Result<Command, Cause>>
     requires { length unit.now ≤ 2047 }
 {
     let shape = Shape::new(2, 1)?;
     let sid = Sid::of(b"DXC1")?;
     let found = blocks(unit).ok()?;
-    Some(command_of(shape, &sid, user, unit, &found))
+    Some(command_of(shape, &sid, user(class), unit, &found))
 }
 
 fn conn(cct: Cct) -> Conn {
@@ -98,7 +107,7 @@ fn commands_are_understood(rt: HostRuntime) -> Result<(), Fail> {
     ];
     for (unit, op) in rows {
         if unit.len() <= 2047 {
-            assert_eq!(rt; meaning(user(Class::S), unit), Some(Ok(Command::Table(op))));
+            assert_eq!(rt; meaning(ANNA, unit), Some(Ok(Command::Table(op))));
         }
     }
     Ok(())
@@ -106,74 +115,64 @@ fn commands_are_understood(rt: HostRuntime) -> Result<(), Fail> {
 
 #[test]
 fn the_first_cause_is_told(rt: HostRuntime) -> Result<(), Fail> {
-    let anna = user(Class::S);
-    let cara = user(Class::R);
-    let rows: [(SessionUser, &[u8], Cause); 29] = [
-        (anna, b"RTRV-XYZ:::1", Cause::UnknownCommand),
-        (anna, b"RTRV-XYZ:OTHER::000", Cause::UnknownCommand),
-        (anna, b"RTRV-HDR:OTHER::000", Cause::BadCtag),
-        (anna, b"RTRV-HDR:::1234567", Cause::BadCtag),
+    let rows: [(Option<Class>, &[u8], Cause); 29] = [
+        (ANNA, b"RTRV-XYZ:::1", Cause::UnknownCommand),
+        (ANNA, b"RTRV-XYZ:OTHER::000", Cause::UnknownCommand),
+        (ANNA, b"RTRV-HDR:OTHER::000", Cause::BadCtag),
+        (ANNA, b"RTRV-HDR:::1234567", Cause::BadCtag),
+        (NOBODY, b"RTRV-HDR:OTHER::7", Cause::OtherTarget),
+        (NOBODY, b"RTRV-HDR:dxc1::7", Cause::NotLoggedIn),
+        (CARA, b"ENT-CRS-T0:::1", Cause::NotEntitled),
+        (CARA, b"INIT-SYS:::1", Cause::NotEntitled),
+        (ANNA, b"ENT-CRS-T0::DS0-1-1:1", Cause::Missing),
+        (ANNA, b"ENT-CRS-T0::DS0-1-1,\"\":1", Cause::Missing),
+        (ANNA, b"ED-CRS-T0::DS0-1-1,DS0-2-1:1", Cause::Missing),
+        (ANNA, b"ENT-CRS-T0::DS0-1-1:1:N", Cause::Missing),
+        (ANNA, b"RTRV-HDR::DS0-1-1:1:N", Cause::TooMany),
+        (ANNA, b"ENT-CRS-T0::DS0-1-1,DS0-2-1,X:1", Cause::TooMany),
         (
-            SessionUser::Nobody,
-            b"RTRV-HDR:OTHER::7",
-            Cause::OtherTarget,
-        ),
-        (SessionUser::Nobody, b"RTRV-HDR:dxc1::7", Cause::NotLoggedIn),
-        (cara, b"ENT-CRS-T0:::1", Cause::NotEntitled),
-        (cara, b"INIT-SYS:::1", Cause::NotEntitled),
-        (anna, b"ENT-CRS-T0::DS0-1-1:1", Cause::Missing),
-        (anna, b"ENT-CRS-T0::DS0-1-1,\"\":1", Cause::Missing),
-        (anna, b"ED-CRS-T0::DS0-1-1,DS0-2-1:1", Cause::Missing),
-        (anna, b"ENT-CRS-T0::DS0-1-1:1:N", Cause::Missing),
-        (anna, b"RTRV-HDR::DS0-1-1:1:N", Cause::TooMany),
-        (anna, b"ENT-CRS-T0::DS0-1-1,DS0-2-1,X:1", Cause::TooMany),
-        (
-            anna,
+            ANNA,
             b"ENT-CRS-T0::DS0-1-1,DS0-2-1:1::1WAY,X,Y",
             Cause::TooMany,
         ),
         (
-            anna,
+            ANNA,
             b"ENT-CRS-T0::DS0-1-1,DS0-2-1:1::1WAY::,X",
             Cause::TooMany,
         ),
         (
-            anna,
+            ANNA,
             b"ENT-CRS-T0::DS0-1-1,DS0-2-1:1:N:3WAY",
             Cause::GeneralBlock,
         ),
         (
-            anna,
+            ANNA,
             b"ENT-CRS-T0::DS0-1-1,DS0-9-1:1::3WAY",
             Cause::BadValue,
         ),
-        (anna, b"ENT-CRS-T0::DS0-01-1,DS0-2-1:1", Cause::BadAid),
-        (anna, b"ENT-CRS-T0::DS0-3-1,DS0-3-1:1", Cause::BadAid),
-        (anna, b"ENT-CRS-T0::DS0-1-1,ds0-1-1:1", Cause::SamePort),
-        (anna, b"ALW-MSG-ALL::MOD-1:1", Cause::BadAid),
+        (ANNA, b"ENT-CRS-T0::DS0-01-1,DS0-2-1:1", Cause::BadAid),
+        (ANNA, b"ENT-CRS-T0::DS0-3-1,DS0-3-1:1", Cause::BadAid),
+        (ANNA, b"ENT-CRS-T0::DS0-1-1,ds0-1-1:1", Cause::SamePort),
+        (ANNA, b"ALW-MSG-ALL::MOD-1:1", Cause::BadAid),
         (
-            anna,
+            ANNA,
             b"DLT-CRS-T0::DS0-1-1,DS0-2-1:1::1WAY,X",
             Cause::TooMany,
         ),
+        (ANNA, b"ED-CRS-T0::DS0-1-1,DS0-2-1:1::,C8", Cause::Missing),
         (
-            anna,
-            b"ED-CRS-T0::DS0-1-1,DS0-2-1:1::,C8",
-            Cause::Missing,
-        ),
-        (
-            anna,
+            ANNA,
             b"ENT-CRS-T0::DS0-1-1,DS0-9-1:1::1WAY,abcdefghijklmnopqrstuvwxy",
             Cause::BadValue,
         ),
-        (anna, b"RMV-MID::MID-2:1", Cause::BadAid),
-        (anna, b"RMV-MID::MID-0:1", Cause::BadAid),
-        (anna, b"RST-MID:::1", Cause::Missing),
-        (cara, b"RST-MID::MID-1:1", Cause::NotEntitled),
+        (ANNA, b"RMV-MID::MID-2:1", Cause::BadAid),
+        (ANNA, b"RMV-MID::MID-0:1", Cause::BadAid),
+        (ANNA, b"RST-MID:::1", Cause::Missing),
+        (CARA, b"RST-MID::MID-1:1", Cause::NotEntitled),
     ];
-    for (user, unit, cause) in rows {
+    for (class, unit, cause) in rows {
         if unit.len() <= 2047 {
-            assert_eq!(rt; meaning(user, unit), Some(Err(cause)));
+            assert_eq!(rt; meaning(class, unit), Some(Err(cause)));
         }
     }
     Ok(())
