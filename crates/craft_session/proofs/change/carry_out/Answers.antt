@@ -1,9 +1,11 @@
-use Rattle.std.proofs.Common.{◌∙◌, sym, ap, subst, inl}
+use Rattle.std.proofs.Common.{◌∙◌, length, refl, sym, ap, subst, inl, inr}
+use Rattle.roll_engine.specs.Rollings.{rest_of}
 use Rattle.xc_core.specs.declared.provisioner.Driver.{Driver}
 use Rattle.xc_core.specs.Provisioners.{Ground}
 use Rattle.xc_core.specs.Seeing.{HasTaken}
 use Rattle.xc_core.specs.States.{opening_of}
 use Rattle.xc_core.proofs.Away.{taken_rolls}
+use Rattle.craft_session.specs.Askings.{AskedToStop}
 use Rattle.craft_session.proofs.Changing.{changed_cut, changed_done}
 use Rattle.craft_session.proofs.change.carry_out.Goals as goal
 
@@ -30,3 +32,6 @@ returns-in-Go-clause-changed g c = λ h saw. changed_done (opening_of g.D.Disk.s
 
 pub returns-in-Stop-clause-changed : goal.returns-in-Stop-clause-changed
 returns-in-Stop-clause-changed g c = λ h saw. changed_cut (opening_of g.D.Disk.state c.args.turns.now.first) c.args.pass.now.number h c.args.op.now c.cut.new.pass.seen (c.cut.ensures.cut h saw)
+
+pub returns-in-Stop-clause-asked : goal.returns-in-Stop-clause-asked
+returns-in-Stop-clause-asked g c = inr (refl, subst (λ (x : Driver g.row.D.Denot). AskedToStop (g.G.Gate.asked c.args.gate.now c.roll.new.gate) (length (rest_of x.rolling))) c.deref_mut-held.ensures.value c.in-Stop.ensures.asked)
