@@ -1,4 +1,4 @@
--- Modules, ports and selections, as they are read and as they are named.
+-- Modules, middles and ports, as they are read and as they are named.
 use Rattle.std.proofs.Common.{◌≡◌, ℕ, suc, ◌+◌, ◌-◌, ◌*◌, ◌<◌, ◌≤◌, true, List, [], ◌∷◌, ◌++◌, length, take, drop, get_or, map, ◌==◌, Option, Some, None, position, codes, decimal, refl, sym, ◌∙◌, ap, ap₂, subst, arith, append_assoc, append-nil, take-append-drop, drop-cons}
 use Rattle.std.specs.Char.{to_ascii_lowercase}
 use Rattle.std.specs.Option.{option_map, option_and_then}
@@ -7,8 +7,9 @@ use Rattle.std.proofs.lemmas.Nat.{div-mul-add, mod-mul-add, div-add-mod', div_be
 use Rattle.std.proofs.lemmas.List.Quantifiers.{position-Some}
 use Rattle.std.proofs.Math.Seq.{take-append_seam, drop-append-add}
 use Rattle.dxc_num.specs.declared.port.Port.{Port}
-use Rattle.dxc_num.specs.Dimensions.{Dimensions, IsInLimits, module_of, slot_of, IsModule, IsPort}
-use Rattle.dxc_aid.specs.Names.{IsSameText, module_name, port_name, NamesModule, NamesPort, number_of, up_to, behind, module_named, port_at, port_of_numbers, port_named}
+use Rattle.dxc_num.specs.declared.port.Middle.{Middle}
+use Rattle.dxc_num.specs.Dimensions.{Dimensions, IsInLimits, module_of, slot_of, IsModule, IsPort, IsWorking}
+use Rattle.dxc_aid.specs.Names.{IsSameText, module_name, middle_name, port_name, NamesModule, NamesMiddle, NamesPort, number_of, up_to, behind, numbered, module_named, middle_at, middle_named, port_at, port_of_numbers, port_named}
 use Rattle.dxc_aid.proofs.Numbers.{digits_of, number_read, number_written, up_to_is, up_to_has, no_letters, digits_no_letters, dash_behind}
 use Rattle.dxc_aid.proofs.Cases.{behind_is, behind_of}
 
@@ -23,30 +24,45 @@ then_some f (Some x) y is = (x, (refl, is))
 plain_number : (n : ℕ) → n ≤ 99 → no_letters (decimal n) ≡ true
 plain_number n le = ap no_letters (sym (append-nil (decimal n))) ∙ digits_no_letters n (decimal n) [] (digits_of n le) refl
 
+-- what a text numbers behind four bytes is what it writes there, and what it writes there is what it numbers
+pub numbered_is : (front : List ℕ) (most : ℕ) (text : List ℕ) (k : ℕ) → numbered front most text ≡ Some k → (k < most) × IsSameText text (front ++ decimal (k + 1))
+numbered_is front most text k is =
+    let found = map_some (λ n. n - 1) (option_and_then (up_to most) (option_and_then number_of (behind front text))) k is in
+    let bound = up_to_is most found.0 (option_and_then number_of (behind front text)) found.1.0 in
+    let rest = then_some number_of (behind front text) found.0 bound.0 in
+    let written = number_written rest.0 found.0 rest.1.1 in
+    let same : k + 1 ≡ found.0 = omega (arith, found.1.1, written.least) in
+    (omega (arith, same, bound.1), behind_is front text rest.0 rest.1.0 ∙ ap (λ (l : List ℕ). map to_ascii_lowercase (front ++ l)) (written.text ∙ ap decimal (sym same)))
+
+pub numbered_read : (front : List ℕ) (most : ℕ) (text : List ℕ) (k : ℕ) → length front ≡ 4 → most ≤ 99 → k < most → IsSameText text (front ++ decimal (k + 1)) → numbered front most text ≡ Some k
+numbered_read front most text k four few inside name =
+    let least : k + 1 ≤ 99 = omega (arith, inside, few) in
+    let here = behind_of front text (decimal (k + 1)) four (plain_number (k + 1) least) name in
+    let number = number_read (k + 1) (omega arith) least in
+    let bound = up_to_has most (k + 1) (omega (arith, inside)) in
+    let same : (k + 1) - 1 ≡ k = omega arith in
+    rw (here, number, bound, same) (refl)
+
 module _ (d : Dimensions) (limits : IsInLimits d) where
-  -- modules
+  -- modules and middles
   pub module_is : (text : List ℕ) (m : ℕ) → module_named d text ≡ Some m → NamesModule d text m
   unfolding module_named
-  module_is text m is =
-      let found = map_some (λ n. n - 1) (option_and_then (up_to d.modules) (option_and_then number_of (behind (codes "MOD-") text))) m is in
-      let bound = up_to_is d.modules found.0 (option_and_then number_of (behind (codes "MOD-") text)) found.1.0 in
-      let rest = then_some number_of (behind (codes "MOD-") text) found.0 bound.0 in
-      let written = number_written rest.0 found.0 rest.1.1 in
-      let same : m + 1 ≡ found.0 = omega (arith, found.1.1, written.least) in
-      record {
-        inside = omega (arith, same, bound.1);
-        name = behind_is (codes "MOD-") text rest.0 rest.1.0 ∙ ap (λ (l : List ℕ). map to_ascii_lowercase (codes "MOD-" ++ l)) (written.text ∙ ap decimal (sym same));
-      }
+  module_is text m is = let found = numbered_is (codes "MOD-") d.modules text m is in record { inside = found.0; name = found.1 }
 
   pub module_read : (text : List ℕ) (m : ℕ) → NamesModule d text m → module_named d text ≡ Some m
   unfolding module_named
-  module_read text m names =
-      let most : m + 1 ≤ 99 = omega (arith, names.inside, limits.most_modules) in
-      let here = behind_of (codes "MOD-") text (decimal (m + 1)) refl (plain_number (m + 1) most) names.name in
-      let number = number_read (m + 1) (omega arith) most in
-      let bound = up_to_has d.modules (m + 1) (omega (arith, names.inside)) in
-      let same : (m + 1) - 1 ≡ m = omega arith in
-      rw (here, number, bound, same) (refl)
+  module_read text m names = numbered_read (codes "MOD-") d.modules text m refl (omega (arith, limits.most_modules)) names.inside names.name
+
+  pub middle_is : (text : List ℕ) (m : Middle) → middle_named d text ≡ Some m → NamesMiddle d text m
+  unfolding middle_named
+  middle_is text m is =
+      let number = map_some middle_at (numbered (codes "MID-") d.slots text) m is in
+      let found = numbered_is (codes "MID-") d.slots text number.0 number.1.0 in
+      subst (NamesMiddle d text) number.1.1 (record { inside = found.0; name = found.1 })
+
+  pub middle_read : (text : List ℕ) (m : Middle) → NamesMiddle d text m → middle_named d text ≡ Some m
+  unfolding middle_named
+  middle_read text m names = ap (option_map middle_at) (numbered_read (codes "MID-") d.slots text m.0 refl (omega (arith, limits.most_slots)) names.inside names.name)
 
   -- ports
   record IsNumbered (text : List ℕ) (p : Port) : Type 0 where
@@ -69,8 +85,8 @@ module _ (d : Dimensions) (limits : IsInLimits d) where
   parts_at : (text a b : List ℕ) (at : ℕ) → position (λ b. b == 45) text ≡ Some at → take at text ≡ a → drop (at + 1) text ≡ b → text ≡ a ++ 45 ∷ b
   parts_at text a b at is one two = at_dash text at is ∙ ap₂ (λ (x y : List ℕ). x ++ 45 ∷ y) one two
 
-  numbered : (text : List ℕ) (p : Port) → port_of_numbers d text ≡ Some p → IsNumbered text p
-  numbered text p is =
+  parted : (text : List ℕ) (p : Port) → port_of_numbers d text ≡ Some p → IsNumbered text p
+  parted text p is =
       let at = then_some (λ (at : ℕ). option_and_then (λ (number : ℕ). option_map (λ (slot : ℕ). port_at d number slot) (option_and_then (up_to d.slots) (number_of (drop (at + 1) text)))) (option_and_then (up_to d.modules) (number_of (take at text)))) (position (λ b. b == 45) text) p is in
       let number = then_some (λ (number : ℕ). option_map (λ (slot : ℕ). port_at d number slot) (option_and_then (up_to d.slots) (number_of (drop (at.0 + 1) text)))) (option_and_then (up_to d.modules) (number_of (take at.0 text))) p at.1.1 in
       let slot = map_some (λ (slot : ℕ). port_at d number.0 slot) (option_and_then (up_to d.slots) (number_of (drop (at.0 + 1) text))) p number.1.1 in
@@ -121,7 +137,7 @@ module _ (d : Dimensions) (limits : IsInLimits d) where
   unfolding port_named
   port_is text p is =
       let rest = then_some (port_of_numbers d) (behind (codes "DS0-") text) p is in
-      let found = numbered rest.0 p rest.1.1 in
+      let found = parted rest.0 p rest.1.1 in
       let one : module_of d p + 1 ≡ found.number = ap (λ (q : Port). module_of d q + 1) (sym found.port) ∙ module_at found.number found.slot found.least_number found.least_slot found.most_slot in
       let two : slot_of d p + 1 ≡ found.slot = ap (λ (q : Port). slot_of d q + 1) (sym found.port) ∙ slot_at found.number found.slot found.least_slot found.most_slot in
       let name : codes "DS0-" ++ rest.0 ≡ port_name d p = ap (λ (l : List ℕ). codes "DS0-" ++ l) found.text_is ∙ sym (joined found.number found.slot) ∙ ap₂ (λ (a b : ℕ). ((codes "DS0-" ++ decimal a) ++ codes "-") ++ decimal b) (sym one) (sym two) in
@@ -149,6 +165,9 @@ module _ (d : Dimensions) (limits : IsInLimits d) where
 
 pub module_again : (d : Dimensions) → IsInLimits d → (m : ℕ) → IsModule d m → module_named d (module_name m) ≡ Some m
 module_again d limits m inside = module_read d limits (module_name m) m (record { inside = inside; name = refl })
+
+pub middle_again : (d : Dimensions) → IsInLimits d → (m : Middle) → IsWorking d m.0 → middle_named d (middle_name m) ≡ Some m
+middle_again d limits m inside = middle_read d limits (middle_name m) m (record { inside = inside; name = refl })
 
 pub port_again : (d : Dimensions) → IsInLimits d → (p : Port) → IsPort d p → port_named d (port_name d p) ≡ Some p
 port_again d limits p inside = port_read d limits (port_name d p) p (record { inside = inside; name = refl })

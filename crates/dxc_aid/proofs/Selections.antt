@@ -9,7 +9,7 @@ use Rattle.dxc_model.specs.declared.op.Selection.TheVariants.{All, Module, Port 
 use Rattle.dxc_aid.specs.Names.{IsSameText, module_name, port_name, NamesModule, NamesSelection, names_all, names_module, names_port, is_same_text, module_named, port_named, or_else, selection_named}
 use Rattle.dxc_aid.specs.Laws.{AreNames, AreReadAgain}
 use Rattle.dxc_aid.proofs.Cases.{is_same, same_is}
-use Rattle.dxc_aid.proofs.Ports.{module_is, module_read, port_is, port_read, module_again, port_again}
+use Rattle.dxc_aid.proofs.Ports.{module_is, module_read, middle_is, middle_read, port_is, port_read, module_again, middle_again, port_again}
 
 module _ (d : Dimensions) (limits : IsInLimits d) where
   by_parts : (text : List ℕ) (s : Selection) (c : Bool) (m : Option ℕ) (p : Option Port) → is_same_text text (codes "ALL") ≡ c → module_named d text ≡ m → port_named d text ≡ p
@@ -49,9 +49,10 @@ module _ (d : Dimensions) (limits : IsInLimits d) where
   pub are_names : AreNames d
   are_names = record {
     modules = λ text m. (module_is d limits text m, module_read d limits text m);
+    middles = λ text m. (middle_is d limits text m, middle_read d limits text m);
     ports = λ text p. (port_is d limits text p, port_read d limits text p);
     selections = λ text s. (selection_is text s, selection_read text s);
   }
 
   pub are_read_again : AreReadAgain d
-  are_read_again = record { modules = module_again d limits; ports = port_again d limits }
+  are_read_again = record { modules = module_again d limits; middles = middle_again d limits; ports = port_again d limits }

@@ -1,11 +1,12 @@
--- Names of ports and modules, and selections.
+-- Names of ports, modules and middles, and selections.
 use Rattle.std.specs.Prelude.{◌≡◌, ℕ, ◌+◌, ◌-◌, ◌*◌, Bool, List, [], ◌∷◌, ◌++◌, take, drop, nat_le, ◌==◌, ◌&&◌, if◌then◌else◌, Option, Some, None, map, position, codes, decimal}
 use Rattle.std.specs.Option.{option_map, option_and_then}
 use Rattle.std.specs.Int.{is_in_range}
 use Rattle.std.specs.Char.{to_ascii_lowercase}
 use Rattle.std.specs.Str.{bytes_eq}
 use Rattle.dxc_num.specs.declared.port.Port.{Port}
-use Rattle.dxc_num.specs.Dimensions.{Dimensions, module_of, slot_of, IsModule, IsPort}
+use Rattle.dxc_num.specs.declared.port.Middle.{Middle}
+use Rattle.dxc_num.specs.Dimensions.{Dimensions, module_of, slot_of, IsModule, IsPort, IsWorking}
 use Rattle.dxc_model.specs.declared.op.Selection.{Selection}
 use Rattle.dxc_model.specs.declared.op.Selection.TheVariants.{All, Module, Port as OnePort}
 
@@ -17,14 +18,22 @@ IsSameText a b = map to_ascii_lowercase a ≡ map to_ascii_lowercase b
 abbrev pub module_name : ℕ → List ℕ
 module_name m = codes "MOD-" ++ decimal (m + 1)
 
+-- what is written for a middle: its number from 1
+abbrev pub middle_name : Middle → List ℕ
+middle_name m = codes "MID-" ++ decimal (m.0 + 1)
+
 -- what is written for a port: the numbers of its module and of its slot, from 1
 abbrev pub port_name : Dimensions → Port → List ℕ
 port_name d p = codes "DS0-" ++ decimal (module_of d p + 1) ++ codes "-" ++ decimal (slot_of d p + 1)
 
--- a text names a module, a port or a selection of the shape
+-- a text names a module, a working middle, a port or a selection of the shape
 pub record NamesModule (d : Dimensions) (text : List ℕ) (m : ℕ) : Type 0 where
   pub inside : IsModule d m
   pub name : IsSameText text (module_name m)
+
+pub record NamesMiddle (d : Dimensions) (text : List ℕ) (m : Middle) : Type 0 where
+  pub inside : IsWorking d m.0
+  pub name : IsSameText text (middle_name m)
 
 pub record NamesPort (d : Dimensions) (text : List ℕ) (p : Port) : Type 0 where
   pub inside : IsPort d p
@@ -54,9 +63,21 @@ up_to most n = if nat_le n most then Some n else None
 abbrev pub behind : List ℕ → List ℕ → Option (List ℕ)
 behind front text = if is_same_text (take 4 text) front then Some (drop 4 text) else None
 
+-- what a text numbers behind four bytes, from 0; written it is from 1 up to a most
+abbrev pub numbered : List ℕ → ℕ → List ℕ → Option ℕ
+numbered front most text = option_map (λ n. n - 1) (option_and_then (up_to most) (option_and_then number_of (behind front text)))
+
 -- the module that a text names
 unfoldable pub module_named : Dimensions → List ℕ → Option ℕ
-module_named d text = option_map (λ n. n - 1) (option_and_then (up_to d.modules) (option_and_then number_of (behind (codes "MOD-") text)))
+module_named d text = numbered (codes "MOD-") d.modules text
+
+-- the middle of a number
+abbrev pub middle_at : ℕ → Middle
+middle_at k = record { 0 = k }
+
+-- the working middle that a text names
+unfoldable pub middle_named : Dimensions → List ℕ → Option Middle
+middle_named d text = option_map middle_at (numbered (codes "MID-") d.slots text)
 
 -- the port of a module's and a slot's number
 abbrev pub port_at : Dimensions → ℕ → ℕ → Port

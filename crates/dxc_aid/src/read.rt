@@ -1,11 +1,11 @@
 // Names as they are read.
 ghost use Rattle.std.specs.Prelude.{◌≡◌, ◌<◌, ◌≤◌, ◌==◌, IfSome, length, position};
 ghost use Rattle.std.specs.Option.{option_map, option_and_then};
-ghost use Rattle.dxc_num.specs.Dimensions.{IsModule, IsPort};
-ghost use Rattle.dxc_aid.specs.Names.{is_same_text, up_to, number_of as written_number, behind as text_behind, port_of_numbers as read_numbers, module_named, port_named, selection_named};
+ghost use Rattle.dxc_num.specs.Dimensions.{IsModule, IsPort, IsWorking};
+ghost use Rattle.dxc_aid.specs.Names.{is_same_text, up_to, number_of as written_number, behind as text_behind, port_of_numbers as read_numbers, module_named, port_named, selection_named, middle_named, numbered};
 
 use dxc_model::Selection;
-use dxc_num::{Port, Shape};
+use dxc_num::{Middle, Port, Shape};
 
 /// The port of a name `DS0-<module>-<slot>`, both decimal from 1 without leading zeros, letters in either case; None
 /// exactly where the text is no name of a port of the shape.
@@ -23,8 +23,17 @@ pub fn module_of(shape: Shape, text: &[u8]) -> Option<u16>
     ensures name { result ≡ module_named shape text.now }
     ensures inside { IfSome result (IsModule shape) }
 {
-    let number = number_up_to(shape.modules(), behind(b"MOD-", text)?)?;
-    Some(number - 1)
+    number_behind(b"MOD-", shape.modules(), text)
+}
+
+/// The middle of a name `MID-<middle>`, from 0; None exactly where the text is no name of a working middle of the shape.
+#[tactic(auto, unfolding(crate::specs::Names::middle_named))]
+pub fn middle_of(shape: Shape, text: &[u8]) -> Option<Middle>
+    ensures name { result ≡ middle_named shape text.now }
+    ensures inside { IfSome result (λ m. IsWorking shape m.0) }
+{
+    let number = number_behind(b"MID-", shape.slots(), text)?;
+    Some(Middle(number as u8))
 }
 
 /// `ALL`, a module or a port; None exactly where the text is no such name of the shape.
@@ -72,6 +81,15 @@ fn number_up_to(most: u16, text: &[u8]) -> Option<u16>
 {
     let number = number_of(text)?;
     if number <= most { Some(number) } else { None }
+}
+
+/// What a text numbers behind four bytes: written it is from 1 up to a most, told from 0.
+fn number_behind(front: &[u8; 4], most: u16, text: &[u8]) -> Option<u16>
+    ensures number { result ≡ numbered front.now most text.now }
+    ensures range { IfSome result (λ n. n < most) }
+{
+    let number = number_up_to(most, behind(front, text)?)?;
+    Some(number - 1)
 }
 
 fn port_of_numbers(shape: Shape, text: &[u8]) -> Option<Port>

@@ -1,7 +1,7 @@
-use crate::{module_of, port_of, selection_of, write_module, write_port};
+use crate::{middle_of, module_of, port_of, selection_of, write_middle, write_module, write_port};
 use arrayvec::ArrayVec;
 use dxc_model::Selection;
-use dxc_num::{Port, Shape};
+use dxc_num::{Middle, Port, Shape};
 use std::test::Fail;
 
 #[test]
@@ -32,6 +32,16 @@ fn names_are_told_apart(rt: HostRuntime) -> Result<(), Fail> {
     for (text, number) in modules {
         assert_eq!(rt; module_of(shape, text), number, "{text:?}");
     }
+    let middles: [(&[u8], Option<u8>); 5] = [
+        (b"MID-1", Some(0)),
+        (b"mid-24", Some(23)),
+        (b"MID-25", None),
+        (b"MID-0", None),
+        (b"MOD-1", None),
+    ];
+    for (text, number) in middles {
+        assert_eq!(rt; middle_of(shape, text), number.map(Middle), "{text:?}");
+    }
     assert_eq!(rt; selection_of(shape, b"all"), Some(Selection::All));
     assert_eq!(rt; selection_of(shape, b"mod-2"), Some(Selection::Module(1)));
     assert_eq!(rt;
@@ -50,6 +60,8 @@ fn names_are_appended_in_upper_case(rt: HostRuntime) -> Result<(), Fail> {
     write_port(shape, port, &mut out);
     let number = module_of(shape, b"mod-7").ok_or("no module")?;
     write_module(shape, number, &mut out);
-    assert_eq!(rt; out.as_slice(), b"DS0-12-10MOD-7".as_slice());
+    let middle = middle_of(shape, b"mid-24").ok_or("no middle")?;
+    write_middle(shape, middle, &mut out);
+    assert_eq!(rt; out.as_slice(), b"DS0-12-10MOD-7MID-24".as_slice());
     Ok(())
 }

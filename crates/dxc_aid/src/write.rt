@@ -1,11 +1,11 @@
 // Names as they are written.
 ghost use Rattle.std.specs.Prelude.{◌≡◌, ◌≤◌, ◌+◌, ◌++◌, length, codes, decimal};
 ghost use Rattle.arrayvec.specs.ArrayVec.{array_vec_len};
-ghost use Rattle.dxc_num.specs.Dimensions.{IsModule, IsPort};
-ghost use Rattle.dxc_aid.specs.Names.{port_name, module_name};
+ghost use Rattle.dxc_num.specs.Dimensions.{IsModule, IsPort, IsWorking};
+ghost use Rattle.dxc_aid.specs.Names.{port_name, module_name, middle_name};
 
 use arrayvec::ArrayVec;
-use dxc_num::{Port, Shape};
+use dxc_num::{Middle, Port, Shape};
 
 /// Appends the port's name, in upper case.
 pub fn write_port(shape: Shape, port: Port, out: &mut ArrayVec<u8, 128>)
@@ -29,6 +29,17 @@ pub fn write_module(shape: Shape, module: u16, out: &mut ArrayVec<u8, 128>)
 {
     append(out, b"MOD-");
     append_number(out, module + 1);
+}
+
+/// Appends the middle's name, in upper case.
+pub fn write_middle(shape: Shape, middle: Middle, out: &mut ArrayVec<u8, 128>)
+    requires inside { IsWorking shape middle.0 }
+    requires room { array_vec_len out.old + 16 ≤ 128 }
+    ensures name { out.new.items ≡ out.old.items ++ middle_name middle }
+    ensures short { array_vec_len out.new ≤ array_vec_len out.old + 16 }
+{
+    append(out, b"MID-");
+    append_number(out, middle.0 as u16 + 1);
 }
 
 fn append(out: &mut ArrayVec<u8, 128>, text: &[u8])

@@ -12,9 +12,9 @@ pub record Dimensions : Type 0 where
 -- the limits of modules and slots
 pub record IsInLimits (d : Dimensions) : Type 0 where
   pub least_modules : 2 ≤ d.modules
-  pub most_modules : d.modules ≤ 32
+  pub most_modules : d.modules ≤ 64
   pub least_slots : 1 ≤ d.slots
-  pub most_slots : d.slots ≤ 32
+  pub most_slots : d.slots ≤ 96
 
 abbrev pub ports : Dimensions → ℕ
 ports d = d.modules * d.slots
@@ -29,6 +29,10 @@ slot_of d p = p.0 % d.slots
 
 abbrev pub IsModule : Dimensions → ℕ → Type 0
 IsModule d m = m < d.modules
+
+-- a working middle: not the spare, which is behind them
+abbrev pub IsWorking : Dimensions → ℕ → Type 0
+IsWorking d k = k < d.slots
 
 abbrev pub IsPort : Dimensions → Port → Type 0
 IsPort d p = p.0 < ports d

@@ -3,7 +3,7 @@ ghost use Rattle.std.specs.Prelude.{◌≡◌, ◌+◌, ◌*◌, ◌<◌, ◌≤
 use crate::port::{Middle, Port};
 use std::marker::Model;
 
-/// How many modules a network has, and how many slots a module has a side: 2 to 32 by 1 to 32.
+/// How many modules a network has, and how many slots a module has a side: 2 to 64 by 1 to 96.
 #[derive(Clone, Copy, Debug, PartialEq, Eq)]
 pub struct Shape {
     modules: u16,
@@ -26,12 +26,12 @@ impl Shape {
     ghost use Rattle.dxc_num.specs.Dimensions.{Dimensions, IsInLimits, ports, module_of, slot_of};
 
     /// The most modules.
-    pub const MODULES: u16 = 32;
+    pub const MODULES: u16 = 64;
 
     /// The most slots of a module.
-    pub const SLOTS: u16 = 32;
+    pub const SLOTS: u16 = 96;
 
-    /// None exactly where the modules are outside 2 to 32 or the slots outside 1 to 32.
+    /// None exactly where the modules are outside 2 to 64 or the slots outside 1 to 96.
     pub fn new(modules: u16, slots: u16) -> Option<Shape>
         ensures { MatchOption result (¬ IsInLimits (record { modules = modules; slots = slots })) (λ s. (s ≡ record { modules = modules; slots = slots }) × IsInLimits s) }
     {

@@ -5,4 +5,4 @@ mod access;
 #[cfg(test)]
 mod tests;
 
-pub use access::{login, same_user};
+pub use access::{login, same_user, session_user};

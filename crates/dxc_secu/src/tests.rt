@@ -1,4 +1,5 @@
-use crate::access::{login, same_user};
+use crate::access::{login, same_user, session_user};
+use dxc_model::{Class, SessionUser, Uid};
 use shelf_file::shelf_of;
 use std::test::Fail;
 
@@ -38,6 +39,12 @@ fn users_log_in_by_name_and_pid(rt: HostRuntime) -> Result<(), Fail> {
         }
         let users = shelf.users();
         assert!(rt; users == 2);
+        let quinn = SessionUser::User {
+            uid: Uid::of(b"QUINN").unwrap_or_default(),
+            class: Class::R,
+        };
+        assert_eq!(rt; session_user(&shelf, b"Quinn", b"b;c"), quinn);
+        assert_eq!(rt; session_user(&shelf, b"Quinn", b"bc"), SessionUser::Nobody);
         assert!(rt; same_user(&shelf, 0, b"Anna") && !same_user(&shelf, 1, b"Anna"));
     }
     Ok(())

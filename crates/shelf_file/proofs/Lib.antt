@@ -6,3 +6,4 @@ pub mod Growing
 pub mod Naming
 pub mod Shortness
 pub mod FirstFaults
+pub mod Describing

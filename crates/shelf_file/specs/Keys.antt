@@ -34,13 +34,13 @@ list_of d = option_map data_in (as_array d)
 abbrev pub sid_of : Data → Option (List ℕ)
 sid_of d = option_and_then as_sid (as_str d)
 
--- `modules`: 2 to 32
+-- `modules`: 2 to 64
 abbrev pub modules_of : Data → Option ℕ
-modules_of d = option_and_then (checked (λ n. nat_le 2 n && nat_le n 32)) (number_of d)
+modules_of d = option_and_then (checked (λ n. nat_le 2 n && nat_le n 64)) (number_of d)
 
--- `slots`: 1 to 32
+-- `slots`: 1 to 96
 abbrev pub slots_of : Data → Option ℕ
-slots_of d = option_and_then (checked (λ n. nat_le 1 n && nat_le n 32)) (number_of d)
+slots_of d = option_and_then (checked (λ n. nat_le 1 n && nat_le n 96)) (number_of d)
 
 -- a module's number, from 1
 abbrev pub names_module : ℕ → Data → Bool

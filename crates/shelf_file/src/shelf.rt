@@ -2,7 +2,7 @@ ghost use Rattle.std.specs.Prelude.{◌≡◌, ◌<◌, ◌≤◌, Some, IfSome,
 ghost use Rattle.std.specs.Str.{bytes_eq};
 ghost use Rattle.indexmap.specs.IndexMap.{keys};
 ghost use Rattle.dxc_model.specs.Equipment.{IsEquipment};
-ghost use Rattle.shelf_file.specs.Shelves.{named, is_named, PassesOnce};
+ghost use Rattle.shelf_file.specs.Shelves.{named, is_named, AreDescribed, PassesOnce};
 
 use crate::user::{Uid, User, upper};
 use dxc_model::Class;
@@ -57,11 +57,12 @@ impl Shelf {
         self.equipped
     }
 
-    /// How many users there are: 1 to 64.
+    /// How many users there are: 1 to 64. Each has a name in upper case, and a digest of 32 bytes.
     pub fn users(&self) -> u16
         ensures count { result ≡ length self.now.users }
         ensures some { 1 ≤ result }
         ensures few { result ≤ 64 }
+        ensures described { AreDescribed self.now.users }
     {
         self.users.len() as u16
     }
@@ -86,10 +87,11 @@ impl Shelf {
         self.user(user).class
     }
 
-    /// A user's salt.
+    /// A user's salt, at most 32 bytes.
     pub fn salt(&self, user: u16) -> &[u8]
         requires { user < length self.now.users }
-        ensures { option_map (λ e. e.salt) (slice_get self.now.users user) ≡ Some result.now }
+        ensures salt { option_map (λ e. e.salt) (slice_get self.now.users user) ≡ Some result.now }
+        ensures short { length result.now ≤ 32 }
     {
         self.user(user).salt.as_slice()
     }

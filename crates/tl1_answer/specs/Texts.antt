@@ -1,12 +1,12 @@
 -- The texts of rows and changes.
-use Rattle.std.specs.Prelude.{ℕ, List, ◌++◌, codes}
-use Rattle.dxc_num.specs.Dimensions.{Dimensions, IsModule, IsPort}
+use Rattle.std.specs.Prelude.{ℕ, List, [], ◌∷◌, ◌++◌, codes}
+use Rattle.dxc_num.specs.Dimensions.{Dimensions, IsModule, IsPort, IsWorking}
 use Rattle.dxc_model.specs.declared.conn.Cct.{Cct}
 use Rattle.dxc_model.specs.declared.conn.Cct.TheVariants.{OneWay, TwoWay}
 use Rattle.dxc_model.specs.declared.conn.Conn.{Conn}
 use Rattle.dxc_model.specs.declared.op.Change.{Change}
-use Rattle.dxc_model.specs.declared.op.Change.TheVariants.{Enter, Delete, Edit, EnterModule, DeleteModule}
-use Rattle.dxc_aid.specs.Names.{port_name, module_name}
+use Rattle.dxc_model.specs.declared.op.Change.TheVariants.{Enter, Delete, Edit, EnterModule, DeleteModule, TakeOut, PutBack}
+use Rattle.dxc_aid.specs.Names.{port_name, module_name, middle_name}
 
 abbrev pub cct_text : Cct → List ℕ
 cct_text OneWay = codes "1WAY"
@@ -17,21 +17,28 @@ pub record IsOfShape (d : Dimensions) (c : Conn) : Type 0 where
   pub from : IsPort d c.from
   pub to : IsPort d c.to
 
--- what was written before, and then a connection, as FROM,TO:CCT
+-- what was written before, and then a label behind a colon; nothing more where it is empty
+abbrev pub with_label : List ℕ → List ℕ → List ℕ
+with_label front [] = front
+with_label front (b ∷ bs) = front ++ codes ":" ++ b ∷ bs
+
+-- what was written before, and then a connection, as FROM,TO:CCT or FROM,TO:CCT:LABEL
 abbrev pub with_conn : List ℕ → Dimensions → Conn → List ℕ
-with_conn front d c = front ++ port_name d c.from ++ codes "," ++ port_name d c.to ++ codes ":" ++ cct_text c.cct
+with_conn front d c = with_label (front ++ port_name d c.from ++ codes "," ++ port_name d c.to ++ codes ":" ++ cct_text c.cct) c.label
 
 -- a row, with its quotes
 abbrev pub row_text : Dimensions → Conn → List ℕ
 row_text d c = with_conn (codes "\"") d c ++ codes "\""
 
--- the ports or the module of a change are of the shape
+-- the ports, the module or the middle of a change are of the shape
 abbrev pub IsChangeOf : Dimensions → Change → Type 0
 IsChangeOf d (Enter c) = IsOfShape d c
 IsChangeOf d (Delete c) = IsOfShape d c
 IsChangeOf d (Edit c) = IsOfShape d c
 IsChangeOf d (EnterModule m) = IsModule d m
 IsChangeOf d (DeleteModule m) = IsModule d m
+IsChangeOf d (TakeOut m) = IsWorking d m.0
+IsChangeOf d (PutBack m) = IsWorking d m.0
 
 -- a change, as the command that makes it, with its quotes
 abbrev pub change_text : Dimensions → Change → List ℕ
@@ -40,3 +47,5 @@ change_text d (Delete c) = with_conn (codes "\"DLT-CRS-T0:") d c ++ codes "\""
 change_text d (Edit c) = with_conn (codes "\"ED-CRS-T0:") d c ++ codes "\""
 change_text d (EnterModule m) = codes "\"ENT-EQPT:" ++ module_name m ++ codes "\""
 change_text d (DeleteModule m) = codes "\"DLT-EQPT:" ++ module_name m ++ codes "\""
+change_text d (TakeOut m) = codes "\"RMV-MID:" ++ middle_name m ++ codes "\""
+change_text d (PutBack m) = codes "\"RST-MID:" ++ middle_name m ++ codes "\""

@@ -1,9 +1,9 @@
-ghost use Rattle.std.specs.Prelude.{◌≡◌};
+ghost use Rattle.std.specs.Prelude.{◌≡◌, []};
 
 use crate::{Answer, Code, Fits, change_text, row_text};
 use arrayvec::ArrayVec;
-use dxc_model::{Cct, Change, Conn};
-use dxc_num::{Port, Shape};
+use dxc_model::{Cct, Change, Conn, Label};
+use dxc_num::{Middle, Port, Shape};
 use dxc_outside::Moment;
 use std::test::Fail;
 use tl1_text::{Ctag, Sid};
@@ -18,12 +18,13 @@ const NOON: Moment = Moment {
 };
 
 fn conn(from: u16, to: u16, cct: Cct) -> Conn
-    ensures { result ≡ record { from = record { 0 = from }; to = record { 0 = to }; cct = cct } }
+    ensures { result ≡ record { from = record { 0 = from }; to = record { 0 = to }; cct = cct; label = [] } }
 {
     Conn {
         from: Port(from),
         to: Port(to),
         cct,
+        label: Label::default(),
     }
 }
 
@@ -74,7 +75,7 @@ fn texts_of_rows_and_changes(rt: HostRuntime) -> Result<(), Fail> {
             b"\"DLT-CRS-T0:DS0-1-1,DS0-5-7:2WAY\"",
         ),
     ] {
-        let (Change::Enter(made) | Change::Edit(made) | Change::Delete(made)) = change else {
+        let (Change::Enter(made) | Change::Edit(made) | Change::Delete(made)) = &change else {
             return Err("no connection".into());
         };
         assert!(rt; made.from.0 < 192 && made.to.0 < 192);
@@ -85,10 +86,29 @@ fn texts_of_rows_and_changes(rt: HostRuntime) -> Result<(), Fail> {
     assert_eq!(rt; out.as_slice(), b"\"ENT-EQPT:MOD-8\"".as_slice());
     change_text(shape, &Change::DeleteModule(0), &mut out);
     assert_eq!(rt; out.as_slice(), b"\"DLT-EQPT:MOD-1\"".as_slice());
+    change_text(shape, &Change::TakeOut(Middle(23)), &mut out);
+    assert_eq!(rt; out.as_slice(), b"\"RMV-MID:MID-24\"".as_slice());
+    change_text(shape, &Change::PutBack(Middle(0)), &mut out);
+    assert_eq!(rt; out.as_slice(), b"\"RST-MID:MID-1\"".as_slice());
+    let label = Label::of(b"CIRCUIT 7").ok_or("no label")?;
+    let named = Conn {
+        label,
+        ..conn(0, 102, Cct::OneWay)
+    };
+    row_text(shape, &named, &mut out);
+    assert_eq!(rt;
+        out.as_slice(),
+        b"\"DS0-1-1,DS0-5-7:1WAY:CIRCUIT 7\"".as_slice()
+    );
+    change_text(shape, &Change::Edit(named), &mut out);
+    assert_eq!(rt;
+        out.as_slice(),
+        b"\"ED-CRS-T0:DS0-1-1,DS0-5-7:1WAY:CIRCUIT 7\"".as_slice()
+    );
     Ok(())
 }
 
-/// Every port of 32 by 32 is connected to the one of the next module: the largest answer.
+/// Every port of 32 by 32 is connected to the one of the next module: 1,024 lines.
 #[test]
 fn eight_blocks_of_1024_lines(rt: HostRuntime) -> Result<(), Fail> {
     let shape = Shape::new(32, 32).ok_or("no shape")?;

@@ -1,15 +1,16 @@
 // The texts of rows and changes.
 ghost use Rattle.std.specs.Prelude.{◌≡◌, ◌≤◌, ◌+◌, ◌++◌, [], length};
 ghost use Rattle.arrayvec.specs.ArrayVec.{array_vec_len};
-ghost use Rattle.tl1_answer.specs.Texts.{IsOfShape, IsChangeOf, cct_text as text_of_cct, with_conn, row_text as text_of_row, change_text as text_of_change};
+ghost use Rattle.tl1_answer.specs.Texts.{IsOfShape, IsChangeOf, cct_text as text_of_cct, with_conn, with_label, row_text as text_of_row, change_text as text_of_change};
 
 use crate::append::append;
 use arrayvec::ArrayVec;
-use dxc_aid::{write_module, write_port};
-use dxc_model::{Cct, Change, Conn};
+use dxc_aid::{write_middle, write_module, write_port};
+use dxc_model::{Cct, Change, Conn, Label};
 use dxc_num::Shape;
 
-/// Clears `out`, and writes a connection's row: `"FROM,TO:CCT"` with the quotes.
+/// Clears `out`, and writes a connection's row: `"FROM,TO:CCT"` with the quotes, and `:` with the label behind the CCT
+/// where it has one.
 pub fn row_text(shape: Shape, conn: &Conn, out: &mut ArrayVec<u8, 128>)
     requires { IsOfShape shape conn.now }
     ensures text { out.new.items ≡ text_of_row shape conn.now }
@@ -20,11 +21,11 @@ pub fn row_text(shape: Shape, conn: &Conn, out: &mut ArrayVec<u8, 128>)
     append(out, b"\"");
 }
 
-/// Clears `out`, and writes a connection: `FROM,TO:CCT` without quotes.
+/// Clears `out`, and writes a connection as in its row, without quotes.
 pub fn conn_text(shape: Shape, conn: &Conn, out: &mut ArrayVec<u8, 128>)
     requires { IsOfShape shape conn.now }
     ensures text { out.new.items ≡ with_conn [] shape conn.now }
-    ensures short { array_vec_len out.new ≤ 38 }
+    ensures short { array_vec_len out.new ≤ 63 }
 {
     out.clear();
     append_conn(shape, conn, out);
@@ -57,6 +58,14 @@ pub fn change_text(shape: Shape, change: &Change, out: &mut ArrayVec<u8, 128>)
             append(out, b"\"DLT-EQPT:");
             write_module(shape, *number, out);
         }
+        Change::TakeOut(middle) => {
+            append(out, b"\"RMV-MID:");
+            write_middle(shape, *middle, out);
+        }
+        Change::PutBack(middle) => {
+            append(out, b"\"RST-MID:");
+            write_middle(shape, *middle, out);
+        }
     }
     append(out, b"\"");
 }
@@ -65,13 +74,26 @@ fn append_conn(shape: Shape, conn: &Conn, out: &mut ArrayVec<u8, 128>)
     requires inside { IsOfShape shape conn.now }
     requires room { array_vec_len out.old ≤ 16 }
     ensures text { out.new.items ≡ with_conn out.old.items shape conn.now }
-    ensures short { array_vec_len out.new ≤ array_vec_len out.old + 38 }
+    ensures short { array_vec_len out.new ≤ array_vec_len out.old + 63 }
 {
     write_port(shape, conn.from, out);
     append(out, b",");
     write_port(shape, conn.to, out);
     append(out, b":");
     append(out, cct_text(conn.cct));
+    append_label(&conn.label, out);
+}
+
+/// A colon and the label; nothing where that is empty.
+fn append_label(label: &Label, out: &mut ArrayVec<u8, 128>)
+    requires room { array_vec_len out.old ≤ 103 }
+    ensures text { out.new.items ≡ with_label out.old.items label.now }
+    ensures short { array_vec_len out.new ≤ array_vec_len out.old + 25 }
+{
+    if !label.is_empty() {
+        append(out, b":");
+        append(out, label.bytes());
+    }
 }
 
 fn cct_text(cct: Cct) -> &'static [u8]

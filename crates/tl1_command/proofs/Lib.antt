@@ -1,2 +1,3 @@
 pub mod Anys
 pub mod Empties
+pub mod LabelBytes

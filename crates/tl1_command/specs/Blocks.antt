@@ -31,6 +31,10 @@ aid p bs = value 2 p bs
 abbrev pub first_value : List Block → List ℕ
 first_value bs = value 5 0 bs
 
+-- and of the second
+abbrev pub second_value : List Block → List ℕ
+second_value bs = value 5 1 bs
+
 abbrev pub is_empty : List ℕ → Bool
 is_empty [] = true
 is_empty (b ∷ bs) = false

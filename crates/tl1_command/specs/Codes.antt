@@ -3,7 +3,7 @@ use Rattle.std.specs.Prelude.{ℕ, Bool, List, if◌then◌else◌, Option, Some
 use Rattle.std.specs.Char.{to_ascii_lowercase}
 use Rattle.std.specs.Str.{bytes_eq}
 use Rattle.dxc_model.specs.declared.user.CommandCode.{CommandCode}
-use Rattle.dxc_model.specs.declared.user.CommandCode.TheVariants.{ActUser, CancUser, RtrvHdr, AlwMsgAll, InhMsgAll, RtrvCrsT0, EntCrsT0, EdCrsT0, DltCrsT0, EntEqpt, DltEqpt, InitSys}
+use Rattle.dxc_model.specs.declared.user.CommandCode.TheVariants.{ActUser, CancUser, RtrvHdr, AlwMsgAll, InhMsgAll, RtrvCrsT0, EntCrsT0, EdCrsT0, DltCrsT0, EntEqpt, DltEqpt, RmvMid, RstMid, InitSys}
 use Rattle.tl1_command.specs.declared.form.Need.{Need}
 use Rattle.tl1_command.specs.declared.form.Need.TheVariants.{Never, Optional, Required}
 use Rattle.tl1_command.specs.declared.form.Form.{Form}
@@ -26,23 +26,28 @@ code_named text =
     else if is_same_text text (codes "DLT-CRS-T0") then Some DltCrsT0
     else if is_same_text text (codes "ENT-EQPT") then Some EntEqpt
     else if is_same_text text (codes "DLT-EQPT") then Some DltEqpt
+    else if is_same_text text (codes "RMV-MID") then Some RmvMid
+    else if is_same_text text (codes "RST-MID") then Some RstMid
     else if is_same_text text (codes "INIT-SYS") then Some InitSys
     else None
 
-abbrev pub form : ℕ → Need → Need → Form
-form aids aid value = record { aids = aids; aid = aid; value = value }
+abbrev pub form : ℕ → Need → Need → Need → Form
+form aids aid value label = record { aids = aids; aid = aid; value = value; label = label }
 
--- how many AIDs a command names, and whether these and the first parameter of the first payload block have to be there
+-- how many AIDs a command names, whether these and the first parameter of the first payload block have to be there, and
+-- whether the second one is a label
 abbrev pub form_of : CommandCode → Form
-form_of ActUser = form 1 Required Required
-form_of CancUser = form 1 Optional Never
-form_of RtrvHdr = form 0 Never Never
-form_of AlwMsgAll = form 1 Optional Never
-form_of InhMsgAll = form 1 Optional Never
-form_of RtrvCrsT0 = form 1 Optional Never
-form_of EntCrsT0 = form 2 Required Optional
-form_of EdCrsT0 = form 2 Required Required
-form_of DltCrsT0 = form 2 Required Optional
-form_of EntEqpt = form 1 Required Never
-form_of DltEqpt = form 1 Required Never
-form_of InitSys = form 0 Never Never
+form_of ActUser = form 1 Required Required Never
+form_of CancUser = form 1 Optional Never Never
+form_of RtrvHdr = form 0 Never Never Never
+form_of AlwMsgAll = form 1 Optional Never Never
+form_of InhMsgAll = form 1 Optional Never Never
+form_of RtrvCrsT0 = form 1 Optional Never Never
+form_of EntCrsT0 = form 2 Required Optional Optional
+form_of EdCrsT0 = form 2 Required Required Optional
+form_of DltCrsT0 = form 2 Required Optional Never
+form_of EntEqpt = form 1 Required Never Never
+form_of DltEqpt = form 1 Required Never Never
+form_of RmvMid = form 1 Required Never Never
+form_of RstMid = form 1 Required Never Never
+form_of InitSys = form 0 Never Never Never

@@ -16,7 +16,7 @@ ends_by e = record { from = e.0; to = e.1 }
 
 -- the parameters' texts
 abbrev pub named_by : List ℕ → NamedSpans → Named
-named_by unit n = record { first = text_at unit n.first; second = text_at unit n.second; value = text_at unit n.value }
+named_by unit n = record { first = text_at unit n.first; second = text_at unit n.second; value = text_at unit n.value; label = text_at unit n.label }
 
 -- what a command of a unit asks for
 abbrev pub asked_by : List ℕ → Command → Asked
@@ -27,13 +27,15 @@ asked_by unit Allow = allows
 asked_by unit Inhibit = inhibits
 asked_by unit (Table op) = asks_table op
 
--- an operation that changes the table is one on ports and modules of the shape; none is a look
+-- an operation that changes the table is one on ports, modules and working middles of the shape; none is a look
 abbrev pub IsAptOp : Dimensions → Op → Type 0
 IsAptOp d (op.Enter c) = IsApt d (op.Enter c)
 IsAptOp d (op.Delete x y w) = IsApt d (op.Delete x y w)
 IsAptOp d (op.Edit c) = IsApt d (op.Edit c)
 IsAptOp d (op.EnterModule m) = IsApt d (op.EnterModule m)
 IsAptOp d (op.DeleteModule m) = IsApt d (op.DeleteModule m)
+IsAptOp d (op.TakeOut m) = IsApt d (op.TakeOut m)
+IsAptOp d (op.PutBack m) = IsApt d (op.PutBack m)
 IsAptOp d (op.Rows s) = Unit {0}
 IsAptOp d (op.Look n) = ⊥
 IsAptOp d op.Restart = Unit {0}

@@ -3,3 +3,4 @@ pub mod Blocks
 pub mod Meanings
 pub mod Commands
 pub mod Parts
+pub mod Laws

@@ -1,8 +1,9 @@
 -- What a unit asks for, or the first cause that holds: the causes stand in their order.
-use Rattle.std.specs.Prelude.{◌≡◌, ◌⊎◌, ℕ, Bool, true, false, not, ◌&&◌, ◌||◌, ◌==◌, if◌then◌else◌, List, drop, Option, Some, None, Result, Ok, Err, codes}
+use Rattle.std.specs.Prelude.{◌≡◌, ◌⊎◌, ℕ, Bool, true, false, not, ◌&&◌, ◌||◌, ◌==◌, ◌+◌, if◌then◌else◌, List, drop, Option, Some, None, Result, Ok, Err, codes}
 use Rattle.std.specs.List.{list_any}
 use Rattle.dxc_num.specs.Dimensions.{Dimensions, same_port}
 use Rattle.dxc_num.specs.declared.port.Port.{Port}
+use Rattle.dxc_num.specs.declared.port.Middle.{Middle}
 use Rattle.dxc_model.specs.declared.cause.Cause.{Cause}
 use Rattle.dxc_model.specs.declared.cause.Cause.TheVariants.{UnknownCommand, BadCtag, OtherTarget, NotLoggedIn, NotEntitled, Missing, TooMany, GeneralBlock, BadValue, BadAid, SamePort}
 use Rattle.dxc_model.specs.declared.conn.Cct.{Cct}
@@ -14,16 +15,17 @@ use Rattle.dxc_model.specs.declared.op.Selection.TheVariants.{All}
 use Rattle.dxc_model.specs.declared.user.SessionUser.{SessionUser}
 use Rattle.dxc_model.specs.declared.user.SessionUser.TheVariants.{Nobody, User}
 use Rattle.dxc_model.specs.declared.user.CommandCode.{CommandCode}
-use Rattle.dxc_model.specs.declared.user.CommandCode.TheVariants.{ActUser, CancUser, RtrvHdr, AlwMsgAll, InhMsgAll, RtrvCrsT0, EntCrsT0, EdCrsT0, DltCrsT0, EntEqpt, DltEqpt, InitSys}
+use Rattle.dxc_model.specs.declared.user.CommandCode.TheVariants.{ActUser, CancUser, RtrvHdr, AlwMsgAll, InhMsgAll, RtrvCrsT0, EntCrsT0, EdCrsT0, DltCrsT0, EntEqpt, DltEqpt, RmvMid, RstMid, InitSys}
 use Rattle.dxc_model.specs.Entitled.{entitled}
-use Rattle.dxc_aid.specs.Names.{port_named, module_named, selection_named}
+use Rattle.dxc_model.specs.Labels.{as_label}
+use Rattle.dxc_aid.specs.Names.{port_named, module_named, middle_named, selection_named}
 use Rattle.tl1_text.specs.Grammar.{Block}
 use Rattle.tl1_text.specs.Tags.{is_ctag}
 use Rattle.tl1_command.specs.declared.form.Need.{Need}
 use Rattle.tl1_command.specs.declared.form.Need.TheVariants.{Never, Optional, Required}
 use Rattle.tl1_command.specs.declared.form.Form.{Form}
 use Rattle.tl1_command.specs.Codes.{is_same_text, code_named, form_of}
-use Rattle.tl1_command.specs.Blocks.{block, code_text, target_text, tag_text, aid, first_value, is_empty, is_there, has_value_from}
+use Rattle.tl1_command.specs.Blocks.{block, code_text, target_text, tag_text, aid, first_value, second_value, is_empty, is_there, has_value_from}
 
 -- what is asked for, with its texts
 pub data Asked : Type 0 where
@@ -60,45 +62,52 @@ needs_user EdCrsT0 = true
 needs_user DltCrsT0 = true
 needs_user EntEqpt = true
 needs_user DltEqpt = true
+needs_user RmvMid = true
+needs_user RstMid = true
 needs_user InitSys = true
 
 -- nobody is logged in, and the command needs it
 abbrev pub is_not_logged_in : SessionUser → CommandCode → Bool
 is_not_logged_in Nobody c = needs_user c
-is_not_logged_in (User n class) c = false
+is_not_logged_in (User uid class) c = false
 
 -- somebody is logged in whose class isn't in the command's column
 abbrev pub is_not_entitled : SessionUser → CommandCode → Bool
 is_not_entitled Nobody c = false
-is_not_entitled (User n class) c = not (entitled class c)
+is_not_entitled (User uid class) c = not (entitled class c)
 
 abbrev pub is_required : Need → Bool
 is_required Never = false
 is_required Optional = false
 is_required Required = true
 
--- the parameters that a command may name: two AIDs, and the first parameter of the first payload block
+-- the parameters that a command may name: two AIDs, and of the first payload block a value and a label
 pub record Named : Type 0 where
   pub first : List ℕ
   pub second : List ℕ
   pub value : List ℕ
+  pub label : List ℕ
 
 abbrev pub named_in : List Block → Named
-named_in bs = record { first = aid 0 bs; second = aid 1 bs; value = first_value bs }
+named_in bs = record { first = aid 0 bs; second = aid 1 bs; value = first_value bs; label = second_value bs }
 
 -- a parameter that isn't optional is empty
 abbrev pub is_missing : Form → Named → Bool
 is_missing f n = (is_required f.aid && (is_empty n.first || ((f.aids == 2) && is_empty n.second))) || (is_required f.value && is_empty n.value)
 
+-- how many parameters that are
+abbrev pub params_named : Need → ℕ
+params_named Never = 0
+params_named Optional = 1
+params_named Required = 1
+
 -- how many parameters of the first payload block are named
-abbrev pub values_named : Need → ℕ
-values_named Never = 0
-values_named Optional = 1
-values_named Required = 1
+abbrev pub values_named : Form → ℕ
+values_named f = params_named f.value + params_named f.label
 
 -- a parameter of the AID block or of a payload block that isn't named isn't empty
 abbrev pub has_too_many : Form → List Block → Bool
-has_too_many f bs = has_value_from f.aids (block 2 bs) || (has_value_from (values_named f.value) (block 5 bs) || list_any (has_value_from 0) (drop 6 bs))
+has_too_many f bs = has_value_from f.aids (block 2 bs) || (has_value_from (values_named f) (block 5 bs) || list_any (has_value_from 0) (drop 6 bs))
 
 -- a parameter of the general block isn't empty
 abbrev pub has_general : List Block → Bool
@@ -116,6 +125,10 @@ cct_named v =
 abbrev pub or_one_way : Option Cct → Cct
 or_one_way None = OneWay
 or_one_way (Some c) = c
+
+-- the label that a value is
+abbrev pub label_named : List ℕ → Result (List ℕ) Cause
+label_named v = or_cause (as_label v) BadValue
 
 -- two ports
 pub record Ends : Type 0 where
@@ -142,26 +155,33 @@ abbrev pub selection_or_all : Dimensions → List ℕ → Result Selection Cause
 selection_or_all d v = if is_empty v then Ok All else or_cause (selection_named d v) BadAid
 
 -- an entry, a deletion, an edit of a connection
-abbrev pub enters : Ends → Option Cct → Op
-enters e cct = op.Enter (record { from = e.from; to = e.to; cct = or_one_way cct })
+abbrev pub enters : Ends → Option Cct → List ℕ → Op
+enters e cct label = op.Enter (record { from = e.from; to = e.to; cct = or_one_way cct; label = label })
 
-abbrev pub deletes : Ends → Option Cct → Op
-deletes e cct = op.Delete e.from e.to cct
+abbrev pub deletes : Ends → Option Cct → List ℕ → Op
+deletes e cct label = op.Delete e.from e.to cct
 
-abbrev pub edits : Ends → Option Cct → Op
-edits e cct = op.Edit (record { from = e.from; to = e.to; cct = or_one_way cct })
+abbrev pub edits : Ends → Option Cct → List ℕ → Op
+edits e cct label = op.Edit (record { from = e.from; to = e.to; cct = or_one_way cct; label = label })
 
--- a CCT, where it is one, and two ports
-abbrev pub asked_of_ends : Dimensions → Named → (Ends → Option Cct → Op) → Result Asked Cause
+-- a CCT and a label, where they are such, and two ports
+abbrev pub asked_of_ends : Dimensions → Named → (Ends → Option Cct → List ℕ → Op) → Result Asked Cause
 asked_of_ends d n makes = do
   cct ← cct_named n.value
+  label ← label_named n.label
   ends ← ends_named d n.first n.second
-  Ok (asks_table (makes ends cct))
+  Ok (asks_table (makes ends cct label))
 
 -- a module
 abbrev pub asked_of_module : Dimensions → List ℕ → (ℕ → Op) → Result Asked Cause
 asked_of_module d text makes = do
   m ← or_cause (module_named d text) BadAid
+  Ok (asks_table (makes m))
+
+-- a middle
+abbrev pub asked_of_middle : Dimensions → List ℕ → (Middle → Op) → Result Asked Cause
+asked_of_middle d text makes = do
+  m ← or_cause (middle_named d text) BadAid
   Ok (asks_table (makes m))
 
 abbrev pub asked_of_rows : Dimensions → List ℕ → Result Asked Cause
@@ -182,6 +202,8 @@ asked d EdCrsT0 n = asked_of_ends d n edits
 asked d DltCrsT0 n = asked_of_ends d n deletes
 asked d EntEqpt n = asked_of_module d n.first op.EnterModule
 asked d DltEqpt n = asked_of_module d n.first op.DeleteModule
+asked d RmvMid n = asked_of_middle d n.first op.TakeOut
+asked d RstMid n = asked_of_middle d n.first op.PutBack
 asked d InitSys n = Ok (asks_table op.Restart)
 
 -- the command is one on a connection

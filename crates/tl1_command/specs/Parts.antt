@@ -18,3 +18,4 @@ pub record AreParts (unit : List ℕ) (bs : List Block) (p : Parts) : Type 0 whe
   pub first_in : IsIn unit p.named.first
   pub second_in : IsIn unit p.named.second
   pub value_in : IsIn unit p.named.value
+  pub label_in : IsIn unit p.named.label

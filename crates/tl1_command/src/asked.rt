@@ -3,13 +3,13 @@ ghost use Rattle.dxc_num.specs.Dimensions.{Dimensions, IsModule};
 ghost use Rattle.tl1_text.specs.Spans.{IsIn, text_at};
 ghost use Rattle.dxc_model.specs.Operations.{ArePorts};
 ghost use Rattle.tl1_command.specs.Commands.{asked_by, named_by, IsAptCommand, ends_by};
-ghost use Rattle.tl1_command.specs.Meanings.{cct_named, or_one_way as one_way_or, ends_named, selection_or_all, names_all, asked as asked_for, IsOfConnection};
+ghost use Rattle.tl1_command.specs.Meanings.{cct_named, label_named, or_one_way as one_way_or, ends_named, selection_or_all, names_all, asked as asked_for, IsOfConnection};
 
 use crate::code::is_same;
 use crate::command::Command;
 use crate::parts::Named;
-use dxc_aid::{module_of, port_of, selection_of};
-use dxc_model::{Cause, Cct, CommandCode, Conn, Op, Selection};
+use dxc_aid::{middle_of, module_of, port_of, selection_of};
+use dxc_model::{Cause, Cct, CommandCode, Conn, Label, Op, Selection};
 use dxc_num::{Port, Shape};
 
 /// The CCT that a value names, none where it is empty.
@@ -25,6 +25,13 @@ fn cct_of(value: &[u8]) -> Result<Option<Cct>, Cause>
     } else {
         Err(Cause::BadValue)
     }
+}
+
+/// The label that a value is, which may be empty.
+fn label_of(value: &[u8]) -> Result<Label, Cause>
+    ensures { result ≡ label_named value.now }
+{
+    Label::of(value).ok_or(Cause::BadValue)
 }
 
 fn or_one_way(cct: Option<Cct>) -> Cct
@@ -67,6 +74,7 @@ pub fn asked(shape: Shape, code: CommandCode, unit: &[u8], named: Named) -> Resu
     requires first { IsIn unit.now named.first }
     requires second { IsIn unit.now named.second }
     requires value { IsIn unit.now named.value }
+    requires label { IsIn unit.now named.label }
     ensures asked { MatchResult result (λ c. asked_for shape code (named_by unit.now named) ≡ Ok (asked_by unit.now c)) (λ q. asked_for shape code (named_by unit.now named) ≡ Err q) }
     ensures apt { IfOk result (IsAptCommand shape unit.now) }
 {
@@ -96,6 +104,14 @@ pub fn asked(shape: Shape, code: CommandCode, unit: &[u8], named: Named) -> Resu
             let module = module_of(shape, first).ok_or(Cause::BadAid)?;
             Ok(Command::Table(Op::DeleteModule(module)))
         }
+        CommandCode::RmvMid => {
+            let middle = middle_of(shape, first).ok_or(Cause::BadAid)?;
+            Ok(Command::Table(Op::TakeOut(middle)))
+        }
+        CommandCode::RstMid => {
+            let middle = middle_of(shape, first).ok_or(Cause::BadAid)?;
+            Ok(Command::Table(Op::PutBack(middle)))
+        }
         CommandCode::InitSys => Ok(Command::Table(Op::Restart)),
     }
 }
@@ -105,23 +121,30 @@ fn connection(shape: Shape, code: CommandCode, unit: &[u8], named: Named) -> Res
     requires first { IsIn unit.now named.first }
     requires second { IsIn unit.now named.second }
     requires value { IsIn unit.now named.value }
+    requires label { IsIn unit.now named.label }
     requires code { IsOfConnection code }
     ensures asked { MatchResult result (λ c. asked_for shape code (named_by unit.now named) ≡ Ok (asked_by unit.now c)) (λ q. asked_for shape code (named_by unit.now named) ≡ Err q) }
     ensures apt { IfOk result (IsAptCommand shape unit.now) }
 {
     let cct = cct_of(named.value.text(unit))?;
+    let label = label_of(named.label.text(unit))?;
     let (from, to) = ends_of(shape, named.first.text(unit), named.second.text(unit))?;
     let op = match code {
         CommandCode::DltCrsT0 => Op::Delete { from, to, cct },
-        CommandCode::EdCrsT0 => Op::Edit(conn(from, to, cct)),
-        _ => Op::Enter(conn(from, to, cct)),
+        CommandCode::EdCrsT0 => Op::Edit(conn(from, to, cct, label)),
+        _ => Op::Enter(conn(from, to, cct, label)),
     };
     Ok(Command::Table(op))
 }
 
-fn conn(from: Port, to: Port, cct: Option<Cct>) -> Conn
-    ensures { result ≡ record { from = from; to = to; cct = one_way_or cct } }
+fn conn(from: Port, to: Port, cct: Option<Cct>, label: Label) -> Conn
+    ensures { result ≡ record { from = from; to = to; cct = one_way_or cct; label = label } }
 {
     let cct = or_one_way(cct);
-    Conn { from, to, cct }
+    Conn {
+        from,
+        to,
+        cct,
+        label,
+    }
 }

@@ -13,15 +13,15 @@ use dxc_model::{Cause, CommandCode, SessionUser, entitled};
 use tl1_text::{Blocks, Ctag, Sid, Span};
 
 /// The TID is neither empty nor the SID, case aside.
-fn is_other_target(sid: &Sid, target: &[u8]) -> bool
+pub fn is_other_target(sid: &Sid, target: &[u8]) -> bool
     ensures { result ≡ other_target sid.now target.now }
 {
     !target.is_empty() && !target.eq_ignore_ascii_case(sid.bytes())
 }
 
 /// Nobody is logged in, and the command isn't ACT-USER.
-fn is_not_logged_in(user: SessionUser, code: CommandCode) -> bool
-    ensures { result ≡ not_logged_in user code }
+fn is_not_logged_in(user: &SessionUser, code: CommandCode) -> bool
+    ensures { result ≡ not_logged_in user.now code }
 {
     match user {
         SessionUser::Nobody => !matches!(code, CommandCode::ActUser),
@@ -30,12 +30,12 @@ fn is_not_logged_in(user: SessionUser, code: CommandCode) -> bool
 }
 
 /// Somebody is logged in whose class isn't in the command's column.
-fn is_not_entitled(user: SessionUser, code: CommandCode) -> bool
-    ensures { result ≡ not_entitled user code }
+fn is_not_entitled(user: &SessionUser, code: CommandCode) -> bool
+    ensures { result ≡ not_entitled user.now code }
 {
     match user {
         SessionUser::Nobody => false,
-        SessionUser::User { class, .. } => !entitled(class, code),
+        SessionUser::User { class, .. } => !entitled(*class, code),
     }
 }
 
@@ -44,6 +44,7 @@ fn is_missing(form: Form, unit: &[u8], named: Named) -> bool
     requires first { IsIn unit.now named.first }
     requires second { IsIn unit.now named.second }
     requires value { IsIn unit.now named.value }
+    requires label { IsIn unit.now named.label }
     ensures { result ≡ misses form (named_by unit.now named) }
 {
     let first = named.first.text(unit).is_empty();
@@ -70,12 +71,12 @@ fn has_too_many(
     ensures { result ≡ too_many form (map (block_at unit.now) blocks.now.block.items) }
 {
     has_value_from(unit, aids, form.aids)
-        || has_value_from(unit, payload, form.value.named())
+        || has_value_from(unit, payload, form.values())
         || has_further(unit, blocks)
 }
 
 /// A parameter of a payload block behind the first isn't empty.
-fn has_further(unit: &[u8], blocks: &Blocks) -> bool
+pub fn has_further(unit: &[u8], blocks: &Blocks) -> bool
     requires short { length unit.now ≤ 2047 }
     requires blocks { AreBlocksOf unit.now blocks.now.block.items }
     ensures { result ≡ list_any (has_from 0) (drop 6 (map (block_at unit.now) blocks.now.block.items)) }
@@ -90,7 +91,7 @@ fn has_further(unit: &[u8], blocks: &Blocks) -> bool
 }
 
 /// A parameter of the general block isn't empty.
-fn has_general(unit: &[u8], blocks: &Blocks) -> bool
+pub fn has_general(unit: &[u8], blocks: &Blocks) -> bool
     requires short { length unit.now ≤ 2047 }
     requires blocks { AreBlocksOf unit.now blocks.now.block.items }
     ensures { result ≡ general_there (map (block_at unit.now) blocks.now.block.items) }
@@ -105,7 +106,7 @@ fn has_general(unit: &[u8], blocks: &Blocks) -> bool
 /// The first cause of those that code, user and the parts of the unit show, before the parameters are read.
 pub fn refusal(
     sid: &Sid,
-    user: SessionUser,
+    user: &SessionUser,
     code: CommandCode,
     unit: &[u8],
     blocks: &Blocks,
@@ -114,7 +115,7 @@ pub fn refusal(
     requires short { length unit.now ≤ 2047 }
     requires blocks { AreBlocksOf unit.now blocks.now.block.items }
     requires parts { AreParts unit.now (map (block_at unit.now) blocks.now.block.items) parts.now }
-    ensures { result ≡ first_refusal sid.now user code (map (block_at unit.now) blocks.now.block.items) }
+    ensures { result ≡ first_refusal sid.now user.now code (map (block_at unit.now) blocks.now.block.items) }
 {
     let form = form_of(code);
     if Ctag::of(block_text(unit, blocks, 3)).is_none() {

@@ -37,6 +37,10 @@ pub fn code_of(text: &[u8]) -> Option<CommandCode>
         Some(CommandCode::EntEqpt)
     } else if is_same(text, "DLT-EQPT") {
         Some(CommandCode::DltEqpt)
+    } else if is_same(text, "RMV-MID") {
+        Some(CommandCode::RmvMid)
+    } else if is_same(text, "RST-MID") {
+        Some(CommandCode::RstMid)
     } else if is_same(text, "INIT-SYS") {
         Some(CommandCode::InitSys)
     } else {

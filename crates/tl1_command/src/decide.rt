@@ -40,7 +40,7 @@ pub fn command_of(
 {
     let code = code_in(unit, blocks).ok_or(Cause::UnknownCommand)?;
     let parts = parts_of(unit, blocks);
-    match refusal(sid, user, code, unit, blocks, &parts) {
+    match refusal(sid, &user, code, unit, blocks, &parts) {
         Some(cause) => Err(cause),
         None => asked(shape, code, unit, parts.named),
     }

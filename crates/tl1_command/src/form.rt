@@ -1,6 +1,6 @@
 ghost use Rattle.std.specs.Prelude.{◌≡◌, ◌≤◌};
 ghost use Rattle.tl1_command.specs.Codes.{form_of as form_in};
-ghost use Rattle.tl1_command.specs.Meanings.{is_required as must_be, values_named as how_many};
+ghost use Rattle.tl1_command.specs.Meanings.{is_required as must_be, params_named as how_many, values_named as all_values};
 
 use dxc_model::CommandCode;
 
@@ -21,7 +21,8 @@ impl Need {
 
     /// How many parameters it names.
     pub fn named(self) -> usize
-        ensures { result ≡ how_many self }
+        ensures count { result ≡ how_many self }
+        ensures few { result ≤ 1 }
     {
         match self {
             Need::Never => 0,
@@ -30,29 +31,47 @@ impl Need {
     }
 }
 
-/// How many AIDs a command names, whether these have to be there, and whether the first parameter of the first payload
-/// block has.
+/// How many AIDs a command names, whether these have to be there, whether the first parameter of the first payload block
+/// has, and whether the second one is a label.
 #[derive(Clone, Copy, Debug, PartialEq, Eq)]
 pub struct Form {
     pub aids: usize,
     pub aid: Need,
     pub value: Need,
+    pub label: Need,
+}
+
+impl Form {
+    /// How many parameters of the first payload block the command names.
+    pub fn values(self) -> usize
+        ensures { result ≡ all_values self }
+    {
+        self.value.named() + self.label.named()
+    }
 }
 
 pub fn form_of(code: CommandCode) -> Form
     ensures form { result ≡ form_in code }
     ensures few { result.aids ≤ 2 }
 {
-    let (aids, aid, value) = match code {
-        CommandCode::ActUser => (1, Need::Required, Need::Required),
+    let (aids, aid, value, label) = match code {
+        CommandCode::ActUser => (1, Need::Required, Need::Required, Need::Never),
         CommandCode::CancUser
         | CommandCode::AlwMsgAll
         | CommandCode::InhMsgAll
-        | CommandCode::RtrvCrsT0 => { (1, Need::Optional, Need::Never) }
-        CommandCode::RtrvHdr | CommandCode::InitSys => (0, Need::Never, Need::Never),
-        CommandCode::EntCrsT0 | CommandCode::DltCrsT0 => (2, Need::Required, Need::Optional),
-        CommandCode::EdCrsT0 => (2, Need::Required, Need::Required),
-        CommandCode::EntEqpt | CommandCode::DltEqpt => (1, Need::Required, Need::Never),
+        | CommandCode::RtrvCrsT0 => { (1, Need::Optional, Need::Never, Need::Never) }
+        CommandCode::RtrvHdr | CommandCode::InitSys => (0, Need::Never, Need::Never, Need::Never),
+        CommandCode::EntCrsT0 => (2, Need::Required, Need::Optional, Need::Optional),
+        CommandCode::EdCrsT0 => (2, Need::Required, Need::Required, Need::Optional),
+        CommandCode::DltCrsT0 => (2, Need::Required, Need::Optional, Need::Never),
+        CommandCode::EntEqpt | CommandCode::DltEqpt | CommandCode::RmvMid | CommandCode::RstMid => {
+            (1, Need::Required, Need::Never, Need::Never)
+        }
     };
-    Form { aids, aid, value }
+    Form {
+        aids,
+        aid,
+        value,
+        label,
+    }
 }

@@ -3,12 +3,13 @@
 #![tactic(auto)]
 
 mod asked;
-mod checks;
-mod code;
+pub mod checks;
+pub mod code;
 mod command;
 mod decide;
 mod form;
-mod parts;
+pub mod laws;
+pub mod parts;
 #[cfg(test)]
 mod tests;
 

@@ -7,12 +7,13 @@ ghost use Rattle.tl1_command.specs.Parts.{AreParts};
 use arrayvec::ArrayVec;
 use tl1_text::{Blocks, Span, params};
 
-/// The parameters that a command may name: two AIDs, and the first parameter of the first payload block.
+/// The parameters that a command may name: two AIDs, and of the first payload block a value and a label.
 #[derive(Clone, Copy)]
 pub struct Named {
     pub first: Span,
     pub second: Span,
     pub value: Span,
+    pub label: Span,
 }
 
 /// The text of a block, which is empty where the block isn't there.
@@ -86,6 +87,7 @@ pub fn parts_of(unit: &[u8], blocks: &Blocks) -> Parts
         first: value_at(unit, &aids, 0),
         second: value_at(unit, &aids, 1),
         value: value_at(unit, &payload, 0),
+        label: value_at(unit, &payload, 1),
     };
     Parts {
         aids,

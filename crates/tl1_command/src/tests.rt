@@ -2,30 +2,34 @@
 ghost use Rattle.std.specs.Prelude.{◌≤◌, length};
 
 use crate::{Command, command_of};
-use dxc_model::{Cause, Cct, Class, Conn, Op, Selection, SessionUser};
-use dxc_num::{Port, Shape};
+use dxc_model::{Cause, Cct, Class, Conn, Label, Op, Selection, SessionUser, Uid};
+use dxc_num::{Middle, Port, Shape};
 use std::test::Fail;
 use tl1_text::Sid;
 use tl1_text::grammar::blocks;
 
-const ANNA: SessionUser = SessionUser::User {
-    index: 0,
-    class: Class::S,
-};
+const ANNA: Option<Class> = Some(Class::S);
 
-const CARA: SessionUser = SessionUser::User {
-    index: 1,
-    class: Class::R,
-};
+const CARA: Option<Class> = Some(Class::R);
 
-/// The meaning of a unit in a shape of 2 by 1 of the SID DXC1; None where it isn't in the grammar.
-fn meaning(user: SessionUser, unit: &[u8]) -> Option<Result<Command, Cause>>
+const NOBODY: Option<Class> = None;
+
+fn user(class: Option<Class>) -> SessionUser {
+    let uid = Uid::of(b"ANNA").unwrap_or_default();
+    match class {
+        Some(class) => SessionUser::User { uid, class },
+        None => SessionUser::Nobody,
+    }
+}
+
+/// The meaning of a unit of somebody of this class in a shape of 2 by 1 of the SID DXC1; None where it isn't in the grammar.
+fn meaning(class: Option<Class>, unit: &[u8]) -> Option<Result<Command, Cause>>
     requires { length unit.now ≤ 2047 }
 {
     let shape = Shape::new(2, 1)?;
     let sid = Sid::of(b"DXC1")?;
     let found = blocks(unit).ok()?;
-    Some(command_of(shape, &sid, user, unit, &found))
+    Some(command_of(shape, &sid, user(class), unit, &found))
 }
 
 fn conn(cct: Cct) -> Conn {
@@ -33,12 +37,18 @@ fn conn(cct: Cct) -> Conn {
         from: Port(0),
         to: Port(1),
         cct,
+        label: Label::default(),
     }
+}
+
+fn labelled(cct: Cct, text: &[u8]) -> Conn {
+    let label = Label::of(text).unwrap_or_default();
+    Conn { label, ..conn(cct) }
 }
 
 #[test]
 fn commands_are_understood(rt: HostRuntime) -> Result<(), Fail> {
-    let rows: [(&[u8], Op); 12] = [
+    let rows: [(&[u8], Op); 17] = [
         (
             b"ENT-CRS-T0::DS0-1-1,DS0-2-1:1",
             Op::Enter(conn(Cct::OneWay)),
@@ -79,6 +89,20 @@ fn commands_are_understood(rt: HostRuntime) -> Result<(), Fail> {
         ),
         (b"ENT-EQPT::MOD-1:3", Op::EnterModule(0)),
         (b"DLT-EQPT::MOD-2:3", Op::DeleteModule(1)),
+        (
+            b"ENT-CRS-T0::DS0-1-1,DS0-2-1:1::1WAY,\"CIRCUIT 7\"",
+            Op::Enter(labelled(Cct::OneWay, b"CIRCUIT 7")),
+        ),
+        (
+            b"ENT-CRS-T0::DS0-1-1,DS0-2-1:1::,C8",
+            Op::Enter(labelled(Cct::OneWay, b"C8")),
+        ),
+        (
+            b"ED-CRS-T0::DS0-1-1,DS0-2-1:2::2WAY,abcdefghijklmnopqrstuvwx",
+            Op::Edit(labelled(Cct::TwoWay, b"abcdefghijklmnopqrstuvwx")),
+        ),
+        (b"RMV-MID::MID-1:6", Op::TakeOut(Middle(0))),
+        (b"rst-mid::mid-1:8", Op::PutBack(Middle(0))),
         (b"INIT-SYS:::2", Op::Restart),
     ];
     for (unit, op) in rows {
@@ -91,17 +115,13 @@ fn commands_are_understood(rt: HostRuntime) -> Result<(), Fail> {
 
 #[test]
 fn the_first_cause_is_told(rt: HostRuntime) -> Result<(), Fail> {
-    let rows: [(SessionUser, &[u8], Cause); 22] = [
+    let rows: [(Option<Class>, &[u8], Cause); 29] = [
         (ANNA, b"RTRV-XYZ:::1", Cause::UnknownCommand),
         (ANNA, b"RTRV-XYZ:OTHER::000", Cause::UnknownCommand),
         (ANNA, b"RTRV-HDR:OTHER::000", Cause::BadCtag),
         (ANNA, b"RTRV-HDR:::1234567", Cause::BadCtag),
-        (
-            SessionUser::Nobody,
-            b"RTRV-HDR:OTHER::7",
-            Cause::OtherTarget,
-        ),
-        (SessionUser::Nobody, b"RTRV-HDR:dxc1::7", Cause::NotLoggedIn),
+        (NOBODY, b"RTRV-HDR:OTHER::7", Cause::OtherTarget),
+        (NOBODY, b"RTRV-HDR:dxc1::7", Cause::NotLoggedIn),
         (CARA, b"ENT-CRS-T0:::1", Cause::NotEntitled),
         (CARA, b"INIT-SYS:::1", Cause::NotEntitled),
         (ANNA, b"ENT-CRS-T0::DS0-1-1:1", Cause::Missing),
@@ -112,7 +132,7 @@ fn the_first_cause_is_told(rt: HostRuntime) -> Result<(), Fail> {
         (ANNA, b"ENT-CRS-T0::DS0-1-1,DS0-2-1,X:1", Cause::TooMany),
         (
             ANNA,
-            b"ENT-CRS-T0::DS0-1-1,DS0-2-1:1::1WAY,X",
+            b"ENT-CRS-T0::DS0-1-1,DS0-2-1:1::1WAY,X,Y",
             Cause::TooMany,
         ),
         (
@@ -134,10 +154,25 @@ fn the_first_cause_is_told(rt: HostRuntime) -> Result<(), Fail> {
         (ANNA, b"ENT-CRS-T0::DS0-3-1,DS0-3-1:1", Cause::BadAid),
         (ANNA, b"ENT-CRS-T0::DS0-1-1,ds0-1-1:1", Cause::SamePort),
         (ANNA, b"ALW-MSG-ALL::MOD-1:1", Cause::BadAid),
+        (
+            ANNA,
+            b"DLT-CRS-T0::DS0-1-1,DS0-2-1:1::1WAY,X",
+            Cause::TooMany,
+        ),
+        (ANNA, b"ED-CRS-T0::DS0-1-1,DS0-2-1:1::,C8", Cause::Missing),
+        (
+            ANNA,
+            b"ENT-CRS-T0::DS0-1-1,DS0-9-1:1::1WAY,abcdefghijklmnopqrstuvwxy",
+            Cause::BadValue,
+        ),
+        (ANNA, b"RMV-MID::MID-2:1", Cause::BadAid),
+        (ANNA, b"RMV-MID::MID-0:1", Cause::BadAid),
+        (ANNA, b"RST-MID:::1", Cause::Missing),
+        (CARA, b"RST-MID::MID-1:1", Cause::NotEntitled),
     ];
-    for (user, unit, cause) in rows {
+    for (class, unit, cause) in rows {
         if unit.len() <= 2047 {
-            assert_eq!(rt; meaning(user, unit), Some(Err(cause)));
+            assert_eq!(rt; meaning(class, unit), Some(Err(cause)));
         }
     }
     Ok(())

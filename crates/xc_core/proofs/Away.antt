@@ -3,7 +3,6 @@ use Rattle.std.specs.Prelude.{min}
 use Rattle.std.proofs.Common.{◌≡◌, ◌≢◌, ℕ, ◌+◌, ◌≤◌, arith, ◌⊎◌, true, false, List, [], ◌∷◌, ◌++◌, length, Option, Some, None, refl, sym, ◌∙◌, ap, subst, inl, inr}
 use Rattle.dxc_causes.specs.Causes.{last}
 use Rattle.dxc_disk.specs.Disks.{CountsOn, DiskState}
-use Rattle.dxc_num.specs.Dimensions.{IsInLimits}
 use Rattle.dbchg_reports.specs.Recent.{Recent, recent_of, with_one}
 use Rattle.dbchg_reports.proofs.Keeping.{recent_more}
 use Rattle.dxc_model.specs.declared.op.Op.{Op}
@@ -20,7 +19,6 @@ use Rattle.dxc_model.proofs.Lasting.{lasts_before, lasts_now}
 use Rattle.roll_engine.specs.Rollings.{RollingAt}
 use Rattle.journal_core.specs.declared.book.Book.{Book}
 use Rattle.turnstile.specs.Turning.{Each}
-use Rattle.xc_recovery.proofs.Placing.{effect_shape}
 use Rattle.xc_core.specs.declared.provisioner.Provisioner.{Provisioner}
 use Rattle.xc_core.specs.declared.state.Home.TheVariants.{In}
 use Rattle.xc_core.specs.declared.state.State.{State}
@@ -30,10 +28,10 @@ use Rattle.xc_core.specs.Restarts.{IsHalted}
 use Rattle.xc_core.specs.Finishes.{Finishes}
 use Rattle.xc_core.specs.States.{Opening, IsHomeAfter, IsPaid, IsReadyOrHalted, IsUnsettled, SpendsOf, StandsFor, cost, fault_in, faults_in, most_room, room_in, rules_of, with_home}
 use Rattle.xc_core.specs.Seeing.{HasTaken, IsOut, entry}
-use Rattle.xc_core.proofs.Entries.{AreReads, answered_not_cut, astray_more, brought, changes_one, changes_same, fold_on, holder_append, lasted_reading, others_read, paid_counted, reads_changes, reads_faults, reads_room, room_more, same_faults, spends_at, turns_behind}
+use Rattle.xc_core.proofs.Entries.{AreReads, answered_not_cut, astray_more, brought, changes_one, changes_same, holder_append, lasted_reading, others_read, paid_counted, reads_changes, reads_faults, reads_room, room_more, same_faults, spends_at, turns_behind}
 use Rattle.xc_core.proofs.Halting.{halted_rolls}
 use Rattle.xc_core.proofs.Pasts.{past_marked}
-use Rattle.xc_core.proofs.Reckoning.{reckons_more, reckoned_table, records_counted}
+use Rattle.xc_core.proofs.Reckoning.{changes_counted, reckons_more, reckoned_table}
 use Rattle.xc_core.proofs.Standing.{limit_met, table_is}
 
 module _ {D : Type 0} (told : Type 0) (state : D → DiskState) where
@@ -50,7 +48,6 @@ module _ {D : Type 0} (told : Type 0) (state : D → DiskState) where
       out_since = record {
         now = t.now;
         reckoned = subst (λ (cs : List Change). ReckonsTo o.first cs t.now) (sym (reads_changes h later read_since)) t.reckoned;
-        folded = t.folded;
         held = holder_append None h later ∙ ap (λ (x : Option Entry). holder x later) t.held ∙ others_since.1;
         ground = t.ground;
         faults = subst (λ (n : ℕ). min (o.faults + n) last ≤ (state p.journal.0).faults) (sym (reads_faults h later read_since)) t.faults;
@@ -72,7 +69,6 @@ module _ {D : Type 0} (told : Type 0) (state : D → DiskState) where
   out_moved o own op h p q t ground journal = record {
     now = t.now;
     reckoned = t.reckoned;
-    folded = t.folded;
     held = t.held;
     ground = ground ∙ t.ground;
     faults = subst (λ (j : D × Book). min (o.faults + faults_in h) last ≤ (state j.0).faults) (sym journal) t.faults;
@@ -95,7 +91,7 @@ module _ {D : Type 0} (told : Type 0) (state : D → DiskState) where
     pub same_number : p.changes ≡ t.now.changes → o.first.changes ≡ 0 → s.reports.newest ≡ p.changes
     same_number holds none =
         let number : s.reports.newest ≡ length (changes_of h) = ap (λ (x : Recent). x.newest) st.reports in
-        let counted = (records_counted o.first t.now (changes_of h) t.reckoned).1 in
+        let counted = changes_counted o.first t.now (changes_of h) t.reckoned in
         omega (arith, none, number, counted, holds)
 
     pub waits_own : (e : Entry) → e.place ≡ own → e.op ≡ op → BringsHome e.outcome → WaitsFor (holder None h) e
@@ -130,7 +126,6 @@ module _ {D : Type 0} (told : Type 0) (state : D → DiskState) where
         record {
           now = t.now;
           reckoned = subst (λ (cs : List Change). ReckonsTo o.first cs t.now) (sym unchanged) t.reckoned;
-          folded = t.folded;
           table = sym same_table;
           reports = st.reports ∙ ap recent_of (sym unchanged);
           legal = legal_more (rules_of o) h e st.legal fits;
@@ -155,14 +150,12 @@ module _ {D : Type 0} (told : Type 0) (state : D → DiskState) where
             let b = t.out.now in
             let e = entry own op (Done t.change) in
             let one = changes_one h e t.change refl in
-            let limits : IsInLimits b.fold.table.shape = subst IsInLimits (sym end.home.registers.shape ∙ end.home.past.placed.shape ∙ effect_shape b.fold.table t.change) end.home.registers.sized.shape in
             record {
               now = changed b t.change ops;
               reckoned = subst (λ (cs : List Change). ReckonsTo o.first cs (changed b t.change ops)) (sym one) (reckons_more o.first b (changes_of h) t.change ops t.out.reckoned t.rolls.planned);
-              folded = fold_on told o.site b op t.change ops limits t.out.folded t.rolls.granted t.rolls.planned;
               table = is;
               reports = ap (with_one t.change) st.reports ∙ recent_more (changes_of h) t.change ∙ ap recent_of (sym one);
-              legal = legal_more (rules_of o) h e st.legal (fits_by (rules_of o) h e (effect (table_after o.first.fold.table h) t.change, (granted_here, refl)) (limit_met told state o h b t.out.reckoned op t.change None (Done t.change) granted_here t.within refl) tt);
+              legal = legal_more (rules_of o) h e st.legal (fits_by (rules_of o) h e (effect (table_after o.first.fold.table h) t.change, (granted_here, refl)) (limit_met told state o h b t.out.reckoned op t.change None (Done t.change) granted_here (inl t.within) refl) tt);
               turns = turns_more None h e st.turns (waits_own o s h st own op p t.out e refl refl tt);
               paid = paid_now o s h st own op p t.out e d.value.p journal refl refl counts;
               astray = astray_more told h e st.astray (λ k x. let y : Done t.change ≡ Failed JournalAstray = x in cc);
@@ -180,7 +173,7 @@ module _ {D : Type 0} (told : Type 0) (state : D → DiskState) where
         let e = entry own op Cut in
         let x = t.rolls in
         comes_halted o s h st own op p t.out e (with_halt true p) refl refl refl
-        (fits_by (rules_of o) h e (table_after o.first.fold.table h, (inr (t.change, granted_here), refl)) (limit_met told state o h t.out.now t.out.reckoned op t.change None Cut granted_here t.within refl) tt)
+        (fits_by (rules_of o) h e (table_after o.first.fold.table h, (inr (t.change, granted_here), refl)) (limit_met told state o h t.out.now t.out.reckoned op t.change None Cut granted_here (inl t.within) refl) tt)
         refl refl counts
         (halted_rolls told state t.out.now op t.change (with_halt true p) r refl (record {
           ready = refl;
@@ -189,7 +182,6 @@ module _ {D : Type 0} (told : Type 0) (state : D → DiskState) where
           granted = x.granted;
           within = x.within;
           planned = x.planned;
-          counted = x.counted;
           journalled = x.journalled;
           under_way = x.under_way;
           switches = x.switches;

@@ -1,35 +1,26 @@
 -- A history that is one entry longer.
 use Rattle.std.specs.Prelude.{nat_lt, nat_le, min, if◌then◌else◌, option_to_list}
-use Rattle.std.proofs.Common.{◌≡◌, ◌≢◌, ℕ, ◌+◌, ◌≤◌, ◌<◌, ◌^◌, arith, Bool, true, false, cond, List, [], ◌∷◌, ◌++◌, length, length-append, append-nil, append_assoc, Option, Some, None, refl, sym, ◌∙◌, ap, subst, inl, inr}
+use Rattle.std.proofs.Common.{◌≡◌, ◌≢◌, ℕ, ◌+◌, ◌≤◌, ◌<◌, ◌^◌, arith, Bool, true, false, cond, List, [], ◌∷◌, ◌++◌, append-nil, append_assoc, Option, Some, None, refl, sym, ◌∙◌, ap, subst, inl, inr}
 use Rattle.std.proofs.lemmas.Bool.Decides.{eqb_tells}
 use Rattle.dxc_causes.specs.Causes.{Rose, last}
 use Rattle.dxc_disk.specs.Disks.{CountsOn, DiskState, IsSpent, Spends}
-use Rattle.dxc_num.specs.Dimensions.{IsInLimits}
 use Rattle.dxc_model.specs.declared.op.Op.{Op}
 use Rattle.dxc_model.specs.declared.op.Change.{Change}
 use Rattle.dxc_model.specs.declared.cause.Cause.{Cause}
-use Rattle.dxc_model.specs.declared.cause.Cause.TheVariants.{JournalAstray, JournalFull, SwitchLimit}
+use Rattle.dxc_model.specs.declared.cause.Cause.TheVariants.{JournalAstray, NoMiddle, SwitchLimit}
 use Rattle.dxc_model.specs.declared.entry.Outcome.TheVariants.{Done, Denied, Failed, Answered, Restarted, Cut, Taken}
 use Rattle.dxc_model.specs.declared.entry.Entry.{Entry}
-use Rattle.dxc_model.specs.Verdicts.{Grants}
 use Rattle.dxc_model.specs.Steps.{IsLimit, made}
 use Rattle.dxc_model.specs.Histories.{Lasts, KeepsTurns, WaitsFor, IsCut, IsDoubtful, IsRestarted, IsSettling, changes_of, holder, holder_after}
 use Rattle.dxc_model.proofs.Growth.{changes_append}
 use Rattle.dxc_model.proofs.Lists.{each_more}
 use Rattle.dxc_model.proofs.Lasting.{lasts_before, lasts_more}
-use Rattle.roll_plan.specs.declared.op.LegOp.{LegOp}
 use Rattle.roll_plan.specs.Works.{ops_writes, switches_in}
-use Rattle.xc_recovery.specs.LegTasks.{tasks}
-use Rattle.xc_recovery.specs.ChangeWorks.{WorksPlanned}
 use Rattle.turnstile.specs.Turning.{Each}
-use Rattle.xc_journal.specs.Spelling.{spelling}
-use Rattle.xc_recovery.specs.ChangeWorks.{choices_in}
-use Rattle.xc_core.specs.Reckonings.{Past, changed, limit_by, most_records}
-use Rattle.xc_core.specs.Provisioners.{Ground}
+use Rattle.xc_core.specs.Reckonings.{Past, limit_by}
 use Rattle.xc_core.specs.Begins.{IsOverLimit}
-use Rattle.xc_core.specs.States.{Opening, IsFoldOf, IsNeverAstray, IsPaid, SpendsOf, IsUnsettled, cost, fault_in, faults_in, room_in}
+use Rattle.xc_core.specs.States.{Opening, IsNeverAstray, IsPaid, SpendsOf, IsUnsettled, cost, fault_in, faults_in, room_in}
 use Rattle.xc_core.specs.Seeing.{entry}
-use Rattle.xc_core.proofs.Reckoning.{comes_on}
 
 -- nothing but a change makes the list of changes longer
 pub changes_same : (h : List Entry) (e : Entry) → made e.outcome ≡ None → changes_of (h ++ e ∷ []) ≡ changes_of h
@@ -38,18 +29,17 @@ changes_same h e none = changes_append h (e ∷ []) ∙ ap (λ (o : Option Chang
 pub changes_one : (h : List Entry) (e : Entry) (c : Change) → made e.outcome ≡ Some c → changes_of (h ++ e ∷ []) ≡ changes_of h ++ c ∷ []
 changes_one h e c one = changes_append h (e ∷ []) ∙ ap (λ (o : Option Change). changes_of h ++ (option_to_list o ++ [])) one
 
--- a limit is that of the journal, or of the switch numbers
-limit_pick : (q : Cause) (a b d : Bool) → Some q ≡ (if a then Some JournalFull else if b then Some SwitchLimit else if d then Some SwitchLimit else None) → IsLimit q
-limit_pick q true b d is = inl cc
-limit_pick q false true d is = inr cc
-limit_pick q false false true is = inr cc
-limit_pick q false false false is = absurd cc
+-- a limit is that of the switch numbers, or of the middles
+limit_pick : (q : Cause) (b d : Bool) → Some q ≡ (if b then Some SwitchLimit else if d then Some SwitchLimit else None) → IsLimit q
+limit_pick q true d is = inr cc
+limit_pick q false true is = inr cc
+limit_pick q false false is = absurd cc
 
-limit_is : (q : Cause) (r s n : ℕ) → Some q ≡ limit_by r s n → IsLimit q
-limit_is q r s n is = limit_pick q (nat_le most_records r) (nat_lt (2 ^ 48) s) (nat_le (2 ^ 48) n) is
+limit_is : (q : Cause) (s n : ℕ) → Some q ≡ limit_by s n → IsLimit q
+limit_is q s n is = limit_pick q (nat_lt (2 ^ 48) s) (nat_le (2 ^ 48) n) is
 
 pub over_limit : (b : Past) (op : Op) (q : Cause) → IsOverLimit b op q → IsLimit q
-over_limit b op q over = limit_is q (length b.records) (b.fold.switches + switches_in (ops_writes over.2.ops)) b.changes over.2.limit
+over_limit b op q over = elim over.2 [ inl has ↦ limit_is q (b.fold.switches + switches_in (ops_writes has.ops)) b.changes has.limit | inr none ↦ inl (let e : Some q ≡ Some NoMiddle = none.1 in cc) ]
 
 -- one entry more
 pub faults_more : (h : List Entry) (e : Entry) → faults_in (h ++ e ∷ []) ≡ faults_in h + fault_in e.outcome
@@ -132,20 +122,6 @@ brought own op e is = elim (eqb_tells e.place own) [ inl same ↦ ap (λ b. cond
 pub not_brought : (own : ℕ) (op : Op) (e : Entry) → e.place ≢ own → holder_after (Some (entry own op Taken)) e ≡ Some (entry own op Taken)
 not_brought own op e not = elim (eqb_tells e.place own) [ inl same ↦ absurd (not same.1) | inr other ↦ ap (λ b. cond b None (Some (entry own op Taken))) other.0 ]
 
--- the record of the next change makes it, so what the disk gave goes on
-pub fold_on : (told : Type 0) (g : Ground) (b : Past) (op : Op) (c : Change) (ops : List LegOp) → IsInLimits b.fold.table.shape → IsFoldOf told g b → Grants b.fold.table op c → WorksPlanned b.fold.colours (tasks c) ops → IsFoldOf told g (changed b c ops)
-fold_on told g b op c ops limits f granted planned =
-    let bytes = spelling c (choices_in ops) in
-    let count = f.number in
-    let one = length-append f.read (bytes ∷ []) in
-    let other = length-append b.records (bytes ∷ []) in
-    record {
-      read = f.read ++ bytes ∷ [];
-      number = omega (arith, count, one, other);
-      same = λ t. ap (λ (l : List (List ℕ)). l ++ bytes ∷ []) (f.same t);
-      comes = comes_on g.shape g.equipped (record b { records = f.read }) op c ops limits f.comes granted planned;
-    }
-
 -- turns behind a history
 pub turns_behind : (o : Option Entry) (h g : List Entry) → KeepsTurns o (h ++ g) → KeepsTurns (holder o h) g
 turns_behind o [] g k = k
@@ -216,7 +192,7 @@ others_read own op (e ∷ es) others turns =
 
 -- none is astray
 pub limit_not_astray : (q : Cause) → IsLimit q → Failed q ≢ Failed JournalAstray
-limit_not_astray q l x = elim l [ inl is ↦ (let y : Failed JournalFull ≡ Failed JournalAstray = ap Failed (sym is) ∙ x in cc) | inr is ↦ (let y : Failed SwitchLimit ≡ Failed JournalAstray = ap Failed (sym is) ∙ x in cc) ]
+limit_not_astray q l x = elim l [ inl is ↦ (let y : Failed NoMiddle ≡ Failed JournalAstray = ap Failed (sym is) ∙ x in cc) | inr is ↦ (let y : Failed SwitchLimit ≡ Failed JournalAstray = ap Failed (sym is) ∙ x in cc) ]
 
 pub astray_more : (told : Type 0) (h : List Entry) (e : Entry) → (told → IsNeverAstray h) → (told → e.outcome ≢ Failed JournalAstray) → told → IsNeverAstray (h ++ e ∷ [])
 astray_more told h e never not t = each_more (λ x. x.outcome ≢ Failed JournalAstray) h e (never t) (not t)

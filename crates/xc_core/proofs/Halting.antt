@@ -1,5 +1,7 @@
 -- The Provisioner behind a stop, and its recovery on the way.
-use Rattle.std.proofs.Common.{append-nil, ◌≡◌, ℕ, ◌+◌, ◌<◌, ◌≤◌, ◌^◌, true, false, List, [], ◌∷◌, ◌++◌, length, length-append, Option, Some, None, sym, refl, ap, ◌∙◌, subst, arith}
+use Rattle.std.proofs.Common.{append-nil, ◌≡◌, ℕ, ◌+◌, ◌<◌, ◌≤◌, ◌^◌, true, false, List, [], ◌∷◌, ◌++◌, length, Option, Some, None, sym, refl, ap, ◌∙◌, subst, arith}
+use Rattle.std.specs.List.{AllByRecursion}
+use Rattle.dxc_num.specs.Dimensions.{Dimensions}
 use Rattle.dxc_disk.specs.Disks.{DiskState}
 use Rattle.dxc_num.specs.declared.register.RegWrite.{RegWrite}
 use Rattle.dxc_model.specs.declared.op.Op.{Op}
@@ -26,23 +28,28 @@ use Rattle.roll_engine.specs.Leading.{IsLeading}
 use Rattle.roll_engine.specs.Cold.{left_behind, left_of, legs_then}
 use Rattle.roll_engine.proofs.Leading.{led_to_rest}
 use Rattle.roll_engine.proofs.UnderWay.{under_way_begun, under_way_done, under_way_on, under_way_ready}
-use Rattle.xc_journal.specs.Spelling.{spelling}
-use Rattle.xc_recovery.specs.LegTasks.{tasks}
+use Rattle.journal_core.specs.declared.head.Head.{Head}
+use Rattle.xc_journal.specs.Entries.{FitsChange, FitsConn}
 use Rattle.xc_recovery.specs.ChangeWorks.{choices_in}
 use Rattle.xc_recovery.specs.Placings.{IsPlaced}
-use Rattle.xc_recovery.proofs.Once.{plans_once}
+use Rattle.xc_recovery.specs.Replays.{ComesTo}
+use Rattle.xc_recovery.proofs.Folding.{effect_fits}
+use Rattle.xc_recovery.proofs.Once.{change_plans_once}
 use Rattle.xc_recovery.proofs.Placing.{effect_shape, placed_after}
-use Rattle.xc_recovery.proofs.Spelled.{plans_made}
+use Rattle.xc_recovery.proofs.Spelled.{changes_made}
 use Rattle.xc_core.specs.declared.provisioner.Provisioner.{Provisioner}
-use Rattle.xc_core.specs.Journals.{KeepsList}
-use Rattle.xc_core.specs.Reckonings.{Past, changed}
-use Rattle.xc_core.specs.Provisioners.{IsHome, KeepsPast, Rolls, with_halt}
-use Rattle.xc_core.specs.Restarts.{HasWay, IsFound, IsHalted, IsOnWay, IsOwnWay, Lists, Rejoins, Resumes, TakesUp, number_with, writes_left}
+use Rattle.xc_core.specs.Journals.{IsJournalled, IsOneMore, IsSoFar}
+use Rattle.xc_core.specs.Reckonings.{IsPlannedFor, Past, changed}
+use Rattle.xc_core.specs.Provisioners.{IsHome, KeepsPast, MayBeHeld, Rolls, with_halt}
+use Rattle.xc_core.specs.Restarts.{HasWay, IsFound, IsHalted, IsListOf, IsOnWay, IsOwnWay, Lists, Rejoins, Resumes, TakesUp, number_with, writes_left}
 use Rattle.dxc_model.specs.Steps.{with_change}
-use Rattle.dxc_model.specs.Verdicts.{MayTake}
+use Rattle.dxc_model.specs.Verdicts.{MayTake, effect}
 use Rattle.std.specs.Prelude.{IfSome}
 use Rattle.xc_core.specs.Endings.{Ends, with_switches}
 use Rattle.xc_core.proofs.Pasts.{none_held, past_marked, past_moved}
+use Rattle.xc_core.proofs.Granting.{granted_once}
+use Rattle.xc_core.proofs.Reckoning.{comes_on}
+use Rattle.xc_core.proofs.Journalling.{journalled_home}
 use Rattle.xc_core.proofs.Rolling.{within}
 
 -- no work
@@ -54,14 +61,37 @@ module _ (b : Past) (doubt : Option Op) where
   pub taken_few : (lacking : Option Change) (g : Past) → b.fold.switches ≤ 2 ^ 48 → TakesUp b doubt lacking g → g.fold.switches ≤ 2 ^ 48
   taken_few None g few is = subst (λ (x : Past). x.fold.switches ≤ 2 ^ 48) (sym is) few
   taken_few (Some c) g few (op, asked, granted, met, is) =
-      let fits = within (length b.records) (b.fold.switches + switches_in (ops_writes met.ops)) b.changes (sym met.limit) in
+      let fits = within (b.fold.switches + switches_in (ops_writes met.ops)) b.changes (sym met.limit) in
       subst (λ (x : Past). x.fold.switches ≤ 2 ^ 48) (sym is) fits.0
 
-  pub taken_number : (n : ℕ) → length b.records ≡ n + b.changes → (lacking : Option Change) (g : Past) → TakesUp b doubt lacking g → length g.records ≡ n + number_with b.changes lacking
-  taken_number n number None g is = ap (λ (x : Past). length x.records) is ∙ number
-  taken_number n number (Some c) g (op, asked, granted, met, is) =
-      let one = length-append b.records (spelling c (choices_in met.ops) ∷ []) in
-      ap (λ (x : Past). length x.records) is ∙ omega (arith, number, one)
+  op_same : {x y : Op} → Some x ≡ Some y → x ≡ y
+  op_same e = cc
+
+  -- the list with the change's record comes to what stands behind it, by its work at last
+  pub taken_more : (c : Change) (g : Past) → TakesUp b doubt (Some c) g → (head : Head) (records : List (List ℕ)) → IsListOf b doubt (Some c) head records → ComesTo b.fold.table.shape head records g.fold.table g.fold.colours g.fold.work
+  taken_more c g (op, asked, granted, met, is) head records (x, ask, held) =
+      let t = b.fold.table in
+      let m = b.fold.colours in
+      let more : IsOneMore b op head records = subst (λ (y : Op). IsOneMore b y head records) (op_same (sym ask ∙ asked)) held in
+      let change : more.is.change ≡ c = granted_once t op c more.is.change granted more.is.granted in
+      let ops : more.is.within.ops ≡ met.ops = change_plans_once t m c more.is.within.ops met.ops (subst (λ (y : Change). IsPlannedFor b y more.is.within.ops) change more.is.within.planned) met.planned in
+      subst (λ (y : Past). ComesTo t.shape head records y.fold.table y.fold.colours y.fold.work) (sym is)
+      (subst (λ (w : Change × List LegOp). ComesTo t.shape head records (effect t w.0) (after_ops w.1 m) w.1) (λ i. (change i, ops i)) (comes_on b op head records more))
+
+  pub taken_so_far : (lacking : Option Change) (g : Past) → TakesUp b doubt lacking g → (head : Head) (records : List (List ℕ)) → IsListOf b doubt lacking head records → IsSoFar g head records
+  taken_so_far None g is head records listed = subst (λ (y : Past). IsSoFar y head records) (sym is) listed
+  taken_so_far (Some c) g (op, asked, granted, met, is) head records listed = (
+    g.fold.work,
+    subst (λ (d : Dimensions). ComesTo d head records g.fold.table g.fold.colours g.fold.work) (sym (effect_shape b.fold.table c) ∙ sym (ap (λ (y : Past). y.fold.table.shape) is)) (taken_more c g (op, asked, granted, met, is) head records listed),
+  )
+
+  -- each connection may be spelled still
+  pub taken_spelled : MayBeHeld b doubt → AllByRecursion FitsConn b.fold.table.conns → (lacking : Option Change) (g : Past) → TakesUp b doubt lacking g → AllByRecursion FitsConn g.fold.table.conns
+  taken_spelled held spelled None g is = subst (λ (y : Past). AllByRecursion FitsConn y.fold.table.conns) (sym is) spelled
+  taken_spelled held spelled (Some c) g (op, asked, granted, met, is) =
+      let x = (held op asked).1 in
+      let fits : FitsChange c = subst FitsChange (granted_once b.fold.table op c x.change granted x.granted) x.fits in
+      subst (λ (y : Past). AllByRecursion FitsConn y.fold.table.conns) (sym is) (effect_fits b.fold.table c spelled fits)
 
   pub taken_changes : (lacking : Option Change) (g : Past) → TakesUp b doubt lacking g → number_with b.changes lacking ≡ g.changes
   taken_changes None g is = sym (ap (λ (y : Past). y.changes) is)
@@ -72,12 +102,12 @@ module _ (b : Past) (doubt : Option Op) where
   taken_placed placed (Some c) g (op, asked, granted, met, is) = (
     ap (λ (y : Past). y.fold.table.shape) is ∙ effect_shape b.fold.table c,
     subst (λ (y : Past). IsPlaced y.fold.table y.fold.colours) (sym is)
-        (placed_after b.fold.table b.fold.colours c (choices_in met.ops) met.ops placed (own_verdict b.fold.table op c granted) (plans_made b.fold.colours (tasks c) met.ops met.planned)),
+        (placed_after b.fold.table b.fold.colours c (choices_in met.ops) met.ops placed (own_verdict b.fold.table op c granted) (changes_made b.fold.table b.fold.colours c met.ops met.planned)),
   )
 
   pub few_changes : (lacking : Option Change) (g : Past) → TakesUp b doubt lacking g → IfSome lacking (λ _. b.changes < 2 ^ 48)
   few_changes None g is = tt
-  few_changes (Some c) g (op, asked, granted, met, is) = (within (length b.records) (b.fold.switches + switches_in (ops_writes met.ops)) b.changes (sym met.limit)).1
+  few_changes (Some c) g (op, asked, granted, met, is) = (within (b.fold.switches + switches_in (ops_writes met.ops)) b.changes (sym met.limit)).1
 
 module _ {D : Type 0} (told : Type 0) (state : D → DiskState) (b : Past) where
   -- at home the registers are at the end of no work
@@ -103,7 +133,7 @@ module _ {D : Type 0} (told : Type 0) (state : D → DiskState) (b : Past) where
   -- or while one was
   module _ (op : Op) (c : Change) (p : Provisioner D) (r : RollingAt) (halted : p.halted ≡ true) (h : Rolls told state b op c (with_halt false p) r) where
     planned_is : r.work.ops.items ≡ h.within.ops
-    planned_is = plans_once b.fold.colours (tasks c) r.work.ops.items h.within.ops h.planned h.within.planned
+    planned_is = change_plans_once b.fold.table b.fold.colours c r.work.ops.items h.within.ops h.planned h.within.planned
 
     has_rolls : HasWay b p
     has_rolls = record {
@@ -129,7 +159,7 @@ module _ {D : Type 0} (told : Type 0) (state : D → DiskState) (b : Past) where
       known = λ t. record {
         way = has_rolls;
         own = (planned_is, refl);
-        journal = (subst (λ (os : List LegOp). KeepsList told (state p.journal.0) p.journal.1 (b.records ++ spelling c (choices_in os) ∷ [])) planned_is h.journalled.keeps, h.journalled.whole);
+        journal = (record { kept = h.journalled.keeps.kept; lists = λ u. (op, h.doubt, h.journalled.keeps.lists u) }, h.journalled.whole, h.journalled.still);
       };
     }
 
@@ -138,18 +168,15 @@ module _ {D : Type 0} (told : Type 0) (state : D → DiskState) (b : Past) where
     pub resumes_ready : IsReady p.mover.fabric.size (rest_of r) p.mover.mover
     resumes_ready = under_way_ready p.mover.fabric.size h.before r p.mover.mover h.on_way.under_way
 
-    own_journal : (l : Option Change) → TakesUp b p.doubt l g → Lists told state b p l g
-    own_journal None taken = record {
-      keeps = subst (λ (x : Past). KeepsList told (state p.journal.0) p.journal.1 x.records) taken h.journalled.keeps;
-      doubts = λ marked. absurd (let e : false ≡ true = sym h.journalled.whole ∙ marked in cc);
-    }
-    own_journal (Some c) taken = (h.journalled.keeps, h.journalled.whole)
+    own_journal : (l : Option Change) → IsJournalled told (state p.journal.0) p.journal.1 (IsListOf b p.doubt l) → Lists told state b p l
+    own_journal None j = journalled_home told (state p.journal.0) p.journal.1 (IsListOf b p.doubt None) b p.doubt h.past.book j (λ head records is. is)
+    own_journal (Some c) j = (j.keeps, j.whole, j.still)
 
     -- stopped at any step it is halted as before
     pub resumes_halted : IsHalted told state b p
     resumes_halted =
         let way : HasWay b p = record { lacking = lacking; past = g; before = h.before; rolling = r; taken = h.taken; on_way = h.on_way } in
-        record { halted = h.halted; past = h.past; way = way; known = λ t. record { way = way; own = h.own t; journal = own_journal lacking h.taken } }
+        record { halted = h.halted; past = h.past; way = way; known = λ t. record { way = way; own = h.own t; journal = own_journal lacking h.journalled } }
 
     none_of : (us vs : List RegWrite) → [] ≡ us ++ vs → vs ≡ []
     none_of [] vs e = sym e
@@ -180,19 +207,18 @@ module _ {D : Type 0} (told : Type 0) (state : D → DiskState) (b : Past) where
       };
       own = λ t. own_on lacking s p.mover.fabric.size m goes (h.own t);
       journalled = h.journalled;
-      counted = h.counted;
       matrix = h.matrix;
       lacks = h.lacks;
     }
 
   -- what a recovery found
   pub found_resumes : (lacking : Option Change) (g : Past) (p : Provisioner D) (r : RollingAt) → Resumes told state b lacking g p r → IsFound told state b lacking g p
-  found_resumes lacking g p r h = record { halted = h.halted; past = h.past; taken = h.taken; journalled = h.journalled; counted = h.counted; matrix = h.matrix; lacks = h.lacks }
+  found_resumes lacking g p r h = record { halted = h.halted; past = h.past; taken = h.taken; journalled = h.journalled; matrix = h.matrix; lacks = h.lacks }
 
   module _ (lacking : Option Change) (g : Past) (p : Provisioner D) (h : IsFound told state b lacking g p) where
     -- the engine took it on
     pub found_moved : (m : MoverAt) → IsFound told state b lacking g (record p { mover = m })
-    found_moved m = record { halted = h.halted; past = past_moved b p h.past m; taken = h.taken; journalled = h.journalled; counted = h.counted; matrix = h.matrix; lacks = h.lacks }
+    found_moved m = record { halted = h.halted; past = past_moved b p h.past m; taken = h.taken; journalled = h.journalled; matrix = h.matrix; lacks = h.lacks }
 
     taken_table : (l : Option Change) (x : Past) → TakesUp b p.doubt l x → with_change b.fold.table l ≡ x.fold.table
     taken_table None x is = sym (ap (λ (y : Past). y.fold.table) is)
@@ -226,15 +252,15 @@ module _ {D : Type 0} (told : Type 0) (state : D → DiskState) (b : Past) where
               spent = switches;
               few = few;
               changes = same;
-              number = taken_number b p.doubt p.first_records h.past.number lacking g h.taken ∙ ap (λ (x : ℕ). p.first_records + x) (taken_changes b p.doubt lacking g h.taken);
               doubts = none_held (with_switches k g);
+              spelled = taken_spelled b p.doubt h.past.doubts h.past.spelled lacking g h.taken;
+              book = h.past.book;
               shape = placed.0 ∙ h.past.shape;
               room = record { matrix = ap (λ (x : Colouring). x.shape) h.past.matrix ∙ (h.past.placed.shape ∙ h.past.shape); table = h.past.room.table; expected = h.past.room.expected };
             };
             registers = rest;
             switches = switches;
-            counted = h.counted;
-            journal = record { keeps = h.journalled.keeps; doubts = λ marked. absurd (let e : false ≡ true = sym h.journalled.whole ∙ marked in cc) };
+            journal = journalled_home told (state p.journal.0) p.journal.1 (IsListOf b p.doubt lacking) (with_switches k g) None h.past.book h.journalled (taken_so_far b p.doubt lacking g h.taken);
           }
 
       -- the end of the recovery, by the calls that make it

@@ -3,6 +3,7 @@ pub mod Reckoning
 pub mod Crossing
 pub mod Granting
 pub mod Journalling
+pub mod Checkpointing
 pub mod Pasts
 pub mod Rolling
 pub mod Halting

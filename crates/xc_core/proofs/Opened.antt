@@ -1,10 +1,10 @@
 -- A start of the controller: the disk's journal, its replay, and the joins of all legs.
-use Rattle.std.proofs.Common.{Some, ◌≡◌, ◌≢◌, ◌⊎◌, inl, inr, ⊎_elim, ℕ, ◌-◌, ◌<◌, ◌≤◌, ◌^◌, append-nil, length-append, true, false, List, [], ◌++◌, length, None, Result, Ok, Err, refl, sym, ◌∙◌, ap, subst, arith}
+use Rattle.std.proofs.Common.{◌≡◌, ◌≢◌, ◌⊎◌, inl, inr, ⊎_elim, ℕ, ◌-◌, ◌<◌, ◌≤◌, ◌^◌, append-nil, length-append, false, List, [], ◌++◌, length, None, Some, Result, Ok, Err, refl, sym, ◌∙◌, ap, subst, arith}
 use Rattle.std.specs.Prelude.{replicate, slice_index}
 use Rattle.std.proofs.lemmas.List.{length-replicate, length-take}
 use Rattle.std.proofs.lemmas.Bool.Decides.{leb_tells}
 use Rattle.dxc_num.specs.Dimensions.{Dimensions, IsInLimits, ports}
-use Rattle.dxc_disk.specs.Disks.{DiskState, IsDisk, IsSettled, LeavesOnly, Looks}
+use Rattle.dxc_disk.specs.Disks.{DiskState, IsDisk, IsSettled, Looks}
 use Rattle.dxc_disk.proofs.LookSteps.{looks_settled}
 use Rattle.dxc_model.specs.Tables.{Board}
 use Rattle.dxc_model.specs.Histories.{IsCut, IsRestarted}
@@ -16,12 +16,16 @@ use Rattle.fabric_words.specs.Seats.{FabricId, MoverAt}
 use Rattle.journal_core.specs.declared.book.Book.{Book}
 use Rattle.journal_core.specs.declared.fault.JournalWhy.{JournalWhy}
 use Rattle.journal_core.specs.declared.fault.JournalWhy.TheVariants.{BadHeader}
-use Rattle.journal_core.specs.Records.{stands}
-use Rattle.journal_core.specs.Headers.{header, IsEquipment, IsGood, IsNew}
+use Rattle.journal_core.specs.declared.area.Area.{Area}
+use Rattle.journal_core.specs.declared.head.Head.{Head}
+use Rattle.journal_core.specs.Records.{listed_in, stands_in}
+use Rattle.journal_core.specs.Headers.{IsNew, Stands, StandsAlike, header}
 use Rattle.journal_core.specs.Makes.{IsFresh}
-use Rattle.journal_core.specs.Books.{IsKept, listed}
-use Rattle.journal_core.specs.Opens.{Finds, Founds, IsRefused, OpensNew, OpensOld}
-use Rattle.journal_core.proofs.HeaderSteps.{equipment_below, header_equipment}
+use Rattle.journal_core.specs.Books.{IsKept, IsWhole, area, is_tried, listed}
+use Rattle.journal_core.specs.Opens.{Finds, Founds, IsOpened, IsRefused, OpensNew, OpensOld, made_head}
+use Rattle.journal_core.proofs.BookMends.{kept_stands}
+use Rattle.journal_core.proofs.HeaderSteps.{never}
+use Rattle.journal_core.proofs.StandSteps.{head_once, stands_once}
 use Rattle.paull_matrix.specs.Colourings.{Colouring, IsProperColouring, no_legs}
 use Rattle.roll_plan.specs.declared.op.LegOp.{LegOp}
 use Rattle.roll_plan.specs.declared.work.Work.{Work}
@@ -36,10 +40,9 @@ use Rattle.roll_engine.proofs.ColdRolling.{cold_begun}
 use Rattle.roll_engine.proofs.Running.{switch_counted, switches_join}
 use Rattle.shelf_file.specs.Contents.{Contents}
 use Rattle.xc_recovery.specs.declared.fault.ReplayFault.TheVariants.{BadRecord}
-use Rattle.xc_recovery.specs.Folds.{Folded, IsFold, none_folded}
+use Rattle.xc_recovery.specs.Folds.{none_folded}
 use Rattle.xc_recovery.specs.Replays.{ComesTo, Replays}
 use Rattle.xc_recovery.proofs.Folding.{IsSeated, folds_seated, none_seated}
-use Rattle.xc_recovery.proofs.Once.{folds_once}
 use Rattle.xc_recovery.proofs.Replaying.{folded}
 use Rattle.xc_core.specs.declared.provisioner.Provisioner.{Provisioner}
 use Rattle.xc_core.specs.declared.state.Home.TheVariants.{In}
@@ -51,8 +54,10 @@ use Rattle.xc_core.specs.declared.second.Second.{Second}
 use Rattle.xc_core.specs.Provisioners.{Boxed, HasRoom, ground_of}
 use Rattle.roll_engine.proofs.Joining.{few_switches}
 use Rattle.xc_core.proofs.Pasts.{none_held}
-use Rattle.xc_core.specs.States.{IsFoldOf, IsHomeAfter, Opening, StandsFor, opening_at, opening_of, recorded}
-use Rattle.xc_core.specs.Openings.{Begins, HasBadRecord, IsOpening, LeavesOpened}
+use Rattle.xc_core.specs.States.{IsHomeAfter, Opening, StandsFor, opening_at, opening_of, recorded}
+use Rattle.xc_core.specs.Openings.{Begins, HasBadRecord, IsFoldOf, IsOpening, LeavesOpened}
+use Rattle.xc_core.proofs.Journalling.{looked_on, untried}
+use Rattle.xc_core.proofs.Recovering.{comes_once}
 use Rattle.xc_core.proofs.Granting.{few_ports}
 
 -- a cold rolling begins on a new fabric
@@ -100,57 +105,62 @@ new_or_old file = ⊎_elim
     (le_or_lt (length file) 1)
 
 -- a file that was refused for its header isn't new
-pub bad_header : (d : Dimensions) (e : ℕ) (a b : DiskState) (w : JournalWhy) (bytes : List ℕ) → w ≡ BadHeader bytes → ((IsNew a.reads_as → ⊥) → OpensOld d a b (Err w)) → (IsNew a.reads_as → OpensNew d e a b (Err w))
+pub bad_header : (d : Dimensions) (h : Head) (a b : DiskState) (w : JournalWhy) (bytes : List ℕ) → w ≡ BadHeader bytes → ((IsNew a.reads_as → ⊥) → OpensOld d a b (Err w)) → (IsNew a.reads_as → OpensNew d h a b (Err w))
     → (IsNew a.reads_as → ⊥) × IsRefused d a b bytes
-bad_header d e a b w bytes is old new =
-    let not_new : IsNew a.reads_as → ⊥ = λ n. subst (λ (x : JournalWhy). Founds d e b (Err x)) is (new n).founds in
+bad_header d h a b w bytes is old new =
+    let not_new : IsNew a.reads_as → ⊥ = λ n. subst (λ (x : JournalWhy). Founds d h b (Err x)) is (new n).founds in
     (not_new, subst (λ (x : JournalWhy). Finds d a b (Err x)) is (old not_new).finds)
 
+-- a journal that was opened lists what its file stands for
+listed_once : (d : Dimensions) (h : Head) (records : List (List ℕ)) (b : DiskState) (book : Book) → IsDisk b → IsWhole book → book.to_mend ≡ false → book.turning ≡ false → IsOpened d b book → Stands d h records b.reads_as → listed book b.reads_as ≡ records
+listed_once d h records b book disk whole mended still opened stands =
+    let here : Stands book.shape book.head (listed book b.reads_as) b.reads_as = ⊎_elim
+    (λ old. old)
+    (λ other. ⊎_elim (λ more. absurd (never mended more.0)) (λ turn. absurd (never (untried book whole still) turn.0)) other)
+    (kept_stands b book whole opened.kept b.reads_as disk.reads_now) in
+    stands_once d h book.head records (listed book b.reads_as) b.reads_as stands (subst (λ (x : Dimensions). Stands x book.head (listed book b.reads_as) b.reads_as) opened.shape_is here)
+
 -- nor is one with a bad record
-pub bad_record : (d : Dimensions) (e : ℕ) (a b : DiskState) (book : Book) (i : ℕ) (t : Board) (c : Colouring) → ((IsNew a.reads_as → ⊥) → OpensOld d a b (Ok book)) → (IsNew a.reads_as → OpensNew d e a b (Ok book))
-    → Replays book.shape book.equipped (listed book b.reads_as) (Err (BadRecord i)) t c → (IsNew a.reads_as → ⊥) × HasBadRecord a.reads_as d i
-bad_record d e a b book i t c old new bad =
-    let not_new : IsNew a.reads_as → ⊥ = λ n. absurd (let low : i < length {A = List ℕ} [] = subst (λ (l : List (List ℕ)). i < length l) (new n).founds.2 bad.0 in omega (arith, low)) in
+pub bad_record : (d : Dimensions) (h : Head) (a b : DiskState) (book : Book) (i : ℕ) (t : Board) (c : Colouring) → IsDisk b → IsWhole book → book.to_mend ≡ false → book.turning ≡ false → ((IsNew a.reads_as → ⊥) → OpensOld d a b (Ok book)) → (IsNew a.reads_as → OpensNew d h a b (Ok book))
+    → Replays book.shape book.head (listed book b.reads_as) (Err (BadRecord i)) t c → (IsNew a.reads_as → ⊥) × HasBadRecord a.reads_as d i
+bad_record d h a b book i t c disk whole mended still old new bad =
+    let not_new : IsNew a.reads_as → ⊥ = λ n.
+    let f = (new n).founds in
+    absurd (let low : i < length {A = List ℕ} [] = subst (λ (l : List (List ℕ)). i < length l) (listed_once d h [] b book disk whole mended still f.0 f.2) bad.0 in omega (arith, low)) in
     let found = (old not_new).finds in (
       not_new,
       record {
-        equipped = book.equipped;
-        good = found.1;
+        head = book.head;
+        records = listed book b.reads_as;
+        stands = found.1;
         table = t;
         colours = c;
-        bad = subst (λ (w : Dimensions × List (List ℕ)). Replays w.0 book.equipped w.1 (Err (BadRecord i)) t c) (λ k. (found.0.shape_is k, found.2 k)) bad;
+        bad = subst (λ (x : Dimensions). Replays x book.head (listed book b.reads_as) (Err (BadRecord i)) t c) found.0.shape_is bad;
       },
     )
 
--- what holds of a crash at any moment of a call holds still where only looks came behind it
-pub looked_on : (a b c : DiskState) (P : List ℕ → Type 0) → IsDisk b → LeavesOnly a b P → Looks b c → LeavesOnly a c P
-looked_on a b c P disk first looks =
-    let image_has : (x : List ℕ) → c.may_leave x → P x = λ x image. first.each x (disk.counts_now a.moment x first.later (looks.crash x image)) in
-    record {
-      later = omega (arith, first.later, looks.time.later);
-      each = λ x left. ⊎_elim (λ mid. first.each x mid) (λ image. image_has x image) (looks.time.nothing_else a.moment x first.later left);
-      before = λ t x le left. ⊎_elim (λ mid. first.before t x le mid) (λ image. inr (image_has x image)) (looks.time.nothing_else t x (omega (arith, le, first.later)) left);
-    }
-
 -- the moments of an opening, and of looks behind it
-pub leaves_opened : (shelf : Contents) (a b c : DiskState) (result : Result Book JournalWhy) → IsDisk b → ((IsNew a.reads_as → ⊥) → OpensOld shelf.shape a b result) → (IsNew a.reads_as → OpensNew shelf.shape shelf.equipped a b result)
+pub leaves_opened : (shelf : Contents) (a b c : DiskState) (result : Result Book JournalWhy) → IsDisk b → ((IsNew a.reads_as → ⊥) → OpensOld shelf.shape a b result) → (IsNew a.reads_as → OpensNew shelf.shape (made_head shelf.equipped) a b result)
     → Looks b c → LeavesOpened shelf a c
 leaves_opened shelf a b c result disk old new looks = record {
-  found = λ not. looked_on a b c (λ x. a.may_leave x ⊎ (stands x ≡ stands a.reads_as)) disk (old not).any_moment looks;
-  made = λ n settled. looked_on a b c (IsFresh (header shelf.shape shelf.equipped)) disk ((new n).any_moment settled) looks;
+  found = λ not. looked_on a b c (λ x. a.may_leave x ⊎ StandsAlike shelf.shape a.reads_as x) disk (old not).any_moment looks;
+  made = λ n settled. looked_on a b c (IsFresh (header shelf.shape (made_head shelf.equipped))) disk ((new n).any_moment settled) looks;
 }
 
 -- table and matrix of a replay have one set of legs, and are of the journal's shape
-seated : (d : Dimensions) (e : ℕ) (records : List (List ℕ)) (t : Board) (c : Colouring) (ops : List LegOp) → ComesTo d e records t c ops → IsSeated d (folded t c ops 0)
-seated d e records t c ops is = let s = folds_seated d (none_folded d e) (folded t c ops is.0) records (none_seated d e) is.1 in record { placed = s.placed; of_shape = s.of_shape; shape = s.shape }
+seated : (d : Dimensions) (e : Head) (records : List (List ℕ)) (t : Board) (c : Colouring) (ops : List LegOp) → ComesTo d e records t c ops → IsSeated d (folded t c ops 0)
+seated d e records t c ops is = let s = folds_seated e.version d (none_folded d e.equipped) (folded t c ops is.0) records (none_seated d e.equipped) is.1 in record { placed = s.placed; of_shape = s.of_shape; shape = s.shape; fits = s.fits }
 
-pub replayed_shape : (d : Dimensions) (e : ℕ) (records : List (List ℕ)) (t : Board) (c : Colouring) (ops : List LegOp) → ComesTo d e records t c ops → c.shape ≡ d
+pub replayed_shape : (d : Dimensions) (e : Head) (records : List (List ℕ)) (t : Board) (c : Colouring) (ops : List LegOp) → ComesTo d e records t c ops → c.shape ≡ d
 replayed_shape d e records t c ops is = let s = seated d e records t c ops is in s.placed.shape ∙ s.shape
 
 -- the records that a journal lists, of which only the number counts where its disk doesn't tell
+listed_few : (area : Area) (count : ℕ) (file : List ℕ) → length (listed_in area count file) ≤ count
+listed_few area count file = omega (arith, length-take count (stands_in area file))
+
 recorded_number : (book : Book) (file : List ℕ) → length (recorded book file) ≡ book.count
 recorded_number book file =
-    let few = length-take book.count (stands file) in
+    let few : length (listed book file) ≤ book.count = listed_few (area book) book.count file in
     let whole = length-append (listed book file) (replicate (book.count - length (listed book file)) []) in
     let rest = length-replicate {A = List ℕ} (book.count - length (listed book file)) [] in
     omega (arith, few, whole, rest)
@@ -160,9 +170,9 @@ recorded_is book file counts =
     ap (λ (n : ℕ). listed book file ++ replicate n []) (let e : book.count - length (listed book file) ≡ 0 = omega (arith, counts) in e) ∙ append-nil (listed book file)
 
 -- The state that stands for no entry. The disk was a at the start, b when the journal was opened, and the journal is j after its replay.
-module _ {D : Type 0} (told : Type 0) (state : D → DiskState) (shelf : Contents) (fabric : FabricId) (a b : DiskState) (book : Book) (j : D × Book) (t : Board) (c : Colouring) (last : Work) (v : MoverAt) (origin : Origin D) (reports : Recent) (spent number_read : ℕ) (second : Second) (d : Boxed D) where
+module _ {D : Type 0} (told : Type 0) (state : D → DiskState) (shelf : Contents) (fabric : FabricId) (a b : DiskState) (book : Book) (j : D × Book) (t : Board) (c : Colouring) (last : Work) (v : MoverAt) (origin : Origin D) (reports : Recent) (spent : ℕ) (second : Second) (d : Boxed D) where
   abbrev at_home : Provisioner D
-  at_home = record { matrix = c; journal = j; mover = v; doubt = None; changes = 0; halted = false; spent = spent; first_records = number_read; second = second }
+  at_home = record { matrix = c; journal = j; mover = v; doubt = None; changes = 0; halted = false; spent = spent; second = second }
 
   abbrev begun : State D
   begun = record { table = t; reports = reports; home = In d; origin = origin }
@@ -174,28 +184,30 @@ module _ {D : Type 0} (told : Type 0) (state : D → DiskState) (shelf : Content
       (provisioner_kept : origin.provisioner.value ≡ d.value.p)
       (last_kept : origin.last.value ≡ last)
       (old : told → (IsNew a.reads_as → ⊥) → OpensOld shelf.shape a b (Ok book))
-      (new : told → IsNew a.reads_as → OpensNew shelf.shape shelf.equipped a b (Ok book))
+      (new : told → IsNew a.reads_as → OpensNew shelf.shape (made_head shelf.equipped) a b (Ok book))
+      (disk : told → IsDisk b)
+      (whole_book : IsWhole book)
       (shape : book.shape ≡ shelf.shape)
       (whole : book.to_mend ≡ false)
+      (still : book.turning ≡ false)
       (same : j.1 ≡ book)
       (looks : told → Looks b (state j.0))
       (kept : told → IsKept b book → IsKept (state j.0) j.1)
       (records : List (List ℕ))
       (number : length records ≡ book.count)
       (read : told → records ≡ listed book b.reads_as)
-      (comes : ComesTo book.shape book.equipped records t c last.ops.items)
+      (comes : ComesTo book.shape book.head records t c last.ops.items)
       (own : v.fabric ≡ fabric)
       (fits : fabric.size.shape ≡ shelf.shape)
       (rest : IsAtRestOn fabric.size c v.mover)
       (joins : length v.mover.log ≡ switches_in (joins_of c))
       (spent_is : spent ≡ length v.mover.log)
-      (number_is : number_read ≡ j.1.count)
       (room : HasRoom shelf.shape second) where
     abbrev first : Past
-    first = record { fold = folded t c last.ops.items (length v.mover.log); records = recorded j.1 (state j.0).reads_as; changes = 0 }
+    first = record { fold = folded t c last.ops.items (length v.mover.log); changes = 0 }
 
     abbrev opening : Opening
-    opening = record { site = ground_of at_home; first = first; faults = (state j.0).faults; margin = (state j.0).margin; room = (state j.0).room }
+    opening = record { site = ground_of at_home; records = recorded j.1 (state j.0).reads_as; first = first; faults = (state j.0).faults; margin = (state j.0).margin; room = (state j.0).room }
 
     opening_is : opening_of state begun ≡ opening
     opening_is = λ k. opening_at state (table_kept k) ((provisioner_kept ∙ behind) k) (last_kept k)
@@ -205,24 +217,36 @@ module _ {D : Type 0} (told : Type 0) (state : D → DiskState) (shelf : Content
     was_kept x = ⊎_elim (λ n. (new x n).founds.0.kept) (λ not. (old x not).finds.0.kept) (new_or_old a.reads_as)
 
     -- what was read is what the journal lists
-    records_are : told → records ≡ first.records
+    records_are : told → records ≡ opening.records
     records_are x = read x ∙ sym (λ k. listed (same k) ((looks x).same k)) ∙ sym (recorded_is j.1 (state j.0).reads_as (kept x (was_kept x)).counts)
+
+    -- they come to table and legs, whatever its shape is called
+    comes_at : (d : Dimensions) → book.shape ≡ d → ComesTo d j.1.head records t c last.ops.items
+    comes_at d is = subst (λ (w : Dimensions × Head). ComesTo w.0 w.1 records t c last.ops.items) (λ k. (is k, (ap (λ (x : Book). x.head) (sym same)) k)) comes
+
+    table_shape : book.shape ≡ t.shape
+    table_shape = sym (seated book.shape book.head records t c last.ops.items comes).shape
+
+    listed_is : told → records ≡ listed j.1 (state j.0).reads_as
+    listed_is x = records_are x ∙ recorded_is j.1 (state j.0).reads_as (kept x (was_kept x)).counts
 
     journal_home : IsAtHome told (state j.0) j.1 first None
     journal_home = record {
       keeps = record {
         kept = λ x. kept x (was_kept x);
-        lists = λ x. sym (recorded_is j.1 (state j.0).reads_as (kept x (was_kept x)).counts);
+        lists = λ x. (last.ops.items, subst (λ (rs : List (List ℕ)). ComesTo t.shape j.1.head rs t c last.ops.items) (listed_is x) (comes_at t.shape table_shape));
       };
-      doubts = λ marked. absurd (let e : true ≡ false = sym marked ∙ ap (λ (x : Book). x.to_mend) same ∙ whole in cc);
+      doubts = λ marked. absurd (never (ap (λ (x : Book). x.to_mend) same ∙ whole) marked);
+      tried = λ x tried. absurd (never (ap (λ (x : Book). is_tried x.spare) same ∙ untried book whole_book still) tried);
     }
 
-    fold_home : IsFoldOf told (ground_of at_home) first
+    fold_home : IsFoldOf told shelf.shape opening.records first
     fold_home = record {
+      head = j.1.head;
       read = records;
       number = number ∙ ap (λ (x : Book). x.count) (sym same) ∙ sym (recorded_number j.1 (state j.0).reads_as);
       same = records_are;
-      comes = subst (λ (x : Book). ComesTo x.shape x.equipped records t c last.ops.items) (sym same) comes;
+      comes = comes_at shelf.shape shape;
     }
 
     is_opening : IsOpening told a.reads_as shelf fabric opening
@@ -230,9 +254,9 @@ module _ {D : Type 0} (told : Type 0) (state : D → DiskState) (shelf : Content
       limits = subst IsInLimits fits rest.sized.shape;
       fabric_is = own;
       shape = ap (λ (x : Book). x.shape) same ∙ shape;
-      made = λ x n. (ap (λ (y : Book). y.equipped) same ∙ (new x n).founds.1, sym (records_are x) ∙ read x ∙ (new x n).founds.2);
-      found = λ x not. let f = (old x not).finds in (subst (λ (y : Book). IsGood shelf.shape y.equipped a.reads_as) (sym same) f.1, sym (records_are x) ∙ read x ∙ f.2);
       folded = fold_home;
+      made = λ x n. let f = (new x n).founds in (ap (λ (y : Book). y.head) same ∙ f.1, sym (records_are x) ∙ (read x ∙ listed_once shelf.shape (made_head shelf.equipped) [] b book (disk x) whole_book whole still f.0 f.2));
+      found = λ x not. let f = (old x not).finds in subst (λ (w : Head × List (List ℕ)). Stands shelf.shape w.0 w.1 a.reads_as) (λ k. (ap (λ (y : Book). y.head) (sym same) k, (sym (read x) ∙ records_are x) k)) f.1;
       switches = joins;
       changes = refl;
     }
@@ -240,7 +264,7 @@ module _ {D : Type 0} (told : Type 0) (state : D → DiskState) (shelf : Content
     few_joined : length v.mover.log ≤ 2 ^ 48
     few_joined =
         let few = few_switches 0 c.routes in
-        let size = (seated book.shape book.equipped records t c last.ops.items comes).placed.colouring.size in
+        let size = (seated book.shape book.head records t c last.ops.items comes).placed.colouring.size in
         let ports_few = few_ports c.shape (subst IsInLimits (sym rest.shape) rest.sized.shape) in
         omega (arith, few, size, ports_few, joins)
 
@@ -248,7 +272,6 @@ module _ {D : Type 0} (told : Type 0) (state : D → DiskState) (shelf : Content
     stands_opened = record {
       now = first;
       reckoned = refl;
-      folded = fold_home;
       table = refl;
       reports = fresh;
       legal = tt;
@@ -264,18 +287,18 @@ module _ {D : Type 0} (told : Type 0) (state : D → DiskState) (shelf : Content
               ready = refl;
               past = record {
                 matrix = refl;
-                placed = (seated book.shape book.equipped records t c last.ops.items comes).placed;
+                placed = (seated book.shape book.head records t c last.ops.items comes).placed;
                 spent = spent_is;
                 few = few_joined;
                 changes = refl;
-                number = let counted = recorded_number j.1 (state j.0).reads_as in omega (arith, counted, number_is);
                 doubts = none_held first;
-                shape = (seated book.shape book.equipped records t c last.ops.items comes).shape ∙ sym (ap (λ (x : Book). x.shape) same);
+                spelled = (seated book.shape book.head records t c last.ops.items comes).fits;
+                book = subst IsWhole (sym same) whole_book;
+                shape = (seated book.shape book.head records t c last.ops.items comes).shape ∙ sym (ap (λ (x : Book). x.shape) same);
                 room = subst (λ (d : Dimensions). HasRoom d second) (sym (ap (λ (x : Book). x.shape) same ∙ shape)) room;
               };
               registers = subst (λ (i : FabricId). IsAtRestOn i.size c v.mover) (sym own) rest;
               switches = refl;
-              counted = sym (recorded_number j.1 (state j.0).reads_as);
               journal = journal_home;
             },
             never_lasts IsCut IsRestarted [] tt,
@@ -297,6 +320,7 @@ module _ {D : Type 0} (told : Type 0) (state : D → DiskState) (shelf : Content
         stands = subst (λ (o : Opening). StandsFor told state o begun []) (sym opening_is) stands_opened;
         disk = j.0;
         is_home = ap (λ (x : Provisioner D). Some x.journal.0) behind;
+        counts = ap (λ (x : Provisioner D). Some x.journal.1.count) behind ∙ ap Some (sym (recorded_number j.1 (state j.0).reads_as) ∙ ap (λ (o : Opening). length o.records) (sym opening_is));
         faults = ap (λ (o : Opening). o.faults) opening_is;
         margin = ap (λ (o : Opening). o.margin) opening_is;
         room = ap (λ (o : Opening). o.room) opening_is;
@@ -304,32 +328,27 @@ module _ {D : Type 0} (told : Type 0) (state : D → DiskState) (shelf : Content
       },
     )
 
--- a header has one equipment
-header_once : (d : Dimensions) (e f : ℕ) → IsInLimits d → IsEquipment d e → IsEquipment d f → header d e ≡ header d f → e ≡ f
-header_once d e f limits fits also same =
-    let few : d.modules ≤ 64 = omega (arith, limits.most_modules) in
-    sym (header_equipment d e (header d e) refl (equipment_below d e few fits)) ∙ header_equipment d f (header d e) same (equipment_below d f few also)
-
 -- a file, a shelf and a fabric have one opening
-pub openings_once : (told : Type 0) → told → (file : List ℕ) (shelf : Contents) (fabric other : FabricId) (o p : Opening) → IsOpening told file shelf fabric o → IsOpening told file shelf other p → (o.site.equipped ≡ p.site.equipped) × (o.first ≡ p.first)
+pub openings_once : (told : Type 0) → told → (file : List ℕ) (shelf : Contents) (fabric other : FabricId) (o p : Opening) → IsOpening told file shelf fabric o → IsOpening told file shelf other p → (o.records ≡ p.records) × (o.first ≡ p.first)
 openings_once told x file shelf fabric other o p a b =
     let same = ⊎_elim (λ n. one_made n) (λ not. one_found not) (new_or_old file) in
     let mine = comes_at o a in
-    let other_one = comes_at p b in
-    let fold = folds_once (none_folded shelf.shape o.site.equipped) (folded o.first.fold.table o.first.fold.colours o.first.fold.work mine.0) (folded p.first.fold.table p.first.fold.colours p.first.fold.work other_one.0) o.first.records (none_seated shelf.shape o.site.equipped).placed.colouring
-    mine.1 (subst (λ (w : ℕ × List (List ℕ)). IsFold shelf.shape w.0 w.1 (folded p.first.fold.table p.first.fold.colours p.first.fold.work other_one.0)) (λ k. (sym same.0 k, sym same.1 k)) other_one.1) in
-    let colours = ap (λ (f : Folded). f.colours) fold in
-    let switches = a.switches ∙ ap (λ (c : Colouring). switches_in (joins_of c)) colours ∙ sym b.switches in
+    let others = subst (λ (w : Head × List (List ℕ)). ComesTo shelf.shape w.0 w.1 p.first.fold.table p.first.fold.colours p.first.fold.work) (λ k. (sym same.0 k, sym same.1 k)) (comes_at p b) in
+    let one = comes_once shelf.shape a.folded.head o.records o.first.fold.table p.first.fold.table o.first.fold.colours p.first.fold.colours o.first.fold.work p.first.fold.work mine others in
+    let switches = a.switches ∙ ap (λ (c : Colouring). switches_in (joins_of c)) one.1 ∙ sym b.switches in
     let changes = a.changes ∙ sym b.changes in (
-      same.0,
-      λ k. record { fold = record { table = (fold k).table; colours = (fold k).colours; work = (fold k).work; switches = switches k }; records = same.1 k; changes = changes k },
+      same.1,
+      λ k. record { fold = record { table = one.0 k; colours = one.1 k; work = one.2 k; switches = switches k }; changes = changes k },
     )
   where
-    comes_at : {i : FabricId} (q : Opening) → IsOpening told file shelf i q → ComesTo shelf.shape q.site.equipped q.first.records q.first.fold.table q.first.fold.colours q.first.fold.work
-    comes_at q is = subst (λ (w : Dimensions × List (List ℕ)). ComesTo w.0 q.site.equipped w.1 q.first.fold.table q.first.fold.colours q.first.fold.work) (λ k. (is.shape k, is.folded.same x k)) is.folded.comes
+    comes_at : {i : FabricId} (q : Opening) → (is : IsOpening told file shelf i q) → ComesTo shelf.shape is.folded.head q.records q.first.fold.table q.first.fold.colours q.first.fold.work
+    comes_at q is = subst (λ (rs : List (List ℕ)). ComesTo shelf.shape is.folded.head rs q.first.fold.table q.first.fold.colours q.first.fold.work) (is.folded.same x) is.folded.comes
 
-    one_made : IsNew file → (o.site.equipped ≡ p.site.equipped) × (o.first.records ≡ p.first.records)
+    one_made : IsNew file → (a.folded.head ≡ b.folded.head) × (o.records ≡ p.records)
     one_made n = ((a.made x n).0 ∙ sym (b.made x n).0, (a.made x n).1 ∙ sym (b.made x n).1)
 
-    one_found : (IsNew file → ⊥) → (o.site.equipped ≡ p.site.equipped) × (o.first.records ≡ p.first.records)
-    one_found not = (header_once shelf.shape o.site.equipped p.site.equipped a.limits (a.found x not).0.fits (b.found x not).0.fits (sym (a.found x not).0.header_is ∙ (b.found x not).0.header_is), (a.found x not).1 ∙ sym (b.found x not).1)
+    one_found : (IsNew file → ⊥) → (a.folded.head ≡ b.folded.head) × (o.records ≡ p.records)
+    one_found not =
+        let here = a.found x not in
+        let there = b.found x not in
+        (sym (head_once shelf.shape a.folded.head b.folded.head o.records p.records file a.limits.most_modules here there), sym (stands_once shelf.shape a.folded.head b.folded.head o.records p.records file here there))

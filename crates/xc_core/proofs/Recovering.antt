@@ -34,32 +34,30 @@ use Rattle.roll_engine.proofs.Colouring.{join_leads}
 use Rattle.roll_engine.proofs.Running.{after_on}
 use Rattle.roll_engine.proofs.UnderWay.{under_way_done}
 use Rattle.xc_recovery.specs.Folds.{Folded, none_folded}
-use Rattle.xc_recovery.specs.LegTasks.{tasks}
-use Rattle.xc_recovery.specs.ChangeWorks.{WorksPlanned, choices_in}
+use Rattle.journal_core.specs.declared.head.Head.{Head}
+use Rattle.xc_recovery.specs.ChangeWorks.{choices_in}
 use Rattle.xc_recovery.specs.Placings.{IsPlaced}
 use Rattle.xc_recovery.specs.Replays.{ComesTo}
 use Rattle.xc_recovery.specs.Stages.{IsLastWork}
 use Rattle.xc_recovery.proofs.Differing.{stage_once}
-use Rattle.xc_recovery.proofs.Folding.{none_seated}
+use Rattle.xc_recovery.proofs.Folding.{folds_once, none_seated}
 use Rattle.xc_recovery.proofs.LastWorks.{comes_shape, last_made, last_undone}
-use Rattle.xc_recovery.proofs.Once.{folds_once, plans_once}
-use Rattle.xc_recovery.proofs.Placing.{work_valid}
-use Rattle.xc_recovery.proofs.Spelled.{plans_made}
+use Rattle.xc_recovery.proofs.Once.{change_plans_once}
+use Rattle.xc_recovery.proofs.Placing.{change_leaves}
+use Rattle.xc_recovery.proofs.Spelled.{changes_made}
 use Rattle.xc_core.specs.declared.provisioner.Provisioner.{Provisioner}
 use Rattle.xc_core.specs.declared.second.Second.{Second}
 use Rattle.xc_core.specs.declared.recovery.Recovered.{Recovered}
 use Rattle.xc_core.specs.declared.recovery.Recovered.TheVariants as recovered
 use Rattle.xc_core.specs.Beside.{IsBeside}
-use Rattle.xc_core.specs.Journals.{IsJournalled}
-use Rattle.xc_core.specs.Reckonings.{Past, changed}
-use Rattle.xc_core.specs.Provisioners.{Ground, HasRoom, KeepsPast, ground_of}
-use Rattle.xc_core.specs.Restarts.{HasWay, IsHalted, IsOnWay, IsOwnWay, Lists, Rejoins, Resumes, TakesUp, number_with}
-use Rattle.xc_core.specs.States.{IsFoldOf}
-use Rattle.xc_core.specs.Recoveries.{Finds, IsAstray, IsCold, IsNeither, IsOther, IsTable, IsWarm, Reads, RecoveredIs, ResumedIs}
+use Rattle.xc_core.specs.Journals.{IsJournalled, IsSoFar}
+use Rattle.xc_core.specs.Reckonings.{IsPlannedFor, IsTable, Past, changed}
+use Rattle.xc_core.specs.Provisioners.{HasRoom, KeepsPast}
+use Rattle.xc_core.specs.Restarts.{HasWay, IsHalted, IsListOf, IsOnWay, IsOwnWay, Lists, Rejoins, Resumes, TakesUp}
+use Rattle.xc_core.specs.Recoveries.{Finds, IsAstray, IsCold, IsNeither, IsWarm, Reads, RecoveredIs, ResumedIs}
 use Rattle.xc_core.specs.Endings.{IfCold, IfWarm}
 use Rattle.xc_core.proofs.Granting.{granted_once}
-use Rattle.xc_core.proofs.Halting.{few_changes, taken_few, taken_number, taken_placed}
-use Rattle.xc_core.proofs.Reckoning.{comes_on}
+use Rattle.xc_core.proofs.Halting.{few_changes, taken_few, taken_more, taken_placed}
 
 -- the course that the writes of ops come to, each of which may be made
 moves_come : (ms : List Move) (c : Colouring) (us : List RegWrite) → course_after (moves_writes ms ++ us) (at_rest c.routes) ≡ course_after us (at_rest (after ms c).routes)
@@ -124,16 +122,8 @@ module _ (b : Past) (doubt : Option Op) where
   taken_once (Some c) None g f (op, asked, granted, met, is) also same = absurd (alters b.fold.table op c granted (sym (ap (λ (x : Past). x.fold.table) is) ∙ (same ∙ ap (λ (x : Past). x.fold.table) also)))
   taken_once (Some c) (Some d) g f (op, asked, granted, met, is) (x, ask, grant, meet, also) same =
       let change : d ≡ c = granted_once b.fold.table op c d granted (subst (λ (y : Op). Grants b.fold.table y d) (sym (same_some (sym asked ∙ ask))) grant) in
-      let ops : met.ops ≡ meet.ops = plans_once b.fold.colours (tasks c) met.ops meet.ops met.planned (subst (λ (y : Change). WorksPlanned b.fold.colours (tasks y) meet.ops) change meet.planned) in
+      let ops : met.ops ≡ meet.ops = change_plans_once b.fold.table b.fold.colours c met.ops meet.ops met.planned (subst (λ (y : Change). IsPlannedFor b y meet.ops) change meet.planned) in
       (ap (λ (y : Change). Some y) (sym change), is ∙ ((λ i. changed b (sym change i) (ops i)) ∙ sym also))
-
-  -- whatever gives table and legs, the number of its records is the same
-  pub other_number : (t : Board) (c : Colouring) (n : ℕ) (l : Option Change) (g : Past) → TakesUp b doubt l g → IsTable g t c → n ≢ length g.records → IsOther b doubt t c n
-  other_number t c n l g taken given not k f also is e = not (e ∙ sym (ap (λ (x : Past). length x.records) (taken_once l k g f taken also (sym given.0 ∙ is.0)).1))
-
-  pub taken_folded : (d : Dimensions) (e : ℕ) → IsInLimits b.fold.table.shape → ComesTo d e b.records b.fold.table b.fold.colours b.fold.work → (l : Option Change) (g : Past) → TakesUp b doubt l g → ComesTo d e g.records g.fold.table g.fold.colours g.fold.work
-  taken_folded d e limits folded None g is = subst (λ (x : Past). ComesTo d e x.records x.fold.table x.fold.colours x.fold.work) (sym is) folded
-  taken_folded d e limits folded (Some c) g (op, asked, granted, met, is) = subst (λ (x : Past). ComesTo d e x.records x.fold.table x.fold.colours x.fold.work) (sym is) (comes_on d e b op c met.ops limits folded granted met.planned)
 
   pub taken_shape : IsPlaced b.fold.table b.fold.colours → (l : Option Change) (g : Past) → TakesUp b doubt l g → g.fold.colours.shape ≡ b.fold.colours.shape
   taken_shape placed None g is = ap (λ (x : Past). x.fold.colours.shape) is
@@ -145,16 +135,12 @@ way_limits b p past w =
     subst IsInLimits (sym (sym past.placed.shape ∙ (sym (taken_shape b p.doubt past.placed w.lacking w.past w.taken) ∙ (sym (ap (λ (c : Colouring). c.shape) w.on_way.leads) ∙ (ops_shape w.rolling.work.ops.items w.before ∙ w.on_way.under_way.midway.shape)))))
     w.on_way.under_way.midway.sized.shape
 
--- of a disk that tells its content the records come to what stands behind
-pub folded_told : (told : Type 0) (g : Ground) (b : Past) → told → IsFoldOf told g b → ComesTo g.shape g.equipped b.records b.fold.table b.fold.colours b.fold.work
-folded_told told g b t f = subst (λ (rs : List (List ℕ)). ComesTo g.shape g.equipped rs b.fold.table b.fold.colours b.fold.work) (f.same t) f.comes
-
 -- records come to one thing
-comes_once : (d : Dimensions) (e : ℕ) (records : List (List ℕ)) (t u : Board) (c a : Colouring) (ops os : List LegOp) → ComesTo d e records t c ops → ComesTo d e records u a os → (t ≡ u) × (c ≡ a) × (ops ≡ os)
+pub comes_once : (d : Dimensions) (e : Head) (records : List (List ℕ)) (t u : Board) (c a : Colouring) (ops os : List LegOp) → ComesTo d e records t c ops → ComesTo d e records u a os → (t ≡ u) × (c ≡ a) × (ops ≡ os)
 comes_once d e records t u c a ops os one other =
     let f : Folded = record { table = t; colours = c; work = ops; switches = one.0 } in
     let g : Folded = record { table = u; colours = a; work = os; switches = other.0 } in
-    let same : f ≡ g = folds_once (none_folded d e) f g records (none_seated d e).placed.colouring one.1 other.1 in
+    let same : f ≡ g = folds_once e.version d (none_folded d e.equipped) f g records (none_seated d e.equipped) one.1 other.1 in
     (ap (λ (x : Folded). x.table) same, ap (λ (x : Folded). x.colours) same, ap (λ (x : Folded). x.work) same)
 
 -- a stage at which the registers are, and what it leaves to be made
@@ -173,13 +159,13 @@ module _ {D : Type 0} (told : Type 0) (state : D → DiskState) (b : Past) (p : 
   m = p.mover.mover
 
   pub last : (c : Colouring) × IsLastWork c ops p.second.matrix
-  last = last_made p.journal.1.shape p.journal.1.equipped h.records p.second.table p.second.matrix ops h.comes
+  last = last_made p.journal.1.shape p.journal.1.head h.records p.second.table p.second.matrix ops h.comes
 
   pub way_shape : p.second.matrix.shape ≡ z.shape
   way_shape =
       let w = h.halted.way in
       let past = h.halted.past in
-      let second = (comes_shape p.journal.1.shape p.journal.1.equipped h.records p.second.table p.second.matrix ops h.comes).1 in
+      let second = (comes_shape p.journal.1.shape p.journal.1.head h.records p.second.table p.second.matrix ops h.comes).1 in
       let target = taken_shape b p.doubt past.placed w.lacking w.past w.taken in
       second ∙ (sym past.shape ∙ (sym past.placed.shape ∙ (sym target ∙ (sym (ap (λ (c : Colouring). c.shape) w.on_way.leads) ∙ (ops_shape w.rolling.work.ops.items w.before ∙ w.on_way.under_way.midway.shape)))))
 
@@ -213,8 +199,13 @@ module _ {D : Type 0} (told : Type 0) (state : D → DiskState) (b : Past) (p : 
         course = rest.course ∙ (ap (λ (x : Colouring). at_rest x.routes) (way.leads ∙ (sym same ∙ is.leads)) ∙ (sym (ops_come ops c is.valid) ∙ ap (λ (ws : List RegWrite). course_after ws (at_rest c.routes)) (sym (take_all (length (ops_writes ops)) (ops_writes ops) (omega arith)))));
       }
 
+  -- the last work is that of the change that is taken up, if one is
+  abbrev IsWorkOf : Option Change → Past → Type 0
+  IsWorkOf None g = Unit {0}
+  IsWorkOf (Some c) g = ops ≡ g.fold.work
+
   -- the last work of a disk that tells its content: the registers are at a stage of it
-  at_stage : (l : Option Change) (g : Past) (before : Colouring) (r : RollingAt) → TakesUp b p.doubt l g → (way : IsOnWay p before g r) → IsOwnWay b l before g r → p.second.matrix ≡ g.fold.colours → ops ≡ g.fold.work → (c : Colouring) → IsLastWork c ops p.second.matrix → IsAtStage b p l g ops c
+  at_stage : (l : Option Change) (g : Past) (before : Colouring) (r : RollingAt) → TakesUp b p.doubt l g → (way : IsOnWay p before g r) → IsOwnWay b l before g r → p.second.matrix ≡ g.fold.colours → IsWorkOf l g → (c : Colouring) → IsLastWork c ops p.second.matrix → IsAtStage b p l g ops c
   at_stage None g before r taken way own matrix work c is = record {
     step = length (ops_writes ops);
     low = omega arith;
@@ -229,7 +220,7 @@ module _ {D : Type 0} (told : Type 0) (state : D → DiskState) (b : Past) (p : 
   at_stage (Some x) g before r (op, asked, granted, met, is_g) way own matrix work c is =
       let placed = h.halted.past.placed in
       let ops_are : ops ≡ met.ops = work ∙ ap (λ (f : Past). f.fold.work) is_g in
-      let made : OpsMade met.ops b.fold.colours (after_ops met.ops b.fold.colours) = (placed.colouring, (work_valid b.fold.table b.fold.colours x (choices_in met.ops) met.ops placed (own_verdict b.fold.table op x granted) (plans_made b.fold.colours (tasks x) met.ops met.planned)).steps, refl) in
+      let made : OpsMade met.ops b.fold.colours (after_ops met.ops b.fold.colours) = (placed.colouring, (change_leaves b.fold.table b.fold.colours x (choices_in met.ops) met.ops placed (own_verdict b.fold.table op x granted) (changes_made b.fold.table b.fold.colours x met.ops met.planned)).steps, refl) in
       let leads_to : p.second.matrix ≡ after_ops met.ops b.fold.colours = matrix ∙ ap (λ (f : Past). f.fold.colours) is_g in
       let here : OpsMade ops c p.second.matrix = last_undone c ops p.second.matrix is in
       let same : c ≡ b.fold.colours = ops_once met.ops c b.fold.colours (after_ops met.ops b.fold.colours) (subst (λ (w : List LegOp × Colouring). OpsMade w.0 c w.1) (λ i. (ops_are i, leads_to i)) here) made in
@@ -254,10 +245,17 @@ module _ {D : Type 0} (told : Type 0) (state : D → DiskState) (b : Past) (p : 
     abbrev way : HasWay b p
     way = (h.listed_is t).known.way
 
-    read : (p.second.table ≡ way.past.fold.table) × (p.second.matrix ≡ way.past.fold.colours) × (ops ≡ way.past.fold.work)
-    read = comes_once p.journal.1.shape p.journal.1.equipped way.past.records p.second.table way.past.fold.table p.second.matrix way.past.fold.colours ops way.past.fold.work
-        (subst (λ (rs : List (List ℕ)). ComesTo p.journal.1.shape p.journal.1.equipped rs p.second.table p.second.matrix ops) (h.records_are t ∙ (h.listed_is t).journalled.keeps.lists t) h.comes)
-        (taken_folded b p.doubt p.journal.1.shape p.journal.1.equipped limits (folded_told told (ground_of p) b t h.folded) way.lacking way.past way.taken)
+    -- what was read is what the journal lists, which comes to what stands behind the way
+    read_by : (l : Option Change) (g : Past) → TakesUp b p.doubt l g → IsListOf b p.doubt l p.journal.1.head h.records → (p.second.table ≡ g.fold.table) × (p.second.matrix ≡ g.fold.colours) × IsWorkOf l g
+    read_by None g taken is =
+        let came : IsSoFar b p.journal.1.head h.records = is in
+        let same = comes_once p.journal.1.shape p.journal.1.head h.records p.second.table b.fold.table p.second.matrix b.fold.colours ops came.0 h.comes (subst (λ (d : Dimensions). ComesTo d p.journal.1.head h.records b.fold.table b.fold.colours came.0) h.halted.past.shape came.1) in
+        (same.0 ∙ sym (ap (λ (x : Past). x.fold.table) taken), same.1 ∙ sym (ap (λ (x : Past). x.fold.colours) taken), tt)
+    read_by (Some c) g taken is = comes_once p.journal.1.shape p.journal.1.head h.records p.second.table g.fold.table p.second.matrix g.fold.colours ops g.fold.work h.comes
+        (subst (λ (d : Dimensions). ComesTo d p.journal.1.head h.records g.fold.table g.fold.colours g.fold.work) h.halted.past.shape (taken_more b p.doubt c g taken p.journal.1.head h.records is))
+
+    read : (p.second.table ≡ way.past.fold.table) × (p.second.matrix ≡ way.past.fold.colours) × IsWorkOf way.lacking way.past
+    read = read_by way.lacking way.past way.taken (subst (IsListOf b p.doubt way.lacking p.journal.1.head) (sym (h.records_are t)) ((h.listed_is t).journalled.keeps.lists t))
 
     -- what was read is the state's, or has the change in doubt besides
     pub not_neither : IsNeither b p.doubt p.second.table p.second.matrix → ⊥
@@ -271,16 +269,8 @@ module _ {D : Type 0} (told : Type 0) (state : D → DiskState) (b : Past) (p : 
     found_stage l g taken given c is = subst (λ (w : Option Change × Past). IsAtStage b p w.0 w.1 ops c) (λ i. ((one_way l g taken given).0 i, (one_way l g taken given).1 i))
         (at_stage way.lacking way.past way.before way.rolling way.taken way.on_way (h.listed_is t).known.own read.1 read.2 c is)
 
-    pub found_journal : (l : Option Change) (g : Past) → TakesUp b p.doubt l g → IsTable g p.second.table p.second.matrix → IsJournalled told (state p.journal.0) p.journal.1 g.records
-    found_journal l g taken given = subst (λ (x : Past). IsJournalled told (state p.journal.0) p.journal.1 x.records) (one_way l g taken given).1 (h.listed_is t).journalled
-
-    -- as many were read as belong to it
-    pub found_number : (l : Option Change) (g : Past) → TakesUp b p.doubt l g → IsTable g p.second.table p.second.matrix → p.journal.1.count ≡ length g.records
-    found_number l g taken given = sym h.number ∙ ap length (h.records_are t ∙ ((h.listed_is t).journalled.keeps.lists t ∙ ap (λ (x : Past). x.records) (one_way l g taken given).1))
-
-  -- so many records belong to what was found
-  pub all_number : (l : Option Change) (g : Past) → TakesUp b p.doubt l g → length g.records ≡ p.first_records + number_with p.changes l
-  all_number l g taken = taken_number b p.doubt p.first_records h.halted.past.number l g taken ∙ ap (λ (n : ℕ). p.first_records + number_with n l) (sym h.halted.past.changes)
+    pub found_journal : (l : Option Change) (g : Past) → TakesUp b p.doubt l g → IsTable g p.second.table p.second.matrix → IsJournalled told (state p.journal.0) p.journal.1 (IsListOf b p.doubt l)
+    found_journal l g taken given = subst (λ (x : Option Change). IsJournalled told (state p.journal.0) p.journal.1 (IsListOf b p.doubt x)) (one_way l g taken given).0 (h.listed_is t).journalled
 
   pub few_found : (l : Option Change) (g : Past) → TakesUp b p.doubt l g → IfSome l (λ _. p.changes < 2 ^ 48)
   few_found l g taken = subst (λ (n : ℕ). IfSome l (λ _. n < 2 ^ 48)) (sym h.halted.past.changes) (few_changes b p.doubt l g taken)
@@ -293,14 +283,14 @@ module _ {D : Type 0} (told : Type 0) (state : D → DiskState) (b : Past) (p : 
     past_found : KeepsPast b found
     past_found =
         let k = h.halted.past in
-        record { matrix = k.matrix; placed = k.placed; spent = k.spent; few = k.few; changes = k.changes; number = k.number; doubts = k.doubts; shape = k.shape; room = record { matrix = k.room.matrix; table = k.room.table; expected = fits ∙ k.room.expected } }
+        record { matrix = k.matrix; placed = k.placed; spent = k.spent; few = k.few; changes = k.changes; doubts = k.doubts; spelled = k.spelled; book = k.book; shape = k.shape; room = record { matrix = k.room.matrix; table = k.room.table; expected = fits ∙ k.room.expected } }
 
     way_found : HasWay b p → HasWay b found
     way_found w = record { lacking = w.lacking; past = w.past; before = w.before; rolling = w.rolling; taken = w.taken; on_way = record { under_way = w.on_way.under_way; leads = w.on_way.leads; switches = w.on_way.switches; alone = w.on_way.alone } }
 
-    lists_found : (l : Option Change) (g : Past) → Lists told state b p l g → Lists told state b found l g
-    lists_found None g j = j
-    lists_found (Some c) g j = j
+    lists_found : (l : Option Change) → Lists told state b p l → Lists told state b found l
+    lists_found None j = j
+    lists_found (Some c) j = j
 
     halted_found : IsHalted told state b found
     unfolding way_found
@@ -308,17 +298,18 @@ module _ {D : Type 0} (told : Type 0) (state : D → DiskState) (b : Past) (p : 
       halted = h.halted.halted;
       past = past_found;
       way = way_found h.halted.way;
-      known = λ t. let k = h.halted.known t in record { way = way_found k.way; own = k.own; journal = lists_found k.way.lacking k.way.past k.journal };
+      known = λ t. let k = h.halted.known t in record { way = way_found k.way; own = k.own; journal = lists_found k.way.lacking k.journal };
     }
 
-    module _ (g : Past) (taken : TakesUp b p.doubt lacking g) (given : IsTable g p.second.table p.second.matrix) (counted : p.journal.1.count ≡ length g.records) where
+    module _ (g : Past) (taken : TakesUp b p.doubt lacking g) (given : IsTable g p.second.table p.second.matrix) where
       finds : Finds told state b found lacking g ops
-      finds = record { records = h.records; number = h.number; records_are = h.records_are; comes = h.comes; taken = taken; given = given; counted = counted }
+      finds = record { records = h.records; number = h.number; records_are = h.records_are; comes = h.comes; taken = taken; given = given }
 
-      journal_found : IsJournalled told (state p.journal.0) p.journal.1 g.records
+      journal_found : IsJournalled told (state p.journal.0) p.journal.1 (IsListOf b p.doubt lacking)
       journal_found = record {
         keeps = record { kept = λ t. (found_journal t lacking g taken given).keeps.kept t; lists = λ t. (found_journal t lacking g taken given).keeps.lists t };
         whole = h.whole;
+        still = h.still;
         settled = λ t. (found_journal t lacking g taken given).settled t;
       }
 
@@ -328,7 +319,7 @@ module _ {D : Type 0} (told : Type 0) (state : D → DiskState) (b : Past) (p : 
           let midway = h.halted.way.on_way.under_way.midway in
           let proper : IsProperColouring p.second.matrix = subst IsProperColouring (sym given.1) (taken_placed b p.doubt h.halted.past.placed lacking g taken).1.colouring in
           record {
-            found = record { halted = h.halted.halted; past = past_found; taken = taken; journalled = journal_found; counted = counted; matrix = given.1; lacks = refl };
+            found = record { halted = h.halted.halted; past = past_found; taken = taken; journalled = journal_found; matrix = given.1; lacks = refl };
             cold = λ none. let e : PartsFrom (record { 0 = 0 }) ≡ Nothing = sym first.behind ∙ none in cc;
             leading = leading_begun z p.second.matrix m r midway.sized midway.ruled proper way_shape first;
           }
@@ -357,7 +348,6 @@ module _ {D : Type 0} (told : Type 0) (state : D → DiskState) (b : Past) (p : 
             };
             own = λ t. let at = found_stage t lacking g taken given c is in at.own r warm.work (last_stage z m c p.second.matrix ops is r.step at.step warm.low at.low (warm.midway c is) at.midway);
             journalled = journal_found;
-            counted = counted;
             matrix = given.1;
             lacks = refl;
           }
@@ -393,8 +383,8 @@ module _ {D : Type 0} (told : Type 0) (state : D → DiskState) (b : Past) (p : 
       warm_if t recovered.Fault n same is r e = absurd is
       warm_if t recovered.Stopped n same is r e = absurd is
 
-    -- they give neither, or are another number
-    astray_found : IsOther b p.doubt p.second.table p.second.matrix p.journal.1.count → IsAstray told state b found p.journal.1.count
+    -- they give neither
+    astray_found : IsNeither b p.doubt p.second.table p.second.matrix → IsAstray told state b found p.journal.1.count
     astray_found none = record { records = h.records; number = h.number; astray = inr (sym h.number, (ops, h.comes), none) }
 
   -- the same of a Provisioner whose parts are those of this one
@@ -414,18 +404,18 @@ module _ {D : Type 0} (told : Type 0) (state : D → DiskState) (b : Past) (p : 
     pub go_halted : IsHalted told state b (with_parts matrix mover second)
     go_halted = subst (IsHalted told state b) same_parts (halted_found e lacking parts.fits)
 
-    pub go_astray : IsOther b p.doubt p.second.table p.second.matrix p.journal.1.count → IsAstray told state b (with_parts matrix mover second) p.journal.1.count
+    pub go_astray : IsNeither b p.doubt p.second.table p.second.matrix → IsAstray told state b (with_parts matrix mover second) p.journal.1.count
     go_astray none = subst (λ (q : Provisioner D). IsAstray told state b q p.journal.1.count) same_parts (astray_found e lacking parts.fits none)
 
-    module _ (g : Past) (taken : TakesUp b p.doubt lacking g) (given : IsTable g p.second.table p.second.matrix) (counted : p.journal.1.count ≡ length g.records) (x : Recovered) (switches : ℕ) (number : switches ≡ g.fold.switches) (is : ResumedIs z m ops p.second.matrix switches x) where
+    module _ (g : Past) (taken : TakesUp b p.doubt lacking g) (given : IsTable g p.second.table p.second.matrix) (x : Recovered) (switches : ℕ) (number : switches ≡ g.fold.switches) (is : ResumedIs z m ops p.second.matrix switches x) where
       pub go_recovered : RecoveredIs told state b p (with_parts matrix mover second) x
-      go_recovered = subst (λ (q : Provisioner D). RecoveredIs told state b p q x) same_parts (recovered_found e lacking parts.fits g taken given counted x switches number is)
+      go_recovered = subst (λ (q : Provisioner D). RecoveredIs told state b p q x) same_parts (recovered_found e lacking parts.fits g taken given x switches number is)
 
       pub go_resumes : IfWarm x (λ r. (l : Option Change) × (f : Past) × Resumes told state b l f (with_parts matrix mover second) r)
-      go_resumes = subst (λ (q : Provisioner D). IfWarm x (λ r. (l : Option Change) × (f : Past) × Resumes told state b l f q r)) same_parts (resumes_if e lacking parts.fits g taken given counted x switches number is)
+      go_resumes = subst (λ (q : Provisioner D). IfWarm x (λ r. (l : Option Change) × (f : Past) × Resumes told state b l f q r)) same_parts (resumes_if e lacking parts.fits g taken given x switches number is)
 
       pub go_rejoins : IfCold x (λ r. (l : Option Change) × (f : Past) × Rejoins told state b l f (with_parts matrix mover second) r)
-      go_rejoins = subst (λ (q : Provisioner D). IfCold x (λ r. (l : Option Change) × (f : Past) × Rejoins told state b l f q r)) same_parts (rejoins_if e lacking parts.fits g taken given counted x switches is)
+      go_rejoins = subst (λ (q : Provisioner D). IfCold x (λ r. (l : Option Change) × (f : Past) × Rejoins told state b l f q r)) same_parts (rejoins_if e lacking parts.fits g taken given x switches is)
 
       pub go_warm : told → (r : RollingAt) → x ≢ recovered.Cold r
-      go_warm t r = warm_if e lacking parts.fits g taken given counted t x switches number is r
+      go_warm t r = warm_if e lacking parts.fits g taken given t x switches number is r

@@ -3,7 +3,6 @@ use Rattle.std.specs.Prelude.{min}
 use Rattle.std.proofs.Common.{◌≡◌, ◌≢◌, ℕ, ◌+◌, ◌≤◌, ◌⊎◌, List, [], ◌∷◌, ◌++◌, Option, Some, None, refl, sym, ◌∙◌, ap, subst, inl, inr}
 use Rattle.dxc_causes.specs.Causes.{Rose, last}
 use Rattle.dxc_disk.specs.Disks.{CountsOn, DiskState, Spends}
-use Rattle.dxc_num.specs.Dimensions.{IsInLimits}
 use Rattle.dbchg_reports.specs.Recent.{recent_of, with_one}
 use Rattle.dbchg_reports.proofs.Keeping.{recent_more}
 use Rattle.dxc_model.specs.declared.op.Op.{Op}
@@ -30,14 +29,13 @@ use Rattle.xc_core.specs.Reckonings.{Past, ReckonsTo}
 use Rattle.xc_core.specs.Provisioners.{Boxed, IsHome, ground_of}
 use Rattle.xc_core.specs.Restarts.{IsHalted, Resumes, TakesUp}
 use Rattle.xc_core.specs.Endings.{Ends, reports_with}
-use Rattle.xc_core.specs.States.{Opening, HomeIs, IsFoldOf, IsReadyOrHalted, IsUnsettled, LimitBehind, StandsFor, faults_in, most_room, rules_of, with_home}
+use Rattle.xc_core.specs.States.{Opening, HomeIs, IsReadyOrHalted, IsUnsettled, LimitBehind, StandsFor, faults_in, most_room, rules_of, with_home}
 use Rattle.xc_core.specs.Seeing.{HasRestart, IsDueFor, entry}
 use Rattle.xc_core.proofs.Away.{comes_halted, home_now, in_now, out_moved, out_since, out_table, paid_now, read_since, waits_own}
-use Rattle.xc_core.proofs.Entries.{answered_not_restarted, answered_not_settling, astray_more, changes_one, changes_same, cut_settles_not, failed_settles_not, fold_on, lasts_reading, one_fault, taken_settles_not, unsettled_more}
+use Rattle.xc_core.proofs.Entries.{answered_not_restarted, answered_not_settling, astray_more, changes_one, changes_same, cut_settles_not, failed_settles_not, lasts_reading, one_fault, taken_settles_not, unsettled_more}
 use Rattle.xc_core.proofs.Halting.{resumes_halted}
 use Rattle.xc_core.proofs.Meeting.{meets_one}
 use Rattle.xc_core.proofs.Reckoning.{reckons_more}
-use Rattle.xc_core.proofs.Recovering.{way_limits}
 use Rattle.xc_core.proofs.Standing.{IsIn, home_by, no_fault, out_of, stands_out, table_is}
 
 -- a change that a restart takes up is in doubt
@@ -158,17 +156,10 @@ module _ {D : Type 0} (told : Type 0) (state : D → DiskState) where
         → StandsFor told state o (record s { table = table; reports = reports_with answer s.reports; home = In d }) (h ++ entry own Restart (Restarted answer) ∷ [])
     stands_restarted d table answer end ground journal counts = subst (λ (x : Option Change). StandsFor told state o (record s { table = table; reports = reports_with x s.reports; home = In d }) (h ++ entry own Restart (Restarted x) ∷ [])) (sym end.change) (by t.lacking t.resumes.taken)
       where
-        limits : IsInLimits b.fold.table.shape
-        limits = way_limits b p t.resumes.past halted_out.way
-
         reckoned : (l : Option Change) → TakesUp b p.doubt l t.behind → ReckonsTo o.first (changes_of (h ++ entry own Restart (Restarted l) ∷ [])) t.behind
         reckoned None taken = subst (λ (w : List Change × Past). ReckonsTo o.first w.0 w.1) (λ i. (sym (changes_same h (entry own Restart (Restarted None)) refl) i, sym taken i)) t.out.reckoned
         reckoned (Some c) (op, here, granted, met, same) = subst (λ (w : List Change × Past). ReckonsTo o.first w.0 w.1) (λ i. (sym (changes_one h (entry own Restart (Restarted (Some c))) c refl) i, sym same i))
             (reckons_more o.first b (changes_of h) c met.ops t.out.reckoned met.planned)
-
-        folds : (l : Option Change) → TakesUp b p.doubt l t.behind → IsFoldOf told o.site t.behind
-        folds None taken = subst (λ (x : Past). IsFoldOf told o.site x) (sym taken) t.out.folded
-        folds (Some c) (op, here, granted, met, same) = subst (λ (x : Past). IsFoldOf told o.site x) (sym same) (fold_on told o.site b op c met.ops limits t.out.folded granted met.planned)
 
         fits : (l : Option Change) → TakesUp b p.doubt l t.behind → Fits (rules_of o) h (entry own Restart (Restarted l))
         fits None taken = fits_by (rules_of o) h (entry own Restart (Restarted None)) (table_after o.first.fold.table h, (refl, refl)) (λ c granted. absurd granted.apt) tt
@@ -187,7 +178,6 @@ module _ {D : Type 0} (told : Type 0) (state : D → DiskState) where
             record {
               now = t.behind;
               reckoned = reckoned l taken;
-              folded = folds l taken;
               table = end.table_is;
               reports = reports l;
               legal = legal_more (rules_of o) h e st.legal (fits l taken);

@@ -1,5 +1,5 @@
 -- What a turn does in which a restart was to begin.
-use Rattle.std.proofs.Common.{◌≡◌, ◌⊎◌, ◌≤◌, ℕ, arith, true, false, List, Option, Some, refl, sym, ◌∙◌, subst, inl, inr}
+use Rattle.std.proofs.Common.{◌≡◌, ◌⊎◌, ◌≤◌, ◌+◌, ℕ, arith, true, false, List, Option, Some, refl, sym, ◌∙◌, inl, inr}
 use Rattle.dxc_causes.specs.Causes.{Rose}
 use Rattle.dxc_disk.specs.Disks.{CountsOn, DiskState, Spends}
 use Rattle.dxc_disk.proofs.DiskSteps.{spends_more, spends_on}
@@ -15,17 +15,17 @@ use Rattle.xc_core.specs.declared.restarts.Restarting.TheVariants as restarting
 use Rattle.xc_core.specs.declared.state.Home.TheVariants.{In, Out}
 use Rattle.xc_core.specs.declared.state.State.{State}
 use Rattle.xc_core.specs.Reckonings.{Past}
-use Rattle.xc_core.specs.Provisioners.{Boxed, Ground, IsHome, ground_of}
+use Rattle.xc_core.specs.Provisioners.{Boxed, IsHome, ground_of}
 use Rattle.xc_core.specs.Restarts.{IsHalted, Resumes}
 use Rattle.xc_core.specs.Seeing.{IsDueFor}
-use Rattle.xc_core.specs.States.{Opening, IsFoldOf, StandsFor, most_room, with_home}
+use Rattle.xc_core.specs.States.{Opening, StandsFor, most_room, with_home}
 use Rattle.xc_core.specs.Turns.{RestartingIs}
 use Rattle.xc_core.proofs.Restarting.{astray_now, found_stage, has_restart, restart_failed, restart_stopped, restart_taken, restart_unsettled, rose_now}
 use Rattle.xc_core.proofs.Standing.{IsIn, found_in}
 
 -- what settling and recovering take of the room
-restart_room : (a b c : DiskState) → Spends 3 a b → Spends 131_078 b c → Spends most_room a c
-restart_room a b c settled recovered = spends_on 3 131_078 a b c settled recovered
+restart_room : (a b c : DiskState) → Spends 3 a b → Spends 131_079 b c → Spends most_room a c
+restart_room a b c settled recovered = spends_more (3 + 131_079) most_room a c (omega arith) (spends_on 3 131_079 a b c settled recovered)
 
 settled_room : (a b : DiskState) → Spends 3 a b → Spends most_room a b
 settled_room a b settled = spends_more 3 most_room a b (omega arith) settled
@@ -68,15 +68,12 @@ module _ {D : Type 0} (told : Type 0) (state : D → DiskState) (counts : (d : D
       pub halted_now : IsHalted told state st.now m
       halted_now = halted st.now (found_home).1
 
-      fold_now : IsFoldOf told (ground_of m) st.now
-      fold_now = subst (λ (g : Ground). IsFoldOf told g st.now) (sym (ground ∙ was.ground)) st.folded
-
-      pub may_recover : (t : Board) → t ≡ s.table → (b : Past) × IsHalted told state b m × IsFoldOf told (ground_of m) b × (b.fold.table ≡ t)
-      may_recover t same = (st.now, halted_now, fold_now, sym (same ∙ st.table))
+      pub may_recover : (t : Board) → t ≡ s.table → (b : Past) × IsHalted told state b m × (b.fold.table ≡ t)
+      may_recover t same = (st.now, halted_now, sym (same ∙ st.table))
 
       -- q is what the recovery left of it
-      module _ (e : Boxed D) (same_ground : ground_of e.value.p ≡ ground_of m) (same_doubt : e.value.p.doubt ≡ m.doubt) (then_later : (state m.journal.0).faults ≤ (state e.value.p.journal.0).faults) (recovered : Spends 131_078 (state m.journal.0) (state e.value.p.journal.0))
-          (still : (b : Past) → IsHalted told state b m → IsFoldOf told (ground_of m) b → b.fold.table ≡ s.table → IsHalted told state b e.value.p) where
+      module _ (e : Boxed D) (same_ground : ground_of e.value.p ≡ ground_of m) (same_doubt : e.value.p.doubt ≡ m.doubt) (then_later : (state m.journal.0).faults ≤ (state e.value.p.journal.0).faults) (recovered : Spends 131_079 (state m.journal.0) (state e.value.p.journal.0))
+          (still : (b : Past) → IsHalted told state b m → b.fold.table ≡ s.table → IsHalted told state b e.value.p) where
         abbrev q : Provisioner D
         q = e.value.p
 
@@ -93,12 +90,12 @@ module _ {D : Type 0} (told : Type 0) (state : D → DiskState) (counts : (d : D
         all_kept x here = kept x (sym same_doubt ∙ here)
 
         halted_then : IsHalted told state st.now q
-        halted_then = still st.now halted_now fold_now (sym st.table)
+        halted_then = still st.now halted_now (sym st.table)
 
         -- the rest of the last record's work is found
-        pub was_resumed : ((b : Past) → IsHalted told state b m → IsFoldOf told (ground_of m) b → b.fold.table ≡ s.table → (l : Option Change) × (g : Past) × Resumes told state b l g q e.value.rolling) → RestartingIs told state o own h asked (with_home Out s) (restarting.Rolling e)
+        pub was_resumed : ((b : Past) → IsHalted told state b m → b.fold.table ≡ s.table → (l : Option Change) × (g : Past) × Resumes told state b l g q e.value.rolling) → RestartingIs told state o own h asked (with_home Out s) (restarting.Rolling e)
         was_resumed resumes =
-            let x = resumes st.now halted_now fold_now (sym st.table) in (
+            let x = resumes st.now halted_now (sym st.table) in (
               restart_taken told state o s h st p q was all_ground all_later all_spent all_kept own,
               has_restart told state o s h st p q was all_ground all_later all_spent all_kept own asked (due_found asked why) x.0 x.1 e.value.rolling x.2,
             )

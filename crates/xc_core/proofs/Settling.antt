@@ -1,66 +1,50 @@
--- A journal that is mended before a restart.
-use Rattle.std.proofs.Common.{◌≡◌, inl, inr, ⊎_elim, ℕ, true, false, List, [], ◌∷◌, ◌++◌, None, sym, ap, ◌∙◌}
-use Rattle.dxc_disk.specs.Disks.{DiskState, IsDisk, LeavesOnly}
-use Rattle.dxc_disk.proofs.DiskSteps.{leaves_only, passes_same}
+-- A journal that is mended.
+use Rattle.std.proofs.Common.{◌≡◌, ◌⊎◌, inl, inr, ⊎_elim, ℕ, false, List, Option, Some, None, refl, sym, ap, ◌∙◌}
+use Rattle.std.specs.Prelude.{Result, Ok, Err}
+use Rattle.dxc_disk.specs.Disks.{DiskState, LeavesOnly}
 use Rattle.journal_core.specs.declared.book.Book.{Book}
-use Rattle.journal_core.specs.Records.{IsOldOrLonger}
-use Rattle.journal_core.specs.Books.{IsKept, Keeps, doubted, listed}
-use Rattle.journal_core.proofs.KeepSteps.{keeps_same, kept_begins, only_weaker}
+use Rattle.journal_core.specs.Books.{IsWhole, is_tried, next_head}
+use Rattle.journal_core.specs.Turns.{Mends}
+use Rattle.journal_core.proofs.HeaderSteps.{never}
+use Rattle.journal_core.proofs.KeepSteps.{only_weaker}
+use Rattle.dxc_model.specs.declared.op.Op.{Op}
 use Rattle.xc_core.specs.declared.provisioner.Provisioner.{Provisioner}
 use Rattle.xc_core.specs.Provisioners.{IsHome}
 use Rattle.xc_core.specs.Reckonings.{Past}
-use Rattle.xc_core.specs.Restarts.{IsOldOrDoubted}
-use Rattle.xc_core.proofs.Journalling.{kept_images}
-use Rattle.xc_core.proofs.Pasts.{none_held, past_with, with_journal}
+use Rattle.xc_core.specs.Journals.{IsOldOrDoubted}
+use Rattle.xc_core.proofs.Journalling.{doubts_on, home_on, may_called, tried_on}
+use Rattle.xc_core.proofs.Pasts.{home_with, none_held, with_journal}
 
-module _ {D : Type 0} (told : Type 0) (state : D → DiskState) (b : Past) (p : Provisioner D) (h : IsHome told state b p) where
-  -- each image stands for the records so far, or for these and the one in doubt
-  home_image : told → (c : List ℕ) → (state p.journal.0).may_leave c → IsOldOrDoubted b p.doubt c
-  home_image t c image = ⊎_elim
-      (λ old. inl (old ∙ h.journal.keeps.lists t))
-      (λ more. let d = h.journal.doubts more.0 in inr (d.op, d.bytes, d.asked, d.is, more.1 ∙ (λ i. h.journal.keeps.lists t i ++ d.reads t i ∷ [])))
-      (kept_images (state p.journal.0) p.journal.1 (h.journal.keeps.kept t) c image)
+module _ {D : Type 0} (told : Type 0) (state : D → DiskState) (b : Past) (p : Provisioner D) (h : IsHome told state b p) (j : D × Book) (whole : IsWhole j.1) where
+  -- it is mended, and nothing is in doubt
+  pub settled_home : {T E : Type 0} (v : T) → (told → Mends {T = T} {E = E} (state p.journal.0) (state j.0) p.journal.1 j.1 (Ok v)) → j.1 ≡ record p.journal.1 { to_mend = false } → IsHome told state b (with_journal p j None)
+  settled_home v mends book = home_with told state b p h j None whole (ap (λ (x : Book). x.shape) book) (none_held b)
+      (home_on told (state p.journal.0) (state j.0) p.journal.1 j.1 b p.doubt h.journal (λ t. (mends t).kept) (ap (λ (x : Book). x.head) book) (λ t. (mends t).same) None
+      (λ marked. absurd (never (ap (λ (x : Book). x.to_mend) book) marked))
+      (tried_on told (state p.journal.0) (state j.0) p.journal.1 j.1 b p.doubt h.journal (λ t. (mends t).kept) (ap (λ (x : Book). x.head) book) (λ t. (mends t).same)
+      (λ tried. sym (ap (λ (x : Book). is_tried x.spare) book) ∙ tried) (ap next_head book) (λ t _. (mends t).lines)))
 
-  -- no call was made
-  pub none_settled : told → IsDisk (state p.journal.0) → LeavesOnly (state p.journal.0) (state p.journal.0) (IsOldOrDoubted b p.doubt)
-  none_settled t disk =
-      let P : List ℕ → Type 0 = IsOldOrDoubted b p.doubt in
-      leaves_only (state p.journal.0) (state p.journal.0) P disk (passes_same (state p.journal.0) P) (λ c image. home_image t c image)
+  -- or isn't, and all is as it was
+  pub unsettled_home : {T E : Type 0} (e : E) → (told → Mends {T = T} {E = E} (state p.journal.0) (state j.0) p.journal.1 j.1 (Err e)) → j.1 ≡ p.journal.1 → IsHome told state b (with_journal p j p.doubt)
+  unsettled_home e mends book = home_with told state b p h j p.doubt whole (ap (λ (x : Book). x.shape) book) h.past.doubts
+      (home_on told (state p.journal.0) (state j.0) p.journal.1 j.1 b p.doubt h.journal (λ t. (mends t).kept) (ap (λ (x : Book). x.head) book) (λ t. (mends t).same) p.doubt
+      (doubts_on told (state p.journal.0) (state j.0) p.journal.1 j.1 b p.doubt h.journal (λ t. (mends t).kept) (ap (λ (x : Book). x.head) book) (λ t. (mends t).same)
+      (λ marked. ap (λ (x : Book). x.to_mend) (sym book) ∙ marked) (λ t _. (mends t).err))
+      (tried_on told (state p.journal.0) (state j.0) p.journal.1 j.1 b p.doubt h.journal (λ t. (mends t).kept) (ap (λ (x : Book). x.head) book) (λ t. (mends t).same)
+      (λ tried. sym (ap (λ (x : Book). is_tried x.spare) book) ∙ tried) (ap next_head book) (λ t _. (mends t).lines)))
 
-  pub none_lost_settled : told → IsDisk (state p.journal.0) → Keeps (state p.journal.0) (state p.journal.0) (listed p.journal.1 (state p.journal.0).reads_as)
-  none_lost_settled t disk = keeps_same (state p.journal.0) (listed p.journal.1 (state p.journal.0).reads_as) disk (kept_begins (state p.journal.0) p.journal.1 (h.journal.keeps.kept t))
+-- at any moment of it
+pub mend_left : {D : Type 0} (told : Type 0) (state : D → DiskState) (b : Past) (p : Provisioner D) → IsHome told state b p → told → {T E : Type 0} (result : Result T E) (new : DiskState) (after : Book) → Mends (state p.journal.0) new p.journal.1 after result → LeavesOnly (state p.journal.0) new (IsOldOrDoubted b p.doubt)
+mend_left told state b p h t result new after mends = may_called told (state p.journal.0) p.journal.1 b p.doubt (sym h.past.shape) h.journal t new mends.any_moment
 
-  module _ (j : D × Book) (marked : p.journal.1.to_mend ≡ true) (kept : told → IsKept (state j.0) j.1) (same : told → listed j.1 (state j.0).reads_as ≡ listed p.journal.1 (state p.journal.0).reads_as) where
-    -- it is mended
-    pub settled_home : j.1 ≡ record p.journal.1 { to_mend = false } → IsHome told state b (with_journal p j None)
-    settled_home book = record {
-      ready = h.ready;
-      past = past_with b p h.past j None (ap (λ (x : Book). x.shape) book) (none_held b);
-      registers = h.registers;
-      switches = h.switches;
-      counted = ap (λ (x : Book). x.count) book ∙ h.counted;
-      journal = record { keeps = record { kept = kept; lists = λ t. same t ∙ h.journal.keeps.lists t }; doubts = λ again. absurd (let e : true ≡ false = sym again ∙ ap (λ (x : Book). x.to_mend) book in cc) };
-    }
+-- what stands beside an operation in doubt stands beside an earlier one, which was the same where there is one still
+doubted_from : (b : Past) (old new : Option Op) → ((op : Op) → new ≡ Some op → old ≡ Some op) → (file : List ℕ) → IsOldOrDoubted b new file → IsOldOrDoubted b old file
+doubted_from b old new kept file is = ⊎_elim (λ was. inl was) (λ more. inr (more.0, kept more.0 more.1, more.2)) is
 
-    -- or isn't
-    pub unsettled_home : j.1 ≡ p.journal.1 → (told → doubted j.1 (state j.0).reads_as ≡ doubted p.journal.1 (state p.journal.0).reads_as) → IsHome told state b (with_journal p j p.doubt)
-    unsettled_home book left =
-        let d = h.journal.doubts marked in
-        record {
-          ready = h.ready;
-          past = past_with b p h.past j p.doubt (ap (λ (x : Book). x.shape) book) h.past.doubts;
-          registers = h.registers;
-          switches = h.switches;
-          counted = ap (λ (x : Book). x.count) book ∙ h.counted;
-          journal = record {
-            keeps = record { kept = kept; lists = λ t. same t ∙ h.journal.keeps.lists t };
-            doubts = λ again. record { op = d.op; asked = d.asked; bytes = d.bytes; is = d.is; reads = λ t. left t ∙ d.reads t };
-          };
-        }
+pub settled_left : (b : Past) (old new : Option Op) (a c : DiskState) → ((op : Op) → new ≡ Some op → old ≡ Some op) → LeavesOnly a c (IsOldOrDoubted b new) → LeavesOnly a c (IsOldOrDoubted b old)
+settled_left b old new a c kept only = only_weaker a c (IsOldOrDoubted b new) (IsOldOrDoubted b old) (λ file is. doubted_from b old new kept file is) only
 
-    pub mend_moments : (new : DiskState) → told → LeavesOnly (state p.journal.0) new (IsOldOrLonger (listed p.journal.1 (state p.journal.0).reads_as) (doubted p.journal.1 (state p.journal.0).reads_as)) → LeavesOnly (state p.journal.0) new (IsOldOrDoubted b p.doubt)
-    mend_moments new t only =
-        let d = h.journal.doubts marked in
-        only_weaker (state p.journal.0) new (IsOldOrLonger (listed p.journal.1 (state p.journal.0).reads_as) (doubted p.journal.1 (state p.journal.0).reads_as)) (IsOldOrDoubted b p.doubt)
-        (λ c either. ⊎_elim (λ old. inl (old ∙ h.journal.keeps.lists t)) (λ more. inr (d.op, d.bytes, d.asked, d.is, more ∙ (λ i. h.journal.keeps.lists t i ++ d.reads t i ∷ []))) either)
-        only
+-- it is the same, or there is none
+pub kept_or_none : (old new : Option Op) → ((op : Op) → new ≡ Some op → old ≡ Some op) → (new ≡ old) ⊎ (new ≡ None)
+kept_or_none old None kept = inr refl
+kept_or_none old (Some op) kept = inl (sym (kept op refl))

@@ -24,7 +24,7 @@ use Rattle.xc_core.specs.declared.provisioner.Provisioner.{Provisioner}
 use Rattle.xc_core.specs.declared.state.Home.{Home}
 use Rattle.xc_core.specs.declared.state.Home.TheVariants.{In, Out}
 use Rattle.xc_core.specs.declared.state.State.{State}
-use Rattle.xc_core.specs.Reckonings.{Past, Meets, ReckonsTo}
+use Rattle.xc_core.specs.Reckonings.{HasWork, Meets, Past, ReckonsTo}
 use Rattle.xc_core.specs.Provisioners.{Boxed, IsHome, Rolls, ground_of, with_halt}
 use Rattle.xc_core.specs.Restarts.{IsHalted}
 use Rattle.xc_core.proofs.Halting.{halted_home}
@@ -53,7 +53,7 @@ module _ {D : Type 0} (told : Type 0) (state : D → DiskState) where
 
   -- ready and marked, it is halted
   pub marked_home : (b : Past) (p : Provisioner D) → IsHome told state b p → IsHalted told state b (with_halt true p)
-  marked_home b p h = halted_home told state b (with_halt true p) refl (record { ready = refl; past = past_marked b p h.past false; registers = h.registers; switches = h.switches; counted = h.counted; journal = h.journal })
+  marked_home b p h = halted_home told state b (with_halt true p) refl (record { ready = refl; past = past_marked b p h.past false; registers = h.registers; switches = h.switches; journal = h.journal })
 
   -- the limits of a change that the table grants
   pub limit_met : (o : Opening) (h : List Entry) (b : Past) → ReckonsTo o.first (changes_of h) b → (op : Op) (c : Change) (met : Option Cause) (out : Outcome) → Grants (table_after o.first.fold.table h) op c → Meets b c met → KeepsLimit met out
@@ -95,7 +95,6 @@ module _ {D : Type 0} (told : Type 0) (state : D → DiskState) where
         record {
           now = st.now;
           reckoned = subst (λ (cs : List Change). ReckonsTo o.first cs st.now) (sym same) st.reckoned;
-          folded = st.folded;
           table = table ∙ st.table;
           reports = reports ∙ st.reports ∙ ap recent_of (sym same);
           legal = legal_more (rules_of o) h e st.legal fits;
@@ -151,7 +150,6 @@ module _ {D : Type 0} (told : Type 0) (state : D → DiskState) where
           record {
             now = st.now;
             reckoned = subst (λ (cs : List Change). ReckonsTo o.first cs st.now) (sym same) st.reckoned;
-            folded = st.folded;
             held = holder_more None h e ∙ ap (λ (x : Option Entry). holder_after x e) was.nobody;
             ground = ground ∙ was.ground;
             faults = no_fault e refl;
@@ -197,13 +195,16 @@ module _ {D : Type 0} (told : Type 0) (state : D → DiskState) where
             let e = entry own op (Failed DiskFault) in
             let granted = there (λ t. Grants t op within.0) within.1 in
             home_by q p ready.is_in ground later spent counts e refl refl refl
-            (fits_by (rules_of o) h e (table_after o.first.fold.table h, (inr (inl refl, inr (changes (table_after o.first.fold.table h).shape op granted.apt)), refl)) (limit_met o h st.now st.reckoned op within.0 None (Failed DiskFault) granted within.2 (inl (inl refl))) tt)
+            (fits_by (rules_of o) h e (table_after o.first.fold.table h, (inr (inl refl, inr (changes (table_after o.first.fold.table h).shape op granted.apt)), refl)) (limit_met o h st.now st.reckoned op within.0 None (Failed DiskFault) granted (inl within.2) (inl (inl refl))) tt)
             (λ t x. let y : Failed DiskFault ≡ Failed JournalAstray = x in cc)
             (one_fault o.faults (state q.journal.0).faults (state p.journal.0).faults h e refl ready.is_in.faults rose)
             (inl (home, λ stopped. ready.unstopped (lasts_before IsCut IsRestarted h e stopped (λ x. let y : Failed DiskFault ≡ Cut = x in cc))))
             (λ x asked. elim may [
               | inl old ↦ unsettled_more h e x (failed_settles_not own op DiskFault) (ready.is_in.doubt x (sym old ∙ asked))
-              | inr new ↦ lasts_now (λ y. IsDoubtful y × (y.op ≡ x)) IsSettling h e (inr refl, (let k : Some op ≡ Some x = sym new ∙ asked in cc))
+              | inr other ↦ elim other [
+                | inl none ↦ absurd (let k : None ≡ Some x = sym none ∙ asked in cc)
+                | inr new ↦ lasts_now (λ y. IsDoubtful y × (y.op ≡ x)) IsSettling h e (inr refl, (let k : Some op ≡ Some x = sym new ∙ asked in cc))
+              ]
             ])
 
         -- a stop came before its record was in the journal
@@ -212,7 +213,7 @@ module _ {D : Type 0} (told : Type 0) (state : D → DiskState) where
             let e = entry own op Cut in
             let granted = there (λ t. Grants t op within.0) within.1 in
             home_by q p ready.is_in ground later spent counts e refl refl refl
-            (fits_by (rules_of o) h e (table_after o.first.fold.table h, (inr (within.0, granted), refl)) (limit_met o h st.now st.reckoned op within.0 None Cut granted within.2 refl) tt)
+            (fits_by (rules_of o) h e (table_after o.first.fold.table h, (inr (within.0, granted), refl)) (limit_met o h st.now st.reckoned op within.0 None Cut granted (inl within.2) refl) tt)
             (λ t x. let y : Cut ≡ Failed JournalAstray = x in cc) (no_fault q p ready.is_in ground later spent e refl)
             (inr (
               subst (λ (x : Provisioner D). IsHalted told state st.now x) (sym is) (marked_home st.now q ready.home),
@@ -221,13 +222,13 @@ module _ {D : Type 0} (told : Type 0) (state : D → DiskState) where
             (λ x asked. unsettled_more h e x (cut_settles_not own op) (ready.is_in.doubt x (sym (ap (λ (y : Provisioner D). y.doubt) is) ∙ asked)))
 
       -- its work is planned, and the turn ends with it
-      module _ (c : Change) (r : RollingAt) (meets : Meets st.now c None) (rolls : Rolls told state st.now op c p r) where
+      module _ (c : Change) (r : RollingAt) (meets : HasWork st.now c None) (rolls : Rolls told state st.now op c p r) where
         pub stands_taken : StandsFor told state o (with_home Out s) (h ++ entry own op Taken ∷ [])
         stands_taken =
             let e = entry own op Taken in
             let granted = there (λ t. Grants t op c) rolls.granted in
             stands_out q p ready.is_in ground later spent op own
-            (fits_by (rules_of o) h e (table_after o.first.fold.table h, (inr (c, granted), refl)) (limit_met o h st.now st.reckoned op c None Taken granted meets refl) tt)
+            (fits_by (rules_of o) h e (table_after o.first.fold.table h, (inr (c, granted), refl)) (limit_met o h st.now st.reckoned op c None Taken granted (inl meets) refl) tt)
 
         pub has_taken : HasTaken told state o own op (h ++ entry own op Taken ∷ []) p r
         has_taken = record {

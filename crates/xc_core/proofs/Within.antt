@@ -1,10 +1,9 @@
 -- What a turn does with the state.
-use Rattle.std.proofs.Common.{◌≡◌, ◌≢◌, ◌≤◌, ℕ, arith, true, false, List, [], ◌∷◌, ◌++◌, refl, sym, ◌∙◌, ap, subst, inl, inr}
+use Rattle.std.proofs.Common.{◌≡◌, ◌≢◌, ◌≤◌, ℕ, true, false, List, [], ◌∷◌, ◌++◌, refl, sym, ◌∙◌, ap, subst, inl, inr}
 use Rattle.dxc_causes.specs.Causes.{Rose}
 use Rattle.dxc_disk.specs.Disks.{CountsOn, DiskState, Spends}
-use Rattle.dxc_disk.proofs.DiskSteps.{spends_more}
 use Rattle.dxc_model.specs.declared.cause.Cause.{Cause}
-use Rattle.dxc_model.specs.declared.cause.Cause.TheVariants.{DiskFault, JournalFull, SwitchLimit, JournalAstray}
+use Rattle.dxc_model.specs.declared.cause.Cause.TheVariants.{DiskFault, NoMiddle, SwitchLimit, JournalAstray}
 use Rattle.dxc_model.specs.declared.op.Op.{Op}
 use Rattle.dxc_model.specs.declared.entry.Outcome.{Outcome}
 use Rattle.dxc_model.specs.declared.entry.Outcome.TheVariants as outcome
@@ -36,7 +35,7 @@ use Rattle.xc_core.proofs.Standing.{IsReadyAfter, has_taken, ready_home, stands_
 
 -- what the table says is entered as denied
 denied_by : (t : Board) (op : Op) (q : Cause) → Holds t op q → refused q ≡ outcome.Denied q
-denied_by t op JournalFull h = absurd h
+denied_by t op NoMiddle h = absurd h
 denied_by t op SwitchLimit h = absurd h
 denied_by t op DiskFault h = absurd h
 denied_by t op JournalAstray h = absurd h
@@ -49,15 +48,15 @@ refused_not_astray : (t : Board) (op : Op) (q : Cause) → Refuses t op q → q 
 refused_not_astray t op q r = λ is. absurd (subst (λ (x : Cause). Holds t op x) is ((refusals_are_first t op q r.apt).0 r).holds)
 
 limit_no_astray : (q : Cause) → IsLimit q → q ≢ JournalAstray
-limit_no_astray q l = elim l [ inl full ↦ (λ is. let no_limit : JournalFull ≡ JournalAstray = sym full ∙ is in cc) | inr many ↦ (λ is. let no_limit : SwitchLimit ≡ JournalAstray = sym many ∙ is in cc) ]
+limit_no_astray q l = elim l [ inl out ↦ (λ is. let no_limit : NoMiddle ≡ JournalAstray = sym out ∙ is in cc) | inr many ↦ (λ is. let no_limit : SwitchLimit ≡ JournalAstray = sym many ∙ is in cc) ]
 
 -- and a limit as failed
 refused_limit : (q : Cause) → IsLimit q → refused q ≡ outcome.Failed q
 refused_limit q l = elim l [ inl is ↦ ap refused is ∙ sym (ap outcome.Failed is) | inr is ↦ ap refused is ∙ sym (ap outcome.Failed is) ]
 
 -- what a change takes of the room is within what an operation takes
-pub change_room : (a b : DiskState) → Spends 40 a b → Spends most_room a b
-change_room a b spent = spends_more 40 most_room a b (omega arith) spent
+pub change_room : (a b : DiskState) → Spends 4_600_114 a b → Spends most_room a b
+change_room a b spent = spent
 
 module _ {D : Type 0} (told : Type 0) (state : D → DiskState) (counts : (d : D) → CountsOn (state d)) (o : Opening) (s : State D) (h : List Entry) (st : StandsFor told state o s h) where
   -- nothing was done
@@ -65,7 +64,6 @@ module _ {D : Type 0} (told : Type 0) (state : D → DiskState) (counts : (d : D
   stands_back x is = record {
     now = st.now;
     reckoned = st.reckoned;
-    folded = st.folded;
     table = st.table;
     reports = st.reports;
     legal = st.legal;

@@ -1,6 +1,5 @@
 pub mod Reckonings
 pub mod Journals
-pub mod Keeping
 pub mod Provisioners
 pub mod Restarts
 pub mod Drives

@@ -24,23 +24,13 @@ use Rattle.xc_core.specs.declared.provisioner.Provisioner.{Provisioner}
 use Rattle.xc_core.specs.declared.recovery.Recovered.{Recovered}
 use Rattle.xc_core.specs.declared.recovery.Recovered.TheVariants as recovered
 use Rattle.xc_core.specs.declared.second.Given.{Given}
-use Rattle.xc_core.specs.Reckonings.{Past}
+use Rattle.xc_core.specs.Reckonings.{IsTable, Past}
 use Rattle.xc_core.specs.Journals.{IsJournalled}
-use Rattle.xc_core.specs.Provisioners.{ground_of}
-use Rattle.xc_core.specs.Restarts.{IsHalted, IsKnown, TakesUp}
-use Rattle.xc_core.specs.States.{IsFoldOf}
-
--- these are the table and the legs of what stands behind then
-abbrev pub IsTable : Past → Board → Colouring → Type 0
-IsTable g t c = (t ≡ g.fold.table) × (c ≡ g.fold.colours)
+use Rattle.xc_core.specs.Restarts.{IsHalted, IsKnown, IsListOf, TakesUp}
 
 -- they are neither those of the changes so far, nor these with the change in doubt made
 abbrev pub IsNeither : Past → Option Op → Board → Colouring → Type 0
 IsNeither b doubt t c = (lacking : Option Change) (g : Past) → TakesUp b doubt lacking g → ¬ IsTable g t c
-
--- or they are of another number of records
-abbrev pub IsOther : Past → Option Op → Board → Colouring → ℕ → Type 0
-IsOther b doubt t c n = (lacking : Option Change) (g : Past) → TakesUp b doubt lacking g → IsTable g t c → n ≢ length g.records
 
 -- what table and legs give, beside the changes so far
 abbrev pub GivenIs : Past → Option Op → Board → Colouring → Option Given → Type 0
@@ -63,35 +53,34 @@ module _ {D : Type 0} (told : Type 0) (state : D → DiskState) where
   -- what the journal lists is what stands behind a way on which the registers are, and no crash takes anything back
   pub record IsListed (b : Past) (p : Provisioner D) : Type 0 where
     pub known : IsKnown told state b p
-    pub journalled : IsJournalled told (state p.journal.0) p.journal.1 known.way.past.records
+    pub journalled : IsJournalled told (state p.journal.0) p.journal.1 (IsListOf b p.doubt known.way.lacking)
 
   -- so many records were read, those that the journal lists, and come to the second matrix and table by this last work
   pub record Reads (b : Past) (p : Provisioner D) (ops : List LegOp) : Type 0 where
     pub halted : IsHalted told state b p
-    pub folded : IsFoldOf told (ground_of p) b
     pub whole : p.journal.1.to_mend ≡ false
+    pub still : p.journal.1.turning ≡ false
     pub listed_is : told → IsListed b p
     pub records : List (List ℕ)
     pub number : length records ≡ p.journal.1.count
     pub records_are : told → records ≡ listed p.journal.1 (state p.journal.0).reads_as
-    pub comes : ComesTo p.journal.1.shape p.journal.1.equipped records p.second.table p.second.matrix ops
+    pub comes : ComesTo p.journal.1.shape p.journal.1.head records p.second.table p.second.matrix ops
 
-  -- they give what stands behind then, and are as many as belong to it
+  -- they give what stands behind then
   pub record Finds (b : Past) (p : Provisioner D) (lacking : Option Change) (g : Past) (ops : List LegOp) : Type 0 where
     pub records : List (List ℕ)
     pub number : length records ≡ p.journal.1.count
     pub records_are : told → records ≡ listed p.journal.1 (state p.journal.0).reads_as
-    pub comes : ComesTo p.journal.1.shape p.journal.1.equipped records p.second.table p.second.matrix ops
+    pub comes : ComesTo p.journal.1.shape p.journal.1.head records p.second.table p.second.matrix ops
     pub taken : TakesUp b p.doubt lacking g
     pub given : IsTable g p.second.table p.second.matrix
-    pub counted : p.journal.1.count ≡ length g.records
 
-  -- the record of this number is the first bad one of those that were read; or so many give neither, or aren't as many as belong to what they give
+  -- the record of this number is the first bad one of those that were read; or so many give neither
   pub record IsAstray (b : Past) (p : Provisioner D) (i : ℕ) : Type 0 where
     pub records : List (List ℕ)
     pub number : length records ≡ p.journal.1.count
-    pub astray : Replays p.journal.1.shape p.journal.1.equipped records (Err (BadRecord i)) p.second.table p.second.matrix
-        ⊎ ((i ≡ length records) × Reaches p.journal.1.shape p.journal.1.equipped records p.second.table p.second.matrix × IsOther b p.doubt p.second.table p.second.matrix i)
+    pub astray : Replays p.journal.1.shape p.journal.1.head records (Err (BadRecord i)) p.second.table p.second.matrix
+        ⊎ ((i ≡ length records) × Reaches p.journal.1.shape p.journal.1.head records p.second.table p.second.matrix × IsNeither b p.doubt p.second.table p.second.matrix)
 
   -- Ok: the records were read. A bad one: it is the first.
   abbrev pub ReadIs : Past → Provisioner D → Result Work ReplayFault → Type 0

@@ -1,11 +1,11 @@
 -- The Provisioner behind a stop, and on its way home.
-use Rattle.std.specs.Prelude.{◌≡◌, ◌≤◌, ◌^◌, ◌⊎◌, ℕ, ◌+◌, List, [], ◌∷◌, ◌++◌, length, true, false, Option, Some, None}
+use Rattle.std.specs.Prelude.{◌≡◌, ◌≤◌, ◌^◌, ℕ, ◌+◌, List, [], length, true, false, Option, Some, None}
 use Rattle.dxc_disk.specs.Disks.{DiskState}
 use Rattle.dxc_num.specs.declared.register.RegWrite.{RegWrite}
 use Rattle.dxc_model.specs.declared.op.Op.{Op}
 use Rattle.dxc_model.specs.declared.op.Change.{Change}
 use Rattle.dxc_model.specs.Verdicts.{Grants}
-use Rattle.journal_core.specs.Records.{stands}
+use Rattle.journal_core.specs.declared.head.Head.{Head}
 use Rattle.paull_matrix.specs.Colourings.{Colouring}
 use Rattle.paull_chain.specs.Works.{after_ops}
 use Rattle.roll_plan.specs.Works.{switches_in}
@@ -15,14 +15,19 @@ use Rattle.roll_engine.specs.UnderWay.{IsUnderWay}
 use Rattle.roll_engine.specs.Cold.{IsCold, left_of}
 use Rattle.roll_engine.specs.Leading.{IsLeading}
 use Rattle.xc_core.specs.declared.provisioner.Provisioner.{Provisioner}
-use Rattle.xc_core.specs.Journals.{IsAtHome, IsJournalled, IsRecordOf, KeepsList}
-use Rattle.xc_core.specs.Reckonings.{Past, Meets, changed}
+use Rattle.xc_core.specs.Journals.{IsAtHome, IsJournalled, IsOneMore, IsSoFar, KeepsList}
+use Rattle.xc_core.specs.Reckonings.{HasWork, Past, changed}
 use Rattle.xc_core.specs.Provisioners.{KeepsPast}
 
 -- what stands behind where a recovery takes up a change that the table lacks, which is that of the operation in doubt, or none
 abbrev pub TakesUp : Past → Option Op → Option Change → Past → Type 0
 TakesUp b doubt None g = g ≡ b
-TakesUp b doubt (Some c) g = (op : Op) × (doubt ≡ Some op) × Grants b.fold.table op c × (met : Meets b c None) × (g ≡ changed b c met.ops)
+TakesUp b doubt (Some c) g = (op : Op) × (doubt ≡ Some op) × Grants b.fold.table op c × (met : HasWork b c None) × (g ≡ changed b c met.ops)
+
+-- what its journal comes to: the changes so far, with the one that is taken up if there is one
+abbrev pub IsListOf : Past → Option Op → Option Change → Head → List (List ℕ) → Type 0
+IsListOf b doubt None head records = IsSoFar b head records
+IsListOf b doubt (Some c) head records = (op : Op) × (doubt ≡ Some op) × IsOneMore b op head records
 
 -- so many changes, and one more if there is one
 abbrev pub number_with : ℕ → Option Change → ℕ
@@ -51,16 +56,16 @@ IsOwnWay b None before g r = rest_of r ≡ []
 IsOwnWay b (Some c) before g r = (r.work.ops.items ≡ g.fold.work) × (before ≡ b.fold.colours)
 
 module _ {D : Type 0} (told : Type 0) (state : D → DiskState) where
-  -- the journal lists the changes so far, and maybe the one in doubt besides; or it lists that one too
-  abbrev pub Lists : Past → Provisioner D → Option Change → Past → Type 0
-  Lists b p None g = IsAtHome told (state p.journal.0) p.journal.1 b p.doubt
-  Lists b p (Some c) g = KeepsList told (state p.journal.0) p.journal.1 g.records × (p.journal.1.to_mend ≡ false)
+  -- the journal stands for the changes so far, and maybe for the one in doubt besides; or it stands for that one too
+  abbrev pub Lists : Past → Provisioner D → Option Change → Type 0
+  Lists b p None = IsAtHome told (state p.journal.0) p.journal.1 b p.doubt
+  Lists b p (Some c) = KeepsList told (state p.journal.0) p.journal.1 (IsListOf b p.doubt (Some c)) × (p.journal.1.to_mend ≡ false) × (p.journal.1.turning ≡ false)
 
   -- of a disk that tells its content: the work is that of the records which the journal lists
   pub record IsKnown (b : Past) (p : Provisioner D) : Type 0 where
     pub way : HasWay b p
     pub own : IsOwnWay b way.lacking way.before way.past way.rolling
-    pub journal : Lists b p way.lacking way.past
+    pub journal : Lists b p way.lacking
 
   -- home and halted: it keeps what stands behind the changes so far, and the registers are at a stage of the last work of what the journal lists
   pub record IsHalted (b : Past) (p : Provisioner D) : Type 0 where
@@ -77,8 +82,7 @@ module _ {D : Type 0} (told : Type 0) (state : D → DiskState) where
     pub before : Colouring
     pub on_way : IsOnWay p before g r
     pub own : told → IsOwnWay b lacking before g r
-    pub journalled : IsJournalled told (state p.journal.0) p.journal.1 g.records
-    pub counted : p.journal.1.count ≡ length g.records
+    pub journalled : IsJournalled told (state p.journal.0) p.journal.1 (IsListOf b p.doubt lacking)
     pub matrix : p.second.matrix ≡ g.fold.colours
     pub lacks : p.second.lacking ≡ lacking
 
@@ -87,8 +91,7 @@ pub record IsFound {D : Type 0} (told : Type 0) (state : D → DiskState) (b : P
   pub halted : p.halted ≡ true
   pub past : KeepsPast b p
   pub taken : TakesUp b p.doubt lacking g
-  pub journalled : IsJournalled told (state p.journal.0) p.journal.1 g.records
-  pub counted : p.journal.1.count ≡ length g.records
+  pub journalled : IsJournalled told (state p.journal.0) p.journal.1 (IsListOf b p.doubt lacking)
   pub matrix : p.second.matrix ≡ g.fold.colours
   pub lacks : p.second.lacking ≡ lacking
 
@@ -105,7 +108,3 @@ pub record Rejoins {D : Type 0} (told : Type 0) (state : D → DiskState) (b : P
   pub found : IsFound told state b lacking g p
   pub cold : IsCold r
   pub leading : IsLeading p.mover.fabric.size p.second.matrix (writes_left p r) p.mover.mover
-
--- a file stands for the records so far, or for one more, which is that of the operation in doubt
-abbrev pub IsOldOrDoubted : Past → Option Op → List ℕ → Type 0
-IsOldOrDoubted b doubt file = (stands file ≡ b.records) ⊎ ((op : Op) × (bytes : List ℕ) × (doubt ≡ Some op) × IsRecordOf b op bytes × (stands file ≡ b.records ++ bytes ∷ []))

@@ -7,7 +7,7 @@ use Rattle.dxc_causes.specs.Causes.{last}
 use Rattle.dxc_disk.specs.Disks.{DiskState}
 use Rattle.dxc_model.specs.contracts.entry.Entry as entry_row
 use Rattle.dxc_model.specs.declared.cause.Cause.{Cause}
-use Rattle.dxc_model.specs.declared.cause.Cause.TheVariants.{DiskFault, JournalFull, SwitchLimit, JournalAstray}
+use Rattle.dxc_model.specs.declared.cause.Cause.TheVariants.{DiskFault, NoMiddle, SwitchLimit, JournalAstray}
 use Rattle.dxc_model.specs.declared.op.Op.{Op}
 use Rattle.dxc_model.specs.declared.op.Op.TheVariants.{Restart}
 use Rattle.dxc_model.specs.declared.op.Change.{Change}
@@ -17,10 +17,10 @@ use Rattle.dxc_model.specs.declared.entry.Entry.{Entry}
 use Rattle.dxc_model.specs.Histories.{IsLegal, IsRestartDue, IsStopped, KeepsTurns, holder, changes_of}
 use Rattle.roll_engine.specs.Rollings.{RollingAt}
 use Rattle.xc_core.specs.declared.provisioner.Provisioner.{Provisioner}
-use Rattle.xc_core.specs.Reckonings.{Past, Meets, ReckonsTo}
+use Rattle.xc_core.specs.Reckonings.{HasWork, Past, ReckonsTo}
 use Rattle.xc_core.specs.Provisioners.{Rolls, ground_of}
 use Rattle.xc_core.specs.Restarts.{Resumes}
-use Rattle.xc_core.specs.States.{Opening, IsFoldOf, IsPaid, IsUnsettled, SpendsOf, faults_in, most_room, room_in, rules_of}
+use Rattle.xc_core.specs.States.{Opening, IsPaid, IsUnsettled, SpendsOf, faults_in, most_room, room_in, rules_of}
 
 abbrev pub entry_coded : Coded Entry
 entry_coded = entry_row.the_row.coded
@@ -63,7 +63,7 @@ pub record TurnedBack (o : Opening) (own : ℕ) (h : List Entry) (then_seen : Li
 
 -- how a denied operation is entered: what the table denies is Denied, all else Failed
 abbrev pub refused : Cause → Outcome
-refused JournalFull = Failed JournalFull
+refused NoMiddle = Failed NoMiddle
 refused SwitchLimit = Failed SwitchLimit
 refused DiskFault = Failed DiskFault
 refused JournalAstray = Failed JournalAstray
@@ -78,7 +78,6 @@ module _ {D : Type 0} (told : Type 0) (state : D → DiskState) where
   pub record IsOut (o : Opening) (own : ℕ) (op : Op) (h : List Entry) (p : Provisioner D) : Type 0 where
     pub now : Past
     pub reckoned : ReckonsTo o.first (changes_of h) now
-    pub folded : IsFoldOf told o.site now
     pub held : holder None h ≡ Some (entry own op Taken)
     pub ground : ground_of p ≡ o.site
     pub faults : min (o.faults + faults_in h) last ≤ (state p.journal.0).faults
@@ -88,7 +87,7 @@ module _ {D : Type 0} (told : Type 0) (state : D → DiskState) where
   pub record HasTaken (o : Opening) (own : ℕ) (op : Op) (h : List Entry) (p : Provisioner D) (r : RollingAt) : Type 0 where
     pub out : IsOut o own op h p
     pub change : Change
-    pub within : Meets out.now change None
+    pub within : HasWork out.now change None
     pub rolls : Rolls told state out.now op change p r
     pub unstopped : IsStopped h → ⊥
 

@@ -16,7 +16,6 @@ use Rattle.dxc_model.specs.Tables.{Board}
 use Rattle.roll_plan.specs.declared.work.Work.{Work}
 use Rattle.journal_core.specs.declared.book.Book.{Book}
 use Rattle.journal_core.specs.Books.{listed}
-use Rattle.xc_recovery.specs.Replays.{ComesTo}
 use Rattle.xc_core.specs.declared.provisioner.Provisioner.{Provisioner}
 use Rattle.xc_core.specs.declared.origin.Origin.{Origin}
 use Rattle.xc_core.specs.declared.state.Home.{Home}
@@ -26,9 +25,11 @@ use Rattle.xc_core.specs.Reckonings.{Past, Meets, ReckonsTo}
 use Rattle.xc_core.specs.Provisioners.{Ground, IsHome, ground_of}
 use Rattle.xc_core.specs.Restarts.{IsHalted}
 
--- where a history begins: fabric and journal, what stood behind it, and of the journal's disk the count of faults, the margin and the room
+-- where a history begins: fabric and journal, the records that the journal listed then, what stood behind it, and of the journal's disk the
+-- count of faults, the margin and the room
 pub record Opening : Type 0 where
   pub site : Ground
+  pub records : List (List ℕ)
   pub first : Past
   pub faults : ℕ
   pub margin : ℕ
@@ -42,9 +43,9 @@ recorded book file = listed book file ++ replicate (book.count - length (listed 
 abbrev pub opening_at : {D : Type 0} → (D → DiskState) → Board → Provisioner D → Work → Opening
 opening_at state t p w = record {
   site = ground_of p;
+  records = recorded p.journal.1 (state p.journal.0).reads_as;
   first = record {
     fold = record { table = t; colours = p.matrix; work = w.ops.items; switches = length p.mover.mover.log };
-    records = recorded p.journal.1 (state p.journal.0).reads_as;
     changes = 0;
   };
   faults = (state p.journal.0).faults;
@@ -82,9 +83,10 @@ abbrev pub faults_in : List Entry → ℕ
 faults_in [] = 0
 faults_in (e ∷ es) = fault_in e.outcome + faults_in es
 
--- the most of a disk's room that an operation takes before its entry: 40 for a change, 3 and 131,078 for a restart
+-- the most of a disk's room that an operation takes before its entry: 3, 4,600,042 and 69 for a change with a checkpoint, 3 and 131,079
+-- for a restart
 abbrev pub most_room : ℕ
-most_room = 131_081
+most_room = 4_600_114
 
 -- what an operation took at most; one that is under way is counted at its end
 abbrev pub cost : Outcome → ℕ
@@ -117,13 +119,6 @@ IsPaid o h = room_in h < o.room → faults_in h ≤ o.margin
 abbrev pub IsNeverAstray : List Entry → Type 0
 IsNeverAstray h = AllByRecursion (λ e. e.outcome ≢ Failed JournalAstray) h
 
--- There are records as the disk gave them that come to table and colouring; where it tells its content, these.
-pub record IsFoldOf (told : Type 0) (g : Ground) (b : Past) : Type 0 where
-  pub read : List (List ℕ)
-  pub number : length read ≡ length b.records
-  pub same : told → read ≡ b.records
-  pub comes : ComesTo g.shape g.equipped read b.fold.table b.fold.colours b.fold.work
-
 module _ {D : Type 0} (told : Type 0) (state : D → DiskState) where
   -- at home the Provisioner is ready, and no stop stands last; or it is halted, and a restart is due
   abbrev pub IsReadyOrHalted : Past → List Entry → Provisioner D → Type 0
@@ -146,7 +141,6 @@ module _ {D : Type 0} (told : Type 0) (state : D → DiskState) where
   pub record StandsFor (o : Opening) (s : State D) (h : List Entry) : Type 0 where
     pub now : Past
     pub reckoned : ReckonsTo o.first (changes_of h) now
-    pub folded : IsFoldOf told o.site now
     pub table : s.table ≡ now.fold.table
     pub reports : s.reports ≡ recent_of (changes_of h)
     pub legal : IsLegal (rules_of o) h

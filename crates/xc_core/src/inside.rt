@@ -81,7 +81,7 @@ fn refused(cause: Cause) -> Outcome
     ensures { result ≡ refused_by cause }
 {
     match cause {
-        Cause::JournalFull | Cause::SwitchLimit | Cause::DiskFault | Cause::JournalAstray => {
+        Cause::NoMiddle | Cause::SwitchLimit | Cause::DiskFault | Cause::JournalAstray => {
             Outcome::Failed(cause)
         }
         _ => Outcome::Denied(cause),

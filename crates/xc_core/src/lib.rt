@@ -3,6 +3,7 @@
 #![tactic(auto)]
 
 mod beginning;
+mod checkpoint;
 mod fault;
 mod inside;
 mod keep;

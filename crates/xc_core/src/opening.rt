@@ -1,10 +1,10 @@
 //! How a controller starts.
-ghost use Rattle.std.specs.Prelude.{◌≡◌, ◌≤◌, ℕ, List, length, replicate, IfErr, IfNone, IfOk, IfSome};
+ghost use Rattle.std.specs.Prelude.{◌≡◌, ◌≤◌, ℕ, Bool, List, length, replicate, IfErr, IfNone, IfOk, IfSome};
 ghost use Rattle.dxc_causes.specs.Causes.{HasCause, Rose};
-ghost use Rattle.dxc_disk.specs.Disks.{IsSound, Leaves, Spends};
+ghost use Rattle.dxc_disk.specs.Disks.{IsSound, Leaves, LeavesOnly, Spends};
 ghost use Rattle.fabric_core.specs.State.{new_mover};
-ghost use Rattle.journal_core.specs.Records.{BeginsWith, stands};
-ghost use Rattle.journal_core.specs.Books.{Keeps};
+ghost use Rattle.journal_core.specs.declared.head.Head.{Head};
+ghost use Rattle.journal_core.specs.Turns.{Passing};
 ghost use Rattle.paull_matrix.specs.Colourings.{IsProperColouring};
 ghost use Rattle.roll_plan.specs.Works.{switches_in};
 ghost use Rattle.roll_engine.specs.Stages.{IsAtRestOn};
@@ -40,7 +40,7 @@ impl Core {
     /// The state that the disk's journal stands for, on a new fabric of the shelf's shape, with each leg joined at its middle. In a new
     /// file a journal of the shelf's equipped modules is made.
     ///
-    /// Memory is taken before the journal is opened, but for the Provisioner's place, which is taken when the records are read. It takes at most 131,079 of the disk's room.
+    /// Memory is taken before the journal is opened, but for the Provisioner's place, which is taken when the records are read. It takes at most 131,081 of the disk's room.
     pub fn open<D: Disk + Drop, G: Gate>(
         alloc: Global,
         shelf: &Shelf,
@@ -54,11 +54,11 @@ impl Core {
         ensures ok { IfOk result (λ s. IsOpening D.told (D.state disk).reads_as shelf.now fabric.now (opening_of D.state s) × Begins D.told D.state s) }
         ensures fails { D.told → IfErr result (Fails D.state (D.state disk) shelf.now.shape) }
         ensures any_moment { D.told → IfSome (disk_of result) (λ d. LeavesOpened shelf.now (D.state disk) (D.state d)) }
-        // What was acknowledged stays: each image begins with the records with which all of them began.
-        ensures prefix { D.told → (records : List (List ℕ)) → Leaves (D.state disk) (λ c. BeginsWith records (stands c)) → IfSome (disk_of result) (λ d. Keeps (D.state disk) (D.state d) records) }
+        // What was acknowledged stays: each image passes a test of header and records that all of them passed.
+        ensures passing { D.told → (test : Head → List (List ℕ) → Bool) → Leaves (D.state disk) (Passing shelf.now.shape test) → IfSome (disk_of result) (λ d. LeavesOnly (D.state disk) (D.state d) (Passing shelf.now.shape test)) }
         ensures cause { IfSome (disk_of result) (λ d. HasCause (D.state disk).faults (D.state d).faults (IsDiskErr result)) }
-        ensures room { IfSome (disk_of result) (λ d. Spends 131079 (D.state disk) (D.state d)) }
-        ensures sound { IsSound 131079 (D.state disk) → IsDiskErr result → ⊥ }
+        ensures room { IfSome (disk_of result) (λ d. Spends 131_081 (D.state disk) (D.state d)) }
+        ensures sound { IsSound 131_081 (D.state disk) → IsDiskErr result → ⊥ }
         ensures stopped { IfErr result (λ e. e ≡ OpenFault.Stopped → Rose (G.stops gate.old) (G.stops gate.new)) }
         ensures unstopped { IfOk result (λ s. G.stops gate.new ≡ G.stops gate.old) }
         ensures later { G.stops gate.old ≤ G.stops gate.new }
@@ -86,7 +86,6 @@ impl Core {
             Err(ReplayFault::BadRecord(i)) => return Err(OpenFault::BadRecord(i)),
             Err(ReplayFault::Disk) => return Err(OpenFault::Disk(journal.close())),
         };
-        let first_records = journal.count();
         let p = Provisioner {
             matrix,
             journal,
@@ -95,7 +94,6 @@ impl Core {
             changes: 0,
             halted: false,
             spent: 0,
-            first_records,
             second,
         };
         let rolling = Rolling::cold();

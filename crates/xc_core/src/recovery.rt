@@ -6,15 +6,15 @@ ghost use Rattle.dxc_model.specs.declared.op.Change.{Change};
 ghost use Rattle.dxc_model.specs.Steps.{with_change};
 ghost use Rattle.dxc_model.specs.Verdicts.{MayTake};
 ghost use Rattle.dxc_outside.specs.declared.gate.GatePlace.TheVariants.{Journal};
-ghost use Rattle.journal_core.specs.Books.{Keeps, listed};
 ghost use Rattle.paull_matrix.specs.Colourings.{Colouring};
 ghost use Rattle.paull_chain.specs.Works.{OpsMade};
 ghost use Rattle.roll_engine.specs.Rollings.{RollingAt};
 ghost use Rattle.xc_recovery.specs.Stages.{IsLastWork};
 ghost use Rattle.xc_core.specs.Reckonings.{Past};
 ghost use Rattle.xc_core.specs.Provisioners.{ground_of};
-ghost use Rattle.xc_core.specs.Restarts.{IsHalted, IsOldOrDoubted, Rejoins, Resumes, number_with, writes_left};
-ghost use Rattle.xc_core.specs.States.{IsFoldOf};
+ghost use Rattle.xc_core.specs.Restarts.{IsHalted, Rejoins, Resumes, number_with, writes_left};
+ghost use Rattle.journal_core.specs.Turns.{Keeps};
+ghost use Rattle.xc_core.specs.Journals.{IsOldOrDoubted};
 ghost use Rattle.xc_core.specs.Recoveries.{ReadIs, Reads, RecoveredIs, RestIs, ResumedIs};
 ghost use Rattle.xc_core.specs.Endings.{Ends, IfCold, IfWarm, reports_with, with_switches};
 ghost use Rattle.xc_core.specs.Drives.{Recovers};
@@ -42,7 +42,7 @@ pub enum Recovered {
     /// They aren't, or another number of switches was made: all is to be parted and joined anew.
     Cold(Rolling),
     /// The record of this number is bad; or so many records were read, and they give neither what is known nor that with the change in
-    /// doubt, or are another number than belongs to it.
+    /// doubt.
     Astray(u32),
     /// The disk failed.
     Fault,
@@ -90,36 +90,23 @@ fn resume(
 
 // Reads the journal anew, and replays it into the second matrix and table.
 fn read<D: Disk>(p: &mut Provisioner<D>) -> Result<Work, ReplayFault>
-    requires halted { (b : Past) × IsHalted D.told D.state b p.old × IsFoldOf D.told (ground_of p.old) b }
+    requires halted { (b : Past) × IsHalted D.told D.state b p.old }
     ensures others { p.new ≡ record p.old { journal = p.new.journal; second = p.new.second } }
     ensures ground { ground_of p.new ≡ ground_of p.old }
-    ensures halted { (b : Past) → IsHalted D.told D.state b p.old → IsFoldOf D.told (ground_of p.old) b → IsHalted D.told D.state b p.new }
-    ensures reads { (b : Past) → IsHalted D.told D.state b p.old → IsFoldOf D.told (ground_of p.old) b → ReadIs D.told D.state b p.new result }
+    ensures halted { (b : Past) → IsHalted D.told D.state b p.old → IsHalted D.told D.state b p.new }
+    ensures reads { (b : Past) → IsHalted D.told D.state b p.old → ReadIs D.told D.state b p.new result }
     ensures good { D.told → (i : ℕ) → result ≢ Err (ReplayFault.BadRecord i) }
     ensures any_moment { D.told → (b : Past) → IsHalted D.told D.state b p.old → LeavesOnly (D.state p.old.journal.0) (D.state p.new.journal.0) (IsOldOrDoubted b p.old.doubt) }
-    ensures acknowledged { D.told → Keeps (D.state p.old.journal.0) (D.state p.new.journal.0) (listed p.old.journal.1 (D.state p.old.journal.0).reads_as) }
+    ensures acknowledged { D.told → Keeps (D.state p.old.journal.0) (D.state p.new.journal.0) p.old.journal.1 }
     ensures cause { HasCause (D.state p.old.journal.0).faults (D.state p.new.journal.0).faults (IsErrOf result ReplayFault.Disk) }
-    ensures room { Spends 131078 (D.state p.old.journal.0) (D.state p.new.journal.0) }
-    ensures sound { IsSound 131078 (D.state p.old.journal.0) → IsErrOf result ReplayFault.Disk → ⊥ }
+    ensures room { Spends 131_079 (D.state p.old.journal.0) (D.state p.new.journal.0) }
+    ensures sound { IsSound 131_079 (D.state p.old.journal.0) → IsErrOf result ReplayFault.Disk → ⊥ }
 {
     match p.journal.reread() {
         Ok(()) => {}
         Err(DiskFault) => return Err(ReplayFault::Disk),
     }
     replay(&mut p.journal, &mut p.second.matrix, &mut p.second.table)
-}
-
-impl<D: Disk> Provisioner<D> {
-    // Whether the journal counts as many records as belong to the changes, and one more if there is one.
-    fn counts_all(&self, more: Option<Change>) -> bool
-        requires { IfSome more (λ _. self.now.changes < 2 ^ 48) }
-        ensures { IsTrue result ↔ (self.now.journal.1.count ≡ self.now.first_records + number_with self.now.changes more) }
-    {
-        let Some(since) = self.journal.count().checked_sub(self.first_records) else {
-            return false;
-        };
-        u64::from(since) == changes_with(self.changes, more)
-    }
 }
 
 // How the registers can go on with what was read.
@@ -138,9 +125,6 @@ fn go_on<D: Disk>(p: &mut Provisioner<D>, table: &Table, fabric: &Fabric, work: 
     match compare(&mut p.second, &mut p.matrix, table, p.doubt, p.spent) {
         None => Recovered::Astray(p.journal.count()),
         Some(Given { lacking, switches }) => {
-            if !p.counts_all(lacking) {
-                return Recovered::Astray(p.journal.count());
-            }
             p.second.lacking = lacking;
             resume(&mut p.second.matrix, &mut p.mover, fabric, work, switches)
         }
@@ -149,7 +133,7 @@ fn go_on<D: Disk>(p: &mut Provisioner<D>, table: &Table, fabric: &Fabric, work: 
 
 /// Reads the journal anew, and finds how the registers can go on, for a Provisioner that is halted. The table is the state's.
 ///
-/// It writes no register. It takes at most 131,078 of the disk's room.
+/// It writes no register. It takes at most 131,079 of the disk's room.
 pub fn recover<D: Disk, G: Gate>(
     p: &mut Provisioner<D>,
     table: &Table,
@@ -157,13 +141,13 @@ pub fn recover<D: Disk, G: Gate>(
     gate: &mut G,
 ) -> Recovered
     requires own { p.old.mover.fabric ≡ fabric.now }
-    requires halted { (b : Past) × IsHalted D.told D.state b p.old × IsFoldOf D.told (ground_of p.old) b × (b.fold.table ≡ table.now) }
+    requires halted { (b : Past) × IsHalted D.told D.state b p.old × (b.fold.table ≡ table.now) }
     ensures ground { ground_of p.new ≡ ground_of p.old }
     ensures others { p.new ≡ record p.old { journal = p.new.journal; second = p.new.second } }
-    ensures halted { (b : Past) → IsHalted D.told D.state b p.old → IsFoldOf D.told (ground_of p.old) b → b.fold.table ≡ table.now → IsHalted D.told D.state b p.new }
-    ensures recovered { (b : Past) → IsHalted D.told D.state b p.old → IsFoldOf D.told (ground_of p.old) b → b.fold.table ≡ table.now → RecoveredIs D.told D.state b p.old p.new result }
-    ensures resumes { (b : Past) → IsHalted D.told D.state b p.old → IsFoldOf D.told (ground_of p.old) b → b.fold.table ≡ table.now → IfWarm result (λ r. (lacking : Option Change) × (g : Past) × Resumes D.told D.state b lacking g p.new r) }
-    ensures rejoins { (b : Past) → IsHalted D.told D.state b p.old → IsFoldOf D.told (ground_of p.old) b → b.fold.table ≡ table.now → IfCold result (λ r. (lacking : Option Change) × (g : Past) × Rejoins D.told D.state b lacking g p.new r) }
+    ensures halted { (b : Past) → IsHalted D.told D.state b p.old → b.fold.table ≡ table.now → IsHalted D.told D.state b p.new }
+    ensures recovered { (b : Past) → IsHalted D.told D.state b p.old → b.fold.table ≡ table.now → RecoveredIs D.told D.state b p.old p.new result }
+    ensures resumes { (b : Past) → IsHalted D.told D.state b p.old → b.fold.table ≡ table.now → IfWarm result (λ r. (lacking : Option Change) × (g : Past) × Resumes D.told D.state b lacking g p.new r) }
+    ensures rejoins { (b : Past) → IsHalted D.told D.state b p.old → b.fold.table ≡ table.now → IfCold result (λ r. (lacking : Option Change) × (g : Past) × Rejoins D.told D.state b lacking g p.new r) }
     // A disk that tells its content is never astray, and the registers are at a stage of what it tells.
     ensures astray { D.told → (i : ℕ) → result ≢ Recovered.Astray i }
     ensures warm { D.told → (r : RollingAt) → result ≢ Recovered.Cold r }
@@ -172,10 +156,10 @@ pub fn recover<D: Disk, G: Gate>(
     ensures later { G.stops gate.old ≤ G.stops gate.new }
     ensures asked { G.asked gate.old gate.new (Journal ∷ []) }
     ensures any_moment { D.told → (b : Past) → IsHalted D.told D.state b p.old → LeavesOnly (D.state p.old.journal.0) (D.state p.new.journal.0) (IsOldOrDoubted b p.old.doubt) }
-    ensures acknowledged { D.told → Keeps (D.state p.old.journal.0) (D.state p.new.journal.0) (listed p.old.journal.1 (D.state p.old.journal.0).reads_as) }
+    ensures acknowledged { D.told → Keeps (D.state p.old.journal.0) (D.state p.new.journal.0) p.old.journal.1 }
     ensures fault { HasCause (D.state p.old.journal.0).faults (D.state p.new.journal.0).faults (result ≡ Recovered.Fault) }
-    ensures room { Spends 131078 (D.state p.old.journal.0) (D.state p.new.journal.0) }
-    ensures sound { IsSound 131078 (D.state p.old.journal.0) → result ≢ Recovered.Fault }
+    ensures room { Spends 131_079 (D.state p.old.journal.0) (D.state p.new.journal.0) }
+    ensures sound { IsSound 131_079 (D.state p.old.journal.0) → result ≢ Recovered.Fault }
 {
     match gate.pass(GatePlace::Journal) {
         Pass1::Stop => return Recovered::Stopped,

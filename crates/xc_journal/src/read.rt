@@ -1,20 +1,16 @@
-ghost use Rattle.std.specs.Prelude.{◌≡◌, ◌↔◌, ◌∷◌, [], List, length, IfSome, IsTrue, MatchOption};
-ghost use Rattle.xc_journal.specs.Spelling.{spelling, choices_of};
+ghost use Rattle.std.specs.Prelude.{◌≡◌, ◌⊎◌, ◌↔◌, ◌∷◌, [], ℕ, List, IfSome, IsTrue, MatchOption};
 ghost use Rattle.dxc_model.specs.declared.op.Change.{Change};
 ghost use Rattle.roll_plan.specs.declared.op.Choice.{Choice};
-ghost use Rattle.xc_journal.specs.Reading.{number, read_cct, read_conn, read_change, read_chain, read_choice, read_choices, FitsChange};
+ghost use Rattle.xc_journal.specs.Spelling.{spelling};
+ghost use Rattle.xc_journal.specs.Entries.{FitsChange, MayChoose, IsOfFirstVersion, IsEntry};
+ghost use Rattle.xc_journal.specs.Reading.{read_cct, read_label, read_conn, read_change, read_chain, read_choice, read_choices};
 
 use crate::write::record_of;
 use arrayvec::ArrayVec;
-use dxc_model::{Cct, Change, Conn};
+use byteorder::{BigEndian, ByteOrder};
+use dxc_model::{Cct, Change, Conn, Label};
 use dxc_num::{Middle, Port};
 use roll_plan::{Chain, Choice};
-
-fn number_of(high: u8, low: u8) -> u16
-    ensures { result ≡ number high low }
-{
-    u16::from_be_bytes([high, low])
-}
 
 fn cct_of(byte: u8) -> Cct
     ensures { result ≡ read_cct byte }
@@ -22,27 +18,43 @@ fn cct_of(byte: u8) -> Cct
     if byte == 0 { Cct::OneWay } else { Cct::TwoWay }
 }
 
-fn conn_of(bytes: &[u8; 32]) -> Conn
+fn label_in(bytes: &[u8; 64]) -> Option<Label>
+    ensures { result ≡ read_label bytes.now }
+{
+    let length = bytes[14] as usize;
+    if length > Label::MOST {
+        return None;
+    }
+    Label::of(&bytes[15..15 + length])
+}
+
+fn conn_in(bytes: &[u8; 64]) -> Option<Conn>
     ensures { result ≡ read_conn bytes.now }
 {
-    Conn {
-        from: Port(number_of(bytes[2], bytes[3])),
-        to: Port(number_of(bytes[4], bytes[5])),
+    let label = label_in(bytes)?;
+    Some(Conn {
+        from: Port(BigEndian::read_u16(&bytes[2..])),
+        to: Port(BigEndian::read_u16(&bytes[4..])),
         cct: cct_of(bytes[6]),
-    }
+        label,
+    })
 }
 
 // What the bytes are where they are a record; the same of those below.
-fn change_of(bytes: &[u8; 32]) -> Change
-    ensures { result ≡ read_change bytes.now }
+fn change_in(bytes: &[u8; 64]) -> Option<Change>
+    ensures change { result ≡ read_change bytes.now }
+    ensures fits { IfSome result FitsChange }
 {
-    match bytes[1] {
-        1 => Change::Enter(conn_of(bytes)),
-        2 => Change::Delete(conn_of(bytes)),
-        3 => Change::Edit(conn_of(bytes)),
-        4 => Change::EnterModule(number_of(bytes[2], bytes[3])),
-        _ => Change::DeleteModule(number_of(bytes[2], bytes[3])),
-    }
+    Some(match bytes[1] {
+        1 => Change::Enter(conn_in(bytes)?),
+        2 => Change::Delete(conn_in(bytes)?),
+        3 => Change::Edit(conn_in(bytes)?),
+        4 => Change::EnterModule(BigEndian::read_u16(&bytes[2..])),
+        5 => Change::DeleteModule(BigEndian::read_u16(&bytes[2..])),
+        6 => Change::TakeOut(Middle(bytes[3])),
+        7 => Change::PutBack(Middle(bytes[3])),
+        _ => return None,
+    })
 }
 
 fn chain_of(kind: u8, other: u8) -> Chain
@@ -80,7 +92,7 @@ fn two(first: Choice, second: Choice) -> ArrayVec<Choice, 2>
     list
 }
 
-fn choices_in(bytes: &[u8; 32]) -> ArrayVec<Choice, 2>
+fn choices_in(bytes: &[u8; 64]) -> ArrayVec<Choice, 2>
     ensures { result.items ≡ read_choices bytes.now }
 {
     match bytes[7] {
@@ -93,36 +105,53 @@ fn choices_in(bytes: &[u8; 32]) -> ArrayVec<Choice, 2>
     }
 }
 
-// How many legs a change joins or parts.
-fn number_of_choices(change: &Change) -> usize
-    ensures { result ≡ choices_of change.now }
+// Whether a change may have so many choices.
+fn may_choose(change: &Change, number: usize) -> bool
+    ensures { IsTrue result ↔ MayChoose change.now number }
 {
     match change {
         Change::Enter(conn) | Change::Delete(conn) => match conn.cct {
-            Cct::OneWay => 1,
-            Cct::TwoWay => 2,
+            Cct::OneWay => number == 1,
+            Cct::TwoWay => number == 2,
         },
-        Change::Edit(_) => 1,
-        Change::EnterModule(_) | Change::DeleteModule(_) => 0,
+        Change::Edit(_) => number <= 1,
+        _ => number == 0,
     }
 }
 
-fn is_same(a: &[u8; 32], b: &[u8; 32]) -> bool
+// Whether version 1 had such changes with so many choices.
+fn is_of_first_version(change: &Change, number: usize) -> bool
+    ensures { IsTrue result ↔ IsOfFirstVersion change.now number }
+{
+    match change {
+        Change::Enter(conn) | Change::Delete(conn) => conn.label.is_empty(),
+        Change::Edit(conn) => conn.label.is_empty() && number == 1,
+        Change::EnterModule(_) | Change::DeleteModule(_) => true,
+        Change::TakeOut(_) | Change::PutBack(_) => false,
+    }
+}
+
+fn is_same(a: &[u8; 64], b: &[u8; 64]) -> bool
     ensures { IsTrue result ↔ (a.now ≡ b.now) }
 {
     a.as_slice() == b.as_slice()
 }
 
-/// The change with its choices that a record spells. None exactly where the bytes are no record. Whether its ports, modules
-/// and middles are of a shape is for its caller to test.
-pub fn entry_of(bytes: &[u8; 32]) -> Option<(Change, ArrayVec<Choice, 2>)>
-    ensures found { IfSome result (λ v. (bytes.now ≡ spelling v.0 v.1.items) × (length v.1.items ≡ choices_of v.0)) }
-    ensures only { (change : Change) (choices : List Choice) → FitsChange change → length choices ≡ choices_of change → bytes.now ≡ spelling change choices
+/// The change with its choices that a record of this version, 1 or 2, spells; one of version 1 is filled up with zeros. None
+/// exactly where the bytes are no record of that version. Whether its ports, modules and middles are of a shape, and whether an
+/// edit changes the CCT, is for its caller to test.
+pub fn entry_of(bytes: &[u8; 64], version: u8) -> Option<(Change, ArrayVec<Choice, 2>)>
+    requires { (version ≡ 1) ⊎ (version ≡ 2) }
+    ensures found { IfSome result (λ v. (bytes.now ≡ spelling v.0 v.1.items) × IsEntry version v.0 v.1.items) }
+    ensures only { (change : Change) (choices : List Choice) → IsEntry version change choices → bytes.now ≡ spelling change choices
         → MatchOption result ⊥ (λ v. (v.0 ≡ change) × (v.1.items ≡ choices)) }
 {
-    let change = change_of(bytes);
+    let change = change_in(bytes)?;
     let choices = choices_in(bytes);
-    if choices.len() != number_of_choices(&change) {
+    if !may_choose(&change, choices.len()) {
+        return None;
+    }
+    if version == 1 && !is_of_first_version(&change, choices.len()) {
         return None;
     }
     // A record is read by spelling it again, so no two of them are read as one value.

@@ -1,9 +1,16 @@
-ghost use Rattle.std.specs.Prelude.{◌≡◌, ◌∷◌, drop};
-ghost use Rattle.xc_journal.specs.Spelling.{spelling, change_bytes, choice_bytes, cct_byte, conn_bytes, module_bytes};
+ghost use Rattle.std.specs.Prelude.{◌≡◌, ◌≤◌, ◌∷◌, ◌++◌, drop, length, true};
+ghost use Rattle.dxc_model.specs.Labels.{is_label};
+ghost use Rattle.xc_journal.specs.Spelling.{spelling, front, change_bytes, choice_bytes, cct_byte, conn_bytes, module_bytes, middle_bytes, label_bytes};
+ghost use Rattle.xc_journal.specs.Spelling.{label_of as label_in};
 
 use arrayvec::ArrayVec;
-use dxc_model::{Cct, Change, Conn};
+use byteorder::{BigEndian, ByteOrder};
+use dxc_model::{Cct, Change, Conn, Label};
+use dxc_num::Middle;
 use roll_plan::{Chain, Choice};
+
+/// The seal byte of a record.
+const SEALED: u8 = 0xA5;
 
 fn byte_of(cct: Cct) -> u8
     ensures { result ≡ cct_byte cct }
@@ -17,16 +24,24 @@ fn byte_of(cct: Cct) -> u8
 fn of_conn(kind: u8, conn: &Conn) -> [u8; 6]
     ensures { result ≡ kind ∷ conn_bytes conn.now }
 {
-    let from = conn.from.0.to_be_bytes();
-    let to = conn.to.0.to_be_bytes();
-    [kind, from[0], from[1], to[0], to[1], byte_of(conn.cct)]
+    let mut bytes = [kind, 0, 0, 0, 0, byte_of(conn.cct)];
+    BigEndian::write_u16(&mut bytes[1..], conn.from.0);
+    BigEndian::write_u16(&mut bytes[3..], conn.to.0);
+    bytes
 }
 
-fn of_module(kind: u8, number: u16) -> [u8; 6]
-    ensures { result ≡ kind ∷ module_bytes number }
+fn of_module(kind: u8, module: u16) -> [u8; 6]
+    ensures { result ≡ kind ∷ module_bytes «module» }
 {
-    let bytes = number.to_be_bytes();
-    [kind, bytes[0], bytes[1], 0, 0, 0]
+    let mut bytes = [kind, 0, 0, 0, 0, 0];
+    BigEndian::write_u16(&mut bytes[1..], module);
+    bytes
+}
+
+fn of_middle(kind: u8, middle: Middle) -> [u8; 6]
+    ensures { result ≡ kind ∷ middle_bytes middle }
+{
+    [kind, 0, middle.0, 0, 0, 0]
 }
 
 fn of_change(change: &Change) -> [u8; 6]
@@ -36,8 +51,10 @@ fn of_change(change: &Change) -> [u8; 6]
         Change::Enter(conn) => of_conn(1, conn),
         Change::Delete(conn) => of_conn(2, conn),
         Change::Edit(conn) => of_conn(3, conn),
-        Change::EnterModule(number) => of_module(4, *number),
-        Change::DeleteModule(number) => of_module(5, *number),
+        Change::EnterModule(module) => of_module(4, *module),
+        Change::DeleteModule(module) => of_module(5, *module),
+        Change::TakeOut(middle) => of_middle(6, *middle),
+        Change::PutBack(middle) => of_middle(7, *middle),
     }
 }
 
@@ -65,18 +82,51 @@ fn behind(choices: &[Choice]) -> &[Choice]
     }
 }
 
-/// The sealed record of a change with its choices. It is read back where there are as many choices as the change joins or
-/// parts legs: one or two for a one-way or two-way connection that is entered or deleted, one for an edit, none for a module.
-pub fn record_of(change: &Change, choices: &ArrayVec<Choice, 2>) -> [u8; 32]
-    ensures { result ≡ spelling change.now choices.now.items }
+// What is in front of the label.
+fn front_of(change: &Change, choices: &[Choice]) -> [u8; 14]
+    requires { length choices.now ≤ 2 }
+    ensures { result ≡ front change.now choices.now }
 {
     let c = of_change(change);
-    let list = choices.as_slice();
-    let a = of_choice(list);
-    let b = of_choice(behind(list));
-    let n = list.len() as u8;
+    let a = of_choice(choices);
+    let b = of_choice(behind(choices));
+    let n = choices.len() as u8;
     [
-        0xA5, c[0], c[1], c[2], c[3], c[4], c[5], n, a[0], a[1], a[2], b[0], b[1], b[2], 0, 0, 0,
-        0, 0, 0, 0, 0, 0, 0, 0, 0, 0, 0, 0, 0, 0, 0,
+        SEALED, c[0], c[1], c[2], c[3], c[4], c[5], n, a[0], a[1], a[2], b[0], b[1], b[2],
     ]
+}
+
+// The label of the connection that is changed, or the empty one.
+fn label_of(change: &Change) -> Label
+    ensures { result ≡ label_in change.now }
+{
+    match change {
+        Change::Enter(conn) | Change::Delete(conn) | Change::Edit(conn) => conn.label,
+        _ => Label::default(),
+    }
+}
+
+// Its length and its bytes, filled up with zeros.
+fn of_label(label: &Label) -> [u8; 25]
+    ensures bytes { result ≡ label_bytes label.now }
+    ensures label { is_label label.now ≡ true }
+{
+    let text = label.bytes();
+    let mut bytes = [0; 25];
+    bytes[0] = text.len() as u8;
+    bytes[1..text.len() + 1].copy_from_slice(text);
+    bytes
+}
+
+/// The sealed record of a change with its choices, in version 2. It is read back where there are as many choices as the change
+/// joins or parts legs: one or two for a one-way or two-way connection that is entered or deleted, at most one for an edit, none
+/// for a module or a middle.
+pub fn record_of(change: &Change, choices: &ArrayVec<Choice, 2>) -> [u8; 64]
+    ensures spelled { result ≡ spelling change.now choices.now.items }
+    ensures label { is_label (label_in change.now) ≡ true }
+{
+    let mut record = [0; 64];
+    record[..14].copy_from_slice(&front_of(change, choices.as_slice()));
+    record[14..39].copy_from_slice(&of_label(&label_of(change)));
+    record
 }

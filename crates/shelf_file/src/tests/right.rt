@@ -45,7 +45,7 @@ fn right_shelf_is_read(rt: HostRuntime) -> Result<(), Fail> {
     );
     assert_eq!(rt; equipped(rt.alloc(), "slots = 1\nequipped = []"), Some(0));
     assert_eq!(rt;
-        equipped(rt.alloc(), "slots = 32\nequipped = [2, 1]\nother = 1.5"),
+        equipped(rt.alloc(), "slots = 96\nequipped = [2, 1]\nother = 1.5"),
         Some(0b11)
     );
     assert!(rt; is_right(rt.alloc(), "\"61\"", "\"\""));

@@ -5,6 +5,7 @@ use Rattle.shelf_file.specs.Keys.{tables_in}
 use Rattle.shelf_file.specs.Users.{entries_of}
 use Rattle.shelf_file.proofs.Tables.{count_of_tables}
 use Rattle.shelf_file.proofs.Growing.{users_length}
+use Rattle.shelf_file.proofs.Describing.{all_described}
 use Rattle.shelf_file.proofs.Shortness.{short_names}
 use Rattle.shelf_file.proofs.FirstFaults.{shape_fault}
 use Rattle.shelf_file.proofs.reading.shelf_in.Goals as goal
@@ -18,4 +19,5 @@ invariant_of-result c = let n = count_of_tables (map view c.in_ok-list.list.now.
   some = omega arith;
   few = omega arith;
   short = short_names (tables_in (map view c.in_ok-list.list.now.items)) (entries_of c.in_ok-users.users.entries) c.in_ok-users.ensures.0;
+  described = all_described (tables_in (map view c.in_ok-list.list.now.items)) (entries_of c.in_ok-users.users.entries) c.in_ok-users.ensures.0;
 }

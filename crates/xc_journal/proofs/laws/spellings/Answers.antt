@@ -1,14 +1,10 @@
-use Rattle.std.proofs.Common.{◌≡◌, ◌≤◌, refl, sym, ◌∙◌, ap, arith}
-use Rattle.xc_journal.specs.Reading.{read_change, read_choices}
+use Rattle.std.proofs.Common.{refl}
 use Rattle.xc_journal.proofs.Bytes.{spelling_size}
-use Rattle.xc_journal.proofs.Readback.{change_back, choices_back, few_choices}
+use Rattle.xc_journal.proofs.Readback.{changes_same, choices_same, labels_fit}
 use Rattle.xc_journal.proofs.laws.spellings.Goals as goal
 
 pub returns-clause-one_value : goal.returns-clause-one_value
-returns-clause-one_value args c d l m one other same = (
-  sym (change_back c l one.fits) ∙ ap read_change same ∙ change_back d m other.fits,
-  sym (choices_back c l (omega (arith, one.number, few_choices c))) ∙ ap read_choices same ∙ choices_back d m (omega (arith, other.number, few_choices d)),
-)
+returns-clause-one_value args v w c d l m one other same = (changes_same c d l m one.fits other.fits same, choices_same c d l m one.number other.number same)
 
 pub returns-clause-sealed : goal.returns-clause-sealed
-returns-clause-sealed args c l = (spelling_size c l, refl)
+returns-clause-sealed args v c l e = (spelling_size c l (labels_fit c e.fits), refl)

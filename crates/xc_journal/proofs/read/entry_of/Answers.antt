@@ -1,10 +1,19 @@
-use Rattle.std.proofs.Common.{◌≡◌, ◌≤◌, refl, sym, ◌∙◌, ap, arith}
-use Rattle.xc_journal.specs.Reading.{read_change, read_choices}
-use Rattle.xc_journal.proofs.Readback.{change_back, choices_back, few_choices}
+use Rattle.std.proofs.Common.{◌∙◌, sym}
+use Rattle.xc_journal.specs.Spelling.{spelling}
+use Rattle.xc_journal.proofs.Readback.{entry_read, never, no_change, some_same}
 use Rattle.xc_journal.proofs.read.entry_of.Goals as goal
 
+pub returns-in_err-change-clause-only : goal.returns-in_err-change-clause-only
+returns-in_err-change-clause-only c change choices e is = absurd (no_change (c.in_err-change.ensures.change ∙ (entry_read c.args.version c.args.bytes.now change choices e is).0))
+
+pub returns-then-not-is_same-clause-only : goal.returns-then-not-is_same-clause-only
+returns-then-not-is_same-clause-only c change choices e is =
+    let read = entry_read c.args.version c.args.bytes.now change choices e is in
+    let one = some_same _ _ (c.in_ok-change.ensures.change ∙ read.0) in
+    let list = c.choices_in-choices.ensures ∙ read.1 in
+    never c.if-not-is_same.true (c.is_same.ensures.1 (c.record_of.ensures ∙ (λ i. spelling (one i) (list i)) ∙ sym is))
+
 pub returns-clause-only : goal.returns-clause-only
-returns-clause-only c change choices fits count is = (
-  c.change_of-change.ensures ∙ ap read_change is ∙ change_back change choices fits,
-  c.choices_in-choices.ensures ∙ ap read_choices is ∙ choices_back change choices (omega (arith, count, few_choices change)),
-)
+returns-clause-only c change choices e is =
+    let read = entry_read c.args.version c.args.bytes.now change choices e is in
+    (some_same _ _ (c.in_ok-change.ensures.change ∙ read.0), c.choices_in-choices.ensures ∙ read.1)

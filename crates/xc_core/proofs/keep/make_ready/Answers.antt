@@ -1,0 +1,55 @@
+use Rattle.std.proofs.Common.{◌∙◌, sym, ap, subst}
+use Rattle.std.specs.List.{AllByRecursion}
+use Rattle.dxc_num.specs.Dimensions.{IsInLimits}
+use Rattle.dxc_model.specs.Tables.{Board}
+use Rattle.journal_core.proofs.KeepSteps.{only_on}
+use Rattle.xc_journal.specs.Entries.{FitsConn}
+use Rattle.xc_core.specs.Journals.{IsOldOrDoubted}
+use Rattle.xc_core.specs.Provisioners.{IsHome}
+use Rattle.xc_core.specs.Reckonings.{Past}
+use Rattle.xc_core.proofs.Pasts.{home_with}
+use Rattle.xc_core.proofs.Rolling.{home_limits, placed_as}
+use Rattle.xc_core.proofs.Settling.{kept_or_none, settled_left}
+use Rattle.xc_core.proofs.keep.make_ready.Given as given
+use Rattle.xc_core.proofs.keep.make_ready.Goals as goal
+
+-- at home once it is settled
+settled : (g : given.Over) (c : goal.After-settle g) (b : Past) → IsHome g.D.Disk.told g.D.Disk.state b c.args.p.now → IsHome g.D.Disk.told g.D.Disk.state b c.settle.new.p
+settled g c b home = c.settle.ensures.home b home
+
+pub write_checkpoint-requires-clause-placed : goal.write_checkpoint-requires-clause-placed
+write_checkpoint-requires-clause-placed g c = let w = c.requires.home in let h = settled g c w.0 w.1 in placed_as w.0 c.args.table.now c.settle.new.p.matrix (sym w.2) h.past.matrix h.past.placed
+
+pub write_checkpoint-requires-clause-shape : goal.write_checkpoint-requires-clause-shape
+write_checkpoint-requires-clause-shape g c = let w = c.requires.home in let h = settled g c w.0 w.1 in ap (λ (x : Board). x.shape) (sym w.2) ∙ h.past.shape
+
+pub write_checkpoint-requires-clause-of_shape : goal.write_checkpoint-requires-clause-of_shape
+write_checkpoint-requires-clause-of_shape g c =
+    let w = c.requires.home in
+    (c.shape-_shape.ensures.of_shape, subst (λ (t : Board). IsInLimits t.shape) w.2 (home_limits g.D.Disk.told g.D.Disk.state w.0 c.args.p.now w.1))
+
+pub write_checkpoint-requires-clause-spelled : goal.write_checkpoint-requires-clause-spelled
+write_checkpoint-requires-clause-spelled g c = let w = c.requires.home in subst (λ (t : Board). AllByRecursion FitsConn t.conns) w.2 w.1.past.spelled
+
+pub returns-clause-home : goal.returns-clause-home
+returns-clause-home g c = λ b home same.
+    let m = c.settle.new.p in
+    let h = settled g c b home in
+    home_with g.D.Disk.told g.D.Disk.state b m h c.write_checkpoint.new.journal m.doubt c.write_checkpoint.ensures.book c.write_checkpoint.ensures.shape h.past.doubts (c.write_checkpoint.ensures.home b m.doubt h.journal (sym same, h.past.matrix))
+
+pub returns-clause-any_moment : goal.returns-clause-any_moment
+returns-clause-any_moment g c = λ told b home same.
+    let a = c.args.p.now in
+    let m = c.settle.new.p in
+    let h = settled g c b home in
+    only_on (g.D.Disk.state a.journal.0) (g.D.Disk.state m.journal.0) (g.D.Disk.state c.write_checkpoint.new.journal.0) (IsOldOrDoubted b a.doubt) (c.settle.ensures.any_moment told b home)
+    (settled_left b a.doubt m.doubt (g.D.Disk.state m.journal.0) (g.D.Disk.state c.write_checkpoint.new.journal.0) c.settle.ensures.doubt (c.write_checkpoint.ensures.any_moment told b m.doubt h.journal (sym same, h.past.matrix)))
+
+pub returns-in-Err-clause-doubt : goal.returns-in-Err-clause-doubt
+returns-in-Err-clause-doubt g c = kept_or_none c.args.p.now.doubt c.settle.new.p.doubt c.settle.ensures.doubt
+
+pub returns-then-not-due-clause-doubt : goal.returns-then-not-due-clause-doubt
+returns-then-not-due-clause-doubt g c = kept_or_none c.args.p.now.doubt c.settle.new.p.doubt c.settle.ensures.doubt
+
+pub returns-clause-doubt : goal.returns-clause-doubt
+returns-clause-doubt g c = kept_or_none c.args.p.now.doubt c.settle.new.p.doubt c.settle.ensures.doubt

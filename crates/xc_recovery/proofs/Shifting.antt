@@ -1,0 +1,86 @@
+-- A change of a middle moves legs, and any other joins and parts them.
+use Rattle.std.proofs.Common.{◌≡◌, List, [], ◌∷◌, Option, Some, None, sym, ◌∙◌, ap}
+use Rattle.std.specs.Prelude.{MatchOption}
+use Rattle.dxc_model.specs.declared.op.Change.{Change}
+use Rattle.dxc_model.specs.declared.op.Change.TheVariants.{Enter, Delete, Edit, EnterModule, DeleteModule, TakeOut, PutBack}
+use Rattle.dxc_model.specs.Tables.{Board}
+use Rattle.roll_plan.specs.declared.op.Choice.{Choice}
+use Rattle.roll_plan.specs.declared.op.LegOp.{LegOp}
+use Rattle.roll_plan.specs.declared.work.Work.{Work}
+use Rattle.paull_matrix.specs.Colourings.{Colouring}
+use Rattle.xc_recovery.specs.LegTasks.{tasks}
+use Rattle.xc_recovery.specs.ChangeWorks.{ChangesBy, ChangesPlanned, IsOfLegs, Shifts, WorksBy, WorksPlanned}
+
+legs_by : (t : Board) (c : Colouring) (change : Change) (hs : List Choice) (os : List LegOp) → IsOfLegs change → WorksBy t.out c (tasks t change) hs os → ChangesBy t c change hs os
+legs_by t c (Enter k) hs os is w = w
+legs_by t c (Delete k) hs os is w = w
+legs_by t c (Edit k) hs os is w = w
+legs_by t c (EnterModule m) hs os is w = w
+legs_by t c (DeleteModule m) hs os is w = w
+legs_by t c (TakeOut m) hs os is w = absurd is
+legs_by t c (PutBack m) hs os is w = absurd is
+
+by_legs : (t : Board) (c : Colouring) (change : Change) (hs : List Choice) (os : List LegOp) → IsOfLegs change → ChangesBy t c change hs os → WorksBy t.out c (tasks t change) hs os
+by_legs t c (Enter k) hs os is w = w
+by_legs t c (Delete k) hs os is w = w
+by_legs t c (Edit k) hs os is w = w
+by_legs t c (EnterModule m) hs os is w = w
+by_legs t c (DeleteModule m) hs os is w = w
+by_legs t c (TakeOut m) hs os is w = absurd is
+by_legs t c (PutBack m) hs os is w = absurd is
+
+pub shift_by : (t : Board) (c : Colouring) (change : Change) (hs : List Choice) (os : List LegOp) (o : LegOp) → Shifts c change o → hs ≡ [] → os ≡ o ∷ [] → ChangesBy t c change hs os
+shift_by t c (TakeOut m) hs os o s none is = (none, (o, s, is))
+shift_by t c (PutBack m) hs os o s none is = (none, (o, s, is))
+shift_by t c (Enter k) hs os o s none is = absurd s
+shift_by t c (Delete k) hs os o s none is = absurd s
+shift_by t c (Edit k) hs os o s none is = absurd s
+shift_by t c (EnterModule m) hs os o s none is = absurd s
+shift_by t c (DeleteModule m) hs os o s none is = absurd s
+
+pub by_shift : (t : Board) (c : Colouring) (change : Change) (hs : List Choice) (os : List LegOp) (o : LegOp) → Shifts c change o → ChangesBy t c change hs os → hs ≡ []
+by_shift t c (TakeOut m) hs os o s w = w.0
+by_shift t c (PutBack m) hs os o s w = w.0
+by_shift t c (Enter k) hs os o s w = absurd s
+by_shift t c (Delete k) hs os o s w = absurd s
+by_shift t c (Edit k) hs os o s w = absurd s
+by_shift t c (EnterModule m) hs os o s w = absurd s
+by_shift t c (DeleteModule m) hs os o s w = absurd s
+
+plan_legs_by : (t : Board) (c : Colouring) (change : Change) (os : List LegOp) → IsOfLegs change → WorksPlanned t.out c (tasks t change) os → ChangesPlanned t c change os
+plan_legs_by t c (Enter k) os is w = w
+plan_legs_by t c (Delete k) os is w = w
+plan_legs_by t c (Edit k) os is w = w
+plan_legs_by t c (EnterModule m) os is w = w
+plan_legs_by t c (DeleteModule m) os is w = w
+plan_legs_by t c (TakeOut m) os is w = absurd is
+plan_legs_by t c (PutBack m) os is w = absurd is
+
+plan_by_legs : (t : Board) (c : Colouring) (change : Change) (os : List LegOp) → IsOfLegs change → ChangesPlanned t c change os → WorksPlanned t.out c (tasks t change) os
+plan_by_legs t c (Enter k) os is w = w
+plan_by_legs t c (Delete k) os is w = w
+plan_by_legs t c (Edit k) os is w = w
+plan_by_legs t c (EnterModule m) os is w = w
+plan_by_legs t c (DeleteModule m) os is w = w
+plan_by_legs t c (TakeOut m) os is w = absurd is
+plan_by_legs t c (PutBack m) os is w = absurd is
+
+pub plan_shift_by : (t : Board) (c : Colouring) (change : Change) (os : List LegOp) (o : LegOp) → Shifts c change o → os ≡ o ∷ [] → ChangesPlanned t c change os
+plan_shift_by t c (Enter k) os o s is = absurd s
+plan_shift_by t c (Delete k) os o s is = absurd s
+plan_shift_by t c (Edit k) os o s is = absurd s
+plan_shift_by t c (EnterModule m) os o s is = absurd s
+plan_shift_by t c (DeleteModule m) os o s is = absurd s
+plan_shift_by t c (TakeOut m) os o s is = (o, s, is)
+plan_shift_by t c (PutBack m) os o s is = (o, s, is)
+
+-- what is found by the legs alone is found of the change
+pub legs_match : (t : Board) (c : Colouring) (change : Change) (hs : List Choice) (r : Option Work) → IsOfLegs change → MatchOption r ((ops : List LegOp) → ¬ WorksBy t.out c (tasks t change) hs ops) (λ w. WorksBy t.out c (tasks t change) hs w.ops.items)
+    → MatchOption r ((ops : List LegOp) → ¬ ChangesBy t c change hs ops) (λ w. ChangesBy t c change hs w.ops.items)
+legs_match t c change hs None is none = λ ops w. none ops (by_legs t c change hs ops is w)
+legs_match t c change hs (Some w) is made = legs_by t c change hs w.ops.items is made
+
+pub plan_legs_match : (t : Board) (c : Colouring) (change : Change) (r : Option Work) → IsOfLegs change → MatchOption r ((ops : List LegOp) → ¬ WorksPlanned t.out c (tasks t change) ops) (λ w. WorksPlanned t.out c (tasks t change) w.ops.items)
+    → MatchOption r ((ops : List LegOp) → ¬ ChangesPlanned t c change ops) (λ w. ChangesPlanned t c change w.ops.items)
+plan_legs_match t c change None is none = λ ops w. none ops (plan_by_legs t c change ops is w)
+plan_legs_match t c change (Some w) is planned = plan_legs_by t c change w.ops.items is planned

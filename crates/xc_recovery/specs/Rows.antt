@@ -1,0 +1,34 @@
+-- The rows of a checkpoint: records that come to a table and its colouring from no connection on.
+use Rattle.std.specs.Prelude.{ℕ, List, [], ◌∷◌, ◌++◌, Option, Some, None, map}
+use Rattle.dxc_num.specs.declared.port.Leg.{Leg}
+use Rattle.dxc_num.specs.declared.port.Middle.{Middle}
+use Rattle.dxc_num.specs.declared.port.Route.{Route}
+use Rattle.dxc_model.specs.declared.conn.Conn.{Conn}
+use Rattle.dxc_model.specs.declared.op.Change.TheVariants.{Enter, TakeOut}
+use Rattle.dxc_model.specs.Tables.{Board, legs_of}
+use Rattle.roll_plan.specs.declared.op.Chain.TheVariants.{Direct}
+use Rattle.roll_plan.specs.declared.op.Choice.{Choice}
+use Rattle.paull_matrix.specs.Colourings.{Colouring, route_at}
+use Rattle.xc_journal.specs.Spelling.{spelling}
+
+-- the middle of what an output port has
+abbrev pub middle_in : Option Route → Middle
+middle_in None = record { 0 = 0 }
+middle_in (Some r) = r.middle
+
+-- the leg goes straight to the middle on which it stands
+abbrev pub standing : Colouring → Leg → Choice
+standing c l = record { middle = middle_in (route_at c l.output.0); chain = Direct }
+
+-- a connection is entered, each leg straight at its middle
+abbrev pub row_of : Colouring → Conn → List ℕ
+row_of c k = spelling (Enter k) (map (standing c) (legs_of k))
+
+-- the middle that is out is taken out first
+abbrev pub out_rows : Option Middle → List (List ℕ)
+out_rows None = []
+out_rows (Some m) = spelling (TakeOut m) [] ∷ []
+
+-- and then all connections are entered, in the table's order
+abbrev pub checkpoint : Board → Colouring → List (List ℕ)
+checkpoint t c = out_rows t.out ++ map (row_of c) t.conns
