@@ -11,7 +11,7 @@ returns-then-not-is_same-clause-only c change choices e is =
     let read = entry_read c.args.version c.args.bytes.now change choices e is in
     let one = some_same _ _ (c.in_ok-change.ensures.change ∙ read.0) in
     let list = c.choices_in-choices.ensures ∙ read.1 in
-    never c.if-not-is_same.true (c.is_same.ensures.1 (c.record_of.ensures ∙ (λ i. spelling (one i) (list i)) ∙ sym is))
+    never c.if-not-is_same.true (c.is_same.ensures.1 (c.record_of.ensures.spelled ∙ (λ i. spelling (one i) (list i)) ∙ sym is))
 
 pub returns-clause-only : goal.returns-clause-only
 returns-clause-only c change choices e is =
