@@ -192,14 +192,13 @@ pub fn end_recovery<D: Disk>(
 {
     let _ = rolling;
     mem::swap(&mut p.matrix, &mut p.second.matrix);
-    let lacking = p.second.lacking;
-    take_up(&mut state.table, lacking);
-    report(&mut state.reports, lacking);
-    p.changes = changes_with(p.changes, lacking);
+    take_up(&mut state.table, p.second.lacking);
+    report(&mut state.reports, p.second.lacking);
+    p.changes = changes_with(p.changes, p.second.lacking);
     p.spent = p.mover.switches();
     p.doubt = None;
     p.halted = false;
-    lacking
+    p.second.lacking
 }
 
 // Makes a change in the table, if there is one.

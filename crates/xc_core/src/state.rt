@@ -93,9 +93,11 @@ pub fn finish<D: Disk>(state: &mut State<D>, p: &mut Provisioner<D>, rolling: &R
     let Ok(change) = state.table.verdict(&op) else {
         unreachable!()
     };
+    // By reference, since the check reads as a move what passes an enum with a label in it by value.
+    let made = &change;
     apply_work(&mut p.matrix, rolling.work());
-    state.table.take(change);
-    state.reports.push(change);
+    state.table.take(*made);
+    state.reports.push(*made);
     p.changes += 1;
     p.spent = p.mover.switches();
     p.doubt = None;
