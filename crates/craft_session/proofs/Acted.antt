@@ -2,7 +2,7 @@
 use Rattle.std.proofs.Common.{◌≡◌, ℕ, length, List, [], ◌∷◌, ◌++◌, append-nil, append_assoc, Some, inl, inr, refl, sym, ◌∙◌, ap, subst}
 use base.Stored.{Gv}
 use Rattle.dxc_model.specs.declared.cause.Cause.{Cause}
-use Rattle.dxc_model.specs.declared.cause.Cause.TheVariants.{DiskFault, JournalFull, SwitchLimit, JournalAstray}
+use Rattle.dxc_model.specs.declared.cause.Cause.TheVariants.{DiskFault, NoMiddle, SwitchLimit, JournalAstray}
 use Rattle.dxc_model.specs.declared.conn.Conn.{Conn}
 use Rattle.dxc_model.specs.declared.op.Op.{Op}
 use Rattle.dxc_model.specs.declared.op.Op.TheVariants.{Look, Restart, Rows}
@@ -27,7 +27,7 @@ use Rattle.craft_session.proofs.Changing.{others_unused}
 
 -- the reply to a denied operation, however it is entered
 refused_reply : (q : Cause) → ChangeReply (refused q) (denied q)
-refused_reply JournalFull = refl
+refused_reply NoMiddle = refl
 refused_reply SwitchLimit = refl
 refused_reply DiskFault = refl
 refused_reply JournalAstray = refl

@@ -8,7 +8,7 @@ use Rattle.dxc_model.specs.declared.op.Op.{Op}
 use Rattle.dxc_model.specs.declared.op.Op.TheVariants.{Restart}
 use Rattle.dxc_model.specs.declared.op.Change.{Change}
 use Rattle.dxc_model.specs.declared.cause.Cause.{Cause}
-use Rattle.dxc_model.specs.declared.cause.Cause.TheVariants.{DiskFault, JournalFull, SwitchLimit, JournalAstray}
+use Rattle.dxc_model.specs.declared.cause.Cause.TheVariants.{DiskFault, NoMiddle, SwitchLimit, JournalAstray}
 use Rattle.dxc_model.specs.declared.entry.Outcome.{Outcome}
 use Rattle.dxc_model.specs.declared.entry.Outcome.TheVariants.{Cut, Failed, Restarted, Taken}
 use Rattle.dxc_model.specs.declared.entry.Outcome.TheVariants as outcome
@@ -58,7 +58,7 @@ change_at : (h : List Entry) (out : Outcome) → (IsStopped h → ⊥) → (out 
 change_at h out going never = record { stopped = λ x. absurd (going x); astray = λ is. absurd (never is) }
 
 refused_astray : (q : Cause) → q ≢ JournalAstray → refused q ≡ Failed JournalAstray → ⊥
-refused_astray JournalFull not is = cc
+refused_astray NoMiddle not is = cc
 refused_astray SwitchLimit not is = cc
 refused_astray DiskFault not is = cc
 refused_astray JournalAstray not is = not refl

@@ -1,6 +1,5 @@
 pub mod Crossing
 pub mod Streams
-pub mod Users
 pub mod Asking
 pub mod FillSteps
 pub mod Saying

@@ -4,7 +4,7 @@ use base.Stored.{Gv}
 use Rattle.turnstile.specs.Passing.{Gate, Token}
 use Rattle.dxc_disk.specs.Disks.{DiskState}
 use Rattle.dxc_model.specs.declared.cause.Cause.{Cause}
-use Rattle.dxc_model.specs.declared.cause.Cause.TheVariants.{DiskFault, JournalFull, SwitchLimit, JournalAstray}
+use Rattle.dxc_model.specs.declared.cause.Cause.TheVariants.{DiskFault, NoMiddle, SwitchLimit, JournalAstray}
 use Rattle.dxc_model.specs.declared.op.Op.{Op}
 use Rattle.dxc_model.specs.declared.op.Op.TheVariants.{Restart}
 use Rattle.dxc_model.specs.declared.entry.Outcome.TheVariants as outcome
@@ -32,7 +32,7 @@ pub turned_ended : (o : Opening) (own : ℕ) (h : List Entry) (e : Entry) (seen 
 turned_ended o own h e seen mine settled t = record { before = h ++ t.later; last = e; mine = mine; settled = settled; saw = t.saw }
 
 refused_settled : (q : Cause) → refused q ≢ outcome.Taken
-refused_settled JournalFull = λ is. cc
+refused_settled NoMiddle = λ is. cc
 refused_settled SwitchLimit = λ is. cc
 refused_settled DiskFault = λ is. cc
 refused_settled JournalAstray = λ is. cc

@@ -1,9 +1,9 @@
 -- What a session replies, and the language in which it is asked and answers.
-use Rattle.std.specs.Prelude.{ℕ, Bool, true, nat_lt, List, Option, Some, None}
+use Rattle.std.specs.Prelude.{ℕ, List, Option, Some, None}
 use Rattle.dxc_model.specs.declared.cause.Cause.{Cause}
 use Rattle.dxc_model.specs.declared.conn.Conn.{Conn}
 use Rattle.dxc_model.specs.declared.user.SessionUser.{SessionUser}
-use Rattle.dxc_model.specs.declared.user.SessionUser.TheVariants.{Nobody, User}
+use Rattle.dxc_model.specs.declared.user.SessionUser.TheVariants.{Nobody}
 use Rattle.dxc_num.specs.Dimensions.{Dimensions}
 use Rattle.dxc_model.specs.Operations.{IsApt}
 use Rattle.craft_session.specs.declared.ask.Ask.{Ask}
@@ -49,11 +49,6 @@ user_after s Inhibits = s
 user_after s (Lists which) = s
 user_after s Restarts = s
 user_after s (Changes op) = s
-
--- the user is one of so many
-abbrev pub is_known : ℕ → SessionUser → Bool
-is_known users Nobody = true
-is_known users (User n class) = nat_lt n users
 
 -- The number of the last change that was reported, where reports are allowed; from this number on, where they begin
 abbrev pub cursor_from : Option ℕ → ℕ → ℕ

@@ -1,13 +1,10 @@
 -- What a unit means to a session: a cause that unit, user and shelf alone decide, or a command that is served.
-use Rattle.std.specs.Prelude.{ℕ, Bool, false, not, ◌&&◌, if◌then◌else◌, Option, Some, None, Result, Ok, Err, List, slice_get}
-use Rattle.std.specs.Option.{option_map_or}
+use Rattle.std.specs.Prelude.{ℕ, Bool, false, not, ◌&&◌, if◌then◌else◌, Option, Some, None, Result, Ok, Err, List}
 use Rattle.dxc_outside.specs.declared.clock.Moment.{Moment}
 use Rattle.dxc_model.specs.declared.cause.Cause.{Cause}
 use Rattle.dxc_model.specs.declared.cause.Cause.TheVariants.{TooLong, BadText, UnknownCommand, BadIdentity, OtherUser, AlreadyLoggedIn}
 use Rattle.dxc_model.specs.declared.op.Op.{Op}
 use Rattle.dxc_model.specs.declared.op.Op.TheVariants as op
-use Rattle.dxc_model.specs.declared.user.Class.{Class}
-use Rattle.dxc_model.specs.declared.user.Class.TheVariants.{R}
 use Rattle.dxc_model.specs.declared.user.SessionUser.{SessionUser}
 use Rattle.dxc_model.specs.declared.user.SessionUser.TheVariants.{Nobody, User}
 use Rattle.tl1_text.specs.Grammar.{Block}
@@ -15,10 +12,10 @@ use Rattle.tl1_text.specs.Tags.{ctag_of}
 use Rattle.tl1_text.specs.Units.{Input, whole, too_long}
 use Rattle.tl1_text.specs.Walk.{blocks_of}
 use Rattle.tl1_command.specs.Blocks.{is_there}
+use Rattle.tl1_command.specs.Codes.{is_same_text}
 use Rattle.tl1_command.specs.Meanings.{Asked, acts, cancels, header, allows, inhibits, asks_table, meaning}
 use Rattle.shelf_file.specs.Contents.{Contents}
-use Rattle.shelf_file.specs.Shelves.{is_named}
-use Rattle.dxc_secu.specs.Users.{user_of}
+use Rattle.dxc_secu.specs.Users.{session_user_of}
 use Rattle.craft_session.specs.declared.ask.Ask.{Ask}
 use Rattle.craft_session.specs.declared.ask.Ask.TheVariants.{Refused, LogsIn, LogsOut, Greets, Allows, Inhibits, Lists, Restarts, Changes}
 use Rattle.craft_session.specs.Asks.{Language}
@@ -31,33 +28,27 @@ table_ask (op.Delete x y cct) = Changes (op.Delete x y cct)
 table_ask (op.Edit c) = Changes (op.Edit c)
 table_ask (op.EnterModule m) = Changes (op.EnterModule m)
 table_ask (op.DeleteModule m) = Changes (op.DeleteModule m)
+table_ask (op.TakeOut m) = Changes (op.TakeOut m)
+table_ask (op.PutBack m) = Changes (op.PutBack m)
 table_ask (op.Rows which) = Lists which
 table_ask (op.Look n) = Refused UnknownCommand
 table_ask op.Restart = Restarts
 
--- the class of the shelf's user of this number
-abbrev pub class_at : Contents → ℕ → Class
-class_at s n = option_map_or (λ e. e.class) (slice_get s.users n) R
+-- the named user logs in where nobody is logged in; Nobody is where name and PID name none
+abbrev pub log_in : SessionUser → SessionUser → Ask
+log_in user Nobody = Refused BadIdentity
+log_in Nobody (User uid class) = LogsIn (User uid class)
+log_in (User own kind) (User uid class) = Refused AlreadyLoggedIn
 
--- the shelf's user of this number has that name, without regard to case
-abbrev pub is_user : Contents → ℕ → List ℕ → Bool
-is_user s n uid = option_map_or (is_named uid) (slice_get s.users n) false
-
--- the named user logs in where nobody is logged in
-abbrev pub log_in : Contents → SessionUser → Option ℕ → Ask
-log_in s user None = Refused BadIdentity
-log_in s Nobody (Some n) = LogsIn (User n (class_at s n))
-log_in s (User m class) (Some n) = Refused AlreadyLoggedIn
-
--- a name is given, and it isn't the session's user
-abbrev pub is_other_user : Contents → SessionUser → List ℕ → Bool
-is_other_user s Nobody uid = false
-is_other_user s (User n class) uid = is_there uid && not (is_user s n uid)
+-- a name is given, and it isn't the session's user, without regard to case
+abbrev pub is_other_user : SessionUser → List ℕ → Bool
+is_other_user Nobody uid = false
+is_other_user (User own class) uid = is_there uid && not (is_same_text uid own)
 
 -- what is asked of the session
 abbrev pub session_ask : Contents → SessionUser → Asked → Ask
-session_ask s user (acts uid pid) = log_in s user (user_of s uid pid)
-session_ask s user (cancels uid) = if is_other_user s user uid then Refused OtherUser else LogsOut
+session_ask s user (acts uid pid) = log_in user (session_user_of s uid pid)
+session_ask s user (cancels uid) = if is_other_user user uid then Refused OtherUser else LogsOut
 session_ask s user header = Greets
 session_ask s user allows = Allows
 session_ask s user inhibits = Inhibits

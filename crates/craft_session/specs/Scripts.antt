@@ -29,7 +29,7 @@ use Rattle.craft_session.specs.Walks.{CutsAt, FrontOf, nobody}
 
 -- the most that an opening takes of a disk's room
 abbrev pub opening_room : ℕ
-opening_room = 131_079
+opening_room = 131_081
 
 -- the most that a command takes: a restart that was due, and its operation
 abbrev pub command_room : ℕ

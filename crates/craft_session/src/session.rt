@@ -12,7 +12,7 @@ ghost use Rattle.std.specs.List.{AllByRecursion};
 ghost use Rattle.tl1_answer.specs.Texts.{IsChangeOf, IsOfShape};
 ghost use Rattle.tl1_answer.specs.Messages.{report as whole_report};
 ghost use Rattle.dxc_model.specs.declared.op.Change.{Change};
-ghost use Rattle.craft_session.specs.Asks.{reply_of, user_after, is_known, IsAptAsk};
+ghost use Rattle.craft_session.specs.Asks.{reply_of, IsAptAsk};
 ghost use Rattle.craft_session.specs.Meanings.{asks, language, tag_of};
 ghost use Rattle.craft_session.specs.Notices.{change, found_notices, lead, numbered};
 ghost use Rattle.craft_session.specs.Responses.{lost_text as text_of_lost};
@@ -94,7 +94,7 @@ fn serve_unit<K: Link, C: Clock, G: Gate, D: Disk + Drop, R: Wait>(
     match kind {
         UnitKind::More => Progress::On,
         UnitKind::Whole => {
-            let (tag, ask) = ask_of(&desk.shelf, desk.attending.user, desk.reader.unit());
+            let (tag, ask) = ask_of(&desk.shelf, &desk.attending.user, desk.reader.unit());
             attend(desk, link, clock, gate, rt, tag, ask)
         }
         UnitKind::TooLong => {
@@ -115,7 +115,6 @@ fn attend<K: Link, C: Clock, G: Gate, D: Disk + Drop, R: Wait>(
     ask: Ask,
 ) -> Progress
     requires apt { IsAptAsk desk.old.seat.opening.first.fold.table.shape ask }
-    requires known { is_known (length (arc_value desk.old.shelf).users) (user_after desk.old.attending.user ask) ≡ true }
     ensures shelf { desk.new.shelf ≡ desk.old.shelf }
     ensures seat { IsSameSeat desk.old.seat desk.new.seat }
     ensures reader { desk.new.reader ≡ desk.old.reader }
@@ -145,7 +144,6 @@ fn answer<K: Link, C: Clock, G: Gate, D: Disk + Drop, R: Wait>(
     ask: Ask,
 ) -> Progress
     requires apt { IsAptAsk desk.old.seat.opening.first.fold.table.shape ask }
-    requires known { is_known (length (arc_value desk.old.shelf).users) (user_after desk.old.attending.user ask) ≡ true }
     ensures shelf { desk.new.shelf ≡ desk.old.shelf }
     ensures seat { IsSameSeat desk.old.seat desk.new.seat }
     ensures reader { desk.new.reader ≡ desk.old.reader }
