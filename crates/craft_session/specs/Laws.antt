@@ -1,26 +1,30 @@
 -- What is true of every session's run.
-use Rattle.std.specs.Prelude.{◌≡◌, ◌<◌, ℕ, false, None, Option, Some, List, []}
+use Rattle.std.specs.Prelude.{◌≡◌, ◌<◌, ◌↔◌, ℕ, false, Option, Some, List, []}
 use Rattle.std.specs.List.{AllByRecursion}
 use Rattle.dxc_outside.specs.declared.clock.Moment.{Moment}
 use Rattle.dxc_disk.specs.Disks.{DiskState}
 use Rattle.dxc_outside.specs.Items.{Item}
 use Rattle.dxc_outside.specs.Links.{LinkState}
+use Rattle.dxc_model.specs.declared.cause.Cause.TheVariants.{NoMiddle}
 use Rattle.dxc_model.specs.declared.conn.Conn.{Conn}
 use Rattle.dxc_model.specs.declared.op.Op.TheVariants.{Enter}
 use Rattle.dxc_model.specs.declared.op.Change.{Change}
 use Rattle.dxc_model.specs.declared.op.Change.TheVariants as change
 use Rattle.dxc_model.specs.declared.entry.Entry.{Entry}
-use Rattle.dxc_model.specs.Tables.{Board}
-use Rattle.dxc_model.specs.Operations.{ArePorts}
-use Rattle.dxc_model.specs.Denials.{names_unequipped, needs_used_side}
 use Rattle.dxc_model.specs.Steps.{IsFault}
 use Rattle.dxc_model.specs.Histories.{IsLegal}
 use Rattle.tl1_text.specs.Units.{Input, IsRest}
+use Rattle.fabric_words.specs.Seats.{FabricId}
 use Rattle.shelf_file.specs.Contents.{Contents}
+use Rattle.xc_recovery.specs.Placings.{IsPlaced}
+use Rattle.xc_core.specs.Openings.{IsOpening}
+use Rattle.xc_core.specs.Reckonings.{Past}
 use Rattle.xc_core.specs.States.{LimitBehind, Opening, rules_of}
 use Rattle.xc_core.specs.Turns.{AreNumbered, SawNoneAstray}
 use Rattle.craft_session.specs.declared.ask.Ask.TheVariants.{Changes}
-use Rattle.craft_session.specs.Asks.{Language, Reply, completed}
+use Rattle.craft_session.specs.declared.attending.Attending.{Attending}
+use Rattle.craft_session.specs.Asks.{Language, Reply, completed, denied}
+use Rattle.craft_session.specs.Entering.{CanBeEnteredBehind, HasMiddles, IsBelowLimit}
 use Rattle.craft_session.specs.Happenings.{Happening, Happens, bytes_in, units_in}
 use Rattle.craft_session.specs.Runs.{Run, Walk}
 use Rattle.craft_session.specs.Walks.{nobody}
@@ -57,13 +61,17 @@ abbrev pub AreScripts : (told clock_told disk_told : Type 0) {D : Type 0} → (D
 AreScripts told clock_told disk_told {D} state = (disk : D) (k l : LinkState) (c d : List Moment) (s : Contents) (old new : SeatAt) (end : SessionEnd) → IsOpeningOf (state disk) old.opening → old.seen ≡ [] → old.place ≡ 0 → new.places ≡ 1 → AreNumbered new.places new.seen
     → SawNoneAstray disk_told new.seen → IsServed (language s) told clock_told k l c d old new end → IsScript disk_told (state disk) old.place old.opening clock_told c d s told k l end
 
--- an entry can be made: its ports are two of the shape, on equipped modules, and the sides that its legs need are free
-pub record CanBeEntered (t : Board) (c : Conn) : Type 0 where
-  pub ports : ArePorts t.shape c.from c.to
-  pub equipped : names_unequipped t (Enter c) ≡ false
-  pub free : needs_used_side t (Enter c) ≡ false
+-- what a file stands for on a shelf has one set of legs in table and colouring, whatever the disk tells
+abbrev pub OpeningsArePlaced : Type 0
+OpeningsArePlaced = (file : List ℕ) (shelf : Contents) (fabric : FabricId) (o : Opening) → IsOpening ⊥ file shelf fabric o → IsPlaced o.first.fold.table o.first.fold.colours
 
--- an entry that unit and user allow, that can be made and meets no limit, is completed where no fault of the journal excuses a denial: it is made
+-- An entry that unit and user allow and that can be made is completed, where each leg has a middle, the numbers suffice, and no fault of the journal
+-- excuses a denial: it is made.
 abbrev pub EntriesAreCompleted : Type 0
-EntriesAreCompleted = (o : Opening) (a : At) (c : Conn) (r : Reply) (did : Option Change) → CanBeEntered a.table c → LimitBehind o.first a.changes (change.Enter c) None → Replies (LimitBehind o.first) (λ q. ⊥) a (Changes (Enter c)) r did
-    → (r ≡ completed) × (did ≡ Some (change.Enter c))
+EntriesAreCompleted = (o : Opening) (h : List Entry) (s : Attending) (b : Past) (c : Conn) (r : Reply) (did : Option Change) → CanBeEnteredBehind o h b c → HasMiddles b c → IsBelowLimit b c
+    → Replies (LimitBehind o.first) (λ q. ⊥) (standing o.first.fold.table h s) (Changes (Enter c)) r did → (r ≡ completed) × (did ≡ Some (change.Enter c))
+
+-- it is denied for want of a middle exactly where a leg has none
+abbrev pub EntriesWantMiddles : Type 0
+EntriesWantMiddles = (o : Opening) (h : List Entry) (s : Attending) (b : Past) (c : Conn) (r : Reply) (did : Option Change) → CanBeEnteredBehind o h b c
+    → Replies (LimitBehind o.first) (λ q. ⊥) (standing o.first.fold.table h s) (Changes (Enter c)) r did → (r ≡ denied NoMiddle) ↔ (HasMiddles b c → ⊥)

@@ -15,4 +15,5 @@ pub mod Sessions
 pub mod Desks
 pub mod Plain
 pub mod Scripts
+pub mod Entering
 pub mod Laws

@@ -1,5 +1,5 @@
 //! What is true of every session's run, as the contract of a function without parameters.
-ghost use Rattle.craft_session.specs.Laws.{AreUnitsAlone, ArePlayed, ArePlayedAlone, AreResponsesOnce, AreScripts, EntriesAreCompleted};
+ghost use Rattle.craft_session.specs.Laws.{AreUnitsAlone, ArePlayed, ArePlayedAlone, AreResponsesOnce, AreScripts, EntriesAreCompleted, EntriesWantMiddles, OpeningsArePlaced};
 
 use dxc_disk::Disk;
 use dxc_outside::{Clock, Link};
@@ -31,8 +31,10 @@ pub fn scripts_are_played<K: Link, C: Clock, D: Disk>()
     ensures { AreScripts K.told C.told D.told D.state }
 {}
 
-/// An entry between two free ports of equipped modules is completed, unless a stop comes first: there is always a middle for
-/// it, or circuits that can be moved.
+/// An entry between two free ports of equipped modules is completed, unless a stop comes first: there is always a middle for it, or circuits that can
+/// be moved. While a middle is out of service it is denied for want of one exactly where a leg has no choice at its turn.
 pub fn entries_are_completed()
-    ensures { EntriesAreCompleted }
+    ensures opened { OpeningsArePlaced }
+    ensures completed { EntriesAreCompleted }
+    ensures denied { EntriesWantMiddles }
 {}
