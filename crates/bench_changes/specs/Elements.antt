@@ -39,9 +39,9 @@ pub record IsReady (e : Element) : Type 0 where
   pub own : e.p.mover.fabric ≡ arc_value e.fabric
   pub at_table : IsAtTable (Unit {0}) mem_state e.state e.p
 
--- the one-way connection of a leg is entered
+-- the one-way connection of a leg is entered, without a label
 abbrev pub entry : Leg → Op
-entry l = Enter (record { from = l.input; to = l.output; cct = OneWay })
+entry l = Enter (record { from = l.input; to = l.output; cct = OneWay; label = [] })
 
 -- and deleted
 abbrev pub deletion : Leg → Op

@@ -7,7 +7,7 @@ ghost use Rattle.bench_changes.specs.Elements.{IsNew, IsReady, IsTaken, Takes, e
 
 use anyhow::{Context, Result, bail, ensure};
 use dxc_disk::{Disk, MemDisk};
-use dxc_model::{Cct, Conn, Op};
+use dxc_model::{Cct, Conn, Label, Op};
 use dxc_num::{Leg, Shape};
 use dxc_outside::{AlwaysGo, Gate};
 use fabric_words::{Fabric, WorkerSeat};
@@ -120,6 +120,7 @@ pub fn enter<G: Gate>(element: &mut Element, leg: Leg, gate: &mut G) -> Result<(
         from: leg.input,
         to: leg.output,
         cct: Cct::OneWay,
+        label: Label::default(),
     };
     change(element, &Op::Enter(conn), gate)
 }

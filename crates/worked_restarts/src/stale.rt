@@ -1,7 +1,8 @@
 //! The row in which a worker follows an OUT word that was switched since it loaded it.
 ghost use Rattle.std.specs.Prelude.{◌≡◌, ◌<◌, IfOk};
 ghost use Rattle.std.specs.Arc.{arc_value};
-ghost use Rattle.dxc_num.specs.Dimensions.{ports};
+ghost use Rattle.dxc_num.specs.Dimensions.{Dimensions, ports};
+ghost use Rattle.dxc_model.specs.Operations.{IsApt};
 ghost use Rattle.fabric_core.specs.Working.{CanBegin};
 ghost use Rattle.fabric_words.specs.New.{AreNew};
 ghost use Rattle.xc_core.specs.Openings.{Begins};
@@ -20,7 +21,7 @@ use crate::run::{serve_at, words_otherwise};
 use anyhow::{Context, Result, bail, ensure};
 use craft_session::Place;
 use dxc_disk::Disk;
-use dxc_model::{Cct, Conn, Op};
+use dxc_model::{Cct, Conn, Label, Op};
 use dxc_num::Port;
 use dxc_outside::AlwaysGo;
 use fabric_words::{Fabric, WorkerSeat};
@@ -30,13 +31,6 @@ use std::alloc::Global;
 use std::sync::{Arc, Wait};
 use turnstile::{Pass, Turnstile};
 use xc_core::State;
-
-/// From DS0-1-2 to DS0-1-1.
-const ENTRY: Op = Op::Enter(Conn {
-    from: Port(1),
-    to: Port(0),
-    cct: Cct::OneWay,
-});
 
 /// DS0-2-2.
 const OUTPUT: Port = Port(3);
@@ -113,6 +107,18 @@ fn seat_two<D: Disk + Drop>(
     Ok(Seated { turns, place, pass })
 }
 
+// From DS0-1-2 to DS0-1-1.
+fn entry() -> Op
+    ensures { (d : Dimensions) → 1 < ports d → IsApt d result }
+{
+    Op::Enter(Conn {
+        from: Port(1),
+        to: Port(0),
+        cct: Cct::OneWay,
+        label: Label::default(),
+    })
+}
+
 // The sessions, and the entry between them.
 fn between<D: Disk + Drop, R: Wait>(
     alloc: Global,
@@ -134,7 +140,7 @@ fn between<D: Disk + Drop, R: Wait>(
         return Ok(Some(why));
     }
     let beside = change_beside(
-        alloc, &mut pass, turns, fabric, &ENTRY, &mut late, OUTPUT, rt,
+        alloc, &mut pass, turns, fabric, &entry(), &mut late, OUTPUT, rt,
     )?;
     if beside != WANTED {
         return Ok(Some(format!(in alloc; "it came to {beside:?}")?));
