@@ -3,7 +3,8 @@
 
 usage: bench/picture.py [ROUNDS]     (20 where nothing is given)
 
-The picture's own rule of chains must find each new leg's middle free, and give the connections that the program lists.
+Middles go out of service and come back meanwhile. The picture's own rule of chains must find each new leg's middle free, and give the
+connections that the program lists.
 """
 import os
 import random
@@ -25,21 +26,29 @@ def commands(modules, slots, count):
     yield "ACT-USER::ANNA:1::bc;"
     entered = []
     for _ in range(count):
+        if random.random() < 0.05:
+            yield f"{random.choice(('RMV', 'RST'))}-MID::MID-{random.randint(1, slots)}:1;"
         if entered and random.random() < 0.4:
             yield f"DLT-CRS-T0::{entered.pop(random.randrange(len(entered)))}:1;"
             continue
         pair = ",".join(f"DS0-{random.randint(1, modules)}-{random.randint(1, slots)}" for _ in range(2))
         entered.append(pair)
-        yield f"ENT-CRS-T0::{pair}:1::{random.choice(('1WAY', '2WAY'))};"
+        yield f"ENT-CRS-T0::{pair}:1::{payload()};"
         if random.random() < 0.2:
-            yield f"ED-CRS-T0::{pair}:1::{random.choice(('1WAY', '2WAY'))};"
+            yield f"ED-CRS-T0::{pair}:1::{payload()};"
+
+
+def payload():
+    """A CCT, and in half of the cases a label of printed text."""
+    label = "".join(chr(random.choice([n for n in range(0x20, 0x7F) if n != 0x22])) for _ in range(random.randint(0, 24)))
+    return random.choice(("1WAY", "2WAY")) + random.choice(("", f',"{label}"'))
 
 
 def main():
     rounds = int(sys.argv[1]) if len(sys.argv) > 1 else 20
     records = 0
     for number in range(rounds):
-        modules, slots = random.choice(((2, 1), (3, 2), (4, 4), (8, 6)))
+        modules, slots = random.choice(((2, 1), (3, 2), (4, 4), (8, 6), (64, 96)))
         with tempfile.TemporaryDirectory() as folder:
             shelf, journal = os.path.join(folder, "shelf.toml"), os.path.join(folder, "j")
             with open(shelf, "w", encoding="utf-8") as file:
@@ -49,7 +58,7 @@ def main():
             found = ran([PICTURE, "--rows", journal])
             if found != wanted:
                 sys.exit(f"bench/picture.py: round {number}, {modules} by {slots}: the picture has\n{found}and check says\n{wanted}")
-            if ran([PICTURE, journal]).count("<path") < wanted.count("WAY"):
+            if ran([PICTURE, journal]).count("<path") < len(wanted.splitlines()) - 1:
                 sys.exit(f"bench/picture.py: round {number}: a connection isn't drawn")
             records += int(wanted.rsplit(" ", 1)[1])
     print(f"{rounds} journals, {records} records: the picture reads what check says")
