@@ -241,6 +241,7 @@ module _ (t : Board) (c : Colouring) (p : IsPlaced t c) (s : IsOfShape t) (fits 
   }
 
   pub stands_from : (o : Option Middle) → t.out ≡ o → (os : List LegOp) × (m : ℕ) × FoldsTo Two (none_folded t.shape equipped) (out_rows o ++ map (row_of c) t.conns) (folded t c os m)
+  unfolding take_makes
   stands_from None e =
       let same_table : empty_table t.shape equipped ≡ partial t [] = λ i. record { shape = t.shape; conns = []; equipped = same i; out = sym e i } in
       let rest = rows_stand t c p s fits t.conns [] (no_legs t.shape) [] 0 refl (subst (λ (u : Board). IsPlaced u (no_legs t.shape)) same_table first) no_part in

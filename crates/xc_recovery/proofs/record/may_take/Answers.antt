@@ -12,6 +12,6 @@ returns-in-Ok c =
     let t = c.args.table.now in
     let change = c.args.change.now in
     let granted : Grants t (named_op change) c.in-Ok.granted = subst (λ (o : Op). Grants t o c.in-Ok.granted) c.op_of.ensures c.in-Ok.ensures.verdict in (
-      (λ is. subst (Grants t (named_op change)) (c.eq.ensures.0 is) granted),
-      (λ own. c.eq.ensures.1 (granted_once t (named_op change) c.in-Ok.granted change granted own)),
+      (λ is. subst (Grants t (named_op change)) (c.is_same.ensures.0 is) granted),
+      (λ own. c.is_same.ensures.1 (granted_once t (named_op change) c.in-Ok.granted change granted own)),
     )
