@@ -135,7 +135,7 @@ all_sealed c (Some m) ks = (refl, conns_sealed c ks)
 
 sealed_at : (rs : List (List ℕ)) (i : ℕ) (row : List ℕ) → AllByRecursion IsSealed rs → slice_get rs i ≡ Some row → IsSealed row
 sealed_at [] i row all at = let low = slice_get_within [] i row at in absurd (let z : ⊥ = omega arith in z)
-sealed_at (r ∷ rs) zero row all at = subst IsSealed (let e : Some r ≡ Some row = at in cc) all.0
+sealed_at (r ∷ rs) zero row all at = let same : r ≡ row = (let e : Some r ≡ Some row = at in cc) in subst IsSealed same all.0
 sealed_at (r ∷ rs) (suc i) row all at = sealed_at rs i row all.1 at
 
 pub row_sealed : (t : Board) (c : Colouring) (i : ℕ) (row : List ℕ) → Some row ≡ slice_get (checkpoint t c) i → slice_index row 0 ≡ 165
@@ -145,7 +145,7 @@ row_sealed t c i row at = sealed_at (checkpoint t c) i row (all_sealed c t.out t
 pub row_more : (rs : List (List ℕ)) (i : ℕ) (row : List ℕ) → Some row ≡ slice_get rs i → take i rs ++ row ∷ [] ≡ take (i + 1) rs
 row_more [] i row at = let low = slice_get_within [] i row (sym at) in absurd (let z : ⊥ = omega arith in z)
 row_more (r ∷ rs) zero row at = let e : row ≡ r = (let f : Some row ≡ Some r = at in cc) in ap (λ (x : List ℕ). x ∷ []) e
-row_more (r ∷ rs) (suc i) row at = ap (λ (xs : List (List ℕ)). r ∷ xs) (row_more rs i row at)
+row_more (r ∷ rs) (suc i) row at = let next : suc (i + 1) ≡ suc i + 1 = omega arith in ap (λ (xs : List (List ℕ)). r ∷ xs) (row_more rs i row at) ∙ ap (λ (n : ℕ). take n (r ∷ rs)) next
 
 -- a draft of no row
 drafted_as : (spare : Spare) → is_drafted spare ≡ true → (draft_of spare).rows ≡ 0 → spare ≡ Drafted (record { equipped = (draft_of spare).equipped; rows = 0 })

@@ -4,6 +4,7 @@ pub mod Crossing
 pub mod Granting
 pub mod Journalling
 pub mod Checkpointing
+pub mod Counting
 pub mod Pasts
 pub mod Rolling
 pub mod Halting

@@ -7,12 +7,13 @@ ghost use Rattle.dxc_num.specs.Dimensions.{IsInLimits};
 ghost use Rattle.dxc_model.specs.declared.op.Op.{Op};
 ghost use Rattle.dxc_model.specs.Tables.{IsOfShape};
 ghost use Rattle.journal_core.specs.declared.spare.Spare.TheVariants.{Drafted, Open};
-ghost use Rattle.journal_core.specs.Books.{IsReady, IsWhole, draft_of, is_drafted, rows};
+ghost use Rattle.journal_core.specs.Books.{IsReady, IsWhole, draft_of, is_drafted, listed, rows};
+ghost use Rattle.journal_core.specs.Turns.{Keeps};
 ghost use Rattle.xc_journal.specs.Entries.{FitsConn};
 ghost use Rattle.xc_recovery.specs.Placings.{IsPlaced};
 ghost use Rattle.xc_recovery.specs.Rows.{checkpoint};
 ghost use Rattle.xc_core.specs.Reckonings.{IsTable, Past};
-ghost use Rattle.xc_core.specs.Journals.{IsAtHome, IsOldOrDoubted};
+ghost use Rattle.xc_core.specs.Journals.{IsAtHome, IsCounted, IsOldOrDoubted, StillCounts};
 
 use dxc_disk::{Disk, DiskFault};
 use dxc_model::Table;
@@ -38,6 +39,8 @@ fn add_rows<D: Disk>(
     ensures whole { IsWhole journal.new.1 }
     ensures home { (b : Past) → (doubt : Option Op) → IsAtHome D.told (D.state journal.old.0) journal.old.1 b doubt → IsAtHome D.told (D.state journal.new.0) journal.new.1 b doubt }
     ensures any_moment { D.told → (b : Past) → (doubt : Option Op) → IsAtHome D.told (D.state journal.old.0) journal.old.1 b doubt → IsTable b table.now matrix.now → LeavesOnly (D.state journal.old.0) (D.state journal.new.0) (IsOldOrDoubted b doubt) }
+    ensures same { D.told → listed journal.new.1 (D.state journal.new.0).reads_as ≡ listed journal.old.1 (D.state journal.old.0).reads_as }
+    ensures acknowledged { D.told → (b : Past) → (doubt : Option Op) → IsAtHome D.told (D.state journal.old.0) journal.old.1 b doubt → Keeps (D.state journal.old.0) (D.state journal.new.0) journal.old.1 }
     ensures cause { HasCause (D.state journal.old.0).faults (D.state journal.new.0).faults (IsErr result) }
     ensures room { Spends 405_570 (D.state journal.old.0) (D.state journal.new.0) }
     ensures sound { IsSound 405_570 (D.state journal.old.0) → IsErr result → ⊥ }
@@ -73,6 +76,9 @@ pub(crate) fn write_checkpoint<D: Disk>(
     ensures book { IsWhole journal.new.1 }
     ensures whole { journal.old.1.to_mend ≡ false → journal.new.1.to_mend ≡ false }
     ensures any_moment { D.told → (b : Past) → (doubt : Option Op) → IsAtHome D.told (D.state journal.old.0) journal.old.1 b doubt → IsTable b table.now matrix.now → LeavesOnly (D.state journal.old.0) (D.state journal.new.0) (IsOldOrDoubted b doubt) }
+    // What was counted stays: each image continues the list, or the checkpoint.
+    ensures acknowledged { D.told → (b : Past) → (doubt : Option Op) → IsAtHome D.told (D.state journal.old.0) journal.old.1 b doubt → LeavesOnly (D.state journal.old.0) (D.state journal.new.0) (IsCounted (D.state journal.old.0) journal.old.1 table.now matrix.now) }
+    ensures counts { D.told → OnOk result (StillCounts (D.state journal.old.0) journal.old.1 (D.state journal.new.0) journal.new.1 table.now matrix.now) }
     ensures cause { HasCause (D.state journal.old.0).faults (D.state journal.new.0).faults (IsErr result) }
     ensures room { Spends 4_600_042 (D.state journal.old.0) (D.state journal.new.0) }
     ensures sound { IsSound 4_600_042 (D.state journal.old.0) → IsErr result → ⊥ }

@@ -1,15 +1,17 @@
-use Rattle.std.proofs.Common.{◌≡◌, ℕ, ◌+◌, ◌*◌, ◌<◌, List, [], ◌∷◌, ◌++◌, sym, ◌∙◌, ap, arith}
+use Rattle.std.proofs.Common.{◌≡◌, ℕ, ◌+◌, ◌*◌, ◌<◌, List, [], ◌∷◌, ◌++◌, refl, sym, ◌∙◌, ap, arith}
 use Rattle.std.proofs.lemmas.Option.{slice_get_within}
 use Rattle.dxc_disk.proofs.DiskSteps.{spends_more, spends_none, spends_on}
 use Rattle.dxc_model.specs.Tables.{Board}
 use Rattle.journal_core.specs.declared.book.Book.{Book}
 use Rattle.journal_core.specs.declared.spare.Spare.TheVariants.{Drafted, Open}
-use Rattle.journal_core.specs.Books.{draft_of, is_drafted}
+use Rattle.journal_core.specs.Books.{draft_of, is_drafted, is_tried, listed, rows}
+use Rattle.journal_core.proofs.AcknowledgeSteps.{Kept}
 use Rattle.journal_core.proofs.KeepSteps.{only_on}
 use Rattle.xc_recovery.specs.Rows.{checkpoint}
 use Rattle.xc_core.specs.Journals.{IsOldOrDoubted}
 use Rattle.xc_core.proofs.Journalling.{none_called}
 use Rattle.xc_core.proofs.Checkpointing.{all_rows, draft_begun, draft_home, draft_left, row_more, row_sealed, undrafted_home}
+use Rattle.xc_core.proofs.Counting.{kept_from, kept_now}
 use Rattle.xc_core.proofs.checkpoint.add_rows.Goals as goal
 
 pub loop-row-init : goal.loop-row-init
@@ -18,10 +20,12 @@ loop-row-init g c =
     record {
       low = omega arith;
       book = draft_begun a.1 c.requires.drafted c.requires.none;
-      whole = c.count-_count.ensures.whole;
+      whole = c.count-count.ensures.whole;
       rows = λ told. c.requires.empty told;
       home = λ b doubt home. home;
-      moments = λ told b doubt home same. none_called g.D.Disk.told (g.D.Disk.state a.0) a.1 b doubt (sym c.requires.shape ∙ ap (λ (x : Board). x.shape) same.0) home told c.count-_count.ensures.whole (g.met.D.Disk.is_disk a.0 told);
+      moments = λ told b doubt home same. none_called g.D.Disk.told (g.D.Disk.state a.0) a.1 b doubt (sym c.requires.shape ∙ ap (λ (x : Board). x.shape) same.0) home told c.count-count.ensures.whole (g.met.D.Disk.is_disk a.0 told);
+      same = λ told. refl;
+      keeps = λ told b doubt home. kept_now (g.D.Disk.state a.0) a.1 c.count-count.ensures.whole (home.keeps.kept told) (g.met.D.Disk.is_disk a.0 told);
       later = omega arith;
       room = spends_none _ (g.D.Disk.state a.0);
     }
@@ -55,6 +59,9 @@ loop-row-preserved g c =
       home = λ b doubt home. draft_home g.D.Disk.told (g.D.Disk.state m.0) (g.D.Disk.state n.0) m.1 n.1 b doubt (inv.home b doubt home) (ap (λ (x : Book). x.head) book) (ap (λ (x : Book). x.to_mend) book) _ _ c.in-Ok.ensures.drafts (ap (λ (x : Book). is_drafted x.spare) book);
       moments = λ told b doubt home same. only_on (g.D.Disk.state a.0) (g.D.Disk.state m.0) (g.D.Disk.state n.0) (IsOldOrDoubted b doubt) (inv.moments told b doubt home same)
           (draft_left g.D.Disk.told (g.D.Disk.state m.0) (g.D.Disk.state n.0) m.1 n.1 b doubt (ap (λ (x : Book). x.shape) inv.book ∙ sym c.requires.shape ∙ ap (λ (x : Board). x.shape) same.0) (inv.home b doubt home) told _ _ (c.in-Ok.ensures.drafts told));
+      same = λ told. (c.in-Ok.ensures.drafts told).same ∙ inv.same told;
+      keeps = λ told b doubt home. only_on (g.D.Disk.state a.0) (g.D.Disk.state m.0) (g.D.Disk.state n.0) (Kept a.1 (listed a.1 (g.D.Disk.state a.0).reads_as) (rows a.1 (g.D.Disk.state a.0).reads_as)) (inv.keeps told b doubt home)
+          (kept_from (g.D.Disk.state a.0) (g.D.Disk.state m.0) (g.D.Disk.state n.0) a.1 m.1 (ap (λ (x : Book). x.shape) inv.book) (ap (λ (x : Book). x.head) inv.book) (inv.same told) (ap (λ (x : Book). is_tried x.spare) inv.book) (c.in-Ok.ensures.drafts told).acknowledged);
       later = omega (arith, inv.later, c.in-Ok.ensures.cause.later);
       room = spends_more _ _ (g.D.Disk.state a.0) (g.D.Disk.state n.0) (omega arith) (spends_on _ _ (g.D.Disk.state a.0) (g.D.Disk.state m.0) (g.D.Disk.state n.0) inv.room c.in-Ok.ensures.room);
     }
@@ -94,3 +101,21 @@ returns-clause-ok g c =
 
 pub returns-clause-rows : goal.returns-clause-rows
 returns-clause-rows g c told = c.loop-row.invariant.rows told ∙ (all_rows (checkpoint c.args.table.now c.args.matrix.now) c.loop-row.i (sym c.in_default.ensures) c.loop-row.invariant.low).1
+
+pub returns-in-Err-clause-same : goal.returns-in-Err-clause-same
+returns-in-Err-clause-same g c told = (c.in-Err.ensures.drafts told).same ∙ c.loop-row.invariant.same told
+
+pub returns-in-Err-clause-acknowledged : goal.returns-in-Err-clause-acknowledged
+returns-in-Err-clause-acknowledged g c = λ told b doubt home.
+    let a = c.args.journal.now in
+    let m = c.loop-row.journal in
+    let n = c.add_row.new.self in
+    let inv = c.loop-row.invariant in
+    only_on (g.D.Disk.state a.0) (g.D.Disk.state m.0) (g.D.Disk.state n.0) (Kept a.1 (listed a.1 (g.D.Disk.state a.0).reads_as) (rows a.1 (g.D.Disk.state a.0).reads_as)) (inv.keeps told b doubt home)
+    (kept_from (g.D.Disk.state a.0) (g.D.Disk.state m.0) (g.D.Disk.state n.0) a.1 m.1 (ap (λ (x : Book). x.shape) inv.book) (ap (λ (x : Book). x.head) inv.book) (inv.same told) (ap (λ (x : Book). is_tried x.spare) inv.book) (c.in-Err.ensures.drafts told).acknowledged)
+
+pub returns-clause-same : goal.returns-clause-same
+returns-clause-same g c = c.loop-row.invariant.same
+
+pub returns-clause-acknowledged : goal.returns-clause-acknowledged
+returns-clause-acknowledged g c = c.loop-row.invariant.keeps

@@ -2,7 +2,8 @@ use Rattle.std.proofs.Common.{◌≡◌, ◌+◌, ◌-◌, ◌*◌, ◌≤◌, l
 use Rattle.dxc_disk.specs.Disks.{LeavesOnly, Spends}
 use Rattle.dxc_model.specs.declared.op.Op.{Op}
 use Rattle.journal_core.specs.declared.spare.Spare.TheVariants.{Drafted}
-use Rattle.journal_core.specs.Books.{IsWhole, draft_of, rows}
+use Rattle.journal_core.specs.Books.{IsWhole, draft_of, listed, rows}
+use Rattle.journal_core.specs.Turns.{Keeps}
 use Rattle.xc_recovery.specs.Rows.{checkpoint}
 use Rattle.xc_core.specs.Reckonings.{IsTable, Past}
 use Rattle.xc_core.specs.Journals.{IsAtHome, IsOldOrDoubted}
@@ -19,6 +20,8 @@ invariant-loop-row g l =
       rows : g.D.Disk.told → rows l.journal.1 m.reads_as ≡ take l.i (checkpoint l.fn.table l.fn.matrix);
       home : (b : Past) → (doubt : Option Op) → IsAtHome g.D.Disk.told a l.fn.journal.1 b doubt → IsAtHome g.D.Disk.told m l.journal.1 b doubt;
       moments : g.D.Disk.told → (b : Past) → (doubt : Option Op) → IsAtHome g.D.Disk.told a l.fn.journal.1 b doubt → IsTable b l.fn.table l.fn.matrix → LeavesOnly a m (IsOldOrDoubted b doubt);
+      same : g.D.Disk.told → listed l.journal.1 m.reads_as ≡ listed l.fn.journal.1 a.reads_as;
+      keeps : g.D.Disk.told → (b : Past) → (doubt : Option Op) → IsAtHome g.D.Disk.told a l.fn.journal.1 b doubt → Keeps a m l.fn.journal.1;
       later : a.faults ≤ m.faults;
       room : Spends (66 * l.i) a m;
     }

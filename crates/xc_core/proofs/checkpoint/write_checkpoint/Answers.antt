@@ -5,11 +5,12 @@ use Rattle.dxc_model.specs.declared.op.Op.{Op}
 use Rattle.dxc_model.specs.Equipment.{IsEquipment, modules_in}
 use Rattle.dxc_model.specs.Tables.{Board}
 use Rattle.journal_core.specs.declared.book.Book.{Book}
-use Rattle.journal_core.specs.Books.{draft_of, is_drafted, next_head, rows}
+use Rattle.journal_core.specs.Books.{draft_of, is_drafted, is_tried, listed, next_head, rows}
 use Rattle.journal_core.proofs.KeepSteps.{only_on}
 use Rattle.xc_core.specs.Reckonings.{IsTable, Past}
-use Rattle.xc_core.specs.Journals.{IsAtHome, IsOldOrDoubted, IsSoFar}
+use Rattle.xc_core.specs.Journals.{IsAtHome, IsCounted, IsOldOrDoubted, IsSoFar}
 use Rattle.xc_core.proofs.Checkpointing.{draft_home, draft_left, rows_few, rows_so_far, turn_home, turn_left, undrafted_home}
+use Rattle.xc_core.proofs.Counting.{counted_on, counts_same, keeps_counted, turn_counted, turn_counts}
 use Rattle.xc_core.proofs.checkpoint.write_checkpoint.Given as given
 use Rattle.xc_core.proofs.checkpoint.write_checkpoint.Goals as goal
 
@@ -91,3 +92,53 @@ returns-clause-any_moment g c = λ told b doubt home same.
     let shape : r.1.shape ≡ b.fold.table.shape = ap (λ (x : Book). x.shape) c.in-Ok-add_rows.ensures.ok ∙ ap (λ (x : Book). x.shape) c.in-Ok-begin_area.ensures.ok ∙ sym c.requires.shape ∙ ap (λ (x : Board). x.shape) same.0 in
     only_on (g.D.Disk.state c.args.journal.now.0) (g.D.Disk.state r.0) (g.D.Disk.state d.0) (IsOldOrDoubted b doubt) (begun_left g c told b doubt home same)
     (turn_left g.D.Disk.told (g.D.Disk.state r.0) (g.D.Disk.state d.0) r.1 d.1 b doubt (c.add_rows.ensures.home b doubt (begun g c b doubt home)) (stand g c b same) shape told c.turn.result (c.turn.ensures.turns told))
+
+pub returns-in-Err-begin_area-clause-acknowledged : goal.returns-in-Err-begin_area-clause-acknowledged
+returns-in-Err-begin_area-clause-acknowledged g c = λ told b doubt home.
+    keeps_counted (g.D.Disk.state c.args.journal.now.0) c.args.journal.now.1 c.args.table.now c.args.matrix.now (g.D.Disk.state c.begin_area.new.self.0) (c.in-Err-begin_area.ensures.drafts told).acknowledged
+
+-- what was counted is there while rows are added
+begun_counted : (g : given.Over) (c : goal.After-add_rows g) → g.D.Disk.told → (b : Past) (doubt : Option Op) → IsAtHome g.D.Disk.told (g.D.Disk.state c.args.journal.now.0) c.args.journal.now.1 b doubt
+    → LeavesOnly (g.D.Disk.state c.args.journal.now.0) (g.D.Disk.state c.add_rows.new.journal.0) (IsCounted (g.D.Disk.state c.args.journal.now.0) c.args.journal.now.1 c.args.table.now c.args.matrix.now)
+begun_counted g c told b doubt home =
+    let a = c.args.journal.now in
+    let m = c.begin_area.new.self in
+    let s = g.D.Disk.state a.0 in
+    let book = c.in-Ok-begin_area.ensures.ok in
+    let drafts = c.in-Ok-begin_area.ensures.drafts told in
+    only_on s (g.D.Disk.state m.0) (g.D.Disk.state c.add_rows.new.journal.0) (IsCounted s a.1 c.args.table.now c.args.matrix.now)
+    (keeps_counted s a.1 c.args.table.now c.args.matrix.now (g.D.Disk.state m.0) drafts.acknowledged)
+    (counted_on s a.1 c.args.table.now c.args.matrix.now (g.D.Disk.state m.0) (g.D.Disk.state c.add_rows.new.journal.0) m.1
+    (counts_same s a.1 c.args.table.now c.args.matrix.now (g.D.Disk.state m.0) m.1 (ap (λ (x : Book). x.shape) book) (ap (λ (x : Book). x.head) book) drafts.same) (ap (λ (x : Book). is_tried x.spare) book) (c.add_rows.ensures.acknowledged told b doubt (begun g c b doubt home)))
+
+pub returns-in-Err-add_rows-clause-acknowledged : goal.returns-in-Err-add_rows-clause-acknowledged
+returns-in-Err-add_rows-clause-acknowledged g c = λ told b doubt home. begun_counted g c told b doubt home
+
+-- the list before the turn is the one before the checkpoint
+same_list : (g : given.Over) (c : goal.After-turn g) → g.D.Disk.told → listed c.add_rows.new.journal.1 (g.D.Disk.state c.add_rows.new.journal.0).reads_as ≡ listed c.args.journal.now.1 (g.D.Disk.state c.args.journal.now.0).reads_as
+same_list g c told = c.add_rows.ensures.same told ∙ (c.in-Ok-begin_area.ensures.drafts told).same
+
+same_shape : (g : given.Over) (c : goal.After-turn g) → c.add_rows.new.journal.1.shape ≡ c.args.journal.now.1.shape
+same_shape g c = ap (λ (x : Book). x.shape) c.in-Ok-add_rows.ensures.ok ∙ ap (λ (x : Book). x.shape) c.in-Ok-begin_area.ensures.ok
+
+same_head : (g : given.Over) (c : goal.After-turn g) → c.add_rows.new.journal.1.head ≡ c.args.journal.now.1.head
+same_head g c = ap (λ (x : Book). x.head) c.in-Ok-add_rows.ensures.ok ∙ ap (λ (x : Book). x.head) c.in-Ok-begin_area.ensures.ok
+
+equipment_is : (g : given.Over) (c : goal.After-turn g) → modules_in c.args.table.now.shape (draft_of c.add_rows.new.journal.1.spare).equipped ≡ c.args.table.now.equipped
+equipment_is g c =
+    ap (modules_in c.args.table.now.shape) (ap (λ (x : Book). (draft_of x.spare).equipped) c.in-Ok-add_rows.ensures.ok ∙ ap (λ (x : Book). (draft_of x.spare).equipped) c.in-Ok-begin_area.ensures.ok) ∙ c.checkpoint_equipment.ensures.same
+
+pub returns-clause-acknowledged : goal.returns-clause-acknowledged
+returns-clause-acknowledged g c = λ told b doubt home.
+    let a = c.args.journal.now in
+    let r = c.add_rows.new.journal in
+    let s = g.D.Disk.state a.0 in
+    only_on s (g.D.Disk.state r.0) (g.D.Disk.state c.turn.new.self.0) (IsCounted s a.1 c.args.table.now c.args.matrix.now) (begun_counted g c told b doubt home)
+    (turn_counted s a.1 c.args.table.now c.args.matrix.now (g.D.Disk.state r.0) r.1 (same_shape g c) (same_head g c) (same_list g c told) (equipment_is g c) (c.in-Ok-add_rows.ensures.rows told) (g.D.Disk.state c.turn.new.self.0) (c.turn.ensures.turns told).acknowledged)
+
+pub returns-clause-counts : goal.returns-clause-counts
+returns-clause-counts g c = λ told.
+    let a = c.args.journal.now in
+    let r = c.add_rows.new.journal in
+    let d = c.turn.new.self in
+    turn_counts (g.D.Disk.state a.0) a.1 c.args.table.now c.args.matrix.now (g.D.Disk.state r.0) r.1 (same_shape g c) (same_head g c) (same_list g c told) (equipment_is g c) (c.in-Ok-add_rows.ensures.rows told) (g.D.Disk.state d.0) d.1 c.turn.result (c.turn.ensures.turns told) c.turn.ensures.ok

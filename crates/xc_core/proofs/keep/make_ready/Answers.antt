@@ -1,12 +1,18 @@
-use Rattle.std.proofs.Common.{◌∙◌, sym, ap, subst}
+use Rattle.std.proofs.Common.{◌≡◌, ◌∙◌, sym, ap, subst}
+use Rattle.std.specs.Prelude.{OnOk}
 use Rattle.std.specs.List.{AllByRecursion}
 use Rattle.dxc_num.specs.Dimensions.{IsInLimits}
+use Rattle.dxc_disk.specs.Disks.{LeavesOnly}
 use Rattle.dxc_model.specs.Tables.{Board}
+use Rattle.journal_core.specs.declared.book.Book.{Book}
 use Rattle.journal_core.proofs.KeepSteps.{only_on}
+use Rattle.paull_matrix.specs.Colourings.{Colouring}
 use Rattle.xc_journal.specs.Entries.{FitsConn}
-use Rattle.xc_core.specs.Journals.{IsOldOrDoubted}
+use Rattle.xc_core.specs.declared.provisioner.Provisioner.{Provisioner}
+use Rattle.xc_core.specs.Journals.{IsCounted, IsOldOrDoubted, StillCounts}
 use Rattle.xc_core.specs.Provisioners.{IsHome}
 use Rattle.xc_core.specs.Reckonings.{Past}
+use Rattle.xc_core.proofs.Counting.{counts_same, keeps_counted, left_counted, still_from}
 use Rattle.xc_core.proofs.Pasts.{home_with}
 use Rattle.xc_core.proofs.Rolling.{home_limits, placed_as}
 use Rattle.xc_core.proofs.Settling.{kept_or_none, settled_left}
@@ -26,7 +32,7 @@ write_checkpoint-requires-clause-shape g c = let w = c.requires.home in let h = 
 pub write_checkpoint-requires-clause-of_shape : goal.write_checkpoint-requires-clause-of_shape
 write_checkpoint-requires-clause-of_shape g c =
     let w = c.requires.home in
-    (c.shape-_shape.ensures.of_shape, subst (λ (t : Board). IsInLimits t.shape) w.2 (home_limits g.D.Disk.told g.D.Disk.state w.0 c.args.p.now w.1))
+    (c.shape-shape.ensures.of_shape, subst (λ (t : Board). IsInLimits t.shape) w.2 (home_limits g.D.Disk.told g.D.Disk.state w.0 c.args.p.now w.1))
 
 pub write_checkpoint-requires-clause-spelled : goal.write_checkpoint-requires-clause-spelled
 write_checkpoint-requires-clause-spelled g c = let w = c.requires.home in subst (λ (t : Board). AllByRecursion FitsConn t.conns) w.2 w.1.past.spelled
@@ -53,3 +59,46 @@ returns-then-not-due-clause-doubt g c = kept_or_none c.args.p.now.doubt c.settle
 
 pub returns-clause-doubt : goal.returns-clause-doubt
 returns-clause-doubt g c = kept_or_none c.args.p.now.doubt c.settle.new.p.doubt c.settle.ensures.doubt
+
+-- the journal once it is settled
+same_matrix : (g : given.Over) (c : goal.After-settle g) → c.settle.new.p.matrix ≡ c.args.p.now.matrix
+same_matrix g c = ap (λ (x : Provisioner g.row.D.Denot). x.matrix) c.settle.ensures.others
+
+settle_counted : (g : given.Over) (c : goal.After-settle g) → g.D.Disk.told → LeavesOnly (g.D.Disk.state c.args.p.now.journal.0) (g.D.Disk.state c.settle.new.p.journal.0) (IsCounted (g.D.Disk.state c.args.p.now.journal.0) c.args.p.now.journal.1 c.args.table.now c.args.p.now.matrix)
+settle_counted g c told = let a = c.args.p.now in keeps_counted (g.D.Disk.state a.journal.0) a.journal.1 c.args.table.now a.matrix (g.D.Disk.state c.settle.new.p.journal.0) (c.settle.ensures.acknowledged told)
+
+pub returns-in-Err-clause-acknowledged : goal.returns-in-Err-clause-acknowledged
+returns-in-Err-clause-acknowledged g c told = settle_counted g c told
+
+pub returns-then-not-due-clause-acknowledged : goal.returns-then-not-due-clause-acknowledged
+returns-then-not-due-clause-acknowledged g c told = settle_counted g c told
+
+pub returns-then-not-due-clause-counts : goal.returns-then-not-due-clause-counts
+returns-then-not-due-clause-counts g c told =
+    let a = c.args.p.now in
+    let m = c.settle.new.p in
+    let book = c.settle.ensures.book in
+    counts_same (g.D.Disk.state a.journal.0) a.journal.1 c.args.table.now a.matrix (g.D.Disk.state m.journal.0) m.journal.1 (ap (λ (x : Book). x.shape) book) (ap (λ (x : Book). x.head) book) (c.settle.ensures.same told).0
+
+pub returns-clause-acknowledged : goal.returns-clause-acknowledged
+returns-clause-acknowledged g c told =
+    let a = c.args.p.now in
+    let m = c.settle.new.p in
+    let n = g.D.Disk.state c.write_checkpoint.new.journal.0 in
+    let book = c.settle.ensures.book in
+    let same = c.settle.ensures.same told in
+    let w = c.requires.home in
+    only_on (g.D.Disk.state a.journal.0) (g.D.Disk.state m.journal.0) n (IsCounted (g.D.Disk.state a.journal.0) a.journal.1 c.args.table.now a.matrix) (settle_counted g c told)
+    (left_counted (g.D.Disk.state a.journal.0) (g.D.Disk.state m.journal.0) a.journal.1 m.journal.1 c.args.table.now a.matrix (ap (λ (x : Book). x.shape) book) (ap (λ (x : Book). x.head) book) (ap (λ (x : Book). x.spare) book) same.0 same.1 (g.D.Disk.state m.journal.0) n
+    (subst (λ (x : Colouring). LeavesOnly (g.D.Disk.state m.journal.0) n (IsCounted (g.D.Disk.state m.journal.0) m.journal.1 c.args.table.now x)) (same_matrix g c)
+    (c.write_checkpoint.ensures.acknowledged told w.0 m.doubt (settled g c w.0 w.1).journal)))
+
+pub returns-clause-counts : goal.returns-clause-counts
+returns-clause-counts g c told =
+    let a = c.args.p.now in
+    let m = c.settle.new.p in
+    let n = c.write_checkpoint.new.journal in
+    let book = c.settle.ensures.book in
+    let same = c.settle.ensures.same told in
+    still_from (g.D.Disk.state a.journal.0) (g.D.Disk.state m.journal.0) a.journal.1 m.journal.1 c.args.table.now a.matrix (ap (λ (x : Book). x.shape) book) (ap (λ (x : Book). x.head) book) (ap (λ (x : Book). x.spare) book) same.0 same.1 (g.D.Disk.state n.0) n.1 c.write_checkpoint.result
+    (subst (λ (x : Colouring). OnOk c.write_checkpoint.result (StillCounts (g.D.Disk.state m.journal.0) m.journal.1 (g.D.Disk.state n.0) n.1 c.args.table.now x)) (same_matrix g c) (c.write_checkpoint.ensures.counts told))
