@@ -39,7 +39,7 @@ returns-in-None-clause-halted g c = λ b h same. go_halted g.D.Disk.told g.D.Dis
 pub returns-in-None-clause-recovered : goal.returns-in-None-clause-recovered
 returns-in-None-clause-recovered g c = λ b h same.
     let none = c.in-None.ensures.given b (beside g.D.Disk.told g.D.Disk.state b c.args.p.now c.args.work.ops.items h c.args.table.now same) in
-    subst (λ (n : ℕ). IsAstray g.D.Disk.told g.D.Disk.state b (record c.args.p.now { matrix = c.compare.new.matrix; second = c.compare.new.second }) n) (sym c.count.ensures)
+    subst (λ (n : ℕ). IsAstray g.D.Disk.told g.D.Disk.state b (record c.args.p.now { matrix = c.compare.new.matrix; second = c.compare.new.second }) n) (sym c.count.ensures.count)
     (go_astray g.D.Disk.told g.D.Disk.state b c.args.p.now c.args.work.ops.items h c.compare.new.matrix c.args.p.now.mover c.compare.new.second c.compare.new.second.expected c.args.p.now.second.lacking
     (record { matrix_is = c.compare.ensures.matrix; mover_is = refl; second_is = c.compare.ensures.second; fits = c.compare.ensures.shape }) none)
 
