@@ -115,14 +115,25 @@ def name():
     return f"DS0-{random.randint(1, MODULES + (random.random() < 0.02))}-{random.randint(1, SLOTS)}"
 
 
+def label():
+    """Nothing in most cases, else a label, seldom one that is too long."""
+    length = random.choice((0, 1, 5, 24, 25)) if random.random() < 0.3 else None
+    return "" if length is None else ',"' + "".join(random.choice("ab Z9:,;'") for _ in range(length)) + '"'
+
+
+def middle():
+    return f"MID-{random.randint(1, SLOTS + (random.random() < 0.05))}"
+
+
 def sound_unit():
-    tag, cct = random.choice(("1", "A7", "zz9", "00x")), random.choice(("", "::1WAY", "::2WAY", "::2way"))
+    tag, cct = random.choice(("1", "A7", "zz9", "00x")), random.choice(("", "::1WAY", "::2WAY", "::2way", f"::{label()}", f"::2WAY{label()}"))
     return random.choice(
         (
             lambda: f"ENT-CRS-T0::{name()},{name()}:{tag}{cct}",
             lambda: f"ENT-CRS-T0::{name()},{name()}:{tag}{cct}",
             lambda: f"DLT-CRS-T0::{name()},{name()}:{tag}",
-            lambda: f"ED-CRS-T0::{name()},{name()}:{tag}::{random.choice(('1WAY', '2WAY'))}",
+            lambda: f"ED-CRS-T0::{name()},{name()}:{tag}::{random.choice(('1WAY', '2WAY'))}{label()}",
+            lambda: f"{random.choice(('RMV', 'RST'))}-MID::{middle()}:{tag}",
             lambda: f"RTRV-CRS-T0::{random.choice(('', 'ALL', name(), f'MOD-{random.randint(1, MODULES)}'))}:{tag}",
             lambda: f"RTRV-HDR:{random.choice(('', 'DXC1', 'dxc1', 'OTHER'))}::{tag}",
             lambda: f"{random.choice(('ENT', 'DLT'))}-EQPT::MOD-{random.randint(1, MODULES)}:{tag}",
@@ -134,10 +145,12 @@ def sound_unit():
     )().encode()
 
 
-def deletion(element):
-    """A deletion of a connection that is there, so that not all sides stay in use."""
-    pair, cct = random.choice(list(element.connections.items()))
-    return f"DLT-CRS-T0::{plain.row(pair, cct)[:-5]}:9".encode()
+def of_connection(element):
+    """A deletion or an edit of a connection that is there, so that not all sides stay in use."""
+    names = random.choice(list(element.connections.values())).text().split(":")[0]
+    if random.random() < 0.3:
+        return f"ED-CRS-T0::{names}:9::{random.choice(('1WAY', '2WAY'))}{label()}".encode()
+    return f"DLT-CRS-T0::{names}:9".encode()
 
 
 def mutated(unit):
@@ -160,7 +173,7 @@ def mutated(unit):
 def text_of_unit(element):
     drawn = random.random()
     if drawn < 0.15 and element.connections:
-        unit = deletion(element)
+        unit = of_connection(element)
     elif drawn < 0.18:
         unit = bytes(random.choice(b'ABC:,;"-1 ') for _ in range(random.randint(0, 30)))
     else:
@@ -200,9 +213,11 @@ class Run:
         """What the journal stands for is what was completed, or that and one of the changes in doubt."""
         listed, kept = self.listed(), dict(self.element.connections)
         for change in self.doubts:
-            if listed != self.rows() and "CRS" in change[0]:
+            if listed != self.rows() and "CRS" in change.op:
                 self.element.connections = dict(kept)
-                self.element.make(change)
+                self.element.take(change)
+                if listed == self.rows():
+                    self.element.planned(change)
         if listed != self.rows():
             raise Different(f"the journal has {listed}, and the plain table {self.rows()}, in doubt {self.doubts}")
         self.element.changes.clear()
@@ -242,8 +257,11 @@ class Run:
     def equip(self, caller):
         """Equips each module. Only what is in doubt may be otherwise than the plain table has it."""
         self.turn(caller, b"ACT-USER::ANNA:1::bc;")
-        in_doubt = {int(change[0].rsplit("-", 1)[1]) for change in self.doubts if "EQPT" in change[0]}
+        in_doubt = {change.what for change in self.doubts if "EQPT" in change.op}
+        middles = {change.what for change in self.doubts if "MID" in change.op}
         self.doubts = []
+        for number in middles:
+            self.put_back(caller, number)
         for module in range(1, MODULES + 1):
             if module in in_doubt:
                 caller.link.sendall(f"ENT-EQPT::MOD-{module}:1;".encode())
@@ -253,6 +271,17 @@ class Run:
                     self.element.changes.append(f"ENT-EQPT:MOD-{module}")
             else:
                 self.turn(caller, f"ENT-EQPT::MOD-{module}:1;".encode())
+
+    def put_back(self, caller, number):
+        """Puts a middle back that may be out or not: its circuits are where they were in either case."""
+        caller.link.sendall(f"RST-MID::MID-{number}:1;".encode())
+        _, code, _ = caller.answer()
+        change = plain.Change("RST-MID", number)
+        if self.element.out == number:
+            self.element.planned(change)
+            self.element.take(change)
+        if code == "COMPLD":
+            self.element.changes.append(change.text())
 
     def turn(self, caller, text):
         """Sends a text, and compares the answers to the units that end in it."""
@@ -274,6 +303,8 @@ class Run:
             wanted = (wanted[0], False, plain.denial("DiskFault"))
             self.refused += 1
             self.is_due |= is_restart
+            if session.change:
+                self.element.paths.undo()
             self.doubts += [session.change] if session.change else []
         elif session.asks or is_restart:
             self.is_due = False

@@ -1,10 +1,13 @@
 """The plain element: what each unit is answered, over one table, one unit after the other. Written from docs/FORMATS.md alone.
 
-It plans no path: every change that the table grants is made. Texts are bytes without the header's date, the SID's line left out.
+It plans each path by the rule of docs/THEOREMS.md, since a change may find none while a middle is out (bench/paths.py). Texts are bytes
+without the header's date, the SID's line left out.
 """
 import hashlib
 import re
 from dataclasses import dataclass, field
+
+from paths import Paths
 
 MOST = 2048
 KEPT = 1024
@@ -15,11 +18,13 @@ COMMANDS = {  # code: classes, parameters of the AID block, of the first payload
     b"ALW-MSG-ALL": ("RPS", (False,), ()),
     b"INH-MSG-ALL": ("RPS", (False,), ()),
     b"RTRV-CRS-T0": ("RPS", (False,), ()),
-    b"ENT-CRS-T0": ("PS", (True, True), (False,)),
-    b"ED-CRS-T0": ("PS", (True, True), (True,)),
+    b"ENT-CRS-T0": ("PS", (True, True), (False, False)),
+    b"ED-CRS-T0": ("PS", (True, True), (True, False)),
     b"DLT-CRS-T0": ("PS", (True, True), (False,)),
     b"ENT-EQPT": ("S", (True,), ()),
     b"DLT-EQPT": ("S", (True,), ()),
+    b"RMV-MID": ("S", (True,), ()),
+    b"RST-MID": ("S", (True,), ()),
     b"INIT-SYS": ("S", (), ()),
 }
 CAUSES = {
@@ -45,13 +50,19 @@ CAUSES = {
     "ModuleBusy": ("SNVS", "MODULE HAS CONNECTIONS"),
     "ModuleThere": ("SNVS", "MODULE ALREADY EQUIPPED"),
     "NoConnection": ("SNCC", "NOT A CONNECTION"),
+    "MiddleOut": ("SNVS", "A MIDDLE IS OUT"),
+    "MiddleIn": ("SNVS", "MIDDLE IS IN SERVICE"),
+    "NoMiddle": ("SARB", "NO MIDDLE FOR THIS CONNECTION"),
     "DiskFault": ("SROF", "JOURNAL WRITE FAILED"),
 }
 CCTS = {b"1WAY": 0, b"2WAY": 1}
+CCTS_BY_NUMBER = ("1WAY", "2WAY")
 TAG = re.compile(rb"[A-Za-z0-9]{1,6}\Z")
 CODE = re.compile(rb"[A-Za-z0-9]+(-[A-Za-z0-9]+){0,2}\Z")
 PORT = re.compile(rb"DS0-([1-9][0-9]{0,2})-([1-9][0-9]{0,2})\Z", re.IGNORECASE)
 MODULE = re.compile(rb"MOD-([1-9][0-9]{0,2})\Z", re.IGNORECASE)
+MIDDLE = re.compile(rb"MID-([1-9][0-9]{0,2})\Z", re.IGNORECASE)
+MOST_LABEL = 24
 
 
 class Denied(Exception):
@@ -141,8 +152,38 @@ class User:
 
 
 @dataclass
+class Conn:
+    """A connection as a change spells it."""
+
+    pair: tuple
+    cct: int
+    label: str = ""
+
+    def legs(self):
+        return [self.pair, self.pair[::-1]] if self.cct else [self.pair]
+
+    def text(self):
+        names = ",".join(f"DS0-{module}-{slot}" for module, slot in self.pair)
+        return f"{names}:{CCTS_BY_NUMBER[self.cct]}" + (f":{self.label}" if self.label else "")
+
+
+@dataclass
+class Change:
+    """A change that the table grants: the command that asks for it, and its connection, or the number of its module or middle."""
+
+    op: str
+    what: object
+    old: Conn | None = None  # the connection that is edited, as it was
+
+    def text(self):
+        """The report's text."""
+        what = self.what.text() if isinstance(self.what, Conn) else f"{self.op[4:7].replace('EQP', 'MOD')}-{self.what}"
+        return f"{self.op}:{what}"
+
+
+@dataclass
 class Element:
-    """The one table: connections with their CCT, equipped modules, and the changes since the start."""
+    """The one table: connections with their CCT and label, equipped modules, the middle that is out, and the changes since the start."""
 
     sid: bytes
     modules: int
@@ -151,6 +192,10 @@ class Element:
     equipped: set
     connections: dict = field(default_factory=dict)
     changes: list = field(default_factory=list)
+    out: int | None = None
+
+    def __post_init__(self):
+        self.paths = Paths(self.slots)
 
     def port(self, text):
         found = PORT.match(text)
@@ -162,6 +207,12 @@ class Element:
     def module(self, text):
         found = MODULE.match(text)
         if not found or int(found[1]) > self.modules:
+            raise Denied("BadAid")
+        return int(found[1])
+
+    def middle(self, text):
+        found = MIDDLE.match(text)
+        if not found or int(found[1]) > self.slots:
             raise Denied("BadAid")
         return int(found[1])
 
@@ -177,69 +228,81 @@ class Element:
 
     def used(self, side):
         """The ports whose input side (0) or output side (1) is in use."""
-        return {leg[side] for pair, cct in self.connections.items() for leg in legs(pair, cct)}
+        return {leg[side] for conn in self.connections.values() for leg in conn.legs()}
 
     def rows(self, is_selected):
-        return [row(pair, cct) for pair, cct in sorted(self.connections.items()) if is_selected(pair[0]) or is_selected(pair[1])]
+        return [conn.text() for pair, conn in sorted(self.connections.items()) if is_selected(pair[0]) or is_selected(pair[1])]
 
     def needs(self, wanted):
         if any(leg[0] in self.used(0) or leg[1] in self.used(1) for leg in wanted):
             raise Denied("SideInUse")
 
     def verdict(self, op, what):
-        """The report's text of a granted change and a call that makes it."""
+        """The granted change, or the first cause of the table against it."""
         if op in ("ENT-CRS-T0", "ED-CRS-T0", "DLT-CRS-T0"):
             return self.connection_verdict(op, *what)
-        if op == "ENT-EQPT":
-            if what in self.equipped:
-                raise Denied("ModuleThere")
-            return f"ENT-EQPT:MOD-{what}", lambda: self.equipped.add(what)
-        if what not in self.equipped:
+        if op == "RMV-MID" and self.out is not None:
+            raise Denied("MiddleOut")
+        if op == "RST-MID" and self.out != what:
+            raise Denied("MiddleIn")
+        if op == "ENT-EQPT" and what in self.equipped:
+            raise Denied("ModuleThere")
+        if op == "DLT-EQPT" and what not in self.equipped:
             raise Denied("NotEquipped")
-        if any(port[0] == what for pair in self.connections for port in pair):
+        if op == "DLT-EQPT" and any(port[0] == what for pair in self.connections for port in pair):
             raise Denied("ModuleBusy")
-        return f"DLT-EQPT:MOD-{what}", lambda: self.equipped.discard(what)
+        return Change(op, what)
 
-    def connection_verdict(self, op, pair, cct):
+    def connection_verdict(self, op, pair, cct, label):
         if any(port[0] not in self.equipped for port in pair):
             raise Denied("NotEquipped")
         has = self.connections.get(pair)
         if op == "ENT-CRS-T0":
-            cct = cct or 0
-            self.needs(legs(pair, cct))
-        elif op == "ED-CRS-T0":
-            if has == 0 and cct == 1:
+            conn = Conn(pair, cct or 0, label)
+            self.needs(conn.legs())
+            return Change(op, conn)
+        if op == "ED-CRS-T0":
+            if has and has.cct == 0 and cct == 1:
                 self.needs([pair[::-1]])
-            if has == cct:
+            if has and has.cct == cct and label in ("", has.label):
                 raise Denied("SameCct")
-            if has is None:
-                raise Denied("NoConnection")
+        if has is None or (op == "DLT-CRS-T0" and cct not in (None, has.cct)):
+            raise Denied("NoConnection")
+        return Change(op, has) if op == "DLT-CRS-T0" else Change(op, Conn(pair, cct, label or has.label), has)
+
+    def planned(self, change):
+        """The choice of each leg that the change joins or parts. The paths have them then."""
+        choices = self.paths.plan(change)
+        if choices is None:
+            raise Denied("NoMiddle")
+        return choices
+
+    def take(self, change):
+        """The table takes the change."""
+        if change.op in ("ENT-CRS-T0", "ED-CRS-T0"):
+            self.connections[change.what.pair] = change.what
+        elif change.op == "DLT-CRS-T0":
+            del self.connections[change.what.pair]
+        elif change.op == "RMV-MID":
+            self.out = change.what
+        elif change.op == "RST-MID":
+            self.out = None
+        elif change.op == "ENT-EQPT":
+            self.equipped.add(change.what)
         else:
-            if has is None or cct not in (None, has):
-                raise Denied("NoConnection")
-            return f"{op}:{row(pair, has)}", lambda: self.connections.pop(pair)
-        return f"{op}:{row(pair, cct)}", lambda: self.connections.update({pair: cct})
+            self.equipped.discard(change.what)
 
     def make(self, change):
-        told, effect = change
-        effect()
-        self.changes.append(told)
-
-
-def legs(pair, cct):
-    return [pair, pair[::-1]] if cct else [pair]
-
-
-def row(pair, cct):
-    return ",".join(f"DS0-{module}-{slot}" for module, slot in pair) + (":2WAY" if cct else ":1WAY")
+        self.take(change)
+        self.changes.append(change.text())
 
 
 class Session:
-    """What one session is answered. `change` is the change that the table grants the unit in hand, which its caller makes where it was
-    completed; `asks` whether the unit came to the table with a change, granted or not."""
+    """What one session is answered. `change` is the change that the unit in hand is granted, with a path for each leg, which its caller makes
+    where it was completed, and else takes back; `asks` whether the unit came to the table with a change, granted or not."""
 
     def __init__(self, element):
-        self.element, self.user, self.cursor, self.change, self.asks = element, None, None, None, False
+        self.element, self.user, self.cursor, self.change, self.choices, self.asks = element, None, None, None, (), False
 
     def answer(self, unit):
         """The tag, whether it is completed, and the text lines."""
@@ -302,20 +365,25 @@ class Session:
         elif code == "INIT-SYS":
             return ['"WARM"']
         elif code in ("ENT-EQPT", "DLT-EQPT"):
-            self.change = self.asked(code, element.module(names[0]))
+            self.ask(code, element.module(names[0]))
+        elif code in ("RMV-MID", "RST-MID"):
+            self.ask(code, element.middle(names[0]))
         elif code != "RTRV-HDR":
             cct = CCTS.get(values[0].upper()) if values[0] else None
-            if values[0] and cct is None:
+            label = values[1].decode() if len(values) > 1 else ""
+            if (values[0] and cct is None) or len(label) > MOST_LABEL:
                 raise Denied("BadValue")
             pair = (element.port(names[0]), element.port(names[1]))
             if pair[0] == pair[1]:
                 raise Denied("SamePort")
-            self.change = self.asked(code, (pair, cct))
+            self.ask(code, (pair, cct, label))
         return []
 
-    def asked(self, op, what):
+    def ask(self, op, what):
         self.asks = True
-        return self.element.verdict(op, what)
+        change = self.element.verdict(op, what)
+        self.choices = self.element.planned(change)
+        self.change = change
 
     def log_in(self, uid, pid):
         for user in self.element.users:
