@@ -1,5 +1,5 @@
 -- A journal while a checkpoint is written, and turned to.
-use Rattle.std.proofs.Common.{◌≡◌, ℕ, zero, suc, ◌+◌, ◌≤◌, true, false, List, [], ◌∷◌, ◌++◌, length, length-append, map, take, Option, Some, None, refl, sym, ◌∙◌, ap, subst, arith}
+use Rattle.std.proofs.Common.{◌≡◌, ℕ, zero, suc, ◌+◌, ◌<◌, ◌≤◌, true, false, List, [], ◌∷◌, ◌++◌, length, length-append, map, take, Option, Some, None, refl, sym, ◌∙◌, ap, subst, arith}
 use Rattle.std.specs.Prelude.{slice_get, slice_index}
 use Rattle.std.proofs.lemmas.List.{length-map}
 use Rattle.std.proofs.lemmas.Option.{slice_get_within}
@@ -15,12 +15,15 @@ use Rattle.dxc_model.specs.Equipment.{modules_in}
 use Rattle.dxc_model.specs.Tables.{Board, IsOfShape}
 use Rattle.journal_core.specs.declared.book.Book.{Book}
 use Rattle.journal_core.specs.declared.head.Head.{Head}
+use Rattle.journal_core.specs.declared.spare.Draft.{Draft}
 use Rattle.journal_core.specs.declared.spare.Spare.{Spare}
 use Rattle.journal_core.specs.declared.spare.Spare.TheVariants.{Older, Open, Drafted, Tried}
 use Rattle.journal_core.specs.declared.version.Version.TheVariants.{Two}
+use Rattle.journal_core.specs.Areas.{other_half}
 use Rattle.journal_core.specs.Headers.{next_generation}
-use Rattle.journal_core.specs.Books.{draft_of, is_drafted, is_tried, next_head, rows, turned}
+use Rattle.journal_core.specs.Books.{IsReady, draft_of, is_drafted, is_tried, next_head, rows, turned}
 use Rattle.journal_core.specs.Turns.{Drafts, Turns}
+use Rattle.journal_core.proofs.AreaSteps.{most_two}
 use Rattle.journal_core.proofs.HeaderSteps.{never}
 use Rattle.journal_core.proofs.KeepSteps.{only_weaker}
 use Rattle.paull_matrix.specs.Colourings.{Colouring}
@@ -163,3 +166,11 @@ all_rows [] zero none low = (refl, refl)
 all_rows [] (suc i) none low = absurd (let z : ⊥ = omega arith in z)
 all_rows (r ∷ rs) zero none low = absurd (let e : Some r ≡ None = none in cc)
 all_rows (r ∷ rs) (suc i) none low = let rest = all_rows rs i none (omega (arith, low)) in (ap suc rest.0, ap (λ (xs : List (List ℕ)). r ∷ xs) rest.1)
+
+-- a checkpoint that was turned to leaves room for a record
+ready_turned : (before : Book) (draft : Draft) → draft.rows < 32767 → IsReady (turned before draft)
+ready_turned before draft few = record { below = let most = most_two (other_half before.half) in omega (arith, few, most); still = refl; version = refl }
+
+pub turn_ready : {T E : Type 0} (result : Result T E) (before after : Book) → (draft_of before.spare).rows < 32767 → OnOk result (after ≡ turned before (draft_of before.spare)) → OnOk result (IsReady after)
+turn_ready (Ok v) before after few book = subst IsReady (sym book) (ready_turned before (draft_of before.spare) few)
+turn_ready (Err e) before after few book = tt

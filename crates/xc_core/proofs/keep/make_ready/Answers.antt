@@ -1,4 +1,4 @@
-use Rattle.std.proofs.Common.{◌≡◌, ◌∙◌, sym, ap, subst}
+use Rattle.std.proofs.Common.{◌∙◌, sym, ap, subst}
 use Rattle.std.specs.Prelude.{OnOk}
 use Rattle.std.specs.List.{AllByRecursion}
 use Rattle.dxc_num.specs.Dimensions.{IsInLimits}
@@ -16,18 +16,13 @@ use Rattle.xc_core.proofs.Counting.{counts_same, keeps_counted, left_counted, st
 use Rattle.xc_core.proofs.Pasts.{home_with}
 use Rattle.xc_core.proofs.Rolling.{home_limits, placed_as}
 use Rattle.xc_core.proofs.Settling.{kept_or_none, settled_left}
-use Rattle.xc_core.proofs.keep.make_ready.Given as given
 use Rattle.xc_core.proofs.keep.make_ready.Goals as goal
 
--- at home once it is settled
-settled : (g : given.Over) (c : goal.After-settle g) (b : Past) → IsHome g.D.Disk.told g.D.Disk.state b c.args.p.now → IsHome g.D.Disk.told g.D.Disk.state b c.settle.new.p
-settled g c b home = c.settle.ensures.home b home
-
 pub write_checkpoint-requires-clause-placed : goal.write_checkpoint-requires-clause-placed
-write_checkpoint-requires-clause-placed g c = let w = c.requires.home in let h = settled g c w.0 w.1 in placed_as w.0 c.args.table.now c.settle.new.p.matrix (sym w.2) h.past.matrix h.past.placed
+write_checkpoint-requires-clause-placed g c = let w = c.requires.home in let h = c.settle.ensures.home w.0 w.1 in placed_as w.0 c.args.table.now c.settle.new.p.matrix (sym w.2) h.past.matrix h.past.placed
 
 pub write_checkpoint-requires-clause-shape : goal.write_checkpoint-requires-clause-shape
-write_checkpoint-requires-clause-shape g c = let w = c.requires.home in let h = settled g c w.0 w.1 in ap (λ (x : Board). x.shape) (sym w.2) ∙ h.past.shape
+write_checkpoint-requires-clause-shape g c = let w = c.requires.home in let h = c.settle.ensures.home w.0 w.1 in ap (λ (x : Board). x.shape) (sym w.2) ∙ h.past.shape
 
 pub write_checkpoint-requires-clause-of_shape : goal.write_checkpoint-requires-clause-of_shape
 write_checkpoint-requires-clause-of_shape g c =
@@ -40,14 +35,14 @@ write_checkpoint-requires-clause-spelled g c = let w = c.requires.home in subst 
 pub returns-clause-home : goal.returns-clause-home
 returns-clause-home g c = λ b home same.
     let m = c.settle.new.p in
-    let h = settled g c b home in
+    let h = c.settle.ensures.home b home in
     home_with g.D.Disk.told g.D.Disk.state b m h c.write_checkpoint.new.journal m.doubt c.write_checkpoint.ensures.book c.write_checkpoint.ensures.shape h.past.doubts (c.write_checkpoint.ensures.home b m.doubt h.journal (sym same, h.past.matrix))
 
 pub returns-clause-any_moment : goal.returns-clause-any_moment
 returns-clause-any_moment g c = λ told b home same.
     let a = c.args.p.now in
     let m = c.settle.new.p in
-    let h = settled g c b home in
+    let h = c.settle.ensures.home b home in
     only_on (g.D.Disk.state a.journal.0) (g.D.Disk.state m.journal.0) (g.D.Disk.state c.write_checkpoint.new.journal.0) (IsOldOrDoubted b a.doubt) (c.settle.ensures.any_moment told b home)
     (settled_left b a.doubt m.doubt (g.D.Disk.state m.journal.0) (g.D.Disk.state c.write_checkpoint.new.journal.0) c.settle.ensures.doubt (c.write_checkpoint.ensures.any_moment told b m.doubt h.journal (sym same, h.past.matrix)))
 
@@ -60,18 +55,15 @@ returns-then-not-due-clause-doubt g c = kept_or_none c.args.p.now.doubt c.settle
 pub returns-clause-doubt : goal.returns-clause-doubt
 returns-clause-doubt g c = kept_or_none c.args.p.now.doubt c.settle.new.p.doubt c.settle.ensures.doubt
 
--- the journal once it is settled
-same_matrix : (g : given.Over) (c : goal.After-settle g) → c.settle.new.p.matrix ≡ c.args.p.now.matrix
-same_matrix g c = ap (λ (x : Provisioner g.row.D.Denot). x.matrix) c.settle.ensures.others
-
-settle_counted : (g : given.Over) (c : goal.After-settle g) → g.D.Disk.told → LeavesOnly (g.D.Disk.state c.args.p.now.journal.0) (g.D.Disk.state c.settle.new.p.journal.0) (IsCounted (g.D.Disk.state c.args.p.now.journal.0) c.args.p.now.journal.1 c.args.table.now c.args.p.now.matrix)
-settle_counted g c told = let a = c.args.p.now in keeps_counted (g.D.Disk.state a.journal.0) a.journal.1 c.args.table.now a.matrix (g.D.Disk.state c.settle.new.p.journal.0) (c.settle.ensures.acknowledged told)
-
 pub returns-in-Err-clause-acknowledged : goal.returns-in-Err-clause-acknowledged
-returns-in-Err-clause-acknowledged g c told = settle_counted g c told
+returns-in-Err-clause-acknowledged g c told =
+    let a = c.args.p.now in
+    keeps_counted (g.D.Disk.state a.journal.0) a.journal.1 c.args.table.now a.matrix (g.D.Disk.state c.settle.new.p.journal.0) (c.settle.ensures.acknowledged told)
 
 pub returns-then-not-due-clause-acknowledged : goal.returns-then-not-due-clause-acknowledged
-returns-then-not-due-clause-acknowledged g c told = settle_counted g c told
+returns-then-not-due-clause-acknowledged g c told =
+    let a = c.args.p.now in
+    keeps_counted (g.D.Disk.state a.journal.0) a.journal.1 c.args.table.now a.matrix (g.D.Disk.state c.settle.new.p.journal.0) (c.settle.ensures.acknowledged told)
 
 pub returns-then-not-due-clause-counts : goal.returns-then-not-due-clause-counts
 returns-then-not-due-clause-counts g c told =
@@ -88,10 +80,10 @@ returns-clause-acknowledged g c told =
     let book = c.settle.ensures.book in
     let same = c.settle.ensures.same told in
     let w = c.requires.home in
-    only_on (g.D.Disk.state a.journal.0) (g.D.Disk.state m.journal.0) n (IsCounted (g.D.Disk.state a.journal.0) a.journal.1 c.args.table.now a.matrix) (settle_counted g c told)
+    only_on (g.D.Disk.state a.journal.0) (g.D.Disk.state m.journal.0) n (IsCounted (g.D.Disk.state a.journal.0) a.journal.1 c.args.table.now a.matrix) (keeps_counted (g.D.Disk.state a.journal.0) a.journal.1 c.args.table.now a.matrix (g.D.Disk.state m.journal.0) (c.settle.ensures.acknowledged told))
     (left_counted (g.D.Disk.state a.journal.0) (g.D.Disk.state m.journal.0) a.journal.1 m.journal.1 c.args.table.now a.matrix (ap (λ (x : Book). x.shape) book) (ap (λ (x : Book). x.head) book) (ap (λ (x : Book). x.spare) book) same.0 same.1 (g.D.Disk.state m.journal.0) n
-    (subst (λ (x : Colouring). LeavesOnly (g.D.Disk.state m.journal.0) n (IsCounted (g.D.Disk.state m.journal.0) m.journal.1 c.args.table.now x)) (same_matrix g c)
-    (c.write_checkpoint.ensures.acknowledged told w.0 m.doubt (settled g c w.0 w.1).journal)))
+    (subst (λ (x : Colouring). LeavesOnly (g.D.Disk.state m.journal.0) n (IsCounted (g.D.Disk.state m.journal.0) m.journal.1 c.args.table.now x)) (ap (λ (x : Provisioner g.row.D.Denot). x.matrix) c.settle.ensures.others)
+    (c.write_checkpoint.ensures.acknowledged told w.0 m.doubt (c.settle.ensures.home w.0 w.1).journal)))
 
 pub returns-clause-counts : goal.returns-clause-counts
 returns-clause-counts g c told =
@@ -101,4 +93,4 @@ returns-clause-counts g c told =
     let book = c.settle.ensures.book in
     let same = c.settle.ensures.same told in
     still_from (g.D.Disk.state a.journal.0) (g.D.Disk.state m.journal.0) a.journal.1 m.journal.1 c.args.table.now a.matrix (ap (λ (x : Book). x.shape) book) (ap (λ (x : Book). x.head) book) (ap (λ (x : Book). x.spare) book) same.0 same.1 (g.D.Disk.state n.0) n.1 c.write_checkpoint.result
-    (subst (λ (x : Colouring). OnOk c.write_checkpoint.result (StillCounts (g.D.Disk.state m.journal.0) m.journal.1 (g.D.Disk.state n.0) n.1 c.args.table.now x)) (same_matrix g c) (c.write_checkpoint.ensures.counts told))
+    (subst (λ (x : Colouring). OnOk c.write_checkpoint.result (StillCounts (g.D.Disk.state m.journal.0) m.journal.1 (g.D.Disk.state n.0) n.1 c.args.table.now x)) (ap (λ (x : Provisioner g.row.D.Denot). x.matrix) c.settle.ensures.others) (c.write_checkpoint.ensures.counts told))
