@@ -62,7 +62,7 @@ returns-in-Warm-clause-restarting g c = λ o own h st.
     let same = ap (λ (x : State g.row.D.Denot). x.table) c.take_out.ensures.state in
     let left : Boxed g.row.D.Denot = with_value driver (record { p = c.recover.new.p; rolling = c.in-Warm.rolling }) in
     subst (λ (x : State g.row.D.Denot). RestartingIs g.D.Disk.told g.D.Disk.state o own h c.args.asked.now x (restarting.Rolling left)) (sym c.take_out.ensures.state)
-    (was_resumed g.D.Disk.told g.D.Disk.state g.met.D.Disk.counts_on o s h st held is c.make_halted.new.p c.make_halted.ensures.ground c.make_halted.ensures.doubt c.make_halted.ensures.cause.later c.make_halted.ensures.room own c.args.asked.now c.requires.asked (c.if-not-goes_for.ensures.0 refl) c.in-Ok.ensures.halted left c.recover.ensures.ground (ap (λ (x : Provisioner g.row.D.Denot). x.doubt) c.recover.ensures.others) c.recover.ensures.fault.later c.recover.ensures.room (λ b halted folds table. c.recover.ensures.halted b halted folds (table ∙ sym same)) (λ b halted folds table. c.in-Warm.ensures.resumes b halted folds (table ∙ sym same)))
+    (was_resumed g.D.Disk.told g.D.Disk.state g.met.D.Disk.counts_on o s h st held is c.make_halted.new.p c.make_halted.ensures.ground c.make_halted.ensures.doubt c.make_halted.ensures.cause.later c.make_halted.ensures.room own c.args.asked.now c.requires.asked (c.if-not-goes_for.ensures.0 refl) c.in-Ok.ensures.halted left c.recover.ensures.ground (ap (λ (x : Provisioner g.row.D.Denot). x.doubt) c.recover.ensures.others) c.recover.ensures.fault.later c.recover.ensures.room (λ b halted table. c.recover.ensures.halted b halted (table ∙ sym same)) (λ b halted table. c.in-Warm.ensures.resumes b halted (table ∙ sym same)))
 
 pub returns-in-Cold-clause-restarting : goal.returns-in-Cold-clause-restarting
 returns-in-Cold-clause-restarting g c = λ o own h st.
@@ -75,7 +75,7 @@ returns-in-Cold-clause-restarting g c = λ o own h st.
     let left : Boxed g.row.D.Denot = with_value driver (record { p = c.recover.new.p; rolling = v.rolling }) in
     let final = c.bring_home-in-Cold.ensures ∙ ap (λ (x : State g.row.D.Denot). with_home (In left) x) c.take_out.ensures.state in
     subst (λ (x : State g.row.D.Denot). RestartingIs g.D.Disk.told g.D.Disk.state o own h c.args.asked.now x (restarting.Failed JournalAstray)) (sym final)
-    (was_astray g.D.Disk.told g.D.Disk.state g.met.D.Disk.counts_on o s h st held is c.make_halted.new.p c.make_halted.ensures.ground c.make_halted.ensures.doubt c.make_halted.ensures.cause.later c.make_halted.ensures.room own c.args.asked.now c.requires.asked (c.if-not-goes_for.ensures.0 refl) c.in-Ok.ensures.halted left c.recover.ensures.ground (ap (λ (x : Provisioner g.row.D.Denot). x.doubt) c.recover.ensures.others) c.recover.ensures.fault.later c.recover.ensures.room (λ b halted folds table. c.recover.ensures.halted b halted folds (table ∙ sym same)) (λ t. elim c.in-Cold.is [ inl x ↦ c.recover.ensures.warm t x.0 x.1 | inr x ↦ c.recover.ensures.astray t x.0 x.1 ]))
+    (was_astray g.D.Disk.told g.D.Disk.state g.met.D.Disk.counts_on o s h st held is c.make_halted.new.p c.make_halted.ensures.ground c.make_halted.ensures.doubt c.make_halted.ensures.cause.later c.make_halted.ensures.room own c.args.asked.now c.requires.asked (c.if-not-goes_for.ensures.0 refl) c.in-Ok.ensures.halted left c.recover.ensures.ground (ap (λ (x : Provisioner g.row.D.Denot). x.doubt) c.recover.ensures.others) c.recover.ensures.fault.later c.recover.ensures.room (λ b halted table. c.recover.ensures.halted b halted (table ∙ sym same)) (λ t. elim c.in-Cold.is [ inl x ↦ c.recover.ensures.warm t x.0 x.1 | inr x ↦ c.recover.ensures.astray t x.0 x.1 ]))
 
 pub returns-in-Fault-clause-restarting : goal.returns-in-Fault-clause-restarting
 returns-in-Fault-clause-restarting g c = λ o own h st.
@@ -88,7 +88,7 @@ returns-in-Fault-clause-restarting g c = λ o own h st.
     let left : Boxed g.row.D.Denot = with_value driver (record { p = c.recover.new.p; rolling = v.rolling }) in
     let final = c.bring_home-in-Fault.ensures ∙ ap (λ (x : State g.row.D.Denot). with_home (In left) x) c.take_out.ensures.state in
     subst (λ (x : State g.row.D.Denot). RestartingIs g.D.Disk.told g.D.Disk.state o own h c.args.asked.now x (restarting.Failed DiskFault)) (sym final)
-    (was_faulty g.D.Disk.told g.D.Disk.state g.met.D.Disk.counts_on o s h st held is c.make_halted.new.p c.make_halted.ensures.ground c.make_halted.ensures.doubt c.make_halted.ensures.cause.later c.make_halted.ensures.room own c.args.asked.now c.requires.asked (c.if-not-goes_for.ensures.0 refl) c.in-Ok.ensures.halted left c.recover.ensures.ground (ap (λ (x : Provisioner g.row.D.Denot). x.doubt) c.recover.ensures.others) c.recover.ensures.fault.later c.recover.ensures.room (λ b halted folds table. c.recover.ensures.halted b halted folds (table ∙ sym same)) (c.in-Fault.ensures.fault.cause refl))
+    (was_faulty g.D.Disk.told g.D.Disk.state g.met.D.Disk.counts_on o s h st held is c.make_halted.new.p c.make_halted.ensures.ground c.make_halted.ensures.doubt c.make_halted.ensures.cause.later c.make_halted.ensures.room own c.args.asked.now c.requires.asked (c.if-not-goes_for.ensures.0 refl) c.in-Ok.ensures.halted left c.recover.ensures.ground (ap (λ (x : Provisioner g.row.D.Denot). x.doubt) c.recover.ensures.others) c.recover.ensures.fault.later c.recover.ensures.room (λ b halted table. c.recover.ensures.halted b halted (table ∙ sym same)) (c.in-Fault.ensures.fault.cause refl))
 
 pub returns-in-Stopped-clause-restarting : goal.returns-in-Stopped-clause-restarting
 returns-in-Stopped-clause-restarting g c = λ o own h st.
@@ -101,7 +101,7 @@ returns-in-Stopped-clause-restarting g c = λ o own h st.
     let left : Boxed g.row.D.Denot = with_value driver (record { p = c.recover.new.p; rolling = v.rolling }) in
     let final = c.bring_home-in-Stopped.ensures ∙ ap (λ (x : State g.row.D.Denot). with_home (In left) x) c.take_out.ensures.state in
     subst (λ (x : State g.row.D.Denot). RestartingIs g.D.Disk.told g.D.Disk.state o own h c.args.asked.now x restarting.Stopped) (sym final)
-    (was_stopped g.D.Disk.told g.D.Disk.state g.met.D.Disk.counts_on o s h st held is c.make_halted.new.p c.make_halted.ensures.ground c.make_halted.ensures.doubt c.make_halted.ensures.cause.later c.make_halted.ensures.room own c.args.asked.now c.requires.asked (c.if-not-goes_for.ensures.0 refl) c.in-Ok.ensures.halted left c.recover.ensures.ground (ap (λ (x : Provisioner g.row.D.Denot). x.doubt) c.recover.ensures.others) c.recover.ensures.fault.later c.recover.ensures.room (λ b halted folds table. c.recover.ensures.halted b halted folds (table ∙ sym same)))
+    (was_stopped g.D.Disk.told g.D.Disk.state g.met.D.Disk.counts_on o s h st held is c.make_halted.new.p c.make_halted.ensures.ground c.make_halted.ensures.doubt c.make_halted.ensures.cause.later c.make_halted.ensures.room own c.args.asked.now c.requires.asked (c.if-not-goes_for.ensures.0 refl) c.in-Ok.ensures.halted left c.recover.ensures.ground (ap (λ (x : Provisioner g.row.D.Denot). x.doubt) c.recover.ensures.others) c.recover.ensures.fault.later c.recover.ensures.room (λ b halted table. c.recover.ensures.halted b halted (table ∙ sym same)))
 
 pub returns-in-Err-clause-asked : goal.returns-in-Err-clause-asked
 returns-in-Err-clause-asked g c = inl (g.G.Gate.unasked c.args.gate.now)
