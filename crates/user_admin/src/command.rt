@@ -221,19 +221,19 @@ fn refusal(
 #[tactic(auto, unfolding(crate::specs::Commands::user_meaning))]
 pub fn user_command_of(
     sid: &Sid,
-    user: &SessionUser,
+    user: SessionUser,
     unit: &[u8],
     blocks: &Blocks,
 ) -> Result<UserOp, Cause>
     requires short { length unit.now ≤ 2047 }
     requires blocks { AreBlocksOf unit.now blocks.now.block.items }
-    ensures meaning { result ≡ user_meaning sid.now user.now (map (block_at unit.now) blocks.now.block.items) }
+    ensures meaning { result ≡ user_meaning sid.now user (map (block_at unit.now) blocks.now.block.items) }
     ensures named { IfOk result NamesUid }
     ensures unknown { IsErrOf result Cause.UnknownCommand ↔ (code_named (code_text (map (block_at unit.now) blocks.now.block.items)) ≡ None) }
 {
     let code = code_of(block_text(unit, blocks, 0)).ok_or(Cause::UnknownCommand)?;
     let parts = parts_of(unit, blocks);
-    if let Some(cause) = refusal(sid, user, code, unit, blocks, &parts) {
+    if let Some(cause) = refusal(sid, &user, code, unit, blocks, &parts) {
         return Err(cause);
     }
     let uid = parts.named.first.text(unit);
