@@ -1,5 +1,5 @@
 //! What a unit asks of the users.
-ghost use Rattle.std.specs.Prelude.{◌≡◌, ◌↔◌, IfOk, IsErrOf, true, ◌≤◌, ◌<◌, length, map, Some, None, Ok, Err};
+ghost use Rattle.std.specs.Prelude.{◌≡◌, ◌≢◌, ◌↔◌, IfOk, IsErrOf, true, ◌≤◌, ◌<◌, length, map, Some, None, Ok, Err};
 ghost use Rattle.std.specs.Str.{bytes_eq};
 ghost use Rattle.tl1_text.specs.Tags.{is_alphanumeric as reads_as_alphanumeric};
 ghost use Rattle.tl1_text.specs.Spans.{AreBlocksOf, block_at};
@@ -190,7 +190,8 @@ fn refusal(
     requires short { length unit.now ≤ 2047 }
     requires blocks { AreBlocksOf unit.now blocks.now.block.items }
     requires parts { AreParts unit.now (map (block_at unit.now) blocks.now.block.items) parts.now }
-    ensures { result ≡ first_refusal sid.now user.now code (map (block_at unit.now) blocks.now.block.items) }
+    ensures first { result ≡ first_refusal sid.now user.now code (map (block_at unit.now) blocks.now.block.items) }
+    ensures known { result ≢ Some Cause.UnknownCommand }
 {
     let uid = parts.named.first.text(unit);
     let pid = parts.named.value.text(unit);
