@@ -1,5 +1,5 @@
 -- When an element may be changed, and what a change makes of it.
-use Rattle.std.specs.Prelude.{◌≡◌, [], None}
+use Rattle.std.specs.Prelude.{◌≡◌, [], Option, Some, None}
 use Rattle.std.specs.Arc.{arc_value}
 use Rattle.dxc_disk.specs.Disks.{DiskState}
 use Rattle.dxc_disk.specs.MemView.{mem_state}
@@ -9,9 +9,10 @@ use Rattle.xc_core.specs.Reckonings.{Past}
 use Rattle.xc_core.specs.Provisioners.{IsHome}
 use Rattle.xc_core.specs.States.{Stands, opening_of}
 use Rattle.dxc_num.specs.declared.port.Leg.{Leg}
+use Rattle.dxc_num.specs.declared.port.Middle.{Middle}
 use Rattle.dxc_model.specs.declared.conn.Cct.TheVariants.{OneWay}
 use Rattle.dxc_model.specs.declared.op.Op.{Op}
-use Rattle.dxc_model.specs.declared.op.Op.TheVariants.{Enter, Delete}
+use Rattle.dxc_model.specs.declared.op.Op.TheVariants.{Enter, Delete, TakeOut, PutBack}
 use Rattle.dxc_model.specs.declared.op.Change.{Change}
 use Rattle.dxc_model.specs.Tables.{Board}
 use Rattle.dxc_model.specs.Verdicts.{Grants, effect}
@@ -46,6 +47,14 @@ entry l = Enter (record { from = l.input; to = l.output; cct = OneWay; label = [
 -- and deleted
 abbrev pub deletion : Leg → Op
 deletion l = Delete l.input l.output None
+
+abbrev turned : Middle → Option Middle → Op
+turned m (Some out) = PutBack out
+turned m None = TakeOut m
+
+-- a middle is taken out where none is, else the one is put back that is
+abbrev pub turning : Board → Middle → Op
+turning t m = turned m t.out
 
 -- the table has the change that it granted for the operation
 pub record Takes (before : Board) (op : Op) (now : Board) : Type 0 where

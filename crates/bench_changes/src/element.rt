@@ -1,14 +1,14 @@
-ghost use Rattle.std.specs.Prelude.{◌≡◌, ◌↔◌, [], IfOk, IsTrue};
+ghost use Rattle.std.specs.Prelude.{◌≡◌, ◌↔◌, [], true, false, IfOk, IsTrue, Ok};
 ghost use Rattle.std.specs.Arc.{arc_value};
 ghost use Rattle.dxc_model.specs.Operations.{ArePorts, IsApt};
 ghost use Rattle.fabric_core.specs.State.{new_worker};
 ghost use Rattle.fabric_words.specs.Seats.{FabricId};
-ghost use Rattle.bench_changes.specs.Elements.{IsNew, IsReady, IsTaken, Takes, entry, deletion};
+ghost use Rattle.bench_changes.specs.Elements.{IsNew, IsReady, IsTaken, Takes, entry, deletion, turning};
 
 use anyhow::{Context, Result, bail, ensure};
 use dxc_disk::{Disk, MemDisk};
-use dxc_model::{Cct, Conn, Label, Op};
-use dxc_num::{Leg, Shape};
+use dxc_model::{Cause, Cct, Conn, Label, Op};
+use dxc_num::{Leg, Middle, Shape};
 use dxc_outside::{AlwaysGo, Gate};
 use fabric_words::{Fabric, WorkerSeat};
 use roll_engine::{Advance, Rolling};
@@ -17,8 +17,8 @@ use std::alloc::Global;
 use std::sync::Arc;
 use xc_core::{Begun, Core, Driver, Provisioner, State, begin, drive, finish};
 
-/// What the opening of a journal takes of its disk's room, and the most that its 65,536 records take.
-const ROOM: usize = 131_079 + 65_536 * 40;
+/// What the opening of a journal takes of its disk's room, and the most that 65,536 records take, with a checkpoint behind each 32,767 of them.
+const ROOM: usize = 131_081 + 65_536 * 72 + 2 * 4_600_042;
 
 /// A cross-connect without sessions: its registers, its table, and the Provisioner that changes both, over a journal in memory.
 #[derive(Drop)]
@@ -83,16 +83,19 @@ pub fn open(alloc: Global, shape: Shape) -> Result<(Element, WorkerSeat)>
     Ok((Element { fabric, state, p }, seat))
 }
 
-/// Makes a change of registers and table. An error: it was denied, or held up.
-fn change<G: Gate>(element: &mut Element, op: &Op, gate: &mut G) -> Result<()>
+/// Makes a change of registers and table; false where no middle was found for it, and nothing was done. An error: it was denied for another
+/// cause, or held up.
+fn change<G: Gate>(element: &mut Element, op: &Op, gate: &mut G) -> Result<bool>
     requires apt { IsApt element.old.state.table.shape op.now }
     requires ready { IsReady element.old }
     ensures ready { IfOk result (λ _. IsReady element.new) }
-    ensures taken { IfOk result (λ _. Takes element.old.state.table op.now element.new.state.table) }
+    ensures taken { result ≡ Ok true → Takes element.old.state.table op.now element.new.state.table }
+    ensures not_taken { result ≡ Ok false → element.new.state.table ≡ element.old.state.table }
 {
     let mut rolling = Rolling::cold();
     match begin(&mut element.p, &mut rolling, &element.state.table, op, gate) {
         Begun::Rolling => {}
+        Begun::Denied(Cause::NoMiddle) => return Ok(false),
         _ => bail!("a change is denied"),
     }
     match drive(&mut element.p, &element.fabric, &mut rolling, gate) {
@@ -100,7 +103,7 @@ fn change<G: Gate>(element: &mut Element, op: &Op, gate: &mut G) -> Result<()>
         _ => bail!("a change is held up"),
     }
     let _change = finish(&mut element.state, &mut element.p, &rolling);
-    Ok(())
+    Ok(true)
 }
 
 fn are_ports(shape: Shape, leg: Leg) -> bool
@@ -109,11 +112,12 @@ fn are_ports(shape: Shape, leg: Leg) -> bool
     leg.input.0 < shape.ports() && leg.output.0 < shape.ports() && leg.input.0 != leg.output.0
 }
 
-/// Enters the one-way connection of a leg. An error: it was denied, or held up.
-pub fn enter<G: Gate>(element: &mut Element, leg: Leg, gate: &mut G) -> Result<()>
+/// Enters the one-way connection of a leg; false where no middle was found for it. An error: it was denied for another cause, or held up.
+pub fn enter_if_possible<G: Gate>(element: &mut Element, leg: Leg, gate: &mut G) -> Result<bool>
     requires { IsReady element.old }
     ensures ready { IfOk result (λ _. IsReady element.new) }
-    ensures taken { IfOk result (λ _. Takes element.old.state.table (entry leg) element.new.state.table) }
+    ensures taken { result ≡ Ok true → Takes element.old.state.table (entry leg) element.new.state.table }
+    ensures not_taken { result ≡ Ok false → element.new.state.table ≡ element.old.state.table }
 {
     ensure!(are_ports(element.state.table.shape(), leg), "no two ports");
     let conn = Conn {
@@ -123,6 +127,16 @@ pub fn enter<G: Gate>(element: &mut Element, leg: Leg, gate: &mut G) -> Result<(
         label: Label::default(),
     };
     change(element, &Op::Enter(conn), gate)
+}
+
+/// Enters the one-way connection of a leg. An error: it was denied, or held up.
+pub fn enter<G: Gate>(element: &mut Element, leg: Leg, gate: &mut G) -> Result<()>
+    requires { IsReady element.old }
+    ensures ready { IfOk result (λ _. IsReady element.new) }
+    ensures taken { IfOk result (λ _. Takes element.old.state.table (entry leg) element.new.state.table) }
+{
+    ensure!(enter_if_possible(element, leg, gate)?, "no middle");
+    Ok(())
 }
 
 /// Deletes the connection of a leg. An error: it was denied, or held up.
@@ -137,5 +151,24 @@ pub fn delete<G: Gate>(element: &mut Element, leg: Leg, gate: &mut G) -> Result<
         to: leg.output,
         cct: None,
     };
-    change(element, &op, gate)
+    ensure!(change(element, &op, gate)?, "no middle");
+    Ok(())
+}
+
+/// Takes a middle out of service where none is out, else puts the one back that is.
+pub fn turn_middle<G: Gate>(element: &mut Element, middle: Middle, gate: &mut G) -> Result<()>
+    requires { IsReady element.old }
+    ensures ready { IfOk result (λ _. IsReady element.new) }
+    ensures taken { IfOk result (λ _. Takes element.old.state.table (turning element.old.state.table middle) element.new.state.table) }
+{
+    ensure!(
+        (middle.0 as u16) < element.state.table.shape().slots(),
+        "no middle of that number"
+    );
+    let op = match element.state.table.out() {
+        Some(out) => Op::PutBack(out),
+        None => Op::TakeOut(middle),
+    };
+    ensure!(change(element, &op, gate)?, "no middle");
+    Ok(())
 }

@@ -4,8 +4,7 @@
 //! rounds of each kind of entries and deletions. With a number it makes so many rounds and tells their time; a second number is
 //! that of the modules of the only shape to be measured, and a third word the kind: `direct` or `chains`.
 //!
-//! The journal is in memory. It has at most 65,536 records, one a change, and a round of chains makes four changes: so there are at
-//! most 16,000 rounds.
+//! The journal is in memory, with room for 65,536 changes, and a round of chains makes four: so there are at most 16,000 rounds.
 #![tactic(auto)]
 
 ghost use Rattle.bench_changes.specs.Elements.{IsReady};
@@ -34,11 +33,11 @@ use std::time::{Clock, Instant};
 const SMALL: [(u16, u16); 2] = [(3, 2), (8, 4)];
 
 /// The modules of the shapes that are measured.
-const MODULES: [u16; 3] = [8, 16, 32];
+const MODULES: [u16; 4] = [8, 16, 32, 64];
 
 const SLOTS: u16 = 32;
 
-/// With these rounds, and with what leads to them, no journal is full.
+/// With these rounds, and with what leads to them, no journal's room is spent.
 const MOST_ROUNDS: u32 = 16_000;
 
 // Makes the rounds of a kind on an element, behind what leads to them.

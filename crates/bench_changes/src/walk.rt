@@ -1,22 +1,22 @@
-//! Random changes, with a frame between any two register writes.
+//! Random changes, also of middles in service, with a frame between any two register writes.
 ghost use Rattle.std.specs.Prelude.{◌≡◌, ◌<◌, IfOk};
 ghost use Rattle.std.specs.Arc.{arc_value};
 ghost use Rattle.bench_changes.specs.Elements.{IsReady};
 
 use crate::carrier::Carrier;
 use crate::dice::Dice;
-use crate::element::{Element, delete, enter, open};
+use crate::element::{Element, delete, enter_if_possible, open, turn_middle};
 use crate::frames::Frames;
 use crate::legs::Legs;
 use anyhow::{Context, Result, bail, ensure};
-use dxc_num::{Leg, Port, Shape};
+use dxc_num::{Leg, Middle, Port, Shape};
 use fabric_words::WorkerSeat;
 use std::alloc::Global;
 use std::fmt;
 use std::sync::Arc;
 
-/// How many changes are made.
-const CHANGES: u16 = 1_000;
+/// How many turns there are.
+const TURNS: u16 = 1_000;
 
 /// How many random numbers are tried in search of a leg.
 const TRIES: u16 = 4_096;
@@ -26,6 +26,17 @@ const TRIES: u16 = 4_096;
 enum Turn {
     Enter(Leg),
     Delete(Leg),
+    /// A middle goes out of service, or the one that is out comes back.
+    Middle(Middle),
+}
+
+/// What came of a turn.
+#[derive(Clone, Copy, PartialEq, Eq)]
+enum Came {
+    Entered,
+    /// No middle was found for an entry, while one was out.
+    NotEntered,
+    Changed,
 }
 
 /// What came of a walk.
@@ -33,21 +44,29 @@ enum Turn {
 pub struct Walk {
     shape: Shape,
     switches: u64,
-    entries: u64,
+    count: Count,
     frames: u64,
     arrived: u64,
+}
+
+/// How many entries were made, and for how many no middle was found.
+#[derive(Clone, Copy, Default)]
+struct Count {
+    entries: u64,
+    refused: u64,
 }
 
 impl fmt::Display for Walk {
     fn fmt<W: fmt::Write>(&self, f: &mut fmt::Formatter<W>) -> fmt::Result {
         write!(
             f,
-            "{:>2} by {:>2}: {} changes, {} of them entries with {} moves; {} bytes of legs arrived in {} frames",
+            "{:>2} by {:>2}: {} turns, {} of them entries, {} more without a middle; {} moves; {} bytes of legs arrived in {} frames",
             self.shape.modules(),
             self.shape.slots(),
-            CHANGES,
-            self.entries,
-            self.switches.saturating_sub(self.entries),
+            TURNS,
+            self.count.entries,
+            self.count.refused,
+            self.switches.saturating_sub(self.count.entries),
             self.arrived,
             self.frames
         )
@@ -82,10 +101,12 @@ fn joined_leg(legs: &Legs, ports: u16, dice: &mut Dice) -> Option<Leg>
     None
 }
 
-// An entry in three of four turns, as long as there are free ports.
-fn next_turn(legs: &Legs, ports: u16, dice: &mut Dice) -> Option<Turn>
-    requires { 0 < ports }
-{
+// A middle in one of sixteen turns; else an entry in three of four, as long as there are free ports.
+fn next_turn(legs: &Legs, shape: Shape, dice: &mut Dice) -> Option<Turn> {
+    let ports = shape.ports();
+    if dice.below(16) == 0 {
+        return Some(Turn::Middle(Middle(dice.below(shape.slots()) as u8)));
+    }
     if dice.below(4) == 0 {
         if let Some(leg) = joined_leg(legs, ports, dice) {
             return Some(Turn::Delete(leg));
@@ -97,41 +118,50 @@ fn next_turn(legs: &Legs, ports: u16, dice: &mut Dice) -> Option<Turn>
     }
 }
 
-// Makes a change, with a frame before each of its register writes and one behind the last. Whether it was an entry.
-fn take_turn(element: &mut Element, carrier: &mut Carrier, turn: Turn) -> Result<bool>
+// Makes a change, with a frame before each of its register writes and one behind the last.
+fn take_turn(element: &mut Element, carrier: &mut Carrier, turn: Turn) -> Result<Came>
     requires { IsReady element.old }
     ensures { IfOk result (λ _. IsReady element.new) }
 {
-    match turn {
+    let came = match turn {
         Turn::Enter(leg) => {
-            enter(element, leg, carrier)?;
-            carrier.join(leg);
-            carrier.carry();
-            Ok(true)
+            if enter_if_possible(element, leg, carrier)? {
+                carrier.join(leg);
+                Came::Entered
+            } else {
+                Came::NotEntered
+            }
         }
         Turn::Delete(leg) => {
             carrier.part(leg);
             delete(element, leg, carrier)?;
-            carrier.carry();
-            Ok(false)
+            Came::Changed
         }
-    }
+        Turn::Middle(middle) => {
+            turn_middle(element, middle, carrier)?;
+            Came::Changed
+        }
+    };
+    carrier.carry();
+    Ok(came)
 }
 
-// Makes all changes. How many of them were entries.
-fn take_turns(element: &mut Element, carrier: &mut Carrier, dice: &mut Dice) -> Result<u64>
+// Takes all turns.
+fn take_turns(element: &mut Element, carrier: &mut Carrier, dice: &mut Dice) -> Result<Count>
     requires { IsReady element.old }
     ensures { IfOk result (λ _. IsReady element.new) }
 {
-    let ports = element.fabric.shape().ports();
-    let mut entries = 0u64;
-    for _ in 0..CHANGES {
-        let turn = next_turn(&carrier.legs, ports, dice).context("no turn")?;
-        if take_turn(element, carrier, turn)? {
-            entries = entries.saturating_add(1);
+    let shape = element.fabric.shape();
+    let mut count = Count::default();
+    for _ in 0..TURNS {
+        let turn = next_turn(&carrier.legs, shape, dice).context("no turn")?;
+        match take_turn(element, carrier, turn)? {
+            Came::Entered => count.entries = count.entries.saturating_add(1),
+            Came::NotEntered => count.refused = count.refused.saturating_add(1),
+            Came::Changed => {}
         }
     }
-    Ok(entries)
+    Ok(count)
 }
 
 // What carries frames on an element on which nothing is joined.
@@ -157,12 +187,12 @@ fn walk_on(alloc: Global, element: &mut Element, seat: WorkerSeat) -> Result<Wal
     requires unused { seat.reader.worker.frame ≡ 0 }
 {
     let mut carrier = carrier_on(alloc, element, seat)?;
-    let entries = take_turns(element, &mut carrier, &mut Dice::new(1))?;
+    let count = take_turns(element, &mut carrier, &mut Dice::new(1))?;
     ensure!(carrier.is_sound(), "a byte is wrong");
     Ok(Walk {
         shape: element.fabric.shape(),
         switches: element.p.switches(),
-        entries,
+        count,
         frames: carrier.frames(),
         arrived: carrier.arrived(),
     })

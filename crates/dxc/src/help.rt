@@ -27,8 +27,8 @@ connections there are at the end and how many switches were made, and how many b
 SHELF is the name of a shelf file, which tells the element's name, its shape and its users, such as office.toml:
 
   sid = \"DXC1\"         # a letter, then at most 19 letters, digits and dashes
-  modules = 2          # 2 to 32
-  slots = 1            # 1 to 32 ports of each module
+  modules = 2          # 2 to 64
+  slots = 1            # 1 to 96 ports of each module
   equipped = [1, 2]    # may be left out: all modules
 
   [[user]]             # 1 to 64 of them
