@@ -19,6 +19,7 @@ pub mod Restarting
 pub mod Restored
 pub mod Giving
 pub mod Recovering
+pub mod Rooms
 pub mod Rereading
 pub mod Settling
 pub mod Staged

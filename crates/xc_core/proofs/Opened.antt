@@ -250,6 +250,7 @@ module _ {D : Type 0} (told : Type 0) (state : D → DiskState) (shelf : Content
     }
 
     is_opening : IsOpening told a.reads_as shelf fabric opening
+    unfolding fold_home
     is_opening = record {
       limits = subst IsInLimits fits rest.sized.shape;
       fabric_is = own;

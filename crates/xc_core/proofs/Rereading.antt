@@ -14,7 +14,6 @@ use Rattle.journal_core.specs.Headers.{Stands, StandsAlike}
 use Rattle.journal_core.specs.Books.{IsKept, IsWhole, doubted, is_tried, listed, next_head, rows}
 use Rattle.journal_core.specs.Turns.{Continues, Keeps, MayStand}
 use Rattle.journal_core.proofs.AcknowledgeSteps.{keeps_may}
-use Rattle.journal_core.proofs.AreaSteps.{most_most}
 use Rattle.journal_core.proofs.BookMends.{kept_stands}
 use Rattle.journal_core.proofs.HeaderSteps.{never}
 use Rattle.journal_core.proofs.KeepSteps.{none_only, only_weaker}
@@ -51,10 +50,6 @@ use Rattle.xc_core.proofs.Halting.{taken_placed, taken_so_far}
 use Rattle.xc_core.proofs.Journalling.{doubts_on, home_on, journalled_home, looked_on, may_doubt, more_by, tried_on, untried}
 use Rattle.xc_core.proofs.Recovering.{way_limits}
 use Rattle.xc_core.proofs.Rolling.{within}
-
--- a journal counts few records
-pub few_counted : (book : Book) → IsWhole book → book.count ≤ 65_536
-few_counted book whole = omega (arith, whole.limit, most_most book.half book.head.version)
 
 abbrev pub with_read : {D : Type 0} → Provisioner D → D × Book → Second → Provisioner D
 with_read p j second = record p { journal = j; second = second }

@@ -1,6 +1,4 @@
-use Rattle.std.proofs.Common.{◌≡◌, ◌≤◌, ◌+◌, ℕ, List, sym, ap, ◌∙◌, subst, arith}
-use Rattle.dxc_disk.specs.Disks.{DiskState, IsSound}
-use Rattle.dxc_disk.proofs.DiskSteps.{sound_on, spends_more, spends_on}
+use Rattle.std.proofs.Common.{◌≡◌, ℕ, List, sym, ap, ◌∙◌, subst}
 use Rattle.dxc_disk.proofs.LookSteps.{looks_settled}
 use Rattle.journal_core.specs.declared.book.Book.{Book}
 use Rattle.journal_core.specs.Headers.{Stands}
@@ -10,7 +8,8 @@ use Rattle.xc_core.specs.declared.second.Second.{Second}
 use Rattle.xc_core.specs.Journals.{IsOldOrDoubted}
 use Rattle.xc_core.specs.Provisioners.{HasRoom}
 use Rattle.xc_core.proofs.Journalling.{looked_on}
-use Rattle.xc_core.proofs.Rereading.{IsReadAnew, anew_good, anew_halted, anew_reads, few_counted, halted_failed, lift_read, lift_replay, read_moments, read_on, read_room}
+use Rattle.xc_core.proofs.Rereading.{IsReadAnew, anew_good, anew_halted, anew_reads, halted_failed, lift_read, lift_replay, read_moments, read_on, read_room}
+use Rattle.xc_core.proofs.Rooms.{replay_room, replay_sound}
 use Rattle.xc_core.proofs.recovery.read.Given as given
 use Rattle.xc_core.proofs.recovery.read.Goals as goal
 
@@ -71,22 +70,8 @@ returns-clause-any_moment g c = λ t b h. looked_on (g.D.Disk.state c.args.p.now
 pub returns-clause-acknowledged : goal.returns-clause-acknowledged
 returns-clause-acknowledged g c = λ t. read_on (g.D.Disk.state c.args.p.now.journal.0) (g.D.Disk.state c.reread.new.self.0) (g.D.Disk.state c.replay.new.journal.0) c.args.p.now.journal.1 (g.met.D.Disk.is_disk c.reread.new.self.0 t) (c.reread.ensures.rereads t).acknowledged (c.replay.ensures.looks t)
 
-few_read : (g : given.Over) (c : goal.After-replay g) → c.reread.new.self.1.count ≤ 65_536
-few_read g c = few_counted c.reread.new.self.1 c.reread.ensures.whole
-
--- a reading and a look at each record
 pub returns-clause-room : goal.returns-clause-room
-returns-clause-room g c =
-    let a = g.D.Disk.state c.args.p.now.journal.0 in
-    let b = g.D.Disk.state c.reread.new.self.0 in
-    let d = g.D.Disk.state c.replay.new.journal.0 in
-    spends_on 65_543 65_536 a b d c.reread.ensures.room (spends_more c.reread.new.self.1.count 65_536 b d (few_read g c) c.replay.ensures.room)
+returns-clause-room g c = replay_room 65_543 (g.D.Disk.state c.args.p.now.journal.0) (g.D.Disk.state c.reread.new.self.0) (g.D.Disk.state c.replay.new.journal.0) c.reread.new.self.1 c.reread.ensures.whole c.reread.ensures.room c.replay.ensures.room
 
 pub returns-clause-sound : goal.returns-clause-sound
-returns-clause-sound g c = λ sound fault.
-    let a = g.D.Disk.state c.args.p.now.journal.0 in
-    let b = g.D.Disk.state c.reread.new.self.0 in
-    let count = c.reread.new.self.1.count in
-    let few = few_read g c in
-    let enough : IsSound (65_543 + count) a = record { margin = sound.margin; enough = omega (arith, sound.enough, few) } in
-    c.replay.ensures.sound (sound_on 65_543 count a b c.reread.ensures.cause.later enough c.reread.ensures.room) fault
+returns-clause-sound g c = λ sound. c.replay.ensures.sound (replay_sound 65_543 (g.D.Disk.state c.args.p.now.journal.0) (g.D.Disk.state c.reread.new.self.0) c.reread.new.self.1 c.reread.ensures.whole c.reread.ensures.cause.later c.reread.ensures.room sound)

@@ -9,7 +9,7 @@ use Rattle.paull_matrix.specs.Colourings.{Colouring}
 use Rattle.roll_engine.specs.Cold.{joins_of}
 use Rattle.roll_engine.specs.Stages.{IsAtRestOn}
 use Rattle.roll_plan.specs.Works.{switches_in}
-use Rattle.dxc_disk.specs.Disks.{DiskState, Leaves, LeavesOnly}
+use Rattle.dxc_disk.specs.Disks.{DiskState, Leaves, LeavesOnly, Spends}
 use Rattle.journal_core.specs.declared.head.Head.{Head}
 use Rattle.journal_core.specs.Books.{listed}
 use Rattle.journal_core.specs.Opens.{IsRefused, OpensNew, OpensOld, made_head}
@@ -22,6 +22,7 @@ use Rattle.xc_core.specs.Provisioners.{Boxed, HasRoom}
 use Rattle.xc_core.specs.Openings.{HasBadRecord, LeavesOpened}
 use Rattle.xc_core.proofs.Journalling.{looked_on}
 use Rattle.xc_core.proofs.Opened.{bad_header, bad_record, leaves_opened, opened, replayed_shape}
+use Rattle.xc_core.proofs.Rooms.{replay_room, replay_sound}
 use Rattle.xc_core.proofs.opening.Core.open.Goals as goal
 
 pub returns-in-Err-clause-fails : goal.returns-in-Err-clause-fails
@@ -138,6 +139,30 @@ returns-clause-any_moment g c told =
 pub returns-in-Err-Disk-clause-asked : goal.returns-in-Err-Disk-clause-asked
 returns-in-Err-Disk-clause-asked g c = g.G.Gate.unasked c.args.gate.now
 
+pub returns-in_default-new-4-clause-asked : goal.returns-in_default-new-4-clause-asked
+returns-in_default-new-4-clause-asked g c = g.G.Gate.unasked c.args.gate.now
+
 pub returns-clause-asked : goal.returns-clause-asked
 returns-clause-asked g c = subst (λ (m : Colouring). g.G.Gate.asked c.args.gate.now c.join_all.new.gate (replicate (length (joins_of m)) Register))
     (sym (ap (λ (x : Provisioner g.row.D.Denot). x.matrix) (c.of-origin.ensures.provisioner ∙ (ap (λ (x : Driver g.row.D.Denot). x.p) c.deref.ensures ∙ c.join_all.ensures.others)))) (c.join_all.ensures.asked c.in-Go.is)
+
+pub returns-in-Err-Disk-clause-room : goal.returns-in-Err-Disk-clause-room
+returns-in-Err-Disk-clause-room g c =
+    let a = g.D.Disk.state c.args.disk in
+    let j = c.in-Ok-open.journal in
+    subst (λ (d : g.row.D.Denot). Spends 131_081 a (g.D.Disk.state d)) (sym c.close.ensures)
+    (replay_room 65_545 a (g.D.Disk.state j.0) (g.D.Disk.state c.replay.new.journal.0) j.1 c.in-Ok-open.ensures.whole.0 c.in-Ok-open.ensures.room c.replay.ensures.room)
+
+pub returns-in-Err-Disk-clause-sound : goal.returns-in-Err-Disk-clause-sound
+returns-in-Err-Disk-clause-sound g c = λ sound _.
+    let j = c.in-Ok-open.journal in
+    c.in-Err-Disk.ensures.sound (replay_sound 65_545 (g.D.Disk.state c.args.disk) (g.D.Disk.state j.0) j.1 c.in-Ok-open.ensures.whole.0 c.in-Ok-open.ensures.cause.later c.in-Ok-open.ensures.room sound) (ap (λ (e : ReplayFault). Err e) c.in-Err-Disk.field-0-is)
+
+pub returns-clause-room : goal.returns-clause-room
+returns-clause-room g c =
+    let e = c.deref_mut.ensures.value ∙ c.in-Ok-new-4.ensures.ok in
+    let journal = ap (λ (x : Provisioner g.row.D.Denot). x.journal) c.join_all.ensures.others ∙ ap (λ (x : Driver g.row.D.Denot). x.p.journal) e in
+    let a = g.D.Disk.state c.args.disk in
+    let j = c.in-Ok-open.journal in
+    subst (λ (x : g.row.D.Denot × Book). Spends 131_081 a (g.D.Disk.state x.0)) (sym journal)
+    (replay_room 65_545 a (g.D.Disk.state j.0) (g.D.Disk.state c.replay.new.journal.0) j.1 c.in-Ok-open.ensures.whole.0 c.in-Ok-open.ensures.room c.replay.ensures.room)
