@@ -1,16 +1,19 @@
 #!/usr/bin/env python3
-"""Audits each file that a crash may leave of a run of five commands.
+"""Audits each file that a crash may leave of a run of five commands, and of a run that moves a journal of version 1 over.
 
 usage: bench/crashes.py
 
-The writes and syncs of the run's journal follow from its last content by docs/FORMATS.md. A crash leaves what was synced, and of the
-write behind it nothing, all of it, any front of it, or its range filled with one byte. `dxc check` must tell the commands that were
-acknowledged before that moment, or one more; and a further command on that file must go on from there.
+The writes and syncs on the run's journal are those of the plain journal (bench/journal.py), which the file is compared with. A crash leaves what was
+synced; of the writes behind that nothing, all, or each one's range filled with one byte; and of the write in hand any front of it besides. `dxc check`
+must tell the commands that were acknowledged before that moment, or one more; and a further command on that file must go on from there.
 """
 import os
 import subprocess
 import sys
 import tempfile
+
+import journal
+from journal import File
 
 TOP = os.path.dirname(os.path.dirname(os.path.abspath(__file__)))
 PROGRAM = os.path.join(TOP, "crates", "dxc", "out", "dxc")
@@ -28,73 +31,95 @@ ENTRIES = [("DS0-2-1", "DS0-2-2"), ("DS0-1-1", "DS0-2-1"), ("DS0-3-1", "DS0-1-2"
 FREE = ("DS0-2-2", "DS0-3-2")
 
 
-def run(mode, shelf, journal, commands=""):
-    return subprocess.run([PROGRAM, mode, shelf, journal], input=commands, capture_output=True, text=True)
+def run(mode, shelf, name, commands=""):
+    return subprocess.run([PROGRAM, mode, shelf, name], input=commands, capture_output=True, text=True)
 
 
-def listing(entries):
-    return "".join(f"{a},{b}:1WAY\n" for a, b in sorted(entries)) + f"RECORDS {len(entries)}\n"
+def rows(entries):
+    return [f"{a},{b}:1WAY" for a, b in sorted(entries)]
 
 
-def enter(entries):
-    return "ACT-USER::ANNA:1::bc;" + "".join(f"ENT-CRS-T0::{a},{b}:1;" for a, b in entries)
+def units(entries):
+    return ["ACT-USER::ANNA:1::bc"] + [f"ENT-CRS-T0::{a},{b}:1" for a, b in entries]
 
 
-def writes(file):
-    """Place and bytes of each write, each of which is synced, and how many commands were acknowledged before it."""
-    yield 0, b"\x00", 0
-    yield 1, file[1:32] + b"\x00", 0
-    yield 0, b"\xa5", 0
-    for number in range(len(ENTRIES)):
-        at = 32 + 32 * number
-        yield at + 1, file[at + 1 : at + 32] + b"\x00", number
-        yield at, b"\xa5", number
+def sent(entries):
+    return "".join(f"{unit};" for unit in units(entries))
 
 
-def over(content, at, new):
-    return content[:at] + new + content[at + len(new) :]
+def old_journal():
+    """A journal of version 1 with the first four entries."""
+    element = journal.element_of(3, 2)
+    session, records = journal.plain.Session(element), []
+    for unit in units(ENTRIES[:4]):
+        session.answer(unit.encode())
+        if session.change:
+            records.append(journal.record(element, session.change.op, session.change.what, session.choices, 1))
+            element.make(session.change)
+    return journal.header(1, 0, journal.element_of(3, 2)) + b"".join(records) + b"\0"
 
 
-def images(content, at, new):
-    yield content
-    for length in range(1, len(new) + 1):
-        yield over(content, at, new[:length])
-    for byte in (b"\x00", b"\xa5", b"\x5a"):
-        yield over(content, at, byte * len(new))
+def images(old, calls, number):
+    """What a crash in front of the call of this number leaves, and what one leaves in it where it is a write."""
+    for left in ("lost", "whole", "front", "sealed"):
+        yield journal.crashed(old, calls, number, left)
+    call = calls[number]
+    if call.data is not None:
+        for length in range(1, len(call.data) + 1, max(1, len(call.data) // 100)):
+            image = bytearray(journal.crashed(old, calls, number, "whole"))
+            journal.put(image, call.at, call.data[:length])
+            yield bytes(image)
 
 
-def audit(shelf, journal, image, done):
-    """How many commands the image stands for."""
-    with open(journal, "wb") as file:
+def audit(shelf, name, image, done):
+    """How many entries the image stands for."""
+    with open(name, "wb") as file:
         file.write(image)
-    told = run("check", shelf, journal).stdout
+    told = run("check", shelf, name).stdout.splitlines()[:-1]
     for count in (done, done + 1):
-        if told == listing(ENTRIES[:count]):
-            went_on = run("script", shelf, journal, enter([FREE])).stdout
-            if went_on.count("COMPLD") == 2 and run("check", shelf, journal).stdout == listing(ENTRIES[:count] + [FREE]):
+        if told == rows(ENTRIES[:count]):
+            went_on = run("script", shelf, name, sent([FREE])).stdout
+            if went_on.count("COMPLD") == 2 and run("check", shelf, name).stdout.splitlines()[:-1] == rows(ENTRIES[:count] + [FREE]):
                 return count
-    sys.exit(f"after {done} acknowledged commands check wrote\n{told}of {image.hex()}")
+    sys.exit(f"after {done} acknowledged commands check wrote {told} of a file of {len(image)} bytes")
+
+
+def calls_of(old, entries):
+    file = File(old)
+    journal.script(file, 3, 2, units(entries))
+    return file
+
+
+def tried(shelf, name, old, first):
+    """Tries a run that makes the entries behind the first so many; how many files there were, and in how many the one in hand stood."""
+    with open(name, "wb") as file:
+        file.write(old)
+    run("script", shelf, name, sent(ENTRIES[first:]))
+    made = calls_of(old, ENTRIES[first:])
+    with open(name, "rb") as file:
+        if file.read() != made.content:
+            sys.exit("the journal isn't what the plain one makes of it")
+    ends = [len(calls_of(old, ENTRIES[first:last]).calls) for last in range(first, len(ENTRIES) + 1)]
+    count = more = 0
+    for number in range(len(made.calls)):
+        if number % 50 and 10 < number < len(made.calls) - 20:
+            continue
+        done = first + sum(end <= number for end in ends[1:])
+        for image in images(old, made.calls, number):
+            more += audit(shelf, name, image, done) - done
+            count += 1
+    return count, more
 
 
 def main():
     subprocess.run([os.path.join(TOP, "dxc"), "--version"], check=True, stdout=subprocess.DEVNULL)
     with tempfile.TemporaryDirectory() as folder:
-        shelf, journal = os.path.join(folder, "shelf.toml"), os.path.join(folder, "office.journal")
-        with open(shelf, "w") as file:
+        shelf, name = os.path.join(folder, "shelf.toml"), os.path.join(folder, "office.journal")
+        with open(shelf, "w", encoding="utf-8") as file:
             file.write(SHELF)
-        run("script", shelf, journal, enter(ENTRIES))
-        with open(journal, "rb") as file:
-            last = file.read()
-        content, tried, more = b"", 0, 0
-        for at, new, done in writes(last):
-            for image in images(content, at, new):
-                more += audit(shelf, journal, image, done) - done
-                tried += 1
-            content = over(content, at, new)
-        if content != last:
-            sys.exit("the journal isn't made of these writes")
-        audit(shelf, journal, content, len(ENTRIES))
-    print(f"{tried} files of a crash: each stands for the acknowledged commands, {more} of them for the one in hand besides")
+        for what, old, first in (("a new journal", b"", 0), ("one of version 1", old_journal(), 4)):
+            count, more = tried(shelf, name, old, first)
+            print(f"{what}: {count} files of a crash: each stands for the acknowledged commands, {more} of them for the one in hand besides")
 
 
 main()

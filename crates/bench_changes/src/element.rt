@@ -17,8 +17,8 @@ use std::alloc::Global;
 use std::sync::Arc;
 use xc_core::{Begun, Core, Driver, Provisioner, State, begin, drive, finish};
 
-/// What the opening of a journal takes of its disk's room, and the most that 65,536 records take, with a checkpoint behind each 32,767 of them.
-const ROOM: usize = 131_081 + 65_536 * 72 + 2 * 4_600_042;
+/// What the opening of a journal takes of its disk's room, and the most that 65,536 records and the rows of a checkpoint take.
+const ROOM: usize = 131_081 + 65_536 * 72 + 405_570;
 
 /// A cross-connect without sessions: its registers, its table, and the Provisioner that changes both, over a journal in memory.
 #[derive(Drop)]

@@ -29,8 +29,8 @@ salt = \"61\"
 digest = \"ba7816bf8f01cfea414140de5dae2223b00361a396177a9cb410ff61f20015ad\"
 ";
 
-/// What the opening of a journal takes of its disk's room, and the most that its 65,536 records take.
-const ROOM: usize = 131_079 + 65_536 * 40;
+/// What the opening of a journal takes of its disk's room, and the most that 65,536 records and the rows of a checkpoint take.
+const ROOM: usize = 131_081 + 65_536 * 72 + 405_570;
 
 /// From each module to the next one, on each slot but the last.
 const CIRCUITS: u64 = 8 * 23;

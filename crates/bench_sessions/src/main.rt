@@ -4,8 +4,8 @@
 //! number each asks so many, and the time is told until all have ended; a second number is the only number of sessions to be measured,
 //! and a third word the kind: `rows`, `denials` or `changes`.
 //!
-//! The shelf has 8 modules of 24 slots, and 184 circuits stand on it. The journal is in memory. It has at most 65,536 records, one a
-//! change: so a session asks at most 65,000 units.
+//! The shelf has 8 modules of 24 slots, and 184 circuits stand on it. The journal is in memory, with room for 65,536
+//! changes: so a session asks at most 65,000 units.
 #![tactic(auto)]
 
 mod caller;
@@ -30,7 +30,7 @@ const SESSIONS: [u16; 3] = [1, 4, 16];
 
 const KINDS: [Kind; 3] = [Kind::Rows, Kind::Denials, Kind::Changes];
 
-/// With these changes, and with those that lead to them, no journal is full.
+/// With these changes, and with those that lead to them, no journal's room is spent.
 const MOST_UNITS: u32 = 65_000;
 
 fn measured<R: Threads + Wait + Clock + Copy + Drop + Send + Sync>(
