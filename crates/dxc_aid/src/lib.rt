@@ -7,6 +7,3 @@ mod write;
 
 pub use read::{middle_of, module_of, port_of, selection_of};
 pub use write::{write_middle, write_module, write_port};
-
-#[cfg(test)]
-mod tests;

@@ -1,7 +1,7 @@
 -- Askings of a gate in memory, by their number.
-use Rattle.std.specs.Prelude.{◌≡◌, ℕ, ◌+◌, List, ◌++◌, length}
+use Rattle.std.specs.Prelude.{ℕ, ◌+◌, List, ◌++◌, length}
 use Rattle.std.proofs.Common.{subst, sym, arith, length-append}
-use Rattle.dxc_causes.specs.Causes.{Counted, last}
+use Rattle.dxc_causes.specs.Causes.{Counted}
 
 pub counted_none : (n : ℕ) → Counted n n 0
 counted_none n = record { reached = omega arith; no_more = omega arith }

@@ -53,34 +53,3 @@ impl<T: SystemClock + Drop> Listener for TcpDoor<T> {
         }
     }
 }
-
-#[cfg(test)]
-mod tests {
-    use super::*;
-    use crate::{Got, Link};
-    use std::io::Write;
-    use std::net::TcpStream;
-    use std::test::Fail;
-
-    #[test]
-    fn each_caller_gets_a_link(rt: HostRuntime) -> Result<(), Fail> {
-        let listener = TcpListener::bind(&rt, "127.0.0.1:0")?;
-        let address = listener.local_addr()?;
-        let mut front = TcpDoor::new(listener.try_clone()?, rt.clone()?);
-        let mut back = TcpDoor::new(listener, rt.clone()?);
-        let mut first = TcpStream::connect(&rt, address)?;
-        let mut second = TcpStream::connect(&rt, address)?;
-        let (Came::Link(mut one), Came::Link(mut two)) = (front.accept(&rt), back.accept(&rt))
-        else {
-            return Err("nobody called".into());
-        };
-        let mut piece = [0u8; 1];
-        first.write_all(b"a")?;
-        assert_eq!(rt; one.read(&mut piece), Got::Bytes(1));
-        assert_eq!(rt; piece, *b"a");
-        second.write_all(b"b")?;
-        assert_eq!(rt; two.read(&mut piece), Got::Bytes(1));
-        assert_eq!(rt; piece, *b"b");
-        Ok(())
-    }
-}

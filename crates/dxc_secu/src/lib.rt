@@ -2,7 +2,5 @@
 #![tactic(auto)]
 
 mod access;
-#[cfg(test)]
-mod tests;
 
 pub use access::{login, same_user, session_user};

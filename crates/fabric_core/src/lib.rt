@@ -14,8 +14,6 @@ mod seen;
 mod size;
 mod state;
 mod step;
-#[cfg(test)]
-mod tests;
 mod worker;
 
 pub use event::{Actor, CoreEvent};

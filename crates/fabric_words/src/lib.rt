@@ -10,8 +10,6 @@ pub mod place;
 mod plays;
 mod reader;
 mod table;
-#[cfg(test)]
-mod tests;
 mod worker;
 
 pub use fabric::Fabric;

@@ -4,8 +4,6 @@
 mod carry;
 mod lines;
 mod outputs;
-#[cfg(test)]
-mod tests;
 
 pub use carry::carry_frame;
 pub use lines::{LinesEnd, run_lines};

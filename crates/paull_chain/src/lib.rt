@@ -13,6 +13,3 @@ pub use choices::expand;
 pub use ops::{apply, undo};
 pub use plan::{may_join, plan_join};
 pub use works::{apply_work, undo_work};
-
-#[cfg(test)]
-mod tests;

@@ -9,6 +9,3 @@ mod side;
 pub use matrix::Matrix;
 pub use middle_set::MiddleSet;
 pub use side::Side;
-
-#[cfg(test)]
-mod tests;

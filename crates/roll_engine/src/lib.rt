@@ -8,8 +8,6 @@ mod looks;
 mod make;
 mod rolling;
 pub mod run;
-#[cfg(test)]
-mod tests;
 
 pub use answer::Advance;
 pub use rolling::{Behind, Rolling};

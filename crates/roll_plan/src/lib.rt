@@ -7,6 +7,3 @@ mod work;
 
 pub use op::{Chain, Choice, LegOp, Move};
 pub use work::{Work, switches, write_at_step, writes};
-
-#[cfg(test)]
-mod tests;

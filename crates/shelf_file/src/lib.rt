@@ -7,8 +7,6 @@ mod keys;
 mod lists;
 mod reading;
 mod shelf;
-#[cfg(test)]
-mod tests;
 mod user;
 mod users;
 mod values;

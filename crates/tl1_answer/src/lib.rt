@@ -10,6 +10,3 @@ mod text;
 
 pub use answer::{Answer, Code, Fits};
 pub use text::{change_text, conn_text, row_text};
-
-#[cfg(test)]
-mod tests;

@@ -10,8 +10,6 @@ mod decide;
 mod form;
 pub mod laws;
 pub mod parts;
-#[cfg(test)]
-mod tests;
 
 pub use command::Command;
 pub use decide::{code_in, command_of};

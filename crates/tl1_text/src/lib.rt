@@ -17,6 +17,3 @@ pub use reader::{Fed, UnitKind, UnitReader};
 pub use sid::Sid;
 pub use span::{BadText, Blocks, Span};
 pub use values::params;
-
-#[cfg(test)]
-mod tests;

@@ -1,8 +1,8 @@
-use Rattle.std.proofs.Common.{◌≡◌, ◌<◌, ℕ, sym, arith, subst, ap, ◌∙◌, true, false, true≢false}
+use Rattle.std.proofs.Common.{◌≡◌, ◌<◌, ℕ, sym, arith, subst, ap, ◌∙◌, false, true≢false}
 use Rattle.std.proofs.lemmas.Bool.{false≢true}
 use native.Mathlib.Decide.{ℕ_discrete}
 use mathlib.Core.Logic.{dite}
-use Rattle.fabric_core.specs.Passing.{Passed, has_passed}
+use Rattle.fabric_core.specs.Passing.{Passed}
 use Rattle.fabric_core.specs.State.{looks_of}
 use Rattle.fabric_core.proofs.Passing.{passed_test, test_passed}
 use Rattle.fabric_words.proofs.mover.MoverSeat.all_passed.Goals as goal

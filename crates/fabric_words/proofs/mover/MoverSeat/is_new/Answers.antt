@@ -1,4 +1,4 @@
-use Rattle.std.proofs.Common.{rules, ◌≡◌, sym, ap, ◌∙◌, subst, IsTrue}
+use Rattle.std.proofs.Common.{sym, ◌∙◌, subst}
 use Rattle.fabric_core.specs.Moving.{IsUnused}
 use Rattle.fabric_words.specs.Seats.{MoverAt}
 use Rattle.fabric_words.proofs.Asked.{not_found}

@@ -1,8 +1,7 @@
-use Rattle.std.proofs.Common.{◌≡◌, sym, arith, ap, ◌∙◌, subst}
+use Rattle.std.proofs.Common.{sym, arith, ap, ◌∙◌, subst}
 use native.Mathlib.Decide.{ℕ_discrete}
 use mathlib.Core.Logic.{dite}
 use Rattle.dxc_num.specs.Dimensions.{leg}
-use Rattle.dxc_num.specs.declared.port.Port.{Port}
 use Rattle.dxc_num.specs.declared.port.Route.{Route}
 use Rattle.fabric_core.specs.State.{leg_at}
 use Rattle.fabric_core.specs.Moving.{IsEstablished}

@@ -1,6 +1,6 @@
-use Rattle.std.proofs.Common.{rules, ◌≡◌, ◌≢◌, ◌<◌, ◌≤◌, ◌-◌, ℕ, arith, sym, ap, ◌∙◌, subst, refl, Some}
+use Rattle.std.proofs.Common.{◌<◌, ◌-◌, arith, sym, ap, ◌∙◌, subst, Some}
 use Rattle.dxc_num.specs.Dimensions.{Dimensions}
-use Rattle.dxc_num.specs.declared.register.Reg.TheVariants.{In, Mid, Out}
+use Rattle.dxc_num.specs.declared.register.Reg.TheVariants.{In, Mid}
 use Rattle.fabric_core.specs.Moving.{IsMiddle}
 use Rattle.fabric_words.specs.Places.{reg_word}
 use Rattle.fabric_words.specs.Seats.{MoverAt, FabricId}

@@ -1,0 +1,9 @@
+//! Works, matrices and chains, beside a plain program.
+#![tactic(auto)]
+
+#[cfg(test)]
+mod chains;
+#[cfg(test)]
+mod matrix;
+#[cfg(test)]
+mod works;

@@ -1,0 +1,9 @@
+//! The table beside a plain program, shelf files right and wrong, and who logs in.
+#![tactic(auto)]
+
+#[cfg(test)]
+mod access;
+#[cfg(test)]
+mod shelf;
+#[cfg(test)]
+mod table;
