@@ -39,7 +39,7 @@ struct Taken {
     matrix: Matrix,
 }
 
-fn taken(alloc: Global, equipped: u64, records: &[[u8; 64]]) -> Result<Taken, Fail>
+fn take_all(alloc: Global, equipped: u64, records: &[[u8; 64]]) -> Result<Taken, Fail>
     ensures { IfOk result (λ t. IsPlaced t.table t.matrix) }
 {
     let shape = Shape::new(3, 2).ok_or("a shape")?;
@@ -78,7 +78,7 @@ fn a_checkpoint_comes_to_the_same(rt: HostRuntime) -> Result<(), Fail> {
         record(&ROWS[2]),
         record(&ROWS[3]),
     ];
-    let first = taken(alloc, 7, &records)?;
+    let first = take_all(alloc, 7, &records)?;
     assert_eq!(rt; first.table.out(), Some(Middle(0)));
     assert_eq!(rt; checkpoint_equipment(&first.table), 7);
     for i in 0..3 {
@@ -91,7 +91,7 @@ fn a_checkpoint_comes_to_the_same(rt: HostRuntime) -> Result<(), Fail> {
         record(&CHECKPOINT[1]),
         record(&CHECKPOINT[2]),
     ];
-    let second = taken(alloc, 7, &lines)?;
+    let second = take_all(alloc, 7, &lines)?;
     assert_eq!(rt; second.table.out(), Some(Middle(0)));
     let old = rows(alloc, &first.table)?;
     let new = rows(alloc, &second.table)?;
