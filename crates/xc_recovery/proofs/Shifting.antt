@@ -1,5 +1,5 @@
 -- A change of a middle moves legs, and any other joins and parts them.
-use Rattle.std.proofs.Common.{◌≡◌, List, [], ◌∷◌, Option, Some, None, sym, ◌∙◌, ap}
+use Rattle.std.proofs.Common.{◌≡◌, List, [], ◌∷◌, length, get_or, Option, Some, None, refl, sym, ◌∙◌, ap, subst, arith}
 use Rattle.std.specs.Prelude.{MatchOption}
 use Rattle.dxc_model.specs.declared.op.Change.{Change}
 use Rattle.dxc_model.specs.declared.op.Change.TheVariants.{Enter, Delete, Edit, EnterModule, DeleteModule, TakeOut, PutBack}
@@ -8,8 +8,9 @@ use Rattle.roll_plan.specs.declared.op.Choice.{Choice}
 use Rattle.roll_plan.specs.declared.op.LegOp.{LegOp}
 use Rattle.roll_plan.specs.declared.work.Work.{Work}
 use Rattle.paull_matrix.specs.Colourings.{Colouring}
+use Rattle.xc_recovery.specs.declared.leg_task.LegTask.{LegTask}
 use Rattle.xc_recovery.specs.LegTasks.{tasks}
-use Rattle.xc_recovery.specs.ChangeWorks.{ChangesBy, ChangesPlanned, IsOfLegs, Shifts, WorksBy, WorksPlanned}
+use Rattle.xc_recovery.specs.ChangeWorks.{ChangesBy, ChangesPlanned, DoesPlanned, IsOfLegs, Shifts, WorksBy, WorksPlanned}
 
 legs_by : (t : Board) (c : Colouring) (change : Change) (hs : List Choice) (os : List LegOp) → IsOfLegs change → WorksBy t.out c (tasks t change) hs os → ChangesBy t c change hs os
 legs_by t c (Enter k) hs os is w = w
@@ -84,3 +85,29 @@ pub plan_legs_match : (t : Board) (c : Colouring) (change : Change) (r : Option 
     → MatchOption r ((ops : List LegOp) → ¬ ChangesPlanned t c change ops) (λ w. ChangesPlanned t c change w.ops.items)
 plan_legs_match t c change None is none = λ ops w. none ops (plan_by_legs t c change ops is w)
 plan_legs_match t c change (Some w) is planned = plan_legs_by t c change w.ops.items is planned
+
+-- A change of one leg: what is planned for the leg is its work.
+of_legs : (t : Board) (change : Change) (k : LegTask) → tasks t change ≡ k ∷ [] → IsOfLegs change
+of_legs t (Enter x) k is = tt
+of_legs t (Delete x) k is = tt
+of_legs t (Edit x) k is = tt
+of_legs t (EnterModule m) k is = tt
+of_legs t (DeleteModule m) k is = tt
+of_legs t (TakeOut m) k is = cc
+of_legs t (PutBack m) k is = cc
+
+pub one_planned : (t : Board) (c : Colouring) (change : Change) (k : LegTask) (o : LegOp) → tasks t change ≡ k ∷ [] → DoesPlanned t.out c k o → ChangesPlanned t c change (o ∷ [])
+one_planned t c change k o is does = plan_legs_by t c change (o ∷ []) (of_legs t change k is) (subst (λ (ts : List LegTask). WorksPlanned t.out c ts (o ∷ [])) (sym is) (does, tt))
+
+pub none_planned : (t : Board) (c : Colouring) (change : Change) (k : LegTask) → tasks t change ≡ k ∷ [] → ((o : LegOp) → ¬ DoesPlanned t.out c k o) → (ops : List LegOp) → ¬ ChangesPlanned t c change ops
+none_planned t c change k is none ops w = stuck ops (subst (λ (ts : List LegTask). WorksPlanned t.out c ts ops) is (plan_by_legs t c change ops (of_legs t change k is) w))
+  where
+    stuck : (os : List LegOp) → WorksPlanned t.out c (k ∷ []) os → ⊥
+    stuck [] x = x
+    stuck (o ∷ os) x = none o x.0
+
+-- a list of one has its first alone
+pub first_alone : (ts : List LegTask) (d : LegTask) → length ts ≡ 1 → ts ≡ get_or ts 0 d ∷ []
+first_alone [] d one = absurd (let z : ⊥ = omega arith in z)
+first_alone (k ∷ []) d one = refl
+first_alone (k ∷ j ∷ ts) d one = absurd (let z : ⊥ = omega arith in z)

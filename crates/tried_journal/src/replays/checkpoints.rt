@@ -1,13 +1,13 @@
 ghost use Rattle.std.specs.Prelude.{IfOk};
 ghost use Rattle.xc_recovery.specs.Placings.{IsPlaced};
 
-use crate::tests::{empty_matrix, empty_table, leg, middle_of, opened, rows};
-use crate::{checkpoint_equipment, checkpoint_row, replay};
+use crate::replays::{empty_matrix, empty_table, leg, middle_of, opened, rows};
 use dxc_model::Table;
 use dxc_num::{Middle, Shape};
 use paull_matrix::Matrix;
 use std::alloc::Global;
 use std::test::Fail;
+use xc_recovery::{checkpoint_equipment, checkpoint_row, replay};
 
 // Bytes 1 to 17 of a record of version 2. Byte 0 is its seal, and the rest are zeros.
 type Row = [u8; 17];

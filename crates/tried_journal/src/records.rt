@@ -1,9 +1,9 @@
-use crate::{entry_of, record_of};
 use arrayvec::ArrayVec;
 use dxc_model::{Cct, Change, Conn, Label};
 use dxc_num::{Middle, Port};
 use roll_plan::{Chain, Choice};
 use std::test::Fail;
+use xc_journal::{entry_of, record_of};
 
 fn conn(from: u16, to: u16, cct: Cct, label: &[u8]) -> Result<Conn, Fail> {
     Ok(Conn {
