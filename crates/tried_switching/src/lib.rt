@@ -6,4 +6,6 @@ mod chains;
 #[cfg(test)]
 mod matrix;
 #[cfg(test)]
+mod middles;
+#[cfg(test)]
 mod works;
