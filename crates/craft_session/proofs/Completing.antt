@@ -1,5 +1,5 @@
 -- An entry that can be made is made, unless it has no middle while one is out of service.
-use Rattle.std.proofs.Common.{◌≡◌, ◌≢◌, ◌⊎◌, ◌↔◌, ℕ, ◌+◌, ◌^◌, Bool, true, false, nat_lt, nat_le, if◌then◌else◌, List, [], ◌∷◌, ◌++◌, Option, Some, None, Result, Ok, refl, sym, ◌∙◌, ap, subst, inl, inr}
+use Rattle.std.proofs.Common.{◌≡◌, ◌≢◌, ◌↔◌, ℕ, ◌+◌, ◌^◌, Bool, true, false, nat_lt, nat_le, if◌then◌else◌, List, [], ◌∷◌, ◌++◌, Option, Some, None, Result, Ok, refl, sym, ◌∙◌, ap, subst, inl, inr}
 use Rattle.std.specs.Prelude.{option_to_list}
 use Rattle.dxc_num.specs.declared.port.Leg.{Leg}
 use Rattle.dxc_num.specs.declared.port.Middle.{Middle}
@@ -37,7 +37,7 @@ use Rattle.xc_recovery.proofs.Folding.{folds_seated, none_seated}
 use Rattle.xc_recovery.proofs.HeldLegs.{does_proper}
 use Rattle.xc_recovery.proofs.Placing.{placed_after, tasks_ready}
 use Rattle.xc_recovery.proofs.Spelled.{changes_made}
-use Rattle.xc_core.specs.Reckonings.{HasNoWork, HasWork, Meets, Past, ReckonsTo, changed, limit_by}
+use Rattle.xc_core.specs.Reckonings.{HasNoWork, Meets, Past, ReckonsTo, changed, limit_by}
 use Rattle.xc_core.specs.States.{LimitBehind, Opening, rules_of}
 use Rattle.xc_core.proofs.Reckoning.{reckoned_table, reckons_once}
 use Rattle.craft_session.specs.declared.attending.Attending.{Attending}

@@ -11,6 +11,7 @@ pub mod laws;
 mod meaning;
 mod mend;
 mod place;
+mod reports;
 mod say;
 mod seat;
 mod session;

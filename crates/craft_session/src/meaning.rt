@@ -1,7 +1,6 @@
 ghost use Rattle.std.specs.Prelude.{◌≡◌, ◌≤◌, length};
 ghost use Rattle.tl1_text.specs.Spans.{AreBlocksOf};
 ghost use Rattle.tl1_text.specs.Units.{whole};
-ghost use Rattle.dxc_secu.specs.Users.{session_user_of};
 ghost use Rattle.tl1_command.specs.Commands.{asked_by, IsAptCommand};
 ghost use Rattle.craft_session.specs.Asks.{IsAptAsk};
 ghost use Rattle.craft_session.specs.Meanings.{asks, tag_of, table_ask, log_in, is_other_user as other_user, session_ask};

@@ -13,7 +13,7 @@ use Rattle.craft_session.specs.Notices.{Notice, change, numbered}
 use Rattle.craft_session.specs.Seats.{SeatAt}
 use Rattle.craft_session.specs.Sessions.{AreTold, IsReported}
 use Rattle.craft_session.proofs.Telling.{numbered_more, numbered_rest, told_missing, told_more, told_none, told_one}
-use Rattle.craft_session.proofs.session.tell_changes.Goals as goal
+use Rattle.craft_session.proofs.reports.tell_changes.Goals as goal
 
 pub loop-at-init : goal.loop-at-init
 loop-at-init g c = record { shelf = refl; seat = refl; attending = refl; reader = refl; changes = refl; told = told_none (language (arc_value c.args.desk.now.shelf)) g.K.Link.told g.C.Clock.told (g.K.Link.state c.args.link.now) (g.C.Clock.coming c.args.clock.now) }
