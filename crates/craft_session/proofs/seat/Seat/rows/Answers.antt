@@ -37,4 +37,4 @@ returns-clause-of_shape g c =
     let eq = ap (λ (t : Gate (State g.row.D.Denot)). seat_at g.D.Disk.state c.self.inside.pass t) c.deref.ensures ∙ c.self.view_is in
     let t = c.rows.ensures.table in
     subst (λ (d : Dimensions). AllByRecursion (IsOfShape d) c.rows.new.into.items) (t.2 ∙ ap (λ (s : SeatAt). s.opening.first.fold.table.shape) eq)
-    (subst (λ (l : List Conn). AllByRecursion (IsOfShape t.0.shape) l) (sym t.3) (listed t.0.shape _ t.0.conns t.1.ports))
+    (subst (λ (l : List Conn). AllByRecursion (IsOfShape t.0.shape) l) (sym {A = List Conn} t.3) (listed t.0.shape _ t.0.conns t.1.ports))
