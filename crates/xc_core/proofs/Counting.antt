@@ -1,5 +1,5 @@
 -- What was counted stays, also where a checkpoint is written.
-use Rattle.std.proofs.Common.{◌≡◌, ◌⊎◌, inl, inr, ⊎_elim, ℕ, true, false, List, length, refl, sym, ap, ◌∙◌, subst, arith}
+use Rattle.std.proofs.Common.{◌≡◌, inl, inr, ⊎_elim, ℕ, false, List, length, sym, ap, ◌∙◌, subst, arith}
 use Rattle.std.specs.Prelude.{Result, Ok, Err, OnOk}
 use Rattle.std.proofs.lemmas.List.{take_all}
 use Rattle.dxc_num.specs.Dimensions.{Dimensions}
@@ -8,7 +8,6 @@ use Rattle.dxc_model.specs.Equipment.{modules_in}
 use Rattle.dxc_model.specs.Tables.{Board}
 use Rattle.journal_core.specs.declared.book.Book.{Book}
 use Rattle.journal_core.specs.declared.head.Head.{Head}
-use Rattle.journal_core.specs.declared.spare.Spare.{Spare}
 use Rattle.journal_core.specs.declared.spare.Spare.TheVariants.{Tried}
 use Rattle.journal_core.specs.declared.version.Version.TheVariants.{Two}
 use Rattle.journal_core.specs.Headers.{Stands, next_generation}

@@ -1,4 +1,4 @@
-use Rattle.std.proofs.Common.{◌≡◌, ◌<◌, length, Option, ◌∙◌, sym, ap, subst, arith}
+use Rattle.std.proofs.Common.{◌≡◌, length, Option, ◌∙◌, sym, ap, subst, arith}
 use Rattle.dxc_num.specs.Dimensions.{Dimensions}
 use Rattle.dxc_disk.specs.Disks.{LeavesOnly}
 use Rattle.dxc_model.specs.declared.op.Op.{Op}

@@ -10,8 +10,6 @@ use Rattle.paull_matrix.specs.Colourings.{Colouring}
 use Rattle.xc_journal.specs.Entries.{FitsConn}
 use Rattle.xc_core.specs.declared.provisioner.Provisioner.{Provisioner}
 use Rattle.xc_core.specs.Journals.{IsCounted, IsOldOrDoubted, StillCounts}
-use Rattle.xc_core.specs.Provisioners.{IsHome}
-use Rattle.xc_core.specs.Reckonings.{Past}
 use Rattle.xc_core.proofs.Counting.{counts_same, keeps_counted, left_counted, still_from}
 use Rattle.xc_core.proofs.Pasts.{home_with}
 use Rattle.xc_core.proofs.Rolling.{home_limits, placed_as}
