@@ -118,7 +118,8 @@ def area_at(content, start, modules, slots):
         return None
     records, size = [], SIZE[version]
     while len(records) < MOST[version]:
-        found = bytes(content[start + 32 + size * len(records) :][:size])
+        at = start + 32 + size * len(records)
+        found = bytes(content[at : at + size])
         if len(found) < size or found[0] != SEALED:
             break
         records.append(found)

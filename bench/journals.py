@@ -12,7 +12,7 @@ import sys
 
 import journal
 from journal import AREAS, File, header, record
-from plain import CAUSES, Conn
+from plain import Conn
 
 TOP = os.path.dirname(os.path.dirname(os.path.abspath(__file__)))
 ROWS = os.path.join(TOP, "crates", "worked_journals", "data", "rows.txt")
@@ -151,7 +151,7 @@ FROM, BACK = ((1, 1), (2, 1)), ((2, 1), (1, 1))
 
 
 def grouped(name, places, make):
-    """Rows of the places, those with the same text behind the first lines in one."""
+    """Rows of the places; neighbours to which the same comes are one row."""
     for lines, group in itertools.groupby(places, lambda at: make(at).lines):
         group = list(group)
         row = make(group[0])
@@ -345,35 +345,33 @@ def fault(old, at, left, unit):
 
 def largest():
     """A full table of the largest shape, entered, retrieved, audited, and written as a checkpoint."""
-    lines = "\n".join(
-        (
-            "row a full table of 64 modules of 96 slots",
-            "shelf 64 96",
-            "script",
-            f"send {LOGIN};",
-            "answer 1 COMPLD",
-            "enters 6144 96",
-            "retrieves 6144 96",
-            f"calls {6 + 4 * 6144}",
-            f"length {33 + 64 * 6144}",
-            "check",
-            "lists 6144 96",
-            "list RECORDS 6144",
-            "script",
-            f"send {LOGIN};",
-            "answer 1 COMPLD",
-            f"repeat {(32_767 - 6_144) // 2}",
-            "send DLT-CRS-T0::DS0-1-1,DS0-2-1:2; ~ answer 2 COMPLD ~ send ENT-CRS-T0::DS0-1-1,DS0-2-1:3; ~ answer 3 COMPLD",
-            "send ED-CRS-T0::DS0-1-1,DS0-2-1:4::1WAY,C8;",
-            "answer 4 COMPLD",
-            "send ED-CRS-T0::DS0-1-1,DS0-2-1:5::1WAY,C9;",
-            "answer 5 COMPLD",
-            f"calls {1 + 4 * (32_767 - 6_144) + 3 + 6_144 + 3 + 4}",
-            "check",
-            "list DS0-1-1,DS0-2-1:1WAY:C9",
-        )
-    )
-    return lines
+    ports, login = 6_144, [f"send {LOGIN};", "answer 1 COMPLD"]
+    more = journal.MOST[2] - ports
+    out, back = f"send {delete(ONE)}; ~ answer 1 COMPLD", f"send {enter(ONE)}; ~ answer 1 COMPLD"
+    return [
+        "row a full table of 64 modules of 96 slots",
+        "shelf 64 96",
+        "script",
+        *login,
+        f"enters {ports} 96",
+        f"retrieves {ports} 96",
+        f"calls {6 + 4 * ports}",
+        f"length {33 + 64 * ports}",
+        "check",
+        f"lists {ports} 96",
+        f"list RECORDS {ports}",
+        "script",
+        *login,
+        f"repeat {more // 2}",
+        f"{out} ~ {back}",
+        "repeat 1",
+        f"{out} ~ {back}",
+        f"calls {1 + 4 * more + 3 + ports - 1 + 3 + 4}",
+        f"length {AREAS[1] + 33 + 64 * ports}",
+        "check",
+        f"lists {ports} 96",
+        f"list RECORDS {ports}",
+    ]
 
 
 def rows():
@@ -381,7 +379,7 @@ def rows():
 
 
 def main():
-    text = HEAD + "\n" + "\n".join(row.text() for row in rows())
+    text = "\n".join([HEAD, *(row.text() for row in rows()), *largest(), ""])
     if sys.argv[1:] == ["--check"]:
         with open(ROWS, encoding="ascii") as file:
             sys.exit(file.read() != text)
@@ -390,5 +388,4 @@ def main():
 
 
 if __name__ == "__main__":
-    assert CAUSES and AREAS
     main()

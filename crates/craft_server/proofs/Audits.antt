@@ -1,34 +1,24 @@
 -- What a controller that was opened lists is what its journal came to.
-use Rattle.std.proofs.Common.{◌≡◌, ◌≢◌, ℕ, List, [], ◌∷◌, ◌++◌, length, Some, None, inl, inr, ◌∙◌, ap, sym, subst}
+use Rattle.std.proofs.Common.{◌≡◌, ◌≢◌, ℕ, List, length, Some, None, ◌∙◌, ap, sym, subst}
 use Rattle.dxc_disk.specs.Disks.{DiskState}
 use Rattle.dxc_outside.specs.declared.send.Sent.{Sent}
 use Rattle.dxc_outside.specs.Links.{LinkState, IsSent}
-use Rattle.dxc_model.specs.declared.entry.Entry.{Entry}
 use Rattle.dxc_model.specs.declared.op.Selection.TheVariants.{All}
-use Rattle.dxc_model.specs.Histories.{Lasts}
 use Rattle.dxc_model.specs.Tables.{Board, rows}
 use Rattle.dxc_num.specs.Dimensions.{Dimensions}
 use Rattle.shelf_file.specs.Contents.{Contents}
 use Rattle.xc_core.specs.declared.state.Home.{Home}
 use Rattle.xc_core.specs.declared.state.Home.TheVariants.{In, Out}
 use Rattle.xc_core.specs.declared.state.State.{State}
-use Rattle.xc_core.specs.Openings.{Begins, disk_home}
+use Rattle.xc_core.specs.Openings.{Begins, count_home, disk_home}
 use Rattle.xc_core.specs.Reckonings.{Past}
-use Rattle.xc_core.specs.States.{HomeIs, Opening, opening_of}
+use Rattle.xc_core.specs.States.{Opening, opening_of}
 use Rattle.craft_server.specs.Listings.{listing, records_at}
 
--- nothing stands last where nothing happened
-none_lasts : (P Q : Entry → Type 0) → Lasts P Q [] → ⊥
-none_lasts P Q l = no_end l.before l.entry l.behind l.whole
-  where
-    no_end : (xs : List Entry) (e : Entry) (ys : List Entry) → [] ≡ xs ++ e ∷ ys → ⊥
-    no_end [] e ys is = cc
-    no_end (x ∷ xs) e ys is = cc
-
 module _ {D : Type 0} (told : Type 0) (state : D → DiskState) where
-  records_home : (o : Opening) (b : Past) (x : Home D) → HomeIs told state o b [] x → records_at x ≡ length b.records
-  records_home o b (In d) at = elim at.1.stage [ inl h ↦ h.0.counted | inr h ↦ absurd (none_lasts _ _ h.1) ]
-  records_home o b Out at = let no = at.1 in cc
+  records_home : (n : ℕ) (x : Home D) → count_home x ≡ Some n → records_at x ≡ n
+  records_home n (In d) is = cc
+  records_home n Out is = cc
 
   -- the Provisioner of a state that begins is at home
   pub at_home : (x : State D) → Begins told state x → x.home ≢ Out
@@ -45,15 +35,15 @@ module _ {D : Type 0} (told : Type 0) (state : D → DiskState) where
     pub of_shape : x.table.shape ≡ s.shape
     of_shape = ap (λ (t : Board). t.shape) table_first ∙ shape
 
-    records_first : records_at x.home ≡ length o.first.records
-    records_first = records_home o b.stands.now x.home b.stands.home ∙ ap (λ (p : Past). length p.records) b.stands.reckoned
+    records_first : records_at x.home ≡ length o.records
+    records_first = records_home (length o.records) x.home b.counts
 
-    listing_first : listing x.table.shape (rows x.table All) (records_at x.home) ≡ listing s.shape (rows o.first.fold.table All) (length o.first.records)
+    listing_first : listing x.table.shape (rows x.table All) (records_at x.home) ≡ listing s.shape (rows o.first.fold.table All) (length o.records)
     listing_first =
         ap (λ (d : Dimensions). listing d (rows x.table All) (records_at x.home)) of_shape
         ∙ ap (λ (t : Board). listing s.shape (rows t All) (records_at x.home)) table_first
         ∙ ap (λ (n : ℕ). listing s.shape (rows o.first.fold.table All) n) records_first
 
     -- what was written of it is what the journal came to
-    pub listed_first : (link_told : Type 0) (k l : LinkState) (sent : Sent) → IsSent link_told k l sent (listing x.table.shape (rows x.table All) (records_at x.home)) → IsSent link_told k l sent (listing s.shape (rows o.first.fold.table All) (length o.first.records))
+    pub listed_first : (link_told : Type 0) (k l : LinkState) (sent : Sent) → IsSent link_told k l sent (listing x.table.shape (rows x.table All) (records_at x.home)) → IsSent link_told k l sent (listing s.shape (rows o.first.fold.table All) (length o.records))
     listed_first link_told k l sent is = subst (λ (bs : List ℕ). IsSent link_told k l sent bs) listing_first is

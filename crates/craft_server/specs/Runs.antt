@@ -44,7 +44,7 @@ lent s k c p = record { sources = s; terminal = k; clock = c; spawner = p }
 -- the rows of the table were written with the number of records, or a part of them where a write failed
 pub record IsCheck (told : Type 0) (s : Contents) (o : Opening) (k l : LinkState) (status : Status) : Type 0 where
   pub sent : Sent
-  pub wrote : IsSent told k l sent (listing s.shape (rows o.first.fold.table All) (length o.first.records))
+  pub wrote : IsSent told k l sent (listing s.shape (rows o.first.fold.table All) (length o.records))
   pub status_is : status ≡ status_of_sent sent
 
 -- nothing was read, written or started

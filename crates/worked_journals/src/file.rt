@@ -58,6 +58,10 @@ fn overwrite(file: &mut Vec<u8>, at: usize, bytes: &[u8]) -> Result<(), NoMemory
     let Some(end) = at.checked_add(bytes.len()) else {
         return Err(NoMemory);
     };
+    if file.len() == at {
+        file.extend_from_slice(bytes)?;
+        return Ok(());
+    }
     if file.len() < end {
         file.resize(end, 0)?;
     }
