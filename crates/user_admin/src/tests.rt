@@ -44,7 +44,7 @@ fn cause_of(user: SessionUser, unit: &[u8]) -> Option<Cause> {
         return None;
     }
     let blocks = blocks(unit).ok()?;
-    user_command_of(&sid, &user, unit, &blocks).err()
+    user_command_of(&sid, user, unit, &blocks).err()
 }
 
 fn of_class(class: Class) -> SessionUser {
