@@ -1,15 +1,14 @@
-//! Commands on users, what comes of them, and their records.
 ghost use Rattle.user_admin.specs.Verdicts.{IsChanging};
 
-use crate::{
-    Pid, UserOp, UserTable, change_of, deletions, edits, entrances, record_of, user_command_of,
-};
 use arrayvec::ArrayVec;
 use dxc_model::{Cause, Class, SessionUser, Uid};
 use shelf_file::shelf_of;
 use std::test::Fail;
 use tl1_text::Sid;
 use tl1_text::grammar::blocks;
+use user_admin::{
+    Pid, UserOp, UserTable, change_of, deletions, edits, entrances, record_of, user_command_of,
+};
 
 /// ANNA's PID is `bc` behind the salt `a`, the example of NIST for SHA-256. CARA's salt is longer than a record can hold.
 const SHELF: &str = "sid = \"DXC1\"
