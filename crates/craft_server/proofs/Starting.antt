@@ -62,7 +62,7 @@ module _ {D : Type 0} (disk_told : Type 0) (state : D → DiskState) where
 
   -- an opening is on the fabric that it was made on, and of the shelf's shape
   pub at_opening : (file : List ℕ) (s : Contents) (i : FabricId) (o : Opening) → IsOpening disk_told file s i o → IsAtOpening o s i
-  at_opening file s i o is = record { fabric = is.fabric_is; shape = (comes_shape o.site.shape o.site.equipped is.folded.read o.first.fold.table o.first.fold.colours o.first.fold.work is.folded.comes).0 ∙ is.shape }
+  at_opening file s i o is = record { fabric = is.fabric_is; shape = (comes_shape s.shape is.folded.head is.folded.read o.first.fold.table o.first.fold.colours o.first.fold.work is.folded.comes).0 }
 
   -- that of a controller
   pub opened_at : (disk : D) (s : Contents) (workers : ℕ) (x : Controller D) → IsStarted disk_told state disk s workers x → IsAtOpening (opening_of state x.state) (arc_value x.shelf) (arc_value x.fabric)
