@@ -7,7 +7,7 @@ ghost use Rattle.bench_changes.specs.Elements.{IsNew, IsReady, IsTaken, Takes, e
 
 use anyhow::{Context, Result, bail, ensure};
 use dxc_disk::{Disk, MemDisk};
-use dxc_model::{Cause, Cct, Conn, Label, Op};
+use dxc_model::{Cause, Cct, Conn, Label, Op, Table};
 use dxc_num::{Leg, Middle, Shape};
 use dxc_outside::{AlwaysGo, Gate};
 use fabric_words::{Fabric, WorkerSeat};
@@ -155,20 +155,28 @@ pub fn delete<G: Gate>(element: &mut Element, leg: Leg, gate: &mut G) -> Result<
     Ok(())
 }
 
+// The middle is taken out where none is, else the one is put back that is.
+fn turned(table: &Table, middle: Middle) -> Result<Op>
+    ensures apt { IfOk result (IsApt table.now.shape) }
+    ensures op { IfOk result (λ op. op ≡ turning table.now middle) }
+{
+    ensure!(
+        (middle.0 as u16) < table.shape().slots(),
+        "no middle of that number"
+    );
+    match table.out() {
+        Some(out) => Ok(Op::PutBack(out)),
+        None => Ok(Op::TakeOut(middle)),
+    }
+}
+
 /// Takes a middle out of service where none is out, else puts the one back that is.
 pub fn turn_middle<G: Gate>(element: &mut Element, middle: Middle, gate: &mut G) -> Result<()>
     requires { IsReady element.old }
     ensures ready { IfOk result (λ _. IsReady element.new) }
     ensures taken { IfOk result (λ _. Takes element.old.state.table (turning element.old.state.table middle) element.new.state.table) }
 {
-    ensure!(
-        (middle.0 as u16) < element.state.table.shape().slots(),
-        "no middle of that number"
-    );
-    let op = match element.state.table.out() {
-        Some(out) => Op::PutBack(out),
-        None => Op::TakeOut(middle),
-    };
+    let op = turned(&element.state.table, middle)?;
     ensure!(change(element, &op, gate)?, "no middle");
     Ok(())
 }
