@@ -45,7 +45,7 @@ returns-clause-ready g c =
     }
 
 pub returns-clause-taken : goal.returns-clause-taken
-returns-clause-taken g c =
+returns-clause-taken g c = λ _.
     let old = c.requires.ready.at_table in
     let starts = c.in-Rolling.ensures.begun old.now old.home old.table in
     let rolls = c.drive.ensures.rolls old.now c.args.op.now starts.change starts.rolls in
