@@ -23,15 +23,16 @@ impl Entries {
 
     /// The names of a port and of the one it is connected to.
     pub fn pair(self, alloc: Global, port: u16) -> Result<String> {
-        let ports = self.modules.saturating_mul(self.slots).max(1);
+        let ports = self.modules.saturating_mul(self.slots);
+        let to = port.saturating_add(self.step).checked_rem(ports);
         let from = self.name(alloc, port)?;
-        let to = self.name(alloc, port.saturating_add(self.step) % ports)?;
+        let to = self.name(alloc, to.unwrap_or(0))?;
         Ok(format!(in alloc; "{from},{to}")?)
     }
 
     fn name(self, alloc: Global, port: u16) -> Result<String> {
-        let slots = self.slots.max(1);
-        let (module, slot) = (port / slots, port % slots);
+        let module = port.checked_div(self.slots).unwrap_or(0);
+        let slot = port.checked_rem(self.slots).unwrap_or(0);
         Ok(format!(in alloc;
             "DS0-{}-{}",
             module.saturating_add(1),

@@ -1,8 +1,10 @@
-ghost use Rattle.std.specs.Prelude.{◌≡◌};
+ghost use Rattle.std.specs.Prelude.{◌≡◌, ◌≤◌, ◌++◌, List, ℕ, OnOk, OnErr, length};
 ghost use Rattle.dxc_causes.specs.Causes.{HasCause};
+ghost use Rattle.dxc_outside.specs.Openings.{most_shelf_bytes};
 
 use crate::disk::RowDisk;
 use crate::file::MemFile;
+use dxc_causes::NoMemory;
 use dxc_outside::{AlwaysGo, MemClock, MemLines, MemListener, Opened, Opener};
 use std::alloc::Global;
 use std::sync::{Arc, Mutex};
@@ -35,6 +37,18 @@ impl RowOpener {
     }
 }
 
+/// How many bytes are read of a shelf file.
+const MOST: usize = 65_537;
+
+// Appends the bytes as far as they are read.
+fn append(into: &mut Vec<u8>, text: &[u8]) -> Result<(), NoMemory>
+    ensures ok { OnOk result ((part : List ℕ) × (into.new.items ≡ into.old.items ++ part) × (length part ≤ most_shelf_bytes)) }
+    ensures err { OnErr result (into.new.items ≡ into.old.items) }
+{
+    into.extend_from_slice(&text[..text.len().min(MOST)])?;
+    Ok(())
+}
+
 impl Opener for RowOpener {
     ghost use Rattle.std.specs.Prelude.{None};
 
@@ -55,9 +69,9 @@ impl Opener for RowOpener {
     ghost journal_at = { λ _ _. None };
 
     fn shelf(&mut self, _alloc: Global, _name: &str, into: &mut Vec<u8>) -> Opened<()> {
-        match into.extend_from_slice(self.shelf.as_bytes()) {
+        match append(into, self.shelf.as_bytes()) {
             Ok(()) => Opened::Open(()),
-            Err(_) => Opened::NoMemory,
+            Err(NoMemory) => Opened::NoMemory,
         }
     }
 
