@@ -63,9 +63,7 @@ pub fn change_beside<D: Disk + Drop, R: Wait>(
         bail!("no work came of it");
     };
     let held = hold(fabric, reader, output);
-    Ok(drive_beside(
-        pass, turns, fabric, op, driver, reader, held, &mut gate, rt,
-    ))
+    Ok(drive_beside(pass, turns, fabric, op, driver, reader, held, &mut gate, rt))
 }
 
 fn drive_beside<D: Disk + Drop, R: Wait>(

@@ -140,7 +140,14 @@ fn between<D: Disk + Drop, R: Wait>(
         return Ok(Some(why));
     }
     let beside = change_beside(
-        alloc, &mut pass, turns, fabric, &entry(), &mut late, OUTPUT, rt,
+        alloc,
+        &mut pass,
+        turns,
+        fabric,
+        &entry(),
+        &mut late,
+        OUTPUT,
+        rt,
     )?;
     if beside != WANTED {
         return Ok(Some(format!(in alloc; "it came to {beside:?}")?));
