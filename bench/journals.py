@@ -20,7 +20,7 @@ HEAD = """# Worked rows of journals. `bench/journals.py` writes them. Each has a
 #
 #   row TEXT       begins a row            shelf M N      its modules and slots, 2 and 1 where nothing is said
 #   old HEX        bytes behind those of the old journal so far; 00*N stands for N zeros
-#   from N         zeros up to this place of it
+#   again N HEX    these bytes N times      from N         zeros up to this place
 #   each A B WHAT  the row is made again for each place from A to B: `cut`, the old journal ends there; `change N`, its byte there has the bits
 #                  of N turned; `fail LEFT`, that write or sync of the first run fails; `crash LEFT`, that one and all later ones do, and the
 #                  file is what such a crash leaves. LEFT is what is left of the write that failed, or of those that no sync came behind:
@@ -112,8 +112,7 @@ def repeated(content, size):
         yield f"old {spelled(content)}"
         return
     yield f"old {spelled(content[:32])}"
-    yield f"repeat {times}"
-    yield f"old {spelled(two[:size])} ~ old {spelled(two[size:])}"
+    yield f"again {times} {spelled(two)}"
     if rest := content[32 + 2 * size * times :]:
         yield f"old {spelled(rest)}"
 
@@ -311,12 +310,17 @@ def crashes():
         ("a migration with no change behind it", near, "RMV-MID::MID-1:2"),
     ):
         calls = calls_of(old, unit)
-        places = range(len(calls) + 1) if len(calls) < 50 else range(len(calls) - 12, len(calls) + 1)
         for left in LEFTS:
-            yield from grouped(f"{name}, a crash", places, lambda at: crash(old, at, left, unit, calls))
+            yield from grouped(f"{name}, a crash", last_of(calls), lambda at: crash(old, at, left, unit, calls))
         if len(calls) > 50:
-            yield from grouped(f"{name}, a crash among its zeros", range(places[0]), lambda at: crash(old, at, "front", unit, calls, False))
+            for places in (range(20), range(480, last_of(calls)[0])):
+                yield from grouped(f"{name}, a crash among its zeros", places, lambda at: crash(old, at, "front", unit, calls, False))
     yield from full_crashes()
+
+
+def last_of(calls):
+    """The places of all calls, or of those behind the zeros between the areas."""
+    return range(0 if len(calls) < 50 else len(calls) - 12, len(calls) + 1)
 
 
 def full_crashes():
@@ -325,17 +329,18 @@ def full_crashes():
     unit = delete(ONE)
     calls = calls_of(full, unit)
     for left in LEFTS:
-        yield from grouped("a checkpoint, a crash", range(len(calls) + 1), lambda at: crash(full, at, left, unit, calls))
+        yield from grouped("a checkpoint, a crash", range(len(calls) + 1), lambda at: crash(full, at, left, unit, calls, left == "lost"))
 
 
 def faults():
     """A write or sync that fails: the command is denied, and the same again is completed."""
     near = two_areas(area(1, 0, [entry(FROM, version=1)]), area(1, 1, [entry(BACK, version=1)]))
     for name, old, unit in (("a making and an entry", b"", enter(ONE)), ("a migration to area 0", near, enter(ONE)), ("a migration", OLD, enter(TWO))):
-        count = len(calls_of(old, unit))
+        calls = calls_of(old, unit)
         for left in LEFTS:
-            places = range(count + 1) if count < 50 or left == "lost" else range(count - 12, count + 1)
-            yield from grouped(f"{name}, a call fails", places, lambda at: fault(old, at, left, unit))
+            yield from grouped(f"{name}, a call fails", last_of(calls), lambda at: fault(old, at, left, unit))
+        if len(calls) > 50:
+            yield from grouped(f"{name}, one of its zeros fails", range(20), lambda at: fault(old, at, "front", unit))
 
 
 def fault(old, at, left, unit):

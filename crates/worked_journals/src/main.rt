@@ -12,7 +12,7 @@ mod read;
 mod row;
 mod run;
 
-use crate::read::rows_of;
+use crate::read::row_of;
 use crate::run::run_row;
 use anyhow::Result;
 use std::fs;
@@ -20,20 +20,18 @@ use std::fs;
 fn main(rt: HostRuntime) -> Result<()> {
     let alloc = rt.alloc();
     let text = fs::read_to_string(&rt, "rows.txt")?;
-    let rows = rows_of(alloc, text.as_str())?;
-    let (mut tried, mut failed) = (0u64, 0u64);
-    for row in &rows {
+    let (mut rows, mut tried, mut failed) = (0u64, 0u64, 0u64);
+    for lines in text.as_str().split("\nrow ").skip(1) {
+        let row = row_of(alloc, lines)?;
+        rows = rows.saturating_add(1);
         for at in row.each.places() {
             tried = tried.saturating_add(1);
-            if let Some(why) = run_row(alloc, &rt, row, at)? {
+            if let Some(why) = run_row(alloc, &rt, &row, at)? {
                 println!(rt; "{}, {at}: {why}", row.name)?;
                 failed = failed.saturating_add(1);
             }
         }
     }
-    println!(rt;
-        "{} rows, {tried} times, {failed} of them failed",
-        rows.len()
-    )?;
+    println!(rt; "{rows} rows, {tried} times, {failed} of them failed")?;
     Ok(())
 }

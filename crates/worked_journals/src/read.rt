@@ -1,42 +1,37 @@
 use crate::row::Row;
-use anyhow::{Context, Result, bail};
+use anyhow::{Context, Result};
 use std::alloc::Global;
 
-/// The rows that the text describes, line by line.
-pub fn rows_of(alloc: Global, text: &str) -> Result<Vec<Row>> {
-    let mut rows = Vec::new(alloc);
+/// The row that the lines describe; the first is its name.
+pub fn row_of(alloc: Global, text: &str) -> Result<Row> {
     let mut lines = text.lines();
-    while let Some(line) = lines.next() {
-        if line.is_empty() || line.starts_with('#') {
-            continue;
-        }
-        let (word, rest) = line.split_once(' ').unwrap_or((line, ""));
-        if word == "row" {
-            rows.push(Row::new(alloc, rest)?)?;
-            continue;
-        }
-        let row = rows
-            .last_mut()
-            .context("a line stands before the first row")?;
-        if word == "repeat" {
-            let Some(again) = lines.next() else {
-                bail!("nothing to repeat");
-            };
-            take_again(alloc, row, rest.parse::<u32>()?, again)?;
-        } else {
-            row.take(alloc, word, rest)?;
+    let mut row = Row::new(alloc, lines.next().context("a row has a name")?)?;
+    let mut times = 1;
+    for line in lines {
+        let (word, rest) = split(line);
+        match word {
+            "" => {}
+            "repeat" => times = rest.parse::<u32>()?,
+            _ => {
+                take_line(alloc, &mut row, times, line)?;
+                times = 1;
+            }
         }
     }
-    Ok(rows)
+    Ok(row)
 }
 
-// Takes the lines that stand in the line, parted by ` ~ `, so many times.
-fn take_again(alloc: Global, row: &mut Row, times: u32, line: &str) -> Result<()> {
+// Takes the lines that stand in this one, parted by ` ~ `, so many times.
+fn take_line(alloc: Global, row: &mut Row, times: u32, line: &str) -> Result<()> {
     for _ in 0..times {
         for part in line.split(" ~ ") {
-            let (word, rest) = part.split_once(' ').unwrap_or((part, ""));
+            let (word, rest) = split(part);
             row.take(alloc, word, rest)?;
         }
     }
     Ok(())
+}
+
+fn split(line: &str) -> (&str, &str) {
+    line.split_once(' ').unwrap_or((line, ""))
 }

@@ -61,7 +61,14 @@ impl Row {
             }
             "each" => self.each = Each::of(rest)?,
             "old" => self.journal.extend_from_slice(&bytes_of(alloc, rest)?)?,
-            "from" => self.journal.resize(rest.parse::<usize>()?, 0)?,
+            "again" => {
+                let (times, bytes) = rest.split_once(' ').context("a number is wanted")?;
+                let bytes = bytes_of(alloc, bytes)?;
+                for _ in 0..times.parse::<u32>()? {
+                    self.journal.extend_from_slice(&bytes)?;
+                }
+            }
+            "from" => fill_to(&mut self.journal, rest.parse::<usize>()?)?,
             "script" | "check" => self.runs.push(Run::new(alloc, word)?)?,
             _ => self.take_of_run(alloc, word, rest)?,
         }
@@ -167,6 +174,17 @@ impl Run {
         wanted.push(b'\n')?;
         Ok(())
     }
+}
+
+// Adds zeros up to this length.
+fn fill_to(journal: &mut Vec<u8>, length: usize) -> Result<()> {
+    let zeros = [0; 4_096];
+    let missing = length.saturating_sub(journal.len());
+    for _ in 0..missing / zeros.len() {
+        journal.extend_from_slice(&zeros)?;
+    }
+    journal.extend_from_slice(&zeros[..missing % zeros.len()])?;
+    Ok(())
 }
 
 // The bytes that hexadecimal digits spell; blanks between them fall away. `00*N` stands for so many zeros.
