@@ -118,32 +118,39 @@ fn next_turn(legs: &Legs, shape: Shape, dice: &mut Dice) -> Option<Turn> {
     }
 }
 
-// Makes a change, with a frame before each of its register writes and one behind the last.
+// Makes an entry where there is a middle for it, with a frame before each of its register writes and one behind the last.
+fn take_entry(element: &mut Element, carrier: &mut Carrier, leg: Leg) -> Result<Came>
+    requires { IsReady element.old }
+    ensures { IfOk result (λ _. IsReady element.new) }
+{
+    if !enter_if_possible(element, leg, carrier)? {
+        carrier.carry();
+        return Ok(Came::NotEntered);
+    }
+    carrier.join(leg);
+    carrier.carry();
+    Ok(Came::Entered)
+}
+
+// Makes a change, with frames in the same way.
 fn take_turn(element: &mut Element, carrier: &mut Carrier, turn: Turn) -> Result<Came>
     requires { IsReady element.old }
     ensures { IfOk result (λ _. IsReady element.new) }
 {
-    let came = match turn {
-        Turn::Enter(leg) => {
-            if enter_if_possible(element, leg, carrier)? {
-                carrier.join(leg);
-                Came::Entered
-            } else {
-                Came::NotEntered
-            }
-        }
+    match turn {
+        Turn::Enter(leg) => take_entry(element, carrier, leg),
         Turn::Delete(leg) => {
             carrier.part(leg);
             delete(element, leg, carrier)?;
-            Came::Changed
+            carrier.carry();
+            Ok(Came::Changed)
         }
         Turn::Middle(middle) => {
             turn_middle(element, middle, carrier)?;
-            Came::Changed
+            carrier.carry();
+            Ok(Came::Changed)
         }
-    };
-    carrier.carry();
-    Ok(came)
+    }
 }
 
 // Takes all turns.
