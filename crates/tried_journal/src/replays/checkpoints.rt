@@ -12,15 +12,15 @@ use xc_recovery::{checkpoint_equipment, checkpoint_row, replay};
 // Bytes 1 to 17 of a record of version 2. Byte 0 is its seal, and the rest are zeros.
 type Row = [u8; 17];
 
-// The bytes of a journal of version 2 of three modules of two slots.
-fn file(alloc: Global, equipped: u64, records: &[[u8; 64]]) -> Result<Vec<u8>, Fail> {
+// The bytes of a journal of version 2 of three modules of two slots, all equipped.
+fn file(alloc: Global, rows: &[Row]) -> Result<Vec<u8>, Fail> {
     let mut bytes = Vec::new(alloc);
     bytes.extend_from_slice(b"\xA5DXCJRNL")?;
     bytes.extend_from_slice(&[2, 0, 0, 3, 0, 2])?;
-    bytes.extend_from_slice(&equipped.to_be_bytes())?;
+    bytes.extend_from_slice(&[0, 0, 0, 0, 0, 0, 0, 7])?;
     bytes.extend_from_slice(&[0; 10])?;
-    for record in records {
-        bytes.extend_from_slice(record)?;
+    for row in rows {
+        bytes.extend_from_slice(&record(row))?;
     }
     bytes.extend_from_slice(&[0])?;
     Ok(bytes)
@@ -39,11 +39,11 @@ struct Taken {
     matrix: Matrix,
 }
 
-fn take_all(alloc: Global, equipped: u64, records: &[[u8; 64]]) -> Result<Taken, Fail>
+fn take_all(alloc: Global, rows: &[Row]) -> Result<Taken, Fail>
     ensures { IfOk result (λ t. IsPlaced t.table t.matrix) }
 {
     let shape = Shape::new(3, 2).ok_or("a shape")?;
-    let bytes = file(alloc, equipped, records)?;
+    let bytes = file(alloc, rows)?;
     let mut journal = opened(alloc, shape, bytes, &[])?.ok_or("a journal")?;
     let mut table = empty_table(alloc, shape)?;
     let mut matrix = empty_matrix(alloc, shape)?;
@@ -69,36 +69,36 @@ const CHECKPOINT: [Row; 3] = [
     [1, 0, 1, 0, 4, 0, 1, 1, 0, 0, 0, 0, 0, 0, 0, 0, 0],
 ];
 
+fn has_rows(taken: &Taken) -> bool
+    requires { IsPlaced taken.now.table taken.now.matrix }
+{
+    for i in 0..3 {
+        if checkpoint_row(&taken.table, &taken.matrix, i) != Some(record(&CHECKPOINT[i])) {
+            return false;
+        }
+    }
+    checkpoint_equipment(&taken.table) == 7
+        && checkpoint_row(&taken.table, &taken.matrix, 3).is_none()
+}
+
+fn stands(taken: &Taken) -> bool {
+    for (input, output, middle) in [(0, 2, 2), (2, 0, 1), (1, 4, 1)] {
+        if middle_of(&taken.matrix, leg(input, output)) != Some(Middle(middle)) {
+            return false;
+        }
+    }
+    taken.table.out() == Some(Middle(0))
+}
+
 #[test]
 fn a_checkpoint_comes_to_the_same(rt: HostRuntime) -> Result<(), Fail> {
     let alloc = rt.alloc();
-    let records = [
-        record(&ROWS[0]),
-        record(&ROWS[1]),
-        record(&ROWS[2]),
-        record(&ROWS[3]),
-    ];
-    let first = take_all(alloc, 7, &records)?;
-    assert_eq!(rt; first.table.out(), Some(Middle(0)));
-    assert_eq!(rt; checkpoint_equipment(&first.table), 7);
-    for i in 0..3 {
-        let row = checkpoint_row(&first.table, &first.matrix, i);
-        assert_eq!(rt; row, Some(record(&CHECKPOINT[i])), "row {i}");
-    }
-    assert_eq!(rt; checkpoint_row(&first.table, &first.matrix, 3), None);
-    let lines = [
-        record(&CHECKPOINT[0]),
-        record(&CHECKPOINT[1]),
-        record(&CHECKPOINT[2]),
-    ];
-    let second = take_all(alloc, 7, &lines)?;
-    assert_eq!(rt; second.table.out(), Some(Middle(0)));
+    let first = take_all(alloc, &ROWS)?;
+    assert!(rt; stands(&first) && has_rows(&first));
+    let second = take_all(alloc, &CHECKPOINT)?;
+    assert!(rt; stands(&second));
     let old = rows(alloc, &first.table)?;
     let new = rows(alloc, &second.table)?;
     assert_eq!(rt; old.as_slice(), new.as_slice());
-    for (input, output, middle) in [(0, 2, 2), (2, 0, 1), (1, 4, 1)] {
-        let found = middle_of(&second.matrix, leg(input, output));
-        assert_eq!(rt; found, Some(Middle(middle)), "{input} to {output}");
-    }
     Ok(())
 }
