@@ -1,0 +1,45 @@
+use Rattle.std.proofs.Common.{◌≡◌, ◌≤◌, ◌∙◌, ℕ, rules, inl, inr, refl, sym, ap, subst}
+use Rattle.std.specs.Prelude.{vec_capacity}
+use Rattle.std.specs.Arc.{arc_value}
+use Rattle.dxc_num.specs.Dimensions.{ports}
+use Rattle.shelf_file.specs.Contents.{Contents}
+use Rattle.xc_core.specs.States.{opening_of}
+use Rattle.craft_server.proofs.Starting.{at_opening, begun}
+use Rattle.craft_server.proofs.Audits.{listed_first, of_shape}
+use Rattle.craft_server.proofs.check.run_check.Goals as goal
+
+pub check-requires-clause-room : goal.check-requires-clause-room
+check-requires-clause-room g c =
+    let f = c.in-Ok.ensures.opened.0 in
+    let x = c.in-Ok.controller in
+    let st = c.in-Ok.ensures.opened.1 in
+    let told = g.O.Journal.Disk.told in
+    let state = g.O.Journal.Disk.state in
+    let at = at_opening told state _ f.shelf _ (opening_of state x.state) st.opening in
+    let size : ports x.state.table.shape ≡ ports (arc_value x.shelf).shape = ap ports (of_shape told state f.shelf x.state st.begins at.shape ∙ ap (λ (s : Contents). s.shape) (sym st.shelf)) in
+    subst (λ (n : ℕ). n ≤ vec_capacity c.in-Ok-with_capacity.listed) (sym size) (search rules)
+
+pub returns-in-Err : goal.returns-in-Err
+returns-in-Err g c = inl (c.in-Err.ensures.opened, refl)
+
+pub returns : goal.returns
+returns g c =
+    let f = c.in-Ok.ensures.opened.0 in
+    let x = c.in-Ok.controller in
+    let st = c.in-Ok.ensures.opened.1 in
+    let told = g.O.Journal.Disk.told in
+    let state = g.O.Journal.Disk.state in
+    let at = at_opening told state _ f.shelf _ (opening_of state x.state) st.opening in
+    inr (
+      f,
+      opening_of state x.state,
+      begun told state f.disk f.shelf _ x st,
+      (
+        c.in-Ok.ensures.unstopped,
+        record {
+          sent = c.check.result;
+          wrote = listed_first told state f.shelf x.state st.begins at.shape g.K.Link.told (g.K.Link.state c.args.terminal.now) (g.K.Link.state c.check.new.link) c.check.result c.check.ensures;
+          status_is = c.of_sent.ensures;
+        },
+      ),
+    )
