@@ -40,12 +40,15 @@ impl RowOpener {
 /// How many bytes are read of a shelf file.
 const MOST: usize = 65_537;
 
-// Appends the bytes as far as they are read.
+// Appends the bytes of a shelf file that isn't longer.
 fn append(into: &mut Vec<u8>, text: &[u8]) -> Result<(), NoMemory>
     ensures ok { OnOk result ((part : List ℕ) × (into.new.items ≡ into.old.items ++ part) × (length part ≤ most_shelf_bytes)) }
     ensures err { OnErr result (into.new.items ≡ into.old.items) }
 {
-    into.extend_from_slice(&text[..text.len().min(MOST)])?;
+    if text.len() > MOST {
+        return Err(NoMemory);
+    }
+    into.extend_from_slice(text)?;
     Ok(())
 }
 
