@@ -9,10 +9,10 @@ use Rattle.user_admin.specs.declared.op.UserOutcome.TheVariants.{Done, Denied, F
 use Rattle.user_admin.specs.declared.op.UserEntry.{UserEntry}
 use Rattle.user_admin.specs.Users.{Users, by_name, shelf_user, shelf_users}
 use Rattle.user_admin.specs.Changes.{AllFit, Fits, after, effect, most_users}
-use Rattle.user_admin.specs.Histories.{IsLegalFrom, MayCome, Opening, change_in, changes_of, opening_users, users_after}
+use Rattle.user_admin.specs.Histories.{IsLegal, IsLegalFrom, MayCome, Opening, change_in, changes_of, users_after}
 use Rattle.user_admin.specs.Checkpoints.{rows}
 use Rattle.user_admin.specs.Records.{Means}
-use Rattle.user_admin.specs.States.{AreMeant}
+use Rattle.user_admin.specs.Files.{AreMeant}
 use Rattle.user_admin.specs.Laws.{AreNamed, AreShelfUsersNamed, DoRowsStand, DoesRecordStand, HasClassS, IsClassSKeptAlways, IsLimitKeptAlways}
 use Rattle.user_admin.proofs.Leading.{after-append, fit_append, rows_lead}
 use Rattle.user_admin.proofs.Granted.{class_s_kept, granted_fits, inserted_named, limit_kept, names_kept, none_some}
@@ -56,14 +56,17 @@ from_few : (sid : List ℕ) (h : List UserEntry) (m : Users) → AreNamed m → 
 from_few sid [] m n l few = few
 from_few sid (e ∷ h) m n l few = subst (λ (k : Users). len k ≤ most_users) (sym (after-append (change_in e.outcome) (changes_of h) m)) (from_few sid h (after (change_in e.outcome) m) (one_named e.outcome m n) l.1 (one_few sid e.op e.outcome m n l.0 few))
 
-opening_named : (o : Opening) → AreNamed (opening_users o)
-opening_named o = after_named o.changes (shelf_users o.shelf) (shelf_users_named o.shelf)
+opening_named : (o : Opening) (h : List UserEntry) → IsLegal o h → AreNamed o.users
+opening_named o h l = subst AreNamed l.opened.2 (after_named l.opened.0 (shelf_users o.shelf) (shelf_users_named o.shelf))
+
+pub users_named : (o : Opening) (h : List UserEntry) → IsLegal o h → AreNamed (users_after o h)
+users_named o h l = after_named (changes_of h) o.users (opening_named o h l)
 
 pub class_s_kept_always : IsClassSKeptAlways
-class_s_kept_always o h l has = from_s o.shelf.sid h (opening_users o) (opening_named o) l.entries has
+class_s_kept_always o h l has = from_s o.shelf.sid h o.users (opening_named o h l) l.entries has
 
 pub limit_kept_always : IsLimitKeptAlways
-limit_kept_always o h l few = from_few o.shelf.sid h (opening_users o) (opening_named o) l.entries (after_few o.changes (shelf_users o.shelf) l.opened few)
+limit_kept_always o h l few = from_few o.shelf.sid h o.users (opening_named o h l) l.entries (subst (λ (m : Users). len m ≤ most_users) l.opened.2 (after_few l.opened.0 (shelf_users o.shelf) l.opened.1 few))
 
 -- files of records
 meant_append : (shelf : Users) (rs : List (List ℕ)) (cs : List UserChange) (bytes : List ℕ) (c : UserChange) → AreMeant shelf rs cs → Means shelf bytes c → AreMeant shelf (rs ++ bytes ∷ []) (cs ++ c ∷ [])
@@ -83,7 +86,7 @@ record_stands shelf users records bytes c f m fits = (
 pub rows_stand : DoRowsStand
 rows_stand o h head records file l few stands meant =
     let shelf = shelf_users o.shelf in
-    let r = rows_lead shelf (users_after o h) (shelf_users_named o.shelf) (after_named (changes_of h) (opening_users o) (opening_named o)) (limit_kept_always o h l few) in
+    let r = rows_lead shelf (users_after o h) (shelf_users_named o.shelf) (users_named o h l) (limit_kept_always o h l few) in
     record {
       head = head;
       records = records;

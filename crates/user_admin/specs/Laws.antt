@@ -14,8 +14,8 @@ use Rattle.user_admin.specs.Verdicts.{Grants}
 use Rattle.user_admin.specs.Checkpoints.{rows}
 use Rattle.user_admin.specs.Records.{MayBeSpelled, Means, has_long_salt, spelling}
 use Rattle.user_admin.specs.Spellable.{AllSpellable, AreDescribed, AreSpellable, NamesUid}
-use Rattle.user_admin.specs.States.{AreMeant, FoldsTo, IsFileOf}
-use Rattle.user_admin.specs.Histories.{IsLegal, Opening, opening_users, users_after}
+use Rattle.user_admin.specs.Files.{AreMeant, FoldsTo, IsFileOn}
+use Rattle.user_admin.specs.Histories.{IsLegal, Opening, users_after}
 
 -- each user has the name under which it is kept
 abbrev pub AreNamed : Users → Type 0
@@ -55,7 +55,7 @@ AreShelfUsersNamed = (shelf : Contents) → AreNamed (shelf_users shelf)
 
 -- no legal history takes away the last user of class S
 abbrev pub IsClassSKeptAlways : Type 0
-IsClassSKeptAlways = (o : Opening) (h : List UserEntry) → IsLegal o h → HasClassS (opening_users o) → HasClassS (users_after o h)
+IsClassSKeptAlways = (o : Opening) (h : List UserEntry) → IsLegal o h → HasClassS o.users → HasClassS (users_after o h)
 
 -- a legal history keeps to the limit
 abbrev pub IsLimitKeptAlways : Type 0
@@ -64,7 +64,7 @@ IsLimitKeptAlways = (o : Opening) (h : List UserEntry) → IsLegal o h → len (
 -- a file of a checkpoint's rows stands for the users
 abbrev pub DoRowsStand : Type 0
 DoRowsStand = (o : Opening) (h : List UserEntry) (head : Head) (records : List (List ℕ)) (file : List ℕ) → IsLegal o h → len (shelf_users o.shelf) ≤ most_users
-    → Stands o.shelf.shape head records file → AreMeant (shelf_users o.shelf) records (rows (shelf_users o.shelf) (users_after o h)) → IsFileOf o h file
+    → Stands o.shelf.shape head records file → AreMeant (shelf_users o.shelf) records (rows (shelf_users o.shelf) (users_after o h)) → IsFileOn o.shelf.shape (shelf_users o.shelf) (users_after o h) file
 
 -- a file with one record more, of a change that fits, stands for the users after that change
 abbrev pub DoesRecordStand : Type 0
