@@ -14,15 +14,7 @@ use std::alloc::Global;
 use std::env;
 use std::time::{Clock, Instant};
 
-const SHAPES: [(u16, u16); 7] = [
-    (2, 32),
-    (4, 32),
-    (8, 24),
-    (8, 32),
-    (16, 32),
-    (32, 32),
-    (64, 96),
-];
+const SHAPES: [(u16, u16); 6] = [(2, 32), (4, 32), (8, 24), (8, 32), (16, 32), (32, 32)];
 
 fn measured<R: Clock>(
     rt: &R,
