@@ -17,8 +17,6 @@ mod serve;
 mod sessions;
 mod status;
 mod stock;
-#[cfg(test)]
-mod tests;
 mod threads;
 
 pub use frames::FrameJob;
