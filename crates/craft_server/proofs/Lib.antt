@@ -8,3 +8,4 @@ pub mod Audits
 pub mod Scripting
 pub mod LoadShelf
 pub mod Loading
+pub mod Mirroring
