@@ -9,3 +9,5 @@ pub mod Scripting
 pub mod LoadShelf
 pub mod Loading
 pub mod Mirroring
+pub mod Wording
+pub mod StandingBy

@@ -1,18 +1,21 @@
 -- A controller that is served, its journal mirrored or alone.
-use Rattle.std.proofs.Common.{◌≡◌, ◌⊎◌, ◌≤◌, ◌∙◌, ℕ, List, Option, Result, Ok, Err, inl, inr, sym, subst}
-use Rattle.std.specs.Prelude.{MatchResult}
+use Rattle.std.proofs.Common.{◌≡◌, ◌⊎◌, ◌≤◌, ◌∙◌, ℕ, List, Option, Some, None, Result, Ok, Err, inl, inr, refl, sym, subst}
+use Rattle.std.specs.Prelude.{IsSome, MatchResult}
 use Rattle.dxc_causes.specs.Causes.{Rose}
 use Rattle.dxc_disk.specs.Disks.{DiskState}
+use Rattle.dxc_outside.specs.Callers.{ListenerState}
 use Rattle.dxc_outside.specs.Links.{LinkState}
 use Rattle.dxc_outside.specs.Threads.{SpawnerState}
 use Rattle.shelf_file.specs.Contents.{Contents}
 use Rattle.standby_link.specs.declared.mirror_disk.MirrorDisk.{MirrorDisk}
 use Rattle.xc_core.specs.States.{Opening, opening_of}
+use Rattle.craft_server.specs.declared.line.Line.TheVariants.{Serve}
 use Rattle.craft_server.specs.declared.opening.Controller.{Controller}
 use Rattle.craft_server.specs.declared.status.Status.{Status}
 use Rattle.craft_server.specs.declared.status.Status.TheVariants.{CannotOpen, NoMemory}
-use Rattle.craft_server.specs.Openings.{HasShelf, IsStarted, Named, NotStarted, Sources}
+use Rattle.craft_server.specs.Openings.{HasShelf, IsStarted, Named, NotStarted, Sources, named}
 use Rattle.craft_server.specs.Peers.{FoundMirror, IsMirrorOf, IsOpenedOn, IsReady, Mirrors, NotMirrored, mirror_state}
+use Rattle.craft_server.specs.Runs.{IsRunOf, Lent, MirrorsFor, OpensFor, Told}
 use Rattle.craft_server.specs.Serving.{IsServing}
 use Rattle.craft_server.proofs.Counting.{rose_behind}
 use Rattle.craft_server.proofs.Starting.{begun, opened_at}
@@ -67,3 +70,11 @@ module _ {D K : Type 0} (told link_told : Type 0) (state : D → DiskState) (lin
         | inl not ↦ inl (not.0, keep not.1)
         | inr ran ↦ inr (ran.0, ran.1, ran.2, on ran.3)
       ])
+
+-- a line of the mode serve, without a peer and with one
+pub serves_for : (told : Told) {D K L J : Type 0} (state : D → DiskState) (peer_state : K → LinkState) (listener : L → ListenerState J) (link : J → LinkState) (listener_at : List ℕ → Option L) (shelf journal address lines : List ℕ) (workers : ℕ) (before after : Lent D) (status : Status) (peer : Option (List ℕ))
+    → (peer ≡ None → OpensFor told state (Serve shelf journal address lines workers None) before after status)
+    → (IsSome peer → MirrorsFor told state peer_state listener link listener_at (named shelf journal) workers before after status)
+    → IsRunOf told state peer_state listener link listener_at (Serve shelf journal address lines workers peer) before after status
+serves_for told state peer_state listener link listener_at shelf journal address lines workers before after status None alone mirrored = alone refl
+serves_for told state peer_state listener link listener_at shelf journal address lines workers before after status (Some name) alone mirrored = mirrored tt

@@ -3,7 +3,7 @@ use Rattle.std.specs.Prelude.{◌≡◌, ◌≢◌, ◌⊎◌, ◌↔◌, ◌+�
 use Rattle.dxc_causes.specs.Causes.{Rose, Counted}
 use Rattle.dxc_disk.specs.Disks.{DiskState, IsSound}
 use Rattle.dxc_outside.specs.Callers.{ListenerState, IsSoundCame, came}
-use Rattle.dxc_outside.specs.Links.{LinkState}
+use Rattle.dxc_outside.specs.Links.{IsSoundLink, LinkState}
 use Rattle.dxc_outside.specs.declared.listener.Came.{Came}
 use Rattle.dxc_outside.specs.declared.listener.Came.TheVariants as answer
 use Rattle.standby_link.specs.declared.end.StandbyEnd.{StandbyEnd}
@@ -42,7 +42,7 @@ module _ (disk_told link_told : Type 0) (k k' : LinkState) (d d' : DiskState) (e
     pub write_fault : end ≡ WriteFault → Rose k.write_faults k'.write_faults
     pub disk_fault : end ≡ DiskFault → Rose d.faults d'.faults
     pub spent : end ≡ RanOut → Counted k.reads k'.reads (2 ^ 32)
-    pub sound_link : IsTrue k.sound → (end ≡ ReadFault) ⊎ (end ≡ WriteFault) → ⊥
+    pub sound_link : IsSoundLink k → (end ≢ ReadFault) × (end ≢ WriteFault)
     pub sound_disk : end ≡ DiskFault → IsSound (1 + read_in ends) d → ⊥
 
 module _ (opener_told disk_told listener_told link_told : Type 0) {D L K : Type 0} (disk : D → DiskState) (listener : L → ListenerState K) (link : K → LinkState) where
@@ -57,7 +57,7 @@ module _ (opener_told disk_told listener_told link_told : Type 0) {D L K : Type 
   pub record ServedOne (d : D) (l : ListenerState K) (status : Status) : Type 0 where
     pub caller : K
     pub first : listener_told → (more : List K) × (l.coming ≡ caller ∷ more)
-    pub is_sound : IsTrue l.sound → IsTrue (link caller).sound
+    pub is_sound : IsTrue l.sound → IsSoundLink (link caller)
     pub new_caller : K
     pub new_disk : D
     pub end : StandbyEnd

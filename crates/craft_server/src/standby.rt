@@ -42,8 +42,9 @@ fn first_link<L: Listener, R: Wait>(listener: &mut L, rt: &R) -> Came<L::Link>
 {
     for _ in 0..FAILURES {
         match listener.accept(rt) {
+            Came::Link(link) => return Came::Link(link),
+            Came::End => return Came::End,
             Came::Failed => {}
-            came => return came,
         }
     }
     Came::Failed
