@@ -1,10 +1,11 @@
 //! A second controller's copy of a journal.
-ghost use Rattle.craft_server.specs.Standbys.{IsFirst, StandsBy};
+ghost use Rattle.craft_server.specs.Standbys.{IsFirst, RanStandby, StandsBy};
 
 use crate::Status;
 use crate::links::FAILURES;
-use dxc_outside::{Came, Listener, Opened, Opener};
-use standby_link::serve_standby;
+use dxc_disk::Disk;
+use dxc_outside::{Came, Link, Listener, Opened, Opener};
+use standby_link::{StandbyEnd, serve_standby};
 use std::alloc::Global;
 use std::sync::Wait;
 
@@ -30,10 +31,17 @@ pub(crate) fn run_standby<O: Opener, R: Wait>(
         Opened::NoMemory => return Status::NoMemory,
     };
     match first_link(&mut listener, rt) {
-        Came::Link(mut link) => Status::of_standby(serve_standby(&mut link, &mut disk)),
+        Came::Link(mut link) => Status::of_standby(stand_by(&mut link, &mut disk)),
         Came::End => Status::Done,
         Came::Failed => Status::CannotOpen,
     }
+}
+
+// Serves the link on the disk to its end.
+fn stand_by<K: Link, D: Disk>(link: &mut K, disk: &mut D) -> StandbyEnd
+    ensures { RanStandby D.told K.told (K.state link.old) (K.state link.new) (D.state disk.old) (D.state disk.new) result }
+{
+    serve_standby(link, disk)
 }
 
 // The first link that comes, unless the listener says End before, or so many accepts in a row fail as may not.

@@ -25,17 +25,22 @@ pub fn primary_fault(alloc: Global, row: &Row, primary: &Primary) -> Result<Opti
     let is_joined = mirror.mirror() == Mirror::Joined;
     let disk = mirror.into_inner();
     let sent = written.get().context("nothing was left of the link")?;
-    if sent.as_slice() != primary.sent.as_slice() {
-        return Ok(Some(format!(in alloc; "it sent {}", hex::encode(alloc, sent)?)?));
-    }
     if is_joined && disk.bytes() != primary.copy.as_slice() {
         return Ok(Some("the primary's own file is another".to_string(alloc)?));
     }
-    copy_fault(alloc, primary, sent)
+    sent_fault(alloc, sent, &primary.sent, &primary.copy)
 }
 
-// Whether a standby's file becomes what it must by what was sent.
-fn copy_fault(alloc: Global, primary: &Primary, sent: &[u8]) -> Result<Option<String>> {
+/// What is wrong with what was sent, or with what a standby's file becomes by it.
+pub fn sent_fault(
+    alloc: Global,
+    sent: &[u8],
+    wanted: &[u8],
+    copy_wanted: &[u8],
+) -> Result<Option<String>> {
+    if sent != wanted {
+        return Ok(Some(format!(in alloc; "it sent {}", hex::encode(alloc, sent)?)?));
+    }
     let nothing = Vec::new(alloc);
     let link = MemLink::new(
         sent.to_vec(alloc)?,
@@ -44,7 +49,7 @@ fn copy_fault(alloc: Global, primary: &Primary, sent: &[u8]) -> Result<Option<St
         Vec::new(alloc),
     );
     let copy = served(alloc, link, MemDisk::new(alloc, nothing, Vec::new(alloc))?)?;
-    if copy.file.as_slice() == primary.copy.as_slice() {
+    if copy.file.as_slice() == copy_wanted {
         return Ok(None);
     }
     Ok(Some(format!(in alloc; "the copy is {}", hex::encode(alloc, &copy.file)?)?))

@@ -10,7 +10,7 @@ pub fn rows_of(alloc: Global, text: &str) -> Result<Vec<Row>> {
             continue;
         }
         let (word, rest) = line.split_once(' ').unwrap_or((line, ""));
-        if word == "standby" || word == "primary" {
+        if matches!(word, "standby" | "primary" | "server") {
             rows.push(Row::new(alloc, word, rest)?)?;
         } else {
             let row = rows

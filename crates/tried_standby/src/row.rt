@@ -40,10 +40,20 @@ pub struct Primary {
     pub copy: Vec<u8>,
 }
 
+/// The program's `serve` on a new journal, which joins.
+#[derive(Drop)]
+pub struct Server {
+    /// What its one caller sends.
+    pub units: String,
+    pub sent: Vec<u8>,
+    pub copy: Vec<u8>,
+}
+
 #[derive(Drop)]
 pub enum Side {
     Standby(Standby),
     Primary(Primary),
+    Server(Server),
 }
 
 #[derive(Drop)]
@@ -63,11 +73,16 @@ pub struct Row {
 }
 
 impl Row {
-    /// The row of a line's word, `standby` or `primary`.
+    /// The row of a line's word, `standby`, `server` or `primary`.
     pub fn new(alloc: Global, word: &str, name: &str) -> Result<Row> {
         let side = match word {
             "standby" => Side::Standby(Standby {
                 marks: Vec::new(alloc),
+            }),
+            "server" => Side::Server(Server {
+                units: "".to_string(alloc)?,
+                sent: Vec::new(alloc),
+                copy: Vec::new(alloc),
             }),
             _ => Side::Primary(Primary {
                 joins: "Joined".to_string(alloc)?,
@@ -117,6 +132,7 @@ impl Row {
             _ => match &mut self.side {
                 Side::Standby(standby) => standby.take(alloc, word, rest)?,
                 Side::Primary(primary) => primary.take(alloc, word, rest)?,
+                Side::Server(server) => server.take(alloc, word, rest)?,
             },
         }
         Ok(())
@@ -138,6 +154,18 @@ impl Standby {
             file: bytes_of(alloc, file)?,
             sent: bytes_of(alloc, sent)?,
         })?;
+        Ok(())
+    }
+}
+
+impl Server {
+    fn take(&mut self, alloc: Global, word: &str, rest: &str) -> Result<()> {
+        match word {
+            "send" => self.units = rest.to_string(alloc)?,
+            "sent" => self.sent.extend_from_slice(&bytes_of(alloc, rest)?)?,
+            "copy" => self.copy = bytes_of(alloc, rest)?,
+            _ => None.context("the word isn't known")?,
+        }
         Ok(())
     }
 }
