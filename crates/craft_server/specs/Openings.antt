@@ -15,7 +15,7 @@ use Rattle.xc_core.specs.States.{Opening, opening_of}
 use Rattle.craft_session.specs.Scripts.{IsOpeningOf, opening_room}
 use Rattle.craft_server.specs.declared.opening.Controller.{Controller}
 use Rattle.craft_server.specs.declared.status.Status.{Status}
-use Rattle.craft_server.specs.declared.status.Status.TheVariants.{Done, BadWords, BadShelf, BadJournal, Disk, CannotOpen, NoThread, NoMemory, Link, Stopped, Spent}
+use Rattle.craft_server.specs.declared.status.Status.TheVariants.{Done, BadWords, BadShelf, BadJournal, Disk, CannotOpen, NoThread, NoMemory, Link, Stopped, Spent, BadMessage, NotEmpty}
 use Rattle.craft_server.specs.Statuses.{status_of_fault}
 
 -- the names of a shelf file and a journal
@@ -56,6 +56,8 @@ NoShelf told o p name Stopped = ⊥
 NoShelf told o p name (BadJournal f) = ⊥
 NoShelf told o p name Disk = ⊥
 NoShelf told o p name Spent = ⊥
+NoShelf told o p name BadMessage = ⊥
+NoShelf told o p name NotEmpty = ⊥
 
 -- no disk was handed out, and why
 abbrev pub NoDisk : {D : Type 0} → Sources D → Sources D → Status → Type 0

@@ -17,7 +17,7 @@ pub enum LinksEnd {
 }
 
 /// So many accepts in a row may not fail.
-const FAILURES: u8 = 16;
+pub(crate) const FAILURES: u8 = 16;
 
 /// Serves each caller of the listener by one session, one after another, until the listener says End or 16 accepts in a row failed.
 /// A session that ends by a fault, or that the gate stops, ends for its caller alone.

@@ -1,11 +1,12 @@
 ghost use Rattle.std.specs.Prelude.{◌≡◌};
-ghost use Rattle.craft_server.specs.Statuses.{number_of, status_of, status_of_fault, status_of_sent};
+ghost use Rattle.craft_server.specs.Statuses.{number_of, status_of, status_of_fault, status_of_sent, status_of_standby};
 
 use craft_session::SessionEnd;
 use dxc_disk::Disk;
 use dxc_outside::Sent;
 use journal_core::JournalWhy;
 use shelf_file::ShelfFault;
+use standby_link::StandbyEnd;
 use xc_core::OpenFault;
 
 /// Why a journal can't be taken up.
@@ -28,20 +29,25 @@ pub enum Status {
     BadShelf(ShelfFault),
     /// The journal can't be taken up.
     BadJournal(JournalBad),
-    /// The journal's disk failed while the program opened.
+    /// The journal's disk failed while the program opened, or that of a standby's journal.
     Disk,
-    /// Something that the words name couldn't be opened: the shelf file, the journal, lines or the address.
+    /// Something that the words name couldn't be opened: the shelf file, the journal, lines, the address or the peer. Or 16 accepts of a
+    /// standby in a row failed.
     CannotOpen,
     /// A thread couldn't be started. No further one was, and those that ran have ended.
     NoThread,
     /// Memory was wanting while the program opened.
     NoMemory,
-    /// The terminal failed.
+    /// The terminal failed, or a standby's link.
     Link,
     /// The gate stopped: the command in hand has no response.
     Stopped,
     /// 2^32 reads were made.
     Spent,
+    /// What came over a standby's link is no item of a primary's.
+    BadMessage,
+    /// The journal of a standby held bytes before the first item.
+    NotEmpty,
 }
 
 impl Status {
@@ -61,6 +67,8 @@ impl Status {
             Status::Link => 9,
             Status::Stopped => 10,
             Status::Spent => 11,
+            Status::BadMessage => 12,
+            Status::NotEmpty => 13,
         }
     }
 
@@ -73,6 +81,20 @@ impl Status {
             SessionEnd::ReadFault | SessionEnd::WriteFault => Status::Link,
             SessionEnd::Stopped => Status::Stopped,
             SessionEnd::Spent => Status::Spent,
+        }
+    }
+
+    /// After a standby's run.
+    pub(crate) fn of_standby(end: StandbyEnd) -> Status
+        ensures { result ≡ status_of_standby end }
+    {
+        match end {
+            StandbyEnd::End => Status::Done,
+            StandbyEnd::ReadFault | StandbyEnd::WriteFault => Status::Link,
+            StandbyEnd::DiskFault => Status::Disk,
+            StandbyEnd::BadMessage => Status::BadMessage,
+            StandbyEnd::NotEmpty => Status::NotEmpty,
+            StandbyEnd::Spent => Status::Spent,
         }
     }
 

@@ -10,5 +10,5 @@ returns-in-Open-clause-opened g c =
       shelf = c.in_ok-shelf.shelf;
       described = c.in_ok-shelf.ensures.shelf;
       disk = c.in-Open.disk;
-      handed = handed g.O.Opener.told (g.O.Opener.journal_at c.args.opener.now) (g.O.Opener.journal_at c.shelf_of_file.new.opener) (g.O.Opener.journal_at c.journal.new.self) c.journal.result c.in-Open.disk c.args.names.journal.now c.in_ok-shelf.ensures.journals c.in-Open.is c.journal.ensures.hands;
+      handed = handed g.O.Opener.told (g.O.Opener.journal_at c.args.opener.now) (g.O.Opener.journal_at c.shelf_of_file.new.opener) (g.O.Opener.journal_at c.journal.new.self) c.journal.result c.in-Open.disk c.args.names.journal.now c.in_ok-shelf.ensures.journals c.in-Open.is c.journal.ensures.opening.hands;
     }) c.start.result c.start.ensures.started

@@ -1,0 +1,80 @@
+-- A controller that is served, its journal mirrored or alone.
+use Rattle.std.proofs.Common.{◌≡◌, ◌⊎◌, ◌≤◌, ◌∙◌, ℕ, List, Option, Some, None, Result, Ok, Err, inl, inr, refl, sym, subst}
+use Rattle.std.specs.Prelude.{IsSome, MatchResult}
+use Rattle.dxc_causes.specs.Causes.{Rose}
+use Rattle.dxc_disk.specs.Disks.{DiskState}
+use Rattle.dxc_outside.specs.Callers.{ListenerState}
+use Rattle.dxc_outside.specs.Links.{LinkState}
+use Rattle.dxc_outside.specs.Threads.{SpawnerState}
+use Rattle.shelf_file.specs.Contents.{Contents}
+use Rattle.standby_link.specs.declared.mirror_disk.MirrorDisk.{MirrorDisk}
+use Rattle.xc_core.specs.States.{Opening, opening_of}
+use Rattle.craft_server.specs.declared.line.Line.TheVariants.{Serve}
+use Rattle.craft_server.specs.declared.opening.Controller.{Controller}
+use Rattle.craft_server.specs.declared.status.Status.{Status}
+use Rattle.craft_server.specs.declared.status.Status.TheVariants.{CannotOpen, NoMemory}
+use Rattle.craft_server.specs.Openings.{HasShelf, IsStarted, Named, NotStarted, Sources, named}
+use Rattle.craft_server.specs.Peers.{FoundMirror, IsMirrorOf, IsOpenedOn, IsReady, Mirrors, NotMirrored, mirror_state}
+use Rattle.craft_server.specs.Runs.{IsRunOf, Lent, MirrorsFor, OpensFor, Told}
+use Rattle.craft_server.specs.Serving.{IsServing}
+use Rattle.craft_server.proofs.Counting.{rose_behind}
+use Rattle.craft_server.proofs.Starting.{begun, opened_at}
+
+-- what was started may be served
+pub ready : {D : Type 0} (told : Type 0) (state : D → DiskState) (disk : D) (s : Contents) (workers : ℕ) (x : Controller D) → IsStarted told state disk s workers x → IsReady told state workers x
+ready told state disk s workers x is = record { begins = is.begins; opening = opened_at told state disk s workers x is; seats = is.seats; each = is.each }
+
+-- what was served behind faults that were counted before
+pub served_behind : (jobs faults mid later : ℕ) (old new : SpawnerState) (status : Status) → faults ≤ mid → IsServing jobs mid later old new status → IsServing jobs faults later old new status
+served_behind jobs faults mid later old new status before is = record {
+  done = is.done;
+  no_more = is.no_more;
+  waited = is.waited;
+  no_thread = is.no_thread;
+  cannot_open = λ was. rose_behind faults mid later before (is.cannot_open was);
+  not_started = is.not_started;
+  only = is.only;
+}
+
+module _ {D K : Type 0} (told link_told : Type 0) (state : D → DiskState) (link : K → LinkState) (opener_told : Type 0) where
+  -- a mirror of what is handed out behind the reading of a shelf file
+  pub mirror_behind : (old_at mid_at : List ℕ → Option D) (journal : List ℕ) (m : MirrorDisk D K) → (opener_told → (n : List ℕ) → mid_at n ≡ old_at n) → IsMirrorOf told link_told state link opener_told mid_at journal m → IsMirrorOf told link_told state link opener_told old_at journal m
+  mirror_behind old_at mid_at journal m same is = record { disk = is.disk; handed = λ t. sym (same t journal) ∙ is.handed t; is_mirror = is.is_mirror }
+
+  -- started or not, on the mirror that was found
+  pub mirrored : (names : Named) (workers : ℕ) (before after : Sources D) (f : FoundMirror told link_told state link opener_told names before) (r : Result (Controller (MirrorDisk D K)) Status)
+      → MatchResult r (IsStarted told (mirror_state state) f.mirror f.shelf workers) (NotStarted told (mirror_state state) f.mirror f.shelf before.stops after.stops)
+      → MatchResult r (IsOpenedOn told link_told state link opener_told names workers before) (NotMirrored told link_told state link opener_told names before after)
+  mirrored names workers before after f (Ok x) is = (f, is)
+  mirrored names workers before after f (Err e) not = inr (inr (f, not))
+
+  -- there was no disk or no peer, and why
+  pub no_mirror : (names : Named) (before after : Sources D) (mid : ℕ) (s : Contents) (status : Status) → HasShelf opener_told before.opener names.shelf s → after.stops ≡ before.stops → before.opener.faults ≤ mid
+      → (status ≡ NoMemory) ⊎ ((status ≡ CannotOpen) × Rose mid after.opener.faults) → NotMirrored told link_told state link opener_told names before after status
+  no_mirror names before after mid s status described stops later why = inr (inl (s, described, (stops, elim why [
+    | inl memory ↦ inl memory
+    | inr closed ↦ inr (closed.0, rose_behind before.opener.faults mid after.opener.faults later closed.1)
+  ])))
+
+  -- what was served on what was started
+  pub serves : (names : Named) (workers : ℕ) (before after : Sources D) (untouched P : Type 0) (status : Status) (x : Controller (MirrorDisk D K)) → IsOpenedOn told link_told state link opener_told names workers before x → P → Mirrors told link_told state link opener_told names before after untouched (λ f o. P) status
+  serves names workers before after untouched P status x opened ran =
+      let f = opened.0 in
+      inr (f, opening_of (mirror_state state) x.state, begun told (mirror_state state) f.mirror f.shelf workers x opened.1, ran)
+
+  -- by the names of a line, and what came of it
+  pub mirrors_for : (names other : Named) → names ≡ other → (before after : Sources D) (untouched still P Q : Type 0) (status : Status) → (untouched → still) → (P → Q)
+      → Mirrors told link_told state link opener_told names before after untouched (λ f o. P) status → Mirrors told link_told state link opener_told other before after still (λ f o. Q) status
+  mirrors_for names other same before after untouched still P Q status keep on mirrors =
+      subst (λ (n : Named). Mirrors told link_told state link opener_told n before after still (λ f o. Q) status) same (elim mirrors [
+        | inl not ↦ inl (not.0, keep not.1)
+        | inr ran ↦ inr (ran.0, ran.1, ran.2, on ran.3)
+      ])
+
+-- a line of the mode serve, without a peer and with one
+pub serves_for : (told : Told) {D K L J : Type 0} (state : D → DiskState) (peer_state : K → LinkState) (listener : L → ListenerState J) (link : J → LinkState) (listener_at : List ℕ → Option L) (shelf journal address lines : List ℕ) (workers : ℕ) (before after : Lent D) (status : Status) (peer : Option (List ℕ))
+    → (peer ≡ None → OpensFor told state (Serve shelf journal address lines workers None) before after status)
+    → (IsSome peer → MirrorsFor told state peer_state listener link listener_at (named shelf journal) workers before after status)
+    → IsRunOf told state peer_state listener link listener_at (Serve shelf journal address lines workers peer) before after status
+serves_for told state peer_state listener link listener_at shelf journal address lines workers before after status None alone mirrored = alone refl
+serves_for told state peer_state listener link listener_at shelf journal address lines workers before after status (Some name) alone mirrored = mirrored tt
