@@ -25,7 +25,7 @@ use Rattle.xc_core.specs.declared.fault.OpenFault.TheVariants as fault
 use Rattle.xc_core.specs.declared.state.Home.{Home}
 use Rattle.xc_core.specs.declared.state.State.{State}
 use Rattle.xc_core.specs.Openings.{Fails}
-use Rattle.xc_core.specs.States.{HomeIs, Opening, Stands, StandsFor, opening_of}
+use Rattle.xc_core.specs.States.{HomeIs, Opening, Stands, StandsFor, began, opening_of}
 use Rattle.xc_core.proofs.Standing.{table_is}
 use Rattle.craft_session.specs.declared.end.SessionEnd.{SessionEnd}
 use Rattle.craft_session.specs.declared.end.SessionEnd.TheVariants.{End, Spent}
@@ -83,8 +83,8 @@ load_started disk s stops later (Err e) fresh shelf not = not_loaded disk s stop
 
 module _ {D : Type 0} (told : Type 0) (state : D → DiskState) where
   -- a state that was found stands for a history behind the opening
-  pub found_stands : (o : Opening) (x : State D) (h : List Entry) → opening_of state x ≡ o → Stands told state x h → StandsFor told state o x h
-  found_stands o x h is st = subst (λ (p : Opening). StandsFor told state p x h) is st
+  pub found_stands : (o : Opening) (x : State D) (h : List Entry) → opening_of state x ≡ o → Stands told state x h → StandsFor told state o x (began o.due ++ h)
+  found_stands o x h is st = subst (λ (p : Opening). StandsFor told state p x (began p.due ++ h)) is st
 
   -- what a state comes to that stands for a history
   pub stock_after : (o : Opening) (x : State D) (h : List Entry) (s : Stock) → StandsFor told state o x h → IsStock x s → IsStockAfter o h s

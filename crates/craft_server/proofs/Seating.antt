@@ -6,9 +6,8 @@ use Rattle.fabric_words.specs.Seats.{FabricId}
 use Rattle.shelf_file.specs.Contents.{Contents}
 use Rattle.turnstile.specs.Passing.{ArePasses, Gate, Ident, Token}
 use Rattle.xc_core.specs.declared.state.State.{State}
-use Rattle.xc_core.specs.Openings.{Begins}
-use Rattle.xc_core.specs.Seeing.{Saw}
-use Rattle.xc_core.specs.States.{Opening, opening_of}
+use Rattle.xc_core.specs.States.{Opening, began, opening_of}
+use Rattle.xc_core.proofs.Began.{began_rests, saw_nothing}
 use Rattle.xc_core.specs.Turns.{AreNumbered, SawNoneAstray}
 use Rattle.craft_session.specs.Seats.{IsSeated, PlaceAt}
 use Rattle.craft_server.specs.Places.{AreFresh, ArePlaces, place_at}
@@ -47,10 +46,8 @@ none_astray told t [] is = tt
 none_astray told t (e ∷ h) is = cc
 
 module _ {D : Type 0} (told : Type 0) (state : D → DiskState) where
-  -- a state that begins stands for no entry
-  saw_nothing : (s : State D) → Begins told state s → Saw (opening_of state s) [] []
-  saw_nothing s b = record { codes_are = refl; history = record { legal = b.stands.legal; turns = b.stands.turns; paid = b.stands.paid } }
-
   -- a fresh pass is seated at such a state
-  pub seated : (p : Token) (t : Gate (State D)) (i : FabricId) (n : ℕ) → p ≡ fresh t.id n → n < t.passes → Begins told state t.first → (opening_of state t.first).site.fabric ≡ i → IsSeated told state p t i
-  seated p t i n is within b fabric = subst (λ (q : Token). IsSeated told state q t i) (sym is) ((refl, refl, within, none_numbered t.passes), fabric, ([], saw_nothing t.first b, λ e no. cc), none_astray told)
+  pub seated : (p : Token) (t : Gate (State D)) (i : FabricId) (n : ℕ) → p ≡ fresh t.id n → n < t.passes → (opening_of state t.first).site.fabric ≡ i → IsSeated told state p t i
+  seated p t i n is within fabric =
+      let o = opening_of state t.first in
+      subst (λ (q : Token). IsSeated told state q t i) (sym is) ((refl, refl, within, none_numbered t.passes), fabric, (began o.due ++ [], saw_nothing o, began_rests o.due n), none_astray told)

@@ -40,7 +40,8 @@ module _ {D : Type 0} (disk_told : Type 0) (state : D → DiskState) where
     begins = begins;
     of_disk = opening_of_disk disk_told failed state counts disk x.state begins
         (subst (λ (y : Result (State D) (OpenFault D)). IfSome (disk_of y) (λ d. HasCause (state disk).faults (state d).faults failed)) is cause)
-        (subst (λ (y : Result (State D) (OpenFault D)). IfSome (disk_of y) (λ d. Spends opening_room (state disk) (state d))) is spends);
+        (subst (λ (y : Result (State D) (OpenFault D)). IfSome (disk_of y) (λ d. Spends opening_room (state disk) (state d))) is spends)
+        opening.due_is;
     seats = subst (λ (i : FabricId). AreNew i 0 x.seats.items) (sym fabric) seats.1;
     each = seats.0;
   }

@@ -23,6 +23,7 @@ use Rattle.dxc_model.proofs.Lasting.{lasts_before, lasts_no_more}
 use Rattle.tl1_text.specs.Units.{Input, IsRest, IsStream}
 use Rattle.shelf_file.specs.Contents.{Contents}
 use Rattle.xc_core.specs.Seeing.{Saw, codes, entry}
+use Rattle.xc_core.proofs.Began.{seen_all}
 use Rattle.xc_core.specs.declared.state.State.{State}
 use Rattle.xc_core.specs.Openings.{Begins, disk_home}
 use Rattle.xc_core.specs.States.{IsPaid, LimitBehind, Opening, cost, fault_in, faults_in, IsNeverAstray, most_room, opening_of, room_in, rules_of}
@@ -315,13 +316,16 @@ module _ (disk_told : Type 0) (disk : DiskState) (own : ℕ) (o : Opening) (is :
     abbrev b : Beginning
     b = record { opening = o; place = own; before = [] }
 
+    saw_all : (seen : List Gv) (h : List Entry) → Saw o seen h → seen ≡ codes h
+    saw_all seen h saw = seen_all o seen h is.ready saw
+
     abbrev commands : Walk Input Moment → ℕ
     commands w = length (units_in w.happenings)
 
     history_of : (w : Walk Input Moment) → Run (language s) own o.first.fold.table [] w → Saw o now.seen w.history → IsOwnHistory disk_told disk own o (commands w) w.history
     history_of w run saw =
-        let here = mine w.history saw.codes_are in
-        own_history (commands w) w.history saw.history.paid (run_costs (language s) own o.first.fold.table w run here) saw.history.legal saw.history.turns here (run_allowed (language s) own o.first.fold.table w run) (λ t. never t w.history saw.codes_are)
+        let here = mine w.history (saw_all now.seen w.history saw) in
+        own_history (commands w) w.history saw.history.paid (run_costs (language s) own o.first.fold.table w run here) saw.history.legal saw.history.turns here (run_allowed (language s) own o.first.fold.table w run) (λ t. never t w.history (saw_all now.seen w.history saw))
 
     answered : (items : List Item) (rest out : List ℕ) → IsRest rest → Past (language s) clock_told c d b now false items rest out → Answered disk_told disk own o clock_told c d s items out
     answered items rest out no_unit p =
@@ -372,9 +376,10 @@ module _ (disk_told : Type 0) (disk : DiskState) (own : ℕ) (o : Opening) (is :
         let x = p.stops in
         let g = w.history ++ x.front in
         let e = entry own x.op Cut in
-        let all = mine (g ++ e ∷ []) x.saw.codes_are in
+        let all_seen = saw_all now.seen (g ++ e ∷ []) x.saw in
+        let all = mine (g ++ e ∷ []) all_seen in
         let here = each_front (λ (y : Entry). y.place ≡ own) w.history x.front (each_front (λ (y : Entry). y.place ≡ own) g (e ∷ []) all) in
-        let never_here : disk_told → IsNeverAstray w.history = λ t. each_front (λ (y : Entry). y.outcome ≢ Failed JournalAstray) w.history x.front (each_front (λ (y : Entry). y.outcome ≢ Failed JournalAstray) g (e ∷ []) (never t (g ++ e ∷ []) x.saw.codes_are)) in
+        let never_here : disk_told → IsNeverAstray w.history = λ t. each_front (λ (y : Entry). y.outcome ≢ Failed JournalAstray) w.history x.front (each_front (λ (y : Entry). y.outcome ≢ Failed JournalAstray) g (e ∷ []) (never t (g ++ e ∷ []) all_seen)) in
         let history = own_history (commands w) w.history p.history.paid (run_costs (language s) own o.first.fold.table w p.run here) p.history.legal p.history.turns here (run_allowed (language s) own o.first.fold.table w p.run) never_here in
         record {
           walk = w;
@@ -412,7 +417,7 @@ no_codes (e ∷ es) is = cc
 pub script_of : (disk_told told clock_told : Type 0) (disk : DiskState) (k l : LinkState) (c d : List Moment) (s : Contents) (old new : SeatAt) (end : SessionEnd) → IsOpeningOf disk old.opening → old.seen ≡ [] → old.place ≡ 0 → new.places ≡ 1 → AreNumbered new.places new.seen
     → SawNoneAstray disk_told new.seen → IsServed (language s) told clock_told k l c d old new end → IsScript disk_told disk old.place old.opening clock_told c d s told k l end
 script_of disk_told told clock_told disk k l c d s old new end is none zero one numbers never (before, saw, (attending, ran)) =
-    let nothing : before ≡ [] = no_codes before (sym saw.codes_are ∙ none) in
+    let nothing : before ≡ [] = no_codes before (sym (seen_all old.opening old.seen before is.ready saw) ∙ none) in
     let now : Now = record { seen = new.seen; attending = attending } in
     let mine = λ (h : List Entry) (is_codes : new.seen ≡ codes h). mine_of old.place zero h (subst (λ (n : ℕ). Each (λ e. e.place < n) h) one (numbers h is_codes)) in
     scripted disk_told disk old.place old.opening is told clock_told k l c d s now mine never end
@@ -420,8 +425,8 @@ script_of disk_told told clock_told disk k l c d s old new end is none zero one 
 
 -- an opening of a disk is one, by what the call tells of the disk that the state has at home
 pub opening_of_disk : {D : Type 0} (told failed : Type 0) (state : D → DiskState) → ((x : D) → CountsOn (state x)) → (disk : D) (s : State D) → Begins told state s → IfSome (disk_home s.home) (λ d. HasCause (state disk).faults (state d).faults failed) → IfSome (disk_home s.home) (λ d. Spends opening_room (state disk) (state d))
-    → IsOpeningOf (state disk) (opening_of state s)
-opening_of_disk {D} told failed state counts disk s x cause spends =
+    → (opening_of state s).due ≡ false → IsOpeningOf (state disk) (opening_of state s)
+opening_of_disk {D} told failed state counts disk s x cause spends ready =
     let d = x.disk in
     let caused = subst (λ (y : Option D). IfSome y (λ d2. HasCause (state disk).faults (state d2).faults failed)) x.is_home cause in
     let spent = subst (λ (y : Option D). IfSome y (λ d2. Spends opening_room (state disk) (state d2))) x.is_home spends in
@@ -431,4 +436,5 @@ opening_of_disk {D} told failed state counts disk s x cause spends =
       room = λ roomy. let left = (spent roomy).room in omega (arith, left, x.room);
       margin = λ roomy. let left = (spent roomy).margin in omega (arith, left, x.faults, x.margin);
       counts = λ some. let below = on (omega (arith, some, x.room)) in omega (arith, below, x.faults);
+      ready = ready;
     }

@@ -66,12 +66,13 @@ pub record IsOwn (place : ℕ) (excused : Excuse) (e : Entry) : Type 0 where
 abbrev pub opened : Opening → At
 opened o = standing o.first.fold.table [] nobody
 
--- the opening of a disk: it took of the disk's room what an opening may, and each fault in it lowered the margin
+-- the opening of a disk on a new fabric: it took of the disk's room what an opening may, each fault in it lowered the margin, and no restart is due
 pub record IsOpeningOf (d : DiskState) (o : Opening) : Type 0 where
   pub later : d.faults ≤ o.faults
   pub room : opening_room ≤ d.room → d.room ≤ o.room + opening_room
   pub margin : opening_room ≤ d.room → o.faults + o.margin ≤ d.faults + d.margin
   pub counts : 0 < o.room → o.faults < last
+  pub ready : o.due ≡ false
 
 module _ (disk_told : Type 0) (disk : DiskState) (place : ℕ) (o : Opening) where
   -- the excuses of a session that gave so many commands on the disk that was handed out

@@ -23,5 +23,7 @@ pub mod Rooms
 pub mod Rereading
 pub mod Settling
 pub mod Staged
+pub mod Began
 pub mod Opened
+pub mod Adoption
 pub mod Asked

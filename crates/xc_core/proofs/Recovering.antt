@@ -1,6 +1,6 @@
 -- What was read of the journal, beside what stands behind the changes, and where the registers are on its last work.
 use Rattle.std.specs.Prelude.{IfSome}
-use Rattle.std.proofs.Common.{◌≡◌, ◌≢◌, inr, ⊎_elim, ℕ, ◌+◌, ◌<◌, ◌≤◌, ◌^◌, List, [], ◌∷◌, ◌++◌, length, take, drop, Option, Some, None, sym, refl, ap, ◌∙◌, subst, arith}
+use Rattle.std.proofs.Common.{◌≡◌, ◌≢◌, inl, inr, ⊎_elim, ℕ, ◌+◌, ◌<◌, ◌≤◌, ◌^◌, List, [], ◌∷◌, ◌++◌, length, take, drop, Option, Some, None, sym, refl, ap, ◌∙◌, subst, arith}
 use Rattle.std.proofs.lemmas.List.{append-nil, drop_all, take_all}
 use Rattle.std.proofs.Math.Decide.{dec_lt}
 use mathlib.Core.Logic.{dite}
@@ -34,7 +34,9 @@ use Rattle.roll_engine.proofs.Colouring.{join_leads}
 use Rattle.roll_engine.proofs.Running.{after_on}
 use Rattle.roll_engine.proofs.UnderWay.{under_way_done}
 use Rattle.xc_recovery.specs.Folds.{Folded, none_folded}
+use Rattle.journal_core.specs.declared.book.Book.{Book}
 use Rattle.journal_core.specs.declared.head.Head.{Head}
+use Rattle.journal_core.specs.Books.{listed}
 use Rattle.xc_recovery.specs.ChangeWorks.{choices_in}
 use Rattle.xc_recovery.specs.Placings.{IsPlaced}
 use Rattle.xc_recovery.specs.Replays.{ComesTo}
@@ -53,7 +55,7 @@ use Rattle.xc_core.specs.Beside.{IsBeside}
 use Rattle.xc_core.specs.Journals.{IsJournalled, IsSoFar}
 use Rattle.xc_core.specs.Reckonings.{IsPlannedFor, IsTable, Past, changed}
 use Rattle.xc_core.specs.Provisioners.{HasRoom, KeepsPast}
-use Rattle.xc_core.specs.Restarts.{HasWay, IsHalted, IsListOf, IsOnWay, IsOwnWay, Lists, Rejoins, Resumes, TakesUp}
+use Rattle.xc_core.specs.Restarts.{HasWay, IsHalted, IsListOf, IsOnWay, IsOwnWay, LastIs, Lists, Rejoins, Resumes, TakesUp}
 use Rattle.xc_core.specs.Recoveries.{Finds, IsAstray, IsCold, IsNeither, IsWarm, Reads, RecoveredIs, ResumedIs}
 use Rattle.xc_core.specs.Endings.{IfCold, IfWarm}
 use Rattle.xc_core.proofs.Granting.{granted_once}
@@ -144,12 +146,12 @@ comes_once d e records t u c a ops os one other =
     (ap (λ (x : Folded). x.table) same, ap (λ (x : Folded). x.colours) same, ap (λ (x : Folded). x.work) same)
 
 -- a stage at which the registers are, and what it leaves to be made
-pub record IsAtStage {D : Type 0} (b : Past) (p : Provisioner D) (l : Option Change) (g : Past) (ops : List LegOp) (c : Colouring) : Type 0 where
+pub record IsAtStage {D : Type 0} (s : DiskState) (book : Book) (b : Past) (p : Provisioner D) (l : Option Change) (g : Past) (ops : List LegOp) (c : Colouring) : Type 0 where
   pub step : ℕ
   pub low : step ≤ length (ops_writes ops)
   pub midway : IsMidway p.mover.fabric.size c (ops_writes ops) step p.mover.mover
   pub switches : length p.mover.mover.log + switches_in (drop step (ops_writes ops)) ≡ g.fold.switches
-  pub own : (r : RollingAt) → r.work.ops.items ≡ ops → r.step ≡ step → IsOwnWay b l c g r
+  pub own : (r : RollingAt) → r.work.ops.items ≡ ops → r.step ≡ step → IsOwnWay s book b l c g r
 
 module _ {D : Type 0} (told : Type 0) (state : D → DiskState) (b : Past) (p : Provisioner D) (ops : List LegOp) (h : Reads told state b p ops) where
   abbrev z : Size
@@ -204,27 +206,15 @@ module _ {D : Type 0} (told : Type 0) (state : D → DiskState) (b : Past) (p : 
   IsWorkOf None g = Unit {0}
   IsWorkOf (Some c) g = ops ≡ g.fold.work
 
-  -- the last work of a disk that tells its content: the registers are at a stage of it
-  at_stage : (l : Option Change) (g : Past) (before : Colouring) (r : RollingAt) → TakesUp b p.doubt l g → (way : IsOnWay p before g r) → IsOwnWay b l before g r → p.second.matrix ≡ g.fold.colours → IsWorkOf l g → (c : Colouring) → IsLastWork c ops p.second.matrix → IsAtStage b p l g ops c
-  at_stage None g before r taken way own matrix work c is = record {
-    step = length (ops_writes ops);
-    low = omega arith;
-    midway = ended_stage g before r way own matrix c is;
-    switches =
-        let none = ap switches_in (drop_all (length (ops_writes ops)) (ops_writes ops) (omega arith)) in
-        let e = ap switches_in own in
-        let s = way.switches in
-        omega (arith, none, e, s);
-    own = λ q same at. (λ i. drop (at i) (ops_writes (same i))) ∙ drop_all (length (ops_writes ops)) (ops_writes ops) (omega arith);
-  }
-  at_stage (Some x) g before r (op, asked, granted, met, is_g) way own matrix work c is =
-      let placed = h.halted.past.placed in
-      let ops_are : ops ≡ met.ops = work ∙ ap (λ (f : Past). f.fold.work) is_g in
-      let made : OpsMade met.ops b.fold.colours (after_ops met.ops b.fold.colours) = (placed.colouring, (change_leaves b.fold.table b.fold.colours x (choices_in met.ops) met.ops placed (own_verdict b.fold.table op x granted) (changes_made b.fold.table b.fold.colours x met.ops met.planned)).steps, refl) in
-      let leads_to : p.second.matrix ≡ after_ops met.ops b.fold.colours = matrix ∙ ap (λ (f : Past). f.fold.colours) is_g in
-      let here : OpsMade ops c p.second.matrix = last_undone c ops p.second.matrix is in
-      let same : c ≡ b.fold.colours = ops_once met.ops c b.fold.colours (after_ops met.ops b.fold.colours) (subst (λ (w : List LegOp × Colouring). OpsMade w.0 c w.1) (λ i. (ops_are i, leads_to i)) here) made in
-      let rolled : r.work.ops.items ≡ ops = own.0 ∙ sym work in
+  abbrev s : DiskState
+  s = state p.journal.0
+
+  abbrev book : Book
+  book = p.journal.1
+
+  -- the registers are on the way of the last work, which was made on this colouring
+  at_own : (l : Option Change) (g : Past) (before : Colouring) (r : RollingAt) → IsOnWay p before g r → r.work.ops.items ≡ ops → (c : Colouring) → IsLastWork c ops p.second.matrix → before ≡ c → ((q : RollingAt) → q.work.ops.items ≡ ops → IsOwnWay s book b l c g q) → IsAtStage s book b p l g ops c
+  at_own l g before r way rolled c is same own =
       let ws : List RegWrite = ops_writes ops in
       let cut = clip ws r.step in
       record {
@@ -234,11 +224,53 @@ module _ {D : Type 0} (told : Type 0) (state : D → DiskState) (b : Past) (p : 
           sized = way.under_way.midway.sized;
           shape = last_shape c is;
           ruled = way.under_way.midway.ruled;
-          course = way.under_way.midway.course ∙ ((λ i. course_after (take r.step (ops_writes (rolled i))) (at_rest ((own.1 ∙ sym same) i).routes)) ∙ ap (λ (us : List RegWrite). course_after us (at_rest c.routes)) (sym cut.2));
+          course = way.under_way.midway.course ∙ ((λ i. course_after (take r.step (ops_writes (rolled i))) (at_rest (same i).routes)) ∙ ap (λ (us : List RegWrite). course_after us (at_rest c.routes)) (sym cut.2));
         };
         switches = ap (λ (us : List RegWrite). length m.log + switches_in us) (cut.3 ∙ ap (λ (os : List LegOp). drop r.step (ops_writes os)) (sym rolled)) ∙ way.switches;
-        own = λ q also at. (also ∙ work, same);
+        own = λ q also at. own q also;
       }
+
+  -- they are at its end
+  at_end : (g : Past) (before : Colouring) (r : RollingAt) → IsOnWay p before g r → rest_of r ≡ [] → p.second.matrix ≡ g.fold.colours → (c : Colouring) → IsLastWork c ops p.second.matrix → IsAtStage s book b p None g ops c
+  at_end g before r way done matrix c is = record {
+    step = length (ops_writes ops);
+    low = omega arith;
+    midway = ended_stage g before r way done matrix c is;
+    switches =
+        let none = ap switches_in (drop_all (length (ops_writes ops)) (ops_writes ops) (omega arith)) in
+        let e = ap switches_in done in
+        let s = way.switches in
+        omega (arith, none, e, s);
+    own = λ q same at. inl ((λ i. drop (at i) (ops_writes (same i))) ∙ drop_all (length (ops_writes ops)) (ops_writes ops) (omega arith));
+  }
+
+  -- the journal's last work is the one that was read
+  last_read : told → (r : RollingAt) → LastIs s book b r.work.ops.items → r.work.ops.items ≡ ops
+  last_read t r is =
+      let listed_comes : ComesTo book.shape book.head (listed book s.reads_as) b.fold.table b.fold.colours r.work.ops.items = subst (λ (d : Dimensions). ComesTo d book.head (listed book s.reads_as) b.fold.table b.fold.colours r.work.ops.items) h.halted.past.shape is.comes in
+      let read_comes : ComesTo book.shape book.head (listed book s.reads_as) p.second.table p.second.matrix ops = subst (λ (rs : List (List ℕ)). ComesTo book.shape book.head rs p.second.table p.second.matrix ops) (h.records_are t) h.comes in
+      (comes_once book.shape book.head (listed book s.reads_as) b.fold.table p.second.table b.fold.colours p.second.matrix r.work.ops.items ops listed_comes read_comes).2
+
+  -- the last work of a disk that tells its content: the registers are at a stage of it
+  at_stage : told → (l : Option Change) (g : Past) (before : Colouring) (r : RollingAt) → TakesUp b p.doubt l g → (way : IsOnWay p before g r) → IsOwnWay s book b l before g r → p.second.matrix ≡ g.fold.colours → IsWorkOf l g → (c : Colouring) → IsLastWork c ops p.second.matrix → IsAtStage s book b p l g ops c
+  at_stage t None g before r taken way own matrix work c is = elim own [
+    | inl done ↦ at_end g before r way done matrix c is
+    | inr listed_last ↦ (
+        let rolled = last_read t r listed_last in
+        let leads : p.second.matrix ≡ after_ops ops before = matrix ∙ sym way.leads ∙ ap (λ (os : List LegOp). after_ops os before) rolled in
+        let made : OpsMade ops before p.second.matrix = (way.under_way.proper, subst (AreValidOps before) rolled way.under_way.valid, leads) in
+        at_own None g before r way rolled c is (ops_once ops before c p.second.matrix made (last_undone c ops p.second.matrix is))
+            (λ q also. inr (subst (LastIs s book b) (rolled ∙ sym also) listed_last))
+        )
+  ]
+  at_stage t (Some x) g before r (op, asked, granted, met, is_g) way own matrix work c is =
+      let placed = h.halted.past.placed in
+      let ops_are : ops ≡ met.ops = work ∙ ap (λ (f : Past). f.fold.work) is_g in
+      let made : OpsMade met.ops b.fold.colours (after_ops met.ops b.fold.colours) = (placed.colouring, (change_leaves b.fold.table b.fold.colours x (choices_in met.ops) met.ops placed (own_verdict b.fold.table op x granted) (changes_made b.fold.table b.fold.colours x met.ops met.planned)).steps, refl) in
+      let leads_to : p.second.matrix ≡ after_ops met.ops b.fold.colours = matrix ∙ ap (λ (f : Past). f.fold.colours) is_g in
+      let here : OpsMade ops c p.second.matrix = last_undone c ops p.second.matrix is in
+      let same : c ≡ b.fold.colours = ops_once met.ops c b.fold.colours (after_ops met.ops b.fold.colours) (subst (λ (w : List LegOp × Colouring). OpsMade w.0 c w.1) (λ i. (ops_are i, leads_to i)) here) made in
+      at_own (Some x) g before r way (own.0 ∙ sym work) c is (own.1 ∙ sym same) (λ q also. (also ∙ work, same))
 
   -- where the disk tells its content
   module _ (t : told) where
@@ -265,9 +297,9 @@ module _ {D : Type 0} (told : Type 0) (state : D → DiskState) (b : Past) (p : 
     one_way : (l : Option Change) (g : Past) → TakesUp b p.doubt l g → IsTable g p.second.table p.second.matrix → (way.lacking ≡ l) × (way.past ≡ g)
     one_way l g taken given = taken_once b p.doubt way.lacking l way.past g way.taken taken (sym read.0 ∙ given.0)
 
-    pub found_stage : (l : Option Change) (g : Past) → TakesUp b p.doubt l g → IsTable g p.second.table p.second.matrix → (c : Colouring) → IsLastWork c ops p.second.matrix → IsAtStage b p l g ops c
-    found_stage l g taken given c is = subst (λ (w : Option Change × Past). IsAtStage b p w.0 w.1 ops c) (λ i. ((one_way l g taken given).0 i, (one_way l g taken given).1 i))
-        (at_stage way.lacking way.past way.before way.rolling way.taken way.on_way (h.listed_is t).known.own read.1 read.2 c is)
+    pub found_stage : (l : Option Change) (g : Past) → TakesUp b p.doubt l g → IsTable g p.second.table p.second.matrix → (c : Colouring) → IsLastWork c ops p.second.matrix → IsAtStage s book b p l g ops c
+    found_stage l g taken given c is = subst (λ (w : Option Change × Past). IsAtStage s book b p w.0 w.1 ops c) (λ i. ((one_way l g taken given).0 i, (one_way l g taken given).1 i))
+        (at_stage t way.lacking way.past way.before way.rolling way.taken way.on_way (h.listed_is t).known.own read.1 read.2 c is)
 
     pub found_journal : (l : Option Change) (g : Past) → TakesUp b p.doubt l g → IsTable g p.second.table p.second.matrix → IsJournalled told (state p.journal.0) p.journal.1 (IsListOf b p.doubt l)
     found_journal l g taken given = subst (λ (x : Option Change). IsJournalled told (state p.journal.0) p.journal.1 (IsListOf b p.doubt x)) (one_way l g taken given).0 (h.listed_is t).journalled

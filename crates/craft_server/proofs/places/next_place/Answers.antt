@@ -9,5 +9,5 @@ pub new-requires-clause-seated : goal.new-requires-clause-seated
 new-requires-clause-seated g c =
     let t : Gate (State g.row.D.Denot) = arc_value c.args.turns.now in
     let first = c.remove-pass.ensures.value ∙ first_fresh t.id c.args.number c.args.passes.now.items c.remove-pass.result c.requires.fresh c.requires.some in
-    let at = seated g.D.Disk.told g.D.Disk.state c.remove-pass.result t (arc_value c.args.fabric.now) c.args.number first c.requires.within c.requires.begins c.requires.opening.fabric in
+    let at = seated g.D.Disk.told g.D.Disk.state c.remove-pass.result t (arc_value c.args.fabric.now) c.args.number first c.requires.within c.requires.opening.fabric in
     rw (c.in-Ok-Ok-Ok.ensures'', c.in-Ok-Ok-Ok.ensures') at

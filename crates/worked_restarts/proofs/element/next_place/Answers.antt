@@ -8,5 +8,5 @@ pub new-requires-clause-seated : goal.new-requires-clause-seated
 new-requires-clause-seated g c =
     let t : Gate (State g.row.D.Denot) = arc_value c.args.turns.now in
     let own = (c.next_pass-pass.ensures.pass t.id c.args.number c.requires.fresh).0 in
-    let at = seated g.D.Disk.told g.D.Disk.state c.next_pass-pass.result t (arc_value c.args.fabric.now) c.args.number own c.requires.within c.requires.begins c.requires.opening.fabric in
+    let at = seated g.D.Disk.told g.D.Disk.state c.next_pass-pass.result t (arc_value c.args.fabric.now) c.args.number own c.requires.within c.requires.opening.fabric in
     rw (c.in_ok-turns.ensures, c.in_ok-fabric.ensures) at
