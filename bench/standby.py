@@ -4,7 +4,7 @@
 usage: bench/standby.py [RUNS]     (100 where nothing is given; DXC names another program than that of this checkout)
 
 A standby and a server that has it as its peer run on the loopback. A caller sends changes one behind the other, and the server is killed by
-signal 9 at a random moment: while it joins, before the first change, or at one. Each change that was acknowledged, by a response that ended,
+signal 9 at a random moment: while it joins, or while changes come. Each change that was acknowledged, by a response that ended,
 must be in the standby's journal, and at most the one behind them besides: `dxc check` has the rows of a plain table after so many changes. The
 standby ends by itself. Every few runs a server takes over on the standby's journal, and lists the same rows to a caller. And every few
 runs the standby is killed instead: the server goes on alone, and its own journal has every change. Behind one entry the standby's file is the
@@ -154,34 +154,52 @@ def primary_killed(rng, folder, number):
     before = rng.choice([0, 0, rng.randrange(1, 40)])
     records = run_alone(shelf, journal, [text for text, _ in made[:before]])
     standby, server, port = start_pair(shelf, journal, copy, lines)
-    # Some are killed while they join or open, most while changes come.
-    moment = rng.uniform(0, 0.05) if number % 4 == 0 else rng.uniform(0, 0.6)
-    if number % 4 == 0:
-        time.sleep(moment)
+
+    def rest():
+        time.sleep(rng.uniform(0, 0.6))
         server.kill()
-        done = 0
-    else:
-        def rest():
-            time.sleep(moment)
-            server.kill()
-        done = sent_changes(port, server, [text for text, _ in made[before:]], rest)
+
+    done = sent_changes(port, server, [text for text, _ in made[before:]], rest)
     server.wait()
     # A killed process's connection is closed, or reset where a Have had come to it that it hadn't read.
     if standby.wait(WAIT) not in (0, 9):
         sys.exit(f"the standby ended with status {standby.returncode}: {standby.stderr.read()}")
     own = stands(shelf, journal, tables[before:], records, done)
-    if number % 4 == 0 and not is_whole(copy, journal):
-        return "joining", done
     kept = stands(shelf, copy, tables[before:], records, done)
     if kept > own:
         sys.exit(f"the standby has {kept} changes, the primary {own}")
     if number % 10 == 1:
         takes_over(shelf, copy, lines, tables[before + kept])
-    return "kept", done
+    return done
+
+
+def joining_killed(rng, folder):
+    """How many bytes of a long file the standby has of a primary that was killed while it joined."""
+    shelf, lines = os.path.join(folder, "shelf.toml"), os.path.join(folder, "lines")
+    journal, copy = os.path.join(folder, "primary.journal"), os.path.join(folder, "standby.journal")
+    # No journal, but it is joined before it is looked into.
+    whole = rng.randbytes(8 << 20)
+    with open(journal, "wb") as file:
+        file.write(whole)
+    standby, server, _ = start_pair(shelf, journal, copy, lines)
+    time.sleep(rng.uniform(0, 0.03))
+    server.kill()
+    server.wait()
+    end = time.monotonic() + 2
+    while standby.poll() is None and time.monotonic() < end:
+        time.sleep(0.005)
+    # It may have been killed before it called.
+    standby.kill()
+    standby.wait()
+    with open(copy, "rb") as file:
+        part = file.read()
+    if part != whole[: len(part)]:
+        sys.exit("a file that was joined in part isn't the first bytes of the primary's")
+    return len(part)
 
 
 def is_whole(copy, journal):
-    """Whether a file that was cut while it was joined is the primary's."""
+    """Whether the standby's file is the primary's."""
     with open(copy, "rb") as one, open(journal, "rb") as other:
         return one.read() == other.read()
 
@@ -266,7 +284,7 @@ def refuses(words, sent, status, text):
 
 def main():
     runs = int(sys.argv[1]) if len(sys.argv) > 1 else 100
-    joinings = kept = changes = alone = 0
+    joined = kept = changes = alone = 0
     for number in range(runs):
         rng = random.Random(number)
         with tempfile.TemporaryDirectory() as folder:
@@ -281,11 +299,12 @@ def main():
                 standby_killed(rng, folder)
                 alone += 1
                 continue
-            how, done = primary_killed(rng, folder, number)
-            joinings += how == "joining"
-            kept += how == "kept"
-            changes += done
-    print(f"{runs} runs: {joinings} killed while they joined, {kept} behind it with {changes} acknowledged changes, none lost; {alone} went on alone")
+            if number % 10 == 4:
+                joined += joining_killed(rng, folder)
+                continue
+            kept += 1
+            changes += primary_killed(rng, folder, number)
+    print(f"{runs} runs: {kept} primaries killed behind {changes} acknowledged changes, none lost; {joined} bytes of files that were joined in part; {alone} went on alone")
 
 
 if __name__ == "__main__":
