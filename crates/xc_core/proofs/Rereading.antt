@@ -1,11 +1,10 @@
 -- The journal of a halted Provisioner before and after it is read anew.
-use Rattle.std.proofs.Common.{◌≡◌, ◌≢◌, ◌⊎◌, ◌≤◌, inl, inr, ⊎_elim, ℕ, ◌+◌, ◌<◌, true, false, List, [], ◌∷◌, ◌++◌, length, take, drop, get_or, Option, Some, None, Ok, Err, sym, refl, ap, ◌∙◌, subst, arith}
+use Rattle.std.proofs.Common.{◌≡◌, ◌≢◌, ◌⊎◌, ◌≤◌, inl, inr, ⊎_elim, ℕ, ◌+◌, ◌<◌, true, false, List, [], ◌∷◌, ◌++◌, length, take, drop, get_or, Option, Some, None, Ok, Err, sym, refl, ap, ◌∙◌, subst}
 use Rattle.std.specs.Prelude.{Result}
 use Rattle.dxc_disk.specs.Disks.{DiskState, IsDisk, IsSettled, Leaves, LeavesOnly, Looks}
 use Rattle.dxc_num.specs.Dimensions.{Dimensions}
 use Rattle.dxc_model.specs.declared.op.Change.{Change}
 use Rattle.dxc_model.specs.Tables.{Board}
-use Rattle.dxc_model.proofs.Verdicts.{own_verdict}
 use Rattle.dxc_model.specs.declared.op.Op.{Op}
 use Rattle.journal_core.specs.declared.book.Book.{Book}
 use Rattle.journal_core.specs.declared.head.Head.{Head}
@@ -21,13 +20,8 @@ use Rattle.journal_core.proofs.StandSteps.{head_once, stands_once}
 use Rattle.paull_matrix.specs.Colourings.{Colouring}
 use Rattle.roll_plan.specs.declared.op.LegOp.{LegOp}
 use Rattle.roll_plan.specs.declared.work.Work.{Work}
-use Rattle.roll_plan.specs.Works.{ops_writes, switches_in, writes_of}
 use Rattle.roll_engine.specs.Rollings.{RollingAt, rest_of}
-use Rattle.roll_engine.specs.Stages.{IsAtRestOn}
 use Rattle.roll_engine.specs.UnderWay.{unmade}
-use Rattle.roll_engine.proofs.Running.{drop_none}
-use Rattle.roll_engine.proofs.UnderWay.{under_way_begun, under_way_done}
-use Rattle.xc_recovery.specs.ChangeWorks.{choices_in}
 use Rattle.std.specs.Prelude.{IfOk}
 use Rattle.std.proofs.Common.{append_assoc}
 use Rattle.std.proofs.lemmas.List.{take-append-drop, take_more}
@@ -37,8 +31,6 @@ use Rattle.xc_recovery.specs.Folds.{Folded, FoldsTo, IsBad, Makes, as_read, none
 use Rattle.xc_recovery.proofs.Folding.{folds_begin, folds_once, none_seated}
 use Rattle.xc_recovery.proofs.LastWorks.{comes_shape}
 use Rattle.xc_recovery.specs.Replays.{ComesTo, Reaches, Replays}
-use Rattle.xc_recovery.proofs.Placing.{change_leaves}
-use Rattle.xc_recovery.proofs.Spelled.{changes_made}
 use Rattle.xc_core.specs.declared.provisioner.Provisioner.{Provisioner}
 use Rattle.xc_core.specs.declared.second.Second.{Second}
 use Rattle.xc_core.specs.Journals.{IsJournalled, IsOldOrDoubted, IsOneMore, IsSoFar, StandsAs}
@@ -49,7 +41,6 @@ use Rattle.xc_core.specs.Recoveries.{IsAstray, IsListed, ReadIs}
 use Rattle.xc_core.proofs.Halting.{taken_placed, taken_so_far}
 use Rattle.xc_core.proofs.Journalling.{doubts_on, home_on, journalled_home, looked_on, may_doubt, more_by, tried_on, untried}
 use Rattle.xc_core.proofs.Staging.{way_begins, way_limits}
-use Rattle.xc_core.proofs.Rolling.{within}
 
 abbrev pub with_read : {D : Type 0} → Provisioner D → D × Book → Second → Provisioner D
 with_read p j second = record p { journal = j; second = second }

@@ -1,6 +1,5 @@
 -- Where the registers of a halted Provisioner are on the last work of records.
-use Rattle.std.specs.Prelude.{IfSome}
-use Rattle.std.proofs.Common.{◌≡◌, ◌≢◌, inl, inr, ⊎_elim, ℕ, ◌+◌, ◌<◌, ◌≤◌, ◌^◌, List, [], ◌∷◌, ◌++◌, length, take, drop, Option, Some, None, sym, refl, ap, ◌∙◌, subst, arith}
+use Rattle.std.proofs.Common.{◌≡◌, inl, inr, ⊎_elim, ℕ, ◌+◌, ◌≤◌, List, [], ◌∷◌, ◌++◌, length, take, drop, Option, Some, None, sym, refl, ap, ◌∙◌, subst, arith}
 use Rattle.std.proofs.lemmas.List.{append-nil, drop_all, take_all}
 use Rattle.std.proofs.Math.Decide.{dec_lt}
 use mathlib.Core.Logic.{dite}
@@ -15,35 +14,31 @@ use Rattle.dxc_model.proofs.Altering.{alters}
 use Rattle.dxc_model.proofs.Verdicts.{own_verdict}
 use Rattle.fabric_core.specs.declared.size.Size.{Size}
 use Rattle.fabric_core.specs.declared.mover.Mover.{Mover}
-use Rattle.fabric_words.specs.Seats.{MoverAt}
 use Rattle.roll_plan.specs.declared.op.LegOp.{LegOp}
+use Rattle.roll_plan.specs.declared.work.Work.{Work}
 use Rattle.roll_plan.specs.declared.op.LegOp.TheVariants as op
 use Rattle.roll_plan.specs.declared.op.Move.{Move}
 use Rattle.roll_plan.specs.Works.{join_writes, moves_writes, op_writes, ops_writes, switches_in, writes_of}
-use Rattle.paull_matrix.specs.Colourings.{IsProperColouring, Colouring, with_leg, without_leg}
+use Rattle.paull_matrix.specs.Colourings.{Colouring, with_leg, without_leg}
 use Rattle.paull_chain.specs.Works.{AreValidOps, IsValidOp, MovesMade, OpMade, OpsMade, after, after_op, after_ops, moved}
 use Rattle.paull_chain.proofs.Undoing.{join_back, move_back, moved_proper, part_back}
 use Rattle.paull_chain.proofs.Working.{op_proper, ops_shape}
 use Rattle.roll_engine.specs.Courses.{at_rest, course_after}
-use Rattle.roll_engine.specs.declared.rolling.Behind.TheVariants.{Nothing, PartsFrom}
 use Rattle.roll_engine.specs.Rollings.{RollingAt, rest_of}
 use Rattle.roll_engine.specs.Stages.{IsAtRestOn, IsMidway}
-use Rattle.roll_engine.specs.Cold.{IsColdFrom}
-use Rattle.roll_engine.proofs.Leading.{leading_begun}
 use Rattle.roll_engine.proofs.Colouring.{join_leads}
 use Rattle.roll_engine.proofs.Running.{after_on}
 use Rattle.roll_engine.proofs.UnderWay.{under_way_done}
 use Rattle.xc_recovery.specs.Folds.{Folded, none_folded}
 use Rattle.journal_core.specs.declared.book.Book.{Book}
 use Rattle.journal_core.specs.declared.head.Head.{Head}
-use Rattle.journal_core.specs.Books.{listed}
 use Rattle.xc_recovery.specs.ChangeWorks.{choices_in}
 use Rattle.xc_recovery.specs.Placings.{IsPlaced}
 use Rattle.xc_recovery.specs.Replays.{ComesTo}
 use Rattle.xc_recovery.specs.Stages.{IsLastWork}
 use Rattle.xc_recovery.proofs.Differing.{stage_once}
 use Rattle.xc_recovery.proofs.Folding.{folds_once, none_seated}
-use Rattle.xc_recovery.proofs.LastWorks.{comes_shape, last_made, last_undone}
+use Rattle.xc_recovery.proofs.LastWorks.{last_undone}
 use Rattle.xc_recovery.proofs.Once.{change_plans_once}
 use Rattle.xc_recovery.proofs.Placing.{change_leaves}
 use Rattle.xc_recovery.proofs.Spelled.{changes_made}
@@ -53,18 +48,10 @@ use Rattle.roll_engine.proofs.UnderWay.{under_way_begun}
 use Rattle.xc_core.specs.Journals.{IsRecordOf}
 use Rattle.xc_core.proofs.Rolling.{within}
 use Rattle.xc_core.specs.declared.provisioner.Provisioner.{Provisioner}
-use Rattle.xc_core.specs.declared.second.Second.{Second}
-use Rattle.xc_core.specs.declared.recovery.Recovered.{Recovered}
-use Rattle.xc_core.specs.declared.recovery.Recovered.TheVariants as recovered
-use Rattle.xc_core.specs.Beside.{IsBeside}
-use Rattle.xc_core.specs.Journals.{IsJournalled, IsSoFar}
-use Rattle.xc_core.specs.Reckonings.{IsPlannedFor, IsTable, Past, changed}
-use Rattle.xc_core.specs.Provisioners.{HasRoom, KeepsPast}
-use Rattle.xc_core.specs.Restarts.{HasWay, IsHalted, IsListOf, IsOnWay, IsOwnWay, LastIs, Lists, Rejoins, Resumes, TakesUp}
-use Rattle.xc_core.specs.Recoveries.{Finds, IsAstray, IsCold, IsNeither, IsWarm, Reads, RecoveredIs, ResumedIs}
-use Rattle.xc_core.specs.Endings.{IfCold, IfWarm}
+use Rattle.xc_core.specs.Reckonings.{IsPlannedFor, Past, changed}
+use Rattle.xc_core.specs.Provisioners.{KeepsPast}
+use Rattle.xc_core.specs.Restarts.{HasWay, IsOnWay, IsOwnWay, LastIs, TakesUp}
 use Rattle.xc_core.proofs.Granting.{granted_once}
-use Rattle.xc_core.proofs.Halting.{few_changes, taken_few, taken_more, taken_placed}
 
 -- the course that the writes of ops come to, each of which may be made
 moves_come : (ms : List Move) (c : Colouring) (us : List RegWrite) → course_after (moves_writes ms ++ us) (at_rest c.routes) ≡ course_after us (at_rest (after ms c).routes)
