@@ -22,6 +22,7 @@ use Rattle.dxc_model.specs.Histories.{GoesOn, IsCut, IsFailedRestart, IsLegal, I
 use Rattle.dxc_model.proofs.Lasting.{lasts_before, lasts_no_more}
 use Rattle.tl1_text.specs.Units.{Input, IsRest, IsStream}
 use Rattle.shelf_file.specs.Contents.{Contents}
+use base.Stored.{Gv}
 use Rattle.xc_core.specs.Seeing.{Saw, codes, entry}
 use Rattle.xc_core.proofs.Began.{seen_all}
 use Rattle.xc_core.specs.declared.state.State.{State}

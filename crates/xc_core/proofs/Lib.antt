@@ -18,6 +18,7 @@ pub mod Meeting
 pub mod Restarting
 pub mod Restored
 pub mod Giving
+pub mod Staging
 pub mod Recovering
 pub mod Rooms
 pub mod Rereading
@@ -26,4 +27,5 @@ pub mod Staged
 pub mod Began
 pub mod Opened
 pub mod Adoption
+pub mod Succeeding
 pub mod Asked

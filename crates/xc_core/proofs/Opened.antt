@@ -61,7 +61,7 @@ use Rattle.xc_core.specs.States.{IsHomeAfter, IsReadyOrHalted, Opening, StandsFo
 use Rattle.xc_core.specs.Openings.{Begins, HasBadRecord, IsFoldOf, IsOpening, LeavesOpened, Opens}
 use Rattle.xc_core.proofs.Began.{began_astray, began_changes, began_faults, began_holder, began_legal, began_paid, began_turns, began_unstopped}
 use Rattle.xc_core.proofs.Journalling.{looked_on, untried}
-use Rattle.xc_core.proofs.Recovering.{comes_once}
+use Rattle.xc_core.proofs.Staging.{comes_once}
 use Rattle.xc_core.proofs.Granting.{few_ports}
 
 -- a cold rolling begins on a new fabric

@@ -1,11 +1,10 @@
 -- The journal of a halted Provisioner before and after it is read anew.
-use Rattle.std.proofs.Common.{◌≡◌, ◌≢◌, ◌⊎◌, ◌≤◌, inl, inr, ⊎_elim, ℕ, ◌+◌, ◌<◌, true, false, List, [], ◌∷◌, ◌++◌, length, take, drop, get_or, Option, Some, None, Ok, Err, sym, refl, ap, ◌∙◌, subst, arith}
+use Rattle.std.proofs.Common.{◌≡◌, ◌≢◌, ◌⊎◌, ◌≤◌, inl, inr, ⊎_elim, ℕ, ◌+◌, ◌<◌, true, false, List, [], ◌∷◌, ◌++◌, length, take, drop, get_or, Option, Some, None, Ok, Err, sym, refl, ap, ◌∙◌, subst}
 use Rattle.std.specs.Prelude.{Result}
 use Rattle.dxc_disk.specs.Disks.{DiskState, IsDisk, IsSettled, Leaves, LeavesOnly, Looks}
 use Rattle.dxc_num.specs.Dimensions.{Dimensions}
 use Rattle.dxc_model.specs.declared.op.Change.{Change}
 use Rattle.dxc_model.specs.Tables.{Board}
-use Rattle.dxc_model.proofs.Verdicts.{own_verdict}
 use Rattle.dxc_model.specs.declared.op.Op.{Op}
 use Rattle.journal_core.specs.declared.book.Book.{Book}
 use Rattle.journal_core.specs.declared.head.Head.{Head}
@@ -21,13 +20,8 @@ use Rattle.journal_core.proofs.StandSteps.{head_once, stands_once}
 use Rattle.paull_matrix.specs.Colourings.{Colouring}
 use Rattle.roll_plan.specs.declared.op.LegOp.{LegOp}
 use Rattle.roll_plan.specs.declared.work.Work.{Work}
-use Rattle.roll_plan.specs.Works.{ops_writes, switches_in, writes_of}
 use Rattle.roll_engine.specs.Rollings.{RollingAt, rest_of}
-use Rattle.roll_engine.specs.Stages.{IsAtRestOn}
 use Rattle.roll_engine.specs.UnderWay.{unmade}
-use Rattle.roll_engine.proofs.Running.{drop_none}
-use Rattle.roll_engine.proofs.UnderWay.{under_way_begun, under_way_done}
-use Rattle.xc_recovery.specs.ChangeWorks.{choices_in}
 use Rattle.std.specs.Prelude.{IfOk}
 use Rattle.std.proofs.Common.{append_assoc}
 use Rattle.std.proofs.lemmas.List.{take-append-drop, take_more}
@@ -37,8 +31,6 @@ use Rattle.xc_recovery.specs.Folds.{Folded, FoldsTo, IsBad, Makes, as_read, none
 use Rattle.xc_recovery.proofs.Folding.{folds_begin, folds_once, none_seated}
 use Rattle.xc_recovery.proofs.LastWorks.{comes_shape}
 use Rattle.xc_recovery.specs.Replays.{ComesTo, Reaches, Replays}
-use Rattle.xc_recovery.proofs.Placing.{change_leaves}
-use Rattle.xc_recovery.proofs.Spelled.{changes_made}
 use Rattle.xc_core.specs.declared.provisioner.Provisioner.{Provisioner}
 use Rattle.xc_core.specs.declared.second.Second.{Second}
 use Rattle.xc_core.specs.Journals.{IsJournalled, IsOldOrDoubted, IsOneMore, IsSoFar, StandsAs}
@@ -48,8 +40,7 @@ use Rattle.xc_core.specs.Restarts.{HasWay, IsHalted, IsKnown, IsListOf, IsOnWay,
 use Rattle.xc_core.specs.Recoveries.{IsAstray, IsListed, ReadIs}
 use Rattle.xc_core.proofs.Halting.{taken_placed, taken_so_far}
 use Rattle.xc_core.proofs.Journalling.{doubts_on, home_on, journalled_home, looked_on, may_doubt, more_by, tried_on, untried}
-use Rattle.xc_core.proofs.Recovering.{way_limits}
-use Rattle.xc_core.proofs.Rolling.{within}
+use Rattle.xc_core.proofs.Staging.{way_begins, way_limits}
 
 abbrev pub with_read : {D : Type 0} → Provisioner D → D × Book → Second → Provisioner D
 with_read p j second = record p { journal = j; second = second }
@@ -195,30 +186,18 @@ module _ {D : Type 0} (told : Type 0) (state : D → DiskState) (b : Past) (p : 
       as_held : (g : Past) (before : Colouring) (r : RollingAt) → g ≡ b → IsOnWay p before g r → rest_of r ≡ [] → (x : Op) → p.doubt ≡ Some x → IsOneMore b x j.1.head list → IsListed told state b (with_read p j second)
       as_held g before r taken way own x asked more =
           let d = more.is in
-          let met = d.within in
-          let ops : List LegOp = met.ops in
-          let f : Past = changed b d.change ops in
-          let placed = h.past.placed in
-          let rest : IsAtRestOn p.mover.fabric.size b.fold.colours p.mover.mover = subst (λ (c : Colouring). IsAtRestOn p.mover.fabric.size c p.mover.mover) (way.leads ∙ ap (λ (y : Past). y.fold.colours) taken) (under_way_done p.mover.fabric.size before r p.mover.mover way.under_way own) in
-          let fits = within (b.fold.switches + switches_in (ops_writes ops)) b.changes (sym met.limit) in
-          let number : length p.mover.mover.log ≡ b.fold.switches = (let e = ap switches_in own in let n = way.switches in let u = ap (λ (y : Past). y.fold.switches) taken in omega (arith, e, n, u)) in
-          let w : Work = record { ops = record { items = ops } } in
+          let ops : List LegOp = d.within.ops in
+          let way_on = way_begins b p h.past g before r taken way own x more.bytes d in
           let all = journalled_as (Some d.change) (x, asked, more) in
-          let valid = change_leaves b.fold.table b.fold.colours d.change (choices_in ops) ops placed (own_verdict b.fold.table x d.change d.granted) (changes_made b.fold.table b.fold.colours d.change ops met.planned) in
           record {
             known = record {
               way = record {
                 lacking = Some d.change;
-                past = f;
+                past = changed b d.change ops;
                 before = b.fold.colours;
-                rolling = unmade w;
-                taken = (x, asked, d.granted, met, refl);
-                on_way = record {
-                  under_way = under_way_begun p.mover.fabric.size b.fold.colours w p.mover.mover placed.colouring valid.steps rest (let few = fits.0 in omega (arith, few, number));
-                  leads = refl;
-                  switches = let e = ap switches_in (drop_none (writes_of w)) in omega (arith, e, number);
-                  alone = refl;
-                };
+                rolling = unmade (record { ops = record { items = ops } });
+                taken = (x, asked, d.granted, d.within, refl);
+                on_way = record { under_way = way_on.under_way; leads = way_on.leads; switches = way_on.switches; alone = way_on.alone };
               };
               own = (refl, refl);
               journal = (all.keeps, whole, still);

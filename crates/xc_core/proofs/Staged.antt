@@ -15,7 +15,7 @@ use Rattle.xc_core.specs.declared.recovery.Recovered.{Recovered}
 use Rattle.xc_core.specs.declared.recovery.Recovered.TheVariants as recovered
 use Rattle.xc_core.specs.Adoptions.{IsOffLast, IsOnLast}
 use Rattle.xc_core.specs.Recoveries.{RestIs, ResumedIs}
-use Rattle.xc_core.proofs.Recovering.{last_stage}
+use Rattle.xc_core.proofs.Staging.{last_stage}
 
 -- at this stage of the writes made from each colouring that the work may have been made on
 pub resumed_at : (z : Size) (m : Mover) (w : Work) (d : Colouring) (made : ℕ) (phase : Phase) (now switches : ℕ) (x : Recovered) → (b : Colouring) × IsLastWork b w.ops.items d → ((b : Colouring) → IsLastWork b w.ops.items d → IsStage z b (writes_of w) m (At made)) → now ≡ length m.log → phase ≡ m.phase

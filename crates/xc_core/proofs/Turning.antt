@@ -156,7 +156,7 @@ module _ {D : Type 0} (told : Type 0) (state : D → DiskState) where
     leaves : (y : State D) (l : List Entry) → y.origin ≡ x.origin → StandsFor told state o y (began o.due ++ l) → Stands told state y l
     leaves y l is st = subst (λ (z : Opening). StandsFor told state z y (began z.due ++ l)) (sym (same_opening y is)) st
 
-    codes_are : codes (began o.due) ++ in_turn ≡ codes (h ++ f.later)
+    pub codes_are : codes (began o.due) ++ in_turn ≡ codes (h ++ f.later)
     codes_are = ap (λ (s : List Gv). codes (began o.due) ++ s) f.in_turn_is ∙ sym (map-append entry_coded.code (began o.due) f.entries) ∙ ap codes f.whole
 
     whole_more : (e : Entry) → began o.due ++ (f.entries ++ e ∷ []) ≡ (h ++ f.later) ++ e ∷ []
@@ -176,7 +176,7 @@ module _ {D : Type 0} (told : Type 0) (state : D → DiskState) where
     pub seen_own : (n : ℕ) (op : Op) (out : Outcome) (then_seen : List Gv) → n ≡ own → then_seen ≡ in_turn ++ entry_coded.code (entry n op out) ∷ [] → then_seen ≡ in_turn ++ entry_coded.code (entry own op out) ∷ []
     seen_own n op out then_seen is seen = subst (λ (k : ℕ). then_seen ≡ in_turn ++ entry_coded.code (entry k op out) ∷ []) is seen
 
-    codes_more : (e : Entry) (then_seen : List Gv) → then_seen ≡ in_turn ++ entry_coded.code e ∷ [] → codes (began o.due) ++ then_seen ≡ codes ((h ++ f.later) ++ e ∷ [])
+    pub codes_more : (e : Entry) (then_seen : List Gv) → then_seen ≡ in_turn ++ entry_coded.code e ∷ [] → codes (began o.due) ++ then_seen ≡ codes ((h ++ f.later) ++ e ∷ [])
     codes_more e then_seen is =
         let d = codes (began o.due) in
         let c = entry_coded.code e ∷ [] in

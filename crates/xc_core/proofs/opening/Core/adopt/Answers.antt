@@ -7,7 +7,7 @@ use Rattle.fabric_core.specs.declared.mover.Mover.{Mover}
 use Rattle.fabric_words.specs.Seats.{FabricId, MoverAt}
 use Rattle.xc_core.specs.declared.provisioner.Driver.{Driver}
 use Rattle.xc_core.specs.declared.provisioner.Provisioner.{Provisioner}
-use Rattle.xc_core.specs.Adoptions.{IsOnLast}
+use Rattle.xc_core.specs.Adoptions.{IsOffLast, IsOnLast}
 use Rattle.xc_core.proofs.Adoption.{adopted, strange}
 use Rattle.xc_core.proofs.Opened.{last_start, matrix_shape}
 use Rattle.xc_core.proofs.opening.Core.adopt.Goals as goal
@@ -43,7 +43,15 @@ returns-clause-passing g c told test begin =
     subst (λ (j : g.row.D.Denot × Book). LeavesOnly (g.D.Disk.state c.args.disk) (g.D.Disk.state j.0) (Passing c.args.shelf.now.shape test)) (sym journal) (c.in-Ok.ensures.passing told test begin)
 
 pub returns-in_default-clause-passing : goal.returns-in_default-clause-passing
-returns-in_default-clause-passing g c told test begin = subst (λ (d : g.row.D.Denot). LeavesOnly (g.D.Disk.state c.args.disk) (g.D.Disk.state d) (Passing c.args.shelf.now.shape test)) (sym c.release.ensures.disk) (c.in-Ok.ensures.passing told test begin)
+returns-in_default-clause-passing g c told test begin = subst (λ (d : g.row.D.Denot). LeavesOnly (g.D.Disk.state c.args.disk) (g.D.Disk.state d) (Passing c.args.shelf.now.shape test)) (sym c.release-disk.ensures.disk) (c.in-Ok.ensures.passing told test begin)
 
 pub returns-in_default-clause-strange : goal.returns-in_default-clause-strange
-returns-in_default-clause-strange g c = (?, ?)
+returns-in_default-clause-strange g c =
+    let x = c.in-Ok.read in
+    let r = c.in-Ok.ensures.ok in
+    let found = c.switches_behind-found in
+    let limits : IsInLimits c.args.shelf.now.shape = subst IsInLimits c.requires.shape found.ensures.sized.shape in
+    let off = subst (λ (w : FabricId × Mover). IsOffLast w.0.size w.1 x.last.ops.items x.p.matrix) (λ i. (sym c.requires.own i, ap (λ (p : Provisioner g.row.D.Denot). p.mover.mover) r.held i)) c.in_default.ensures.switches in (
+      c.release-disk.ensures.mover ∙ found.ensures.mover ∙ ap (λ (p : Provisioner g.row.D.Denot). p.mover) r.held,
+      strange g.D.Disk.told g.D.Disk.state c.args.shelf.now (g.D.Disk.state c.args.disk) c.args.mover x r (λ told. g.met.D.Disk.is_disk r.journal.0 told) limits off,
+    )
