@@ -1,0 +1,120 @@
+-- The users' journal while a checkpoint is written, and turned to.
+use Rattle.std.proofs.Common.{◌≡◌, ℕ, zero, suc, ◌+◌, ◌≤◌, ◌<◌, true, false, take, append_assoc, List, [], ◌∷◌, ◌++◌, length, map, Option, Some, None, refl, sym, ◌∙◌, ap, subst, arith}
+use Rattle.std.proofs.lemmas.List.{map-append}
+use Rattle.std.specs.Prelude.{get_or, slice_index, Result, Ok, Err, OnOk, OnErr}
+use Rattle.std.specs.FinMap.{len}
+use Rattle.dxc_disk.specs.Disks.{DiskState, LeavesOnly}
+use Rattle.journal_core.specs.declared.book.Book.{Book}
+use Rattle.journal_core.specs.declared.spare.Spare.{Spare}
+use Rattle.journal_core.specs.declared.spare.Spare.TheVariants.{Older, Open, Drafted, Tried}
+use Rattle.journal_core.specs.Books.{draft_of, is_drafted, is_tried, rows, turned}
+use Rattle.journal_core.specs.Turns.{Drafts, Turns}
+use Rattle.journal_core.proofs.HeaderSteps.{never}
+use Rattle.journal_core.proofs.KeepSteps.{only_weaker}
+use Rattle.user_admin.specs.declared.op.UserChange.{UserChange}
+use Rattle.user_admin.specs.declared.op.UserChange.TheVariants.{Enter, Edit, Delete}
+use Rattle.user_admin.specs.Users.{Users}
+use Rattle.user_admin.specs.Changes.{most_users}
+use Rattle.user_admin.specs.Checkpoints.{rows as rows_of}
+use Rattle.user_admin.specs.Files.{AreMeant, FoldsTo, IsOldOrDoubted}
+use Rattle.user_admin.specs.Journals.{IsAtHome}
+use Rattle.user_admin.specs.Laws.{AreNamed}
+use Rattle.user_admin.specs.Records.{has_long_salt, spelling}
+use Rattle.user_admin.specs.Spellable.{AllSpellable, AreDescribed, AreSpellable}
+use Rattle.user_admin.proofs.Keeping.{doubts_on, home_on, may_called, may_stand}
+use Rattle.user_admin.proofs.Leading.{rows_lead}
+use Rattle.user_admin.proofs.Readback.{spelling_read}
+use Rattle.user_admin.proofs.Spelling.{rows_spellable}
+
+drafted_untried : (spare : Spare) → is_drafted spare ≡ true → is_tried spare ≡ false
+drafted_untried Older e = refl
+drafted_untried Open e = refl
+drafted_untried (Drafted d) e = refl
+drafted_untried (Tried d) e = absurd (never refl e)
+
+module _ (told : Type 0) (old new : DiskState) (before after : Book) (shelf users : Users) (doubt : Option UserChange) (home : IsAtHome told old before shelf users doubt) (mend : after.to_mend ≡ before.to_mend) where
+  -- a step of a checkpoint succeeded
+  pub draft_home : {T E : Type 0} (v : T) (lines : List (List ℕ)) → (told → Drafts {T = T} {E = E} old new before after (Ok v) lines) → is_drafted after.spare ≡ true → IsAtHome told new after shelf users doubt
+  draft_home v lines drafts drafted = home_on told old new before after shelf users doubt home (λ t. (drafts t).kept) (λ t. (drafts t).same) doubt
+      (doubts_on told old new before after shelf users doubt home (λ t. (drafts t).kept) (λ t. (drafts t).same) (λ marked. sym mend ∙ marked) (λ t. (drafts t).doubt))
+      (λ t tried. absurd (never (drafted_untried after.spare drafted) tried))
+
+  -- or it failed: a turn that was tried before may be current still
+  pub undrafted_home : {T E : Type 0} (e : E) (lines : List (List ℕ)) → (told → Drafts {T = T} {E = E} old new before after (Err e) lines) → IsAtHome told new after shelf users doubt
+  undrafted_home e lines drafts = home_on told old new before after shelf users doubt home (λ t. (drafts t).kept) (λ t. (drafts t).same) doubt
+      (doubts_on told old new before after shelf users doubt home (λ t. (drafts t).kept) (λ t. (drafts t).same) (λ marked. sym mend ∙ marked) (λ t. (drafts t).doubt))
+      (λ t tried. let l = (drafts t).lines tried in subst (λ (w : List (List ℕ)). FoldsTo shelf w users) (sym l.1) (home.tried t (sym (ap is_tried l.0) ∙ tried)))
+
+-- at any moment of a step
+pub draft_left : (told : Type 0) (old new : DiskState) (before after : Book) (shelf users : Users) (doubt : Option UserChange) → IsAtHome told old before shelf users doubt → told → {T E : Type 0} (result : Result T E) (lines : List (List ℕ)) → Drafts old new before after result lines
+    → LeavesOnly old new (IsOldOrDoubted before.shape shelf users doubt)
+draft_left told old new before after shelf users doubt home t result lines drafts = may_called told old before shelf users doubt home t new drafts.any_moment
+
+-- each row means its change
+all_meant : (shelf : Users) (cs : List UserChange) → AllSpellable shelf cs → AreMeant shelf (map spelling cs) cs
+all_meant shelf [] s = tt
+all_meant shelf (c ∷ cs) s = ((spelling_read shelf c c s.0).0, all_meant shelf cs s.1)
+
+-- the rows lead from the shelf's users to these
+pub rows_fold : (shelf users : Users) → AreDescribed shelf → AreSpellable shelf users → AreNamed shelf → AreNamed users → len users ≤ most_users → FoldsTo shelf (map spelling (rows_of shelf users)) users
+rows_fold shelf users described spellable named users_named few =
+    let lead = rows_lead shelf users named users_named few in
+    (rows_of shelf users, all_meant shelf (rows_of shelf users) (rows_spellable shelf users described spellable), lead.0, lead.1)
+
+module _ (told : Type 0) (old new : DiskState) (before after : Book) (shelf users : Users) (doubt : Option UserChange) (home : IsAtHome told old before shelf users doubt) (lines : told → FoldsTo shelf (rows before old.reads_as) users) where
+  -- it was turned to
+  turned_home : {T E : Type 0} (v : T) → (told → Turns {T = T} {E = E} old new before after (Ok v)) → after ≡ turned before (draft_of before.spare) → IsAtHome told new after shelf users doubt
+  turned_home v turns book = record {
+    kept = λ t. (turns t).kept;
+    lists = λ t. subst (λ (w : List (List ℕ)). FoldsTo shelf w users) (sym (turns t).ok.1) (lines t);
+    doubts = λ marked. absurd (never (ap (λ (x : Book). x.to_mend) book) marked);
+    tried = λ t tried. absurd (never (ap (λ (x : Book). is_tried x.spare) book) tried);
+  }
+
+  -- or wasn't, or may have been
+  unturned_home : {T E : Type 0} (e : E) → (told → Turns {T = T} {E = E} old new before after (Err e)) → after ≡ record before { spare = after.spare } → IsAtHome told new after shelf users doubt
+  unturned_home e turns book = home_on told old new before after shelf users doubt home (λ t. (turns t).kept) (λ t. (turns t).err) doubt
+      (doubts_on told old new before after shelf users doubt home (λ t. (turns t).kept) (λ t. (turns t).err) (λ marked. sym (ap (λ (x : Book). x.to_mend) book) ∙ marked) (λ t. (turns t).doubt))
+      (λ t tried. let l = (turns t).lines tried in subst (λ (w : List (List ℕ)). FoldsTo shelf w users) (sym l.1) (lines t))
+
+  pub turn_home : {T E : Type 0} (result : Result T E) → (told → Turns old new before after result) → OnOk result (after ≡ turned before (draft_of before.spare)) → OnErr result (after ≡ record before { spare = after.spare }) → IsAtHome told new after shelf users doubt
+  turn_home (Ok v) turns ok err = turned_home v turns ok
+  turn_home (Err e) turns ok err = unturned_home e turns err
+
+  -- at any moment of the turn
+  pub turn_left : told → {T E : Type 0} (result : Result T E) → Turns old new before after result → LeavesOnly old new (IsOldOrDoubted before.shape shelf users doubt)
+  turn_left t result turns =
+      let come : Book = record before { spare = Tried (draft_of before.spare) } in
+      only_weaker old new _ (IsOldOrDoubted before.shape shelf users doubt)
+      (may_stand told old come shelf users doubt t (home.lists t)
+      (λ marked. let d = home.doubts marked in record { change = d.change; asked = d.asked; fits = d.fits; reads = d.reads })
+      (λ _. lines t))
+      turns.any_moment
+
+-- each record is sealed
+pub row_sealed : (c : UserChange) → slice_index (spelling c) 0 ≡ 165
+row_sealed (Enter u) = refl
+row_sealed (Edit u) = refl
+row_sealed (Delete name) = refl
+
+-- a draft, by its rows
+drafted_as : (spare : Spare) → is_drafted spare ≡ true → spare ≡ Drafted (draft_of spare)
+drafted_as Older e = absurd (never refl e)
+drafted_as Open e = absurd (never refl e)
+drafted_as (Drafted d) e = refl
+drafted_as (Tried d) e = absurd (never refl e)
+
+pub draft_begun : (book : Book) → is_drafted book.spare ≡ true → book ≡ record book { spare = Drafted (record { equipped = (draft_of book.spare).equipped; rows = (draft_of book.spare).rows + 0 }) }
+draft_begun book drafted = λ i. record book { spare = drafted_as book.spare drafted i }
+
+-- so many rows, and the next one
+pub row_more : (cs : List UserChange) (i : ℕ) (d : UserChange) → i < length cs → take (i + 1) cs ≡ take i cs ++ get_or cs i d ∷ []
+row_more [] i d low = absurd (let z : ⊥ = omega (arith, low) in z)
+row_more (c ∷ cs) zero d low = refl
+row_more (c ∷ cs) (suc i) d low = let next : suc i + 1 ≡ suc (i + 1) = omega arith in ap (λ (n : ℕ). take n (c ∷ cs)) next ∙ ap (λ (xs : List UserChange). c ∷ xs) (row_more cs i d (omega (arith, low)))
+
+pub rows_more : (lines start : List (List ℕ)) (cs : List UserChange) (i : ℕ) (d : UserChange) → i < length cs → lines ≡ start ++ map spelling (take i cs) → lines ++ spelling (get_or cs i d) ∷ [] ≡ start ++ map spelling (take (i + 1) cs)
+rows_more lines start cs i d low is =
+    ap (λ (xs : List (List ℕ)). xs ++ spelling (get_or cs i d) ∷ []) is
+    ∙ append_assoc start (map spelling (take i cs)) (spelling (get_or cs i d) ∷ [])
+    ∙ ap (λ (xs : List (List ℕ)). start ++ xs) (sym (map-append spelling (take i cs) (get_or cs i d ∷ [])) ∙ ap (map spelling) (sym (row_more cs i d low)))
