@@ -1,14 +1,17 @@
 -- The users' journal while a checkpoint is written, and turned to.
 use Rattle.std.proofs.Common.{◌≡◌, ℕ, zero, suc, ◌+◌, ◌≤◌, ◌<◌, true, false, take, append_assoc, List, [], ◌∷◌, ◌++◌, length, map, Option, Some, None, refl, sym, ◌∙◌, ap, subst, arith}
-use Rattle.std.proofs.lemmas.List.{map-append}
+use Rattle.std.proofs.lemmas.List.{map_more}
 use Rattle.std.specs.Prelude.{get_or, slice_index, Result, Ok, Err, OnOk, OnErr}
 use Rattle.std.specs.FinMap.{len}
 use Rattle.dxc_disk.specs.Disks.{DiskState, LeavesOnly}
 use Rattle.journal_core.specs.declared.book.Book.{Book}
 use Rattle.journal_core.specs.declared.spare.Spare.{Spare}
 use Rattle.journal_core.specs.declared.spare.Spare.TheVariants.{Older, Open, Drafted, Tried}
-use Rattle.journal_core.specs.Books.{draft_of, is_drafted, is_tried, rows, turned}
+use Rattle.journal_core.specs.declared.spare.Draft.{Draft}
+use Rattle.journal_core.specs.Areas.{other_half}
+use Rattle.journal_core.specs.Books.{IsReady, draft_of, is_drafted, is_tried, rows, turned}
 use Rattle.journal_core.specs.Turns.{Drafts, Turns}
+use Rattle.journal_core.proofs.AreaSteps.{most_two}
 use Rattle.journal_core.proofs.HeaderSteps.{never}
 use Rattle.journal_core.proofs.KeepSteps.{only_weaker}
 use Rattle.user_admin.specs.declared.op.UserChange.{UserChange}
@@ -105,16 +108,22 @@ drafted_as (Drafted d) e = refl
 drafted_as (Tried d) e = absurd (never refl e)
 
 pub draft_begun : (book : Book) → is_drafted book.spare ≡ true → book ≡ record book { spare = Drafted (record { equipped = (draft_of book.spare).equipped; rows = (draft_of book.spare).rows + 0 }) }
-draft_begun book drafted = λ i. record book { spare = drafted_as book.spare drafted i }
+draft_begun book drafted =
+    let d = draft_of book.spare in
+    let e : d.rows ≡ d.rows + 0 = omega arith in
+    (λ i. record book { spare = drafted_as book.spare drafted i }) ∙ ap (λ (n : ℕ). record book { spare = Drafted (record { equipped = d.equipped; rows = n }) }) e
 
 -- so many rows, and the next one
-pub row_more : (cs : List UserChange) (i : ℕ) (d : UserChange) → i < length cs → take (i + 1) cs ≡ take i cs ++ get_or cs i d ∷ []
-row_more [] i d low = absurd (let z : ⊥ = omega (arith, low) in z)
-row_more (c ∷ cs) zero d low = refl
-row_more (c ∷ cs) (suc i) d low = let next : suc i + 1 ≡ suc (i + 1) = omega arith in ap (λ (n : ℕ). take n (c ∷ cs)) next ∙ ap (λ (xs : List UserChange). c ∷ xs) (row_more cs i d (omega (arith, low)))
-
 pub rows_more : (lines start : List (List ℕ)) (cs : List UserChange) (i : ℕ) (d : UserChange) → i < length cs → lines ≡ start ++ map spelling (take i cs) → lines ++ spelling (get_or cs i d) ∷ [] ≡ start ++ map spelling (take (i + 1) cs)
 rows_more lines start cs i d low is =
     ap (λ (xs : List (List ℕ)). xs ++ spelling (get_or cs i d) ∷ []) is
     ∙ append_assoc start (map spelling (take i cs)) (spelling (get_or cs i d) ∷ [])
-    ∙ ap (λ (xs : List (List ℕ)). start ++ xs) (sym (map-append spelling (take i cs) (get_or cs i d ∷ [])) ∙ ap (map spelling) (sym (row_more cs i d low)))
+    ∙ ap (λ (xs : List (List ℕ)). start ++ xs) (sym (map_more spelling cs i d low))
+
+-- a checkpoint that was turned to leaves room for a record
+ready_turned : (before : Book) (draft : Draft) → draft.rows < 32767 → IsReady (turned before draft)
+ready_turned before draft few = record { below = let most = most_two (other_half before.half) in omega (arith, few, most); still = refl; version = refl }
+
+pub turn_ready : {T E : Type 0} (result : Result T E) (before after : Book) → (draft_of before.spare).rows < 32767 → OnOk result (after ≡ turned before (draft_of before.spare)) → OnOk result (IsReady after)
+turn_ready (Ok v) before after few book = subst IsReady (sym book) (ready_turned before (draft_of before.spare) few)
+turn_ready (Err e) before after few book = tt

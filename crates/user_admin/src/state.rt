@@ -15,7 +15,7 @@ use crate::fold::{FoldFault, fold};
 use crate::keep::keep;
 use crate::op::{User, UserDone, UserEntry, UserOp, UserRows};
 use crate::secret::copy_as;
-use crate::table::UserTable;
+use crate::table::{UserTable, row_of};
 use arrayvec::ArrayVec;
 use dxc_disk::{Disk, DiskFault};
 use dxc_model::{Cause, Class, Uid};
@@ -188,7 +188,7 @@ impl<D: Disk> UserState<D> {
             return Err(Cause::UnknownUser);
         };
         let mut rows = ArrayVec::new();
-        rows.push((user.uid, user.class));
+        rows.push(row_of(user));
         Ok(rows)
     }
 
