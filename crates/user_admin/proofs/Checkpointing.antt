@@ -1,6 +1,6 @@
 -- The users' journal while a checkpoint is written, and turned to.
 use Rattle.std.proofs.Common.{◌≡◌, ℕ, zero, suc, ◌+◌, ◌≤◌, ◌<◌, true, false, take, append_assoc, List, [], ◌∷◌, ◌++◌, length, map, Option, Some, None, refl, sym, ◌∙◌, ap, subst, arith}
-use Rattle.std.proofs.lemmas.List.{map_more}
+use Rattle.std.proofs.lemmas.List.{length-append, map-append, map_more}
 use Rattle.std.specs.Prelude.{get_or, slice_index, Result, Ok, Err, OnOk, OnErr}
 use Rattle.std.specs.FinMap.{len}
 use Rattle.dxc_disk.specs.Disks.{DiskState, LeavesOnly}
@@ -127,3 +127,43 @@ ready_turned before draft few = record { below = let most = most_two (other_half
 pub turn_ready : {T E : Type 0} (result : Result T E) (before after : Book) → (draft_of before.spare).rows < 32767 → OnOk result (after ≡ turned before (draft_of before.spare)) → OnOk result (IsReady after)
 turn_ready (Ok v) before after few book = subst IsReady (sym book) (ready_turned before (draft_of before.spare) few)
 turn_ready (Err e) before after few book = tt
+
+-- both hold where it is Ok
+pub both_ok : {T E : Type 0} (P Q : Type 0) (result : Result T E) → OnOk result P → Q → OnOk result (P × Q)
+both_ok P Q (Ok v) p q = (p, q)
+both_ok P Q (Err e) p q = tt
+
+pub on_ok : {T E P : Type 0} (result : Result T E) → P → OnOk result P
+on_ok (Ok v) p = p
+on_ok (Err e) p = tt
+
+-- a draft with so many rows more
+abbrev pub added : Book → ℕ → Book
+added book n = record book { spare = Drafted (record { equipped = (draft_of book.spare).equipped; rows = (draft_of book.spare).rows + n }) }
+
+-- Three groups of rows were added to a draft of none, the last of them if it went well.
+module _ (old one two three : Book) (ds bs cs : List UserChange) (first : one ≡ added old (length ds)) (second : two ≡ added one (length bs)) where
+  pub added_all : {T E : Type 0} (result : Result T E) → (draft_of old.spare).rows ≡ 0 → OnOk result (three ≡ added two (length cs))
+      → OnOk result (three ≡ record old { spare = Drafted (record { equipped = (draft_of old.spare).equipped; rows = length (ds ++ (bs ++ cs)) }) })
+  added_all (Ok v) none third =
+      let d = draft_of old.spare in
+      let outer = length-append ds (bs ++ cs) in
+      let inner = length-append bs cs in
+      let all : d.rows + length ds + length bs + length cs ≡ length (ds ++ (bs ++ cs)) = omega (arith, none, outer, inner) in
+      third ∙ ap (λ (x : Book). added x (length cs)) (second ∙ ap (λ (x : Book). added x (length bs)) first) ∙ ap (λ (n : ℕ). record old { spare = Drafted (record { equipped = d.equipped; rows = n }) }) all
+  added_all (Err e) none third = tt
+
+  pub given_up : {T E : Type 0} (result : Result T E) → OnErr result (three ≡ record two { spare = Open }) → OnErr result (three ≡ record old { spare = Open })
+  given_up (Ok v) third = tt
+  given_up (Err e) third = third ∙ ap (λ (x : Book). record x { spare = Open }) (second ∙ ap (λ (x : Book). added x (length bs)) first)
+
+-- and these are the rows
+pub rows_all : {T E : Type 0} (result : Result T E) (l one two three : List (List ℕ)) (ds bs cs : List UserChange) → l ≡ [] → one ≡ l ++ map spelling ds → two ≡ one ++ map spelling bs → OnOk result (three ≡ two ++ map spelling cs) → OnOk result (three ≡ map spelling (ds ++ (bs ++ cs)))
+rows_all (Ok v) l one two three ds bs cs none first second third =
+    third ∙ (ap (λ (xs : List (List ℕ)). xs ++ map spelling cs) (second ∙ ap (λ (xs : List (List ℕ)). xs ++ map spelling bs) (first ∙ ap (λ (xs : List (List ℕ)). xs ++ map spelling ds) none))
+    ∙ (append_assoc (map spelling ds) (map spelling bs) (map spelling cs)
+    ∙ sym (map-append spelling ds (bs ++ cs) ∙ ap (λ (xs : List (List ℕ)). map spelling ds ++ xs) (map-append spelling bs cs))))
+rows_all (Err e) l one two three ds bs cs none first second third = tt
+
+pub few_rows : (ds bs cs : List UserChange) → length ds ≤ 64 → length bs ≤ 64 → length cs ≤ 64 → length (ds ++ (bs ++ cs)) ≤ 192
+few_rows ds bs cs a b c = let outer = length-append ds (bs ++ cs) in let inner = length-append bs cs in omega (arith, a, b, c, outer, inner)
