@@ -6,18 +6,27 @@ ghost use Rattle.user_admin.specs.States.{StandsFor};
 
 use crate::ask::{list_of, outcome_of};
 use crate::row::{Images, Row, Run, Step};
-use anyhow::Result;
+use anyhow::{Context, Result};
 use dxc_disk::{Disk, MemDisk, Tear};
 use journal_core::JournalWhy;
 use shelf_file::Shelf;
 use std::alloc::Global;
 use user_admin::{UserOpenFault, UserState};
 
+const MEMORY: &str = "want of memory";
+
+// A disk with these bytes, no call of which fails.
+fn disk_of(alloc: Global, bytes: Vec<u8>) -> Result<MemDisk> {
+    MemDisk::new(alloc, bytes, Vec::new(alloc))
+        .ok()
+        .context(MEMORY)
+}
+
 /// Runs the row's openings. None where they did what they must, else what didn't hold.
 pub fn run_row(alloc: Global, shelf: &Shelf, row: &Row) -> Result<Option<String>> {
     let mut journal = row.journal.clone()?;
     for run in &row.runs {
-        let disk = MemDisk::new(alloc, journal.clone()?, Vec::new(alloc))?;
+        let disk = disk_of(alloc, journal.clone()?)?;
         match run_on(alloc, shelf, disk, run)? {
             Ok(Some(disk)) => {
                 if let Some(why) = fault_behind(alloc, shelf, &disk, run)? {
@@ -72,7 +81,7 @@ fn run_on<D: Disk + Drop>(
             return Ok(Err(other(alloc, "the opening", &found)?));
         }
     };
-    if run.opens.as_slice() != b"users" {
+    if run.opens.as_slice() != b"users".as_slice() {
         return Ok(Err(other(alloc, "the opening", b"users")?));
     }
     match steps_fault(alloc, shelf, &mut state, &run.steps)? {
@@ -117,12 +126,10 @@ fn fault_behind(alloc: Global, shelf: &Shelf, disk: &MemDisk, run: &Run) -> Resu
     Ok(None)
 }
 
-const TEARS: [Tear; 6] = [
+const TEARS: [Tear; 4] = [
     Tear::Lost,
     Tear::Whole,
-    Tear::Front(1),
-    Tear::Front(32),
-    Tear::Filled(0),
+    Tear::Front(20),
     Tear::Filled(0xA5),
 ];
 
@@ -138,8 +145,8 @@ fn images_fault(
             continue;
         }
         for tear in TEARS {
-            let image = disk.image_at(alloc, moment, tear)?;
-            let found = found_in(alloc, shelf, MemDisk::new(alloc, image, Vec::new(alloc))?)?;
+            let image = disk.image_at(alloc, moment, tear).ok().context(MEMORY)?;
+            let found = found_in(alloc, shelf, disk_of(alloc, image)?)?;
             if !images.users.contains(&found) {
                 let what = format!(in alloc; "a crash in front of call {moment}")?;
                 return Ok(Some(other(alloc, what.as_str(), &found)?));
