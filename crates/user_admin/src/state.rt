@@ -1,0 +1,227 @@
+//! The state of the users: who they are, and their journal.
+ghost use Rattle.std.specs.Prelude.{◌≡◌, ◌≢◌, ◌≤◌, ◌<◌, ◌⊎◌, ℕ, List, [], None, length, option_map, slice_get, MatchResult, Some, IfErr, IfOk, IfSome};
+ghost use Rattle.std.specs.FinMap.{entries};
+ghost use Rattle.dxc_causes.specs.Causes.{HasCause, Rose};
+ghost use Rattle.dxc_disk.specs.Disks.{IsSound, LeavesOnly, Spends};
+ghost use Rattle.user_admin.specs.declared.op.UserEntry.{UserEntry as Entry};
+ghost use Rattle.user_admin.specs.Histories.{Opening};
+ghost use Rattle.user_admin.specs.Openings.{Begins, Fails, IsDiskErr, IsOpening, LeavesOpened, asked_at, disk_of};
+ghost use Rattle.user_admin.specs.Spellable.{NamesUid};
+ghost use Rattle.user_admin.specs.States.{ChangedIs, IsFileAfter, IsFileWithChange, StandsFor, opening_of};
+ghost use Rattle.user_admin.specs.Verdicts.{IsChanging, login, refusal, rows_in};
+
+use crate::fault::UserOpenFault;
+use crate::fold::{FoldFault, fold};
+use crate::keep::keep;
+use crate::op::{User, UserDone, UserEntry, UserOp, UserRows};
+use crate::secret::copy_as;
+use crate::table::{UserTable, row_of};
+use arrayvec::ArrayVec;
+use dxc_disk::{Disk, DiskFault};
+use dxc_model::{Cause, Class, Uid};
+use dxc_outside::{Gate, GatePlace, Pass1};
+use journal_core::Journal;
+use shelf_file::Shelf;
+use std::alloc::Global;
+use std::snapshot::Snapshot;
+use tl1_text::Sid;
+use turnstile::Sequential;
+
+/// The users that the shelf describes, and those that are kept.
+#[derive(Drop)]
+pub struct Lists {
+    pub(crate) described: UserTable,
+    pub(crate) users: UserTable,
+}
+
+/// Where the users' history begins: the shelf, the users and their journal as it was opened. It has no bytes; contracts alone read it.
+#[derive(Drop)]
+pub struct UserOrigin<D: Disk> {
+    pub(crate) shelf: Snapshot<Shelf>,
+    pub(crate) users: Snapshot<UserTable>,
+    pub(crate) journal: Snapshot<Journal<D>>,
+}
+
+/// What stands for the history of the users.
+#[derive(Drop)]
+pub struct UserState<D: Disk> {
+    pub(crate) sid: Sid,
+    pub(crate) lists: Box<Lists>,
+    pub(crate) journal: Journal<D>,
+    pub(crate) origin: UserOrigin<D>,
+}
+
+impl<D: Disk> Sequential for UserState<D> {
+    type Entry = UserEntry;
+
+    ghost use Rattle.user_admin.specs.Histories.{Opening};
+    ghost use Rattle.user_admin.specs.States.{Stands, opening_of};
+    ghost use Rattle.user_admin.specs.Coding.{entry_coded, opening_coded, place_of};
+
+    ghost Opening = { Opening };
+
+    ghost opening = { opening_of D.state };
+
+    ghost number = { place_of };
+
+    ghost stands = { Stands D.told D.state };
+
+    ghost opening_code = { opening_coded };
+
+    ghost entry_code = { entry_coded };
+}
+
+fn copy_of(sid: &Sid) -> Sid
+    ensures { result ≡ sid.now }
+{
+    match Sid::of(sid.bytes()) {
+        Some(sid) => sid,
+        None => unreachable!(),
+    }
+}
+
+impl<D: Disk> UserOrigin<D> {
+    // Where the users begin.
+    fn of(shelf: &Shelf, users: &UserTable, journal: &Journal<D>) -> UserOrigin<D>
+        ensures shelf { result.shelf.value ≡ shelf.now }
+        ensures users { result.users.value ≡ users.now }
+        ensures journal { result.journal.value ≡ journal.now }
+    {
+        UserOrigin {
+            shelf: Snapshot::of(shelf),
+            users: Snapshot::of(users),
+            journal: Snapshot::of(journal),
+        }
+    }
+}
+
+impl<D: Disk + Drop> UserState<D> {
+    /// The users that the shelf describes, after the changes that the disk's journal stands for. In a new file a journal of the shelf's shape
+    /// and equipped modules is made.
+    ///
+    /// Memory is taken before the journal is opened. It takes at most 131,081 of the disk's room.
+    pub fn open(alloc: Global, shelf: &Shelf, disk: D) -> Result<UserState<D>, UserOpenFault<D>>
+        ensures ok { IfOk result (λ s. IsOpening D.told (D.state disk).reads_as shelf.now (opening_of D.state s) × Begins D.told D.state s) }
+        ensures fails { D.told → IfErr result (Fails D.state (D.state disk) shelf.now) }
+        ensures any_moment { D.told → IfSome (disk_of result) (λ d. LeavesOpened shelf.now (D.state disk) (D.state d)) }
+        ensures cause { IfSome (disk_of result) (λ d. HasCause (D.state disk).faults (D.state d).faults (IsDiskErr result)) }
+        ensures room { IfSome (disk_of result) (λ d. Spends 131_081 (D.state disk) (D.state d)) }
+        ensures sound { IsSound 131_081 (D.state disk) → IsDiskErr result → ⊥ }
+    {
+        let described = UserTable::of(shelf);
+        let users = UserTable::of(shelf);
+        let Ok(mut lists) = Box::new(alloc, Lists { described, users }) else {
+            return Err(UserOpenFault::NoMemory);
+        };
+        let sid = copy_of(shelf.sid());
+        let mut journal = match Journal::open(disk, shelf.shape(), shelf.equipped()) {
+            Ok(journal) => journal,
+            Err(fault) => return Err(UserOpenFault::Journal(fault)),
+        };
+        // Their clauses tell what shelf and journal always keep.
+        let _few = shelf.users();
+        let _count = journal.count();
+        match fold(&mut journal, &mut lists) {
+            Ok(()) => {}
+            Err(FoldFault::BadRecord(i)) => return Err(UserOpenFault::BadRecord(i)),
+            Err(FoldFault::Disk) => return Err(UserOpenFault::Disk(journal.close())),
+        }
+        let origin = UserOrigin::of(shelf, &lists.users, &journal);
+        Ok(UserState {
+            sid,
+            lists,
+            journal,
+            origin,
+        })
+    }
+}
+
+impl<D: Disk> UserState<D> {
+    /// Makes the change of a changing operation, and keeps it in the journal before. The first cause against it is the users'; then the gate
+    /// is asked; then `DiskFault`, only where the disk's count of faults rose.
+    ///
+    /// Where the journal's area is full or of an earlier version, a checkpoint of the users is written first. It takes at most 4,207,216 of
+    /// the disk's room, and no memory.
+    pub fn change<G: Gate>(&mut self, op: &UserOp, gate: &mut G) -> UserDone
+        requires changing { IsChanging op.now }
+        requires named { NamesUid op.now }
+        requires stands { (o : Opening) × (h : List Entry) × StandsFor D.told D.state o self.old h }
+        ensures changed { (o : Opening) → (h : List Entry) → (place : ℕ) → StandsFor D.told D.state o self.old h → ChangedIs D.told D.state o h place op.now self.new result }
+        ensures origin { self.new.origin ≡ self.old.origin }
+        // What the users deny makes no call on the disk, nor does what the gate stops.
+        ensures denied_still { asked_at result ≡ [] → self.new.journal ≡ self.old.journal }
+        ensures stopped_still { result ≡ UserDone.Stopped → self.new.journal ≡ self.old.journal }
+        // A crash at any moment leaves the users as they were, with the change in doubt or not, or with this one.
+        ensures any_moment { D.told → (o : Opening) → (h : List Entry) → StandsFor D.told D.state o self.old h → LeavesOnly (D.state self.old.journal.0) (D.state self.new.journal.0) (λ file. IsFileAfter o h file ⊎ IsFileWithChange o h op.now file) }
+        ensures stopped { result ≡ UserDone.Stopped → Rose (G.stops gate.old) (G.stops gate.new) }
+        ensures unstopped { result ≢ UserDone.Stopped → G.stops gate.new ≡ G.stops gate.old }
+        ensures later { G.stops gate.old ≤ G.stops gate.new }
+        ensures asked { G.asked gate.old gate.new (asked_at result) }
+        ensures fault { HasCause (D.state self.old.journal.0).faults (D.state self.new.journal.0).faults (result ≡ UserDone.Denied Cause.DiskFault) }
+        ensures room { Spends 4_207_216 (D.state self.old.journal.0) (D.state self.new.journal.0) }
+        ensures sound { IsSound 4_207_216 (D.state self.old.journal.0) → result ≢ UserDone.Denied Cause.DiskFault }
+    {
+        let lists = &mut *self.lists;
+        let change = match lists.users.verdict(&self.sid, op) {
+            Ok(change) => change,
+            Err(cause) => return UserDone::Denied(cause),
+        };
+        match gate.pass(GatePlace::Journal) {
+            Pass1::Stop => return UserDone::Stopped,
+            Pass1::Go => {}
+        }
+        match keep(&mut self.journal, &lists.described, &lists.users, &change) {
+            Ok(()) => {}
+            Err(DiskFault) => return UserDone::Denied(Cause::DiskFault),
+        }
+        lists.users.take(&change);
+        UserDone::Done(change)
+    }
+
+    /// The class of the user of a name, case aside, whose kept digest is that of the salt followed by the PID; None exactly where there is none.
+    pub fn login_now(&self, uid: &[u8], pid: &[u8]) -> Option<Class>
+        ensures short { length uid.now ≤ 10 → result ≡ login uid.now pid.now self.now.lists.value.users }
+        ensures long { 10 < length uid.now → result ≡ None }
+    {
+        let uid = Uid::of(uid)?;
+        self.lists.users.login_now(uid, pid)
+    }
+
+    /// The names of all users with their classes, in order of names, or of one; UnknownUser is the only cause against it.
+    pub fn rows(&self, which: &Option<Uid>) -> Result<UserRows, Cause>
+        ensures { MatchResult result (λ given. (refusal (UserOp.Rows which.now) self.now.lists.value.users ≡ None) × (given.items ≡ rows_in self.now.lists.value.users which.now)) (λ q. refusal (UserOp.Rows which.now) self.now.lists.value.users ≡ Some q) }
+    {
+        let Some(uid) = which else {
+            return Ok(self.lists.users.rows());
+        };
+        let Some(user) = self.lists.users.named(*uid) else {
+            return Err(Cause::UnknownUser);
+        };
+        let mut rows = ArrayVec::new();
+        rows.push(row_of(user));
+        Ok(rows)
+    }
+
+    /// Gives the disk back as it is.
+    pub fn close(self) -> D
+        ensures { result ≡ self.journal.0 }
+    {
+        let UserState {
+            sid: _,
+            lists: _,
+            journal,
+            origin: _,
+        } = self;
+        journal.close()
+    }
+
+    /// A user by its place in the order of names in upper case, from 0; None exactly past the last.
+    pub fn user(&self, i: usize) -> Option<User>
+        ensures { option_map (λ u. (u.uid, u)) result ≡ slice_get (entries self.now.lists.value.users) i }
+    {
+        match self.lists.users.at(i) {
+            Some(user) => Some(copy_as(user, user.class)),
+            None => None,
+        }
+    }
+}
