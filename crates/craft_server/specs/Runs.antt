@@ -8,6 +8,7 @@ use Rattle.dxc_outside.specs.Threads.{SpawnerState}
 use Rattle.dxc_model.specs.declared.op.Selection.TheVariants.{All}
 use Rattle.dxc_model.specs.Tables.{rows}
 use Rattle.shelf_file.specs.Contents.{Contents}
+use Rattle.user_admin.specs.Histories.{Opening as UsersOpening}
 use Rattle.xc_core.specs.States.{Opening}
 use Rattle.craft_server.specs.declared.line.Line.{Line}
 use Rattle.craft_server.specs.declared.line.Line.TheVariants.{Script, Check, Serve, Load}
@@ -16,7 +17,7 @@ use Rattle.craft_server.specs.declared.status.Status.TheVariants.{BadWords, NoMe
 use Rattle.craft_server.specs.Lines.{IsLine}
 use Rattle.craft_server.specs.Listings.{listing}
 use Rattle.craft_server.specs.Loads.{IsLoad}
-use Rattle.craft_server.specs.Openings.{Found, Opens, Sources}
+use Rattle.craft_server.specs.Openings.{Began, Found, Opens, Sources}
 use Rattle.craft_server.specs.Scripts.{RanSession}
 use Rattle.craft_server.specs.Serving.{IsServing, named_in}
 use Rattle.craft_server.specs.Statuses.{status_of_sent}
@@ -55,8 +56,8 @@ pub record IsUntouched {D : Type 0} (before after : Lent D) : Type 0 where
 
 module _ (told : Told) {D : Type 0} (state : D → DiskState) where
   -- one session was served over the terminal
-  pub record RanScript (before after : Lent D) (s : Contents) (o : Opening) (disk : D) (status : Status) : Type 0 where
-    pub session : RanSession told.disk told.terminal told.clock (state disk) s o before.terminal after.terminal before.clock after.clock before.sources.stops after.sources.stops status
+  pub record RanScript (before after : Lent D) (s : Contents) (o : Opening) (p : UsersOpening) (disk users_disk : D) (status : Status) : Type 0 where
+    pub session : RanSession told.disk told.terminal told.clock (state disk) (state users_disk) s o p before.terminal after.terminal before.clock after.clock before.sources.stops after.sources.stops status
     pub spawner : after.spawner ≡ before.spawner
 
   -- the table was written to the terminal
@@ -74,11 +75,11 @@ module _ (told : Told) {D : Type 0} (state : D → DiskState) where
     pub gate : after.sources.stops ≡ before.sources.stops
 
   -- what a line's mode did on what was opened
-  abbrev pub Ran : (l : Line) (before after : Lent D) (status : Status) → Found told.opener (named_in l) before.sources → Opening → Type 0
-  Ran (Script shelf journal) before after status f o = RanScript before after f.shelf o f.disk status
-  Ran (Check shelf journal) before after status f o = RanCheck before after f.shelf o status
-  Ran (Serve shelf journal address lines workers) before after status f o = RanServe workers before after status
-  Ran (Load number) before after status f o = ⊥
+  abbrev pub Ran : (l : Line) (before after : Lent D) (status : Status) → (f : Found told.opener (named_in l) before.sources) → Opening → Began told.opener told.disk state (named_in l) before.sources f.shelf → Type 0
+  Ran (Script shelf journal) before after status f o u = RanScript before after f.shelf o u.opening f.disk u.found.disk status
+  Ran (Check shelf journal) before after status f o u = RanCheck before after f.shelf o status
+  Ran (Serve shelf journal address lines workers) before after status f o u = RanServe workers before after status
+  Ran (Load number) before after status f o u = ⊥
 
   -- what its names stand for was opened, or why not, and the mode ran on it
   abbrev pub OpensFor : Line → (before after : Lent D) → Status → Type 0

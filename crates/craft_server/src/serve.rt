@@ -8,7 +8,7 @@ ghost use Rattle.craft_server.specs.Serving.{RoseBy, IsServe, IsServing, named_i
 
 use crate::frames::FrameJob;
 use crate::jobs::{frame_jobs, session_jobs};
-use crate::opening::{Controller, Names, open};
+use crate::opening::{Controller, Element, Names, open};
 use crate::places::open_places;
 use crate::sessions::SessionJob;
 use crate::threads::run_all;
@@ -32,7 +32,7 @@ fn run_jobs<
 >(
     spawner: &mut P,
     workers: Vec<FrameJob<N, G>>,
-    sessions: Vec<SessionJob<D, L, C, G>>,
+    sessions: Vec<SessionJob<D, D, L, C, G>>,
     rt: &R,
 ) -> Status
 where
@@ -64,7 +64,7 @@ pub(crate) fn serve_on<O: Opener, D: Disk + Send + Drop + 'static, P: Spawner, R
     site: Site<'_>,
     fabric: &Arc<Fabric>,
     seats: Vec<WorkerSeat>,
-    places: Vec<Place<D>>,
+    places: Vec<Place<D, D>>,
     spawner: &mut P,
     rt: &R,
 ) -> Status
@@ -109,7 +109,7 @@ pub fn serve_all<O: Opener, G: Gate, P: Spawner, R: Wait>(
 where
     <O::Listener as Listener>::Link: Send + 'static,
     requires { IsServe line.now }
-    ensures { Opens O.told O.Journal.told O.Journal.state (named_in line.now) (sources (O.state opener.old) (O.journal_at opener.old) (G.stops gate.old)) (sources (O.state opener.new) (O.journal_at opener.new) (G.stops gate.new)) (P.state spawner.new ≡ P.state spawner.old) (λ f o. (G.stops gate.new ≡ G.stops gate.old) × IsServing (workers_in line.now + 16) (O.state opener.old).faults (O.state opener.new).faults (P.state spawner.old) (P.state spawner.new) result) result }
+    ensures { Opens O.told O.Journal.told O.Journal.state (named_in line.now) (sources (O.state opener.old) (O.journal_at opener.old) (G.stops gate.old)) (sources (O.state opener.new) (O.journal_at opener.new) (G.stops gate.new)) (P.state spawner.new ≡ P.state spawner.old) (λ f o u. (G.stops gate.new ≡ G.stops gate.old) × IsServing (workers_in line.now + 16) (O.state opener.old).faults (O.state opener.new).faults (P.state spawner.old) (P.state spawner.new) result) result }
 {
     let Line::Serve {
         shelf,
@@ -125,16 +125,17 @@ where
         shelf: shelf.text(),
         journal: journal.text(),
     };
+    let Element { controller, users } = match open(alloc, opener, names, *workers, gate) {
+        Ok(element) => element,
+        Err(status) => return status,
+    };
     let Controller {
         shelf,
         fabric,
         seats,
         state,
-    } = match open(alloc, opener, names, *workers, gate) {
-        Ok(controller) => controller,
-        Err(status) => return status,
-    };
-    let Ok(places) = open_places(alloc, &shelf, &fabric, state, SESSIONS) else {
+    } = controller;
+    let Ok(places) = open_places(alloc, &shelf, &fabric, state, users, SESSIONS) else {
         return Status::NoMemory;
     };
     let site = Site {
