@@ -29,12 +29,11 @@ use Rattle.craft_session.specs.PlainUsers.{users_opening_room}
 use Rattle.craft_session.proofs.Scripts.{opening_of_disk, users_opening_of_disk}
 use Rattle.craft_server.specs.declared.opening.Controller.{Controller}
 use Rattle.craft_server.specs.declared.status.Status.{Status}
-use Rattle.craft_server.specs.declared.opening.Element.{Element}
 use Rattle.craft_server.specs.declared.status.Status.TheVariants.{CannotOpen, Disk, NoMemory}
 use Rattle.craft_server.specs.Statuses.{status_of_users_fault, status_of_users_why}
 use Rattle.craft_server.proofs.Counting.{rose_behind}
 use Rattle.craft_server.specs.Places.{IsAtOpening}
-use Rattle.craft_server.specs.Openings.{AreUsersNotStarted, AreUsersStarted, Found, HasController, HasOpening, HasUsers, IsOpened, IsStarted, Named, NoController, NoUsers, NotOpened, NotStarted, Opens, Sources, users_name}
+use Rattle.craft_server.specs.Openings.{AreUsersNotStarted, AreUsersStarted, Found, HasController, HasOpening, HasUsers, IsStarted, Named, NoController, NoUsers, NotStarted, Opens, Sources, users_name}
 
 -- the disk that was handed out is the one of that name
 pub handed : {J : Type 0} (told : Type 0) (old_at mid_at new_at : List ℕ → Option J) (opened : Opened J) (d : J) (name : List ℕ) → (told → (n : List ℕ) → mid_at n ≡ old_at n) → opened ≡ Open d → (told → Hands opened (mid_at name) (new_at name)) → told → old_at name ≡ Some d
@@ -119,16 +118,6 @@ module _ {D : Type 0} (disk_told : Type 0) (state : D → DiskState) where
     | inl none ↦ inl (elim none [ inl m ↦ inl m | inr f ↦ inr (f.0, rose_behind before.opener.faults mid.opener.faults after.opener.faults later f.1) ])
     | inr not ↦ inr (record { disk = not.0; handed = λ t. sym (others t (users_name names.journal) (users_apart names.journal)) ∙ not.1 t }, subst (λ (y : Contents). AreUsersNotStarted disk_told state not.0 y status) is not.2)
   ]
-
-  -- a controller with its users
-  pub element : (opener_told : Type 0) (names : Named) (workers : ℕ) (before after : Sources D) (x : Controller D) (h : HasController opener_told disk_told state names workers before x) (r : Result (UserState D) Status) → after.stops ≡ before.stops
-      → MatchResult r (HasUsers opener_told disk_told state names before h.0.shelf) (NoUsers opener_told disk_told state names before after h.0.shelf) → (e : Result (Element D) Status) → ((u : UserState D) → r ≡ Ok u → e ≡ Ok (record { controller = x; users = u })) → ((status : Status) → r ≡ Err status → e ≡ Err status)
-      → MatchResult e (IsOpened opener_told disk_told state names workers before) (NotOpened opener_told disk_told state names before after)
-  element opener_told names workers before after x h (Ok u) same given e ok err =
-      subst (λ (y : Result (Element D) Status). MatchResult y (IsOpened opener_told disk_told state names workers before) (NotOpened opener_told disk_told state names before after)) (sym (ok u refl)) (h, given)
-  element opener_told names workers before after x h (Err status) same given e ok err =
-      subst (λ (y : Result (Element D) Status). MatchResult y (IsOpened opener_told disk_told state names workers before) (NotOpened opener_told disk_told state names before after)) (sym (err status refl))
-      (inr (h.0, opening_of state x.state, record { fabric = arc_value x.fabric; opening = h.1.opening }, same, given))
 
   -- where the history of a controller begins
   pub begun : (disk : D) (s : Contents) (workers : ℕ) (x : Controller D) → IsStarted disk_told state disk s workers x → HasOpening disk_told state disk s (opening_of state x.state)

@@ -24,6 +24,7 @@ use Rattle.dxc_load.specs.Codes.{coded_in, compld, deny}
 use Rattle.dxc_load.specs.Script.{load_moment, load_shape}
 use Rattle.dxc_load.specs.Sending.{unread}
 use Rattle.dxc_load.specs.Summaries.{summary_line}
+use Rattle.craft_server.specs.declared.opening.Controller.{Controller}
 use Rattle.craft_server.specs.declared.opening.Element.{Element}
 use Rattle.craft_server.specs.declared.status.Status.{Status}
 use Rattle.craft_server.specs.declared.status.Status.TheVariants.{NoMemory, Stopped}
@@ -71,10 +72,13 @@ pub record IsLoaded (number : ℕ) (v : Summary) : Type 0 where
   pub frames : worker.frame ≡ 2 * 10000
   pub carried : v.carried ≡ carried_in worker.notes
 
--- a controller of the load, with its users
+-- a controller of the load
+abbrev pub IsLoadController : Controller MemDisk → Type 0
+IsLoadController x = (disk : MemDisk) × ((mem_state disk).reads_as ≡ []) × ((s : Contents) × IsLoadShelf s × IsStarted (Unit {0}) mem_state disk s 1 x)
+
+-- with its users
 abbrev pub IsLoadStarted : Element MemDisk → Type 0
-IsLoadStarted x = (disk : MemDisk) × ((mem_state disk).reads_as ≡ []) × ((s : Contents) × IsLoadShelf s × IsStarted (Unit {0}) mem_state disk s 1 x.controller
-    × ((users_disk : MemDisk) × ((mem_state users_disk).reads_as ≡ []) × AreUsersStarted (Unit {0}) mem_state users_disk s x.users))
+IsLoadStarted x = (c : IsLoadController x.controller) × ((disk : MemDisk) × ((mem_state disk).reads_as ≡ []) × AreUsersStarted (Unit {0}) mem_state disk c.2.0 x.users)
 
 -- memory was wanting, or the gate stopped
 abbrev pub NotLoaded : (stops later : ℕ) → Status → Type 0

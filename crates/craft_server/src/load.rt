@@ -2,7 +2,7 @@
 ghost use Rattle.std.specs.Prelude.{◌≡◌, ◌≤◌, ◌⊎◌, ◌^◌, [], IfOk, MatchResult};
 ghost use Rattle.dxc_disk.specs.Fresh.{IsFresh};
 ghost use Rattle.dxc_disk.specs.MemView.{mem_state};
-ghost use Rattle.craft_server.specs.Loads.{IsLoad, IsLoadStarted, IsLoadShelf, IsLoaded, NotLoaded};
+ghost use Rattle.craft_server.specs.Loads.{IsLoad, IsLoadController, IsLoadStarted, IsLoadShelf, IsLoaded, NotLoaded};
 
 use crate::Status;
 use crate::opening::{Controller, Element, start, start_users};
@@ -60,20 +60,27 @@ fn load_users_disk(alloc: Global) -> Result<MemDisk, NoMemory>
     MemDisk::with_room(alloc, Vec::new(alloc), Vec::new(alloc), USERS_ROOM)
 }
 
-// The controller of the load, with one worker, and its users.
+// The controller of the load, with one worker.
+fn load_controller<G: Gate>(alloc: Global, gate: &mut G) -> Result<Controller<MemDisk>, Status>
+    ensures started { MatchResult result IsLoadController (NotLoaded (G.stops gate.old) (G.stops gate.new)) }
+    ensures unstopped { MatchResult result (λ x. G.stops gate.new ≡ G.stops gate.old) (λ s. G.stops gate.old ≤ G.stops gate.new) }
+{
+    let (Ok(shelf), Ok(disk)) = (load_shelf(alloc), load_disk(alloc)) else {
+        return Err(Status::NoMemory);
+    };
+    start(alloc, shelf, disk, 1, gate)
+}
+
+// The same with its users.
 fn load_element<G: Gate>(alloc: Global, gate: &mut G) -> Result<Element<MemDisk>, Status>
     ensures started { MatchResult result IsLoadStarted (NotLoaded (G.stops gate.old) (G.stops gate.new)) }
     ensures unstopped { MatchResult result (λ x. G.stops gate.new ≡ G.stops gate.old) (λ s. G.stops gate.old ≤ G.stops gate.new) }
 {
-    let (Ok(shelf), Ok(disk), Ok(users_disk)) = (
-        load_shelf(alloc),
-        load_disk(alloc),
-        load_users_disk(alloc),
-    ) else {
+    let controller = load_controller(alloc, gate)?;
+    let Ok(disk) = load_users_disk(alloc) else {
         return Err(Status::NoMemory);
     };
-    let controller = start(alloc, shelf, disk, 1, gate)?;
-    match start_users(alloc, &controller.shelf, users_disk) {
+    match start_users(alloc, &controller.shelf, disk) {
         Ok(users) => Ok(Element { controller, users }),
         Err(status) => Err(status),
     }

@@ -7,6 +7,7 @@ use Rattle.dxc_disk.specs.Disks.{DiskState}
 use Rattle.dxc_model.specs.declared.entry.Entry.{Entry}
 use Rattle.fabric_words.specs.Seats.{FabricId}
 use Rattle.shelf_file.specs.Contents.{Contents}
+use Rattle.shelf_file.specs.contracts.shelf.Shelf as shelf_row
 use Rattle.user_admin.specs.declared.op.UserEntry.{UserEntry}
 use Rattle.user_admin.specs.declared.state.UserState.{UserState}
 use Rattle.user_admin.specs.Coding.{opening_coded as users_coded}
@@ -66,3 +67,6 @@ pub record PlaceAt : Type 0 where
   pub shelf : Contents
   pub seat : SeatAt
   pub users : UserSeatAt
+
+abbrev pub place_coded : Coded PlaceAt
+place_coded = code_by (Contents × (SeatAt × UserSeatAt)) (coded× shelf_row.the_row.coded (coded× seat_coded user_seat_coded)) (λ p. (p.shelf, (p.seat, p.users))) (λ w. record { shelf = w.0; seat = w.1.0; users = w.1.1 }) (λ _. refl)

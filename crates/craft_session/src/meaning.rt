@@ -78,8 +78,10 @@ fn ask_in<U: Disk + Drop, G: Gate, R: Wait>(
 {
     match command_of(shelf.shape(), shelf.sid(), *user, unit, found) {
         Ok(command) => Some(served(users, user, unit, command, rt)),
-        Err(Cause::UnknownCommand) => ask_users(shelf, users, user, unit, found, gate, rt),
-        Err(cause) => Some(Ask::Refused(cause)),
+        Err(cause) => match cause {
+            Cause::UnknownCommand => ask_users(shelf, users, user, unit, found, gate, rt),
+            _ => Some(Ask::Refused(cause)),
+        },
     }
 }
 

@@ -39,9 +39,11 @@ pub struct Place<D: Disk, U: Disk> {
 impl<D: Disk, U: Disk> Model for Place<D, U> {
     ghost use Rattle.std.specs.Prelude.{◌<◌, vec_len};
     ghost use Rattle.std.specs.Arc.{arc_value};
-    ghost use Rattle.craft_session.specs.Seats.{PlaceAt};
+    ghost use Rattle.craft_session.specs.Seats.{PlaceAt, place_coded};
 
     ghost Value = { PlaceAt };
+
+    ghost coded = { place_coded };
 
     ghost view = { λ p. record { shelf = arc_value p.desk.shelf; seat = p.desk.seat; users = p.desk.users.seat } };
 

@@ -3,6 +3,7 @@ use Rattle.std.specs.Prelude.{vec_capacity}
 use Rattle.std.specs.Arc.{arc_value}
 use Rattle.dxc_num.specs.Dimensions.{ports}
 use Rattle.shelf_file.specs.Contents.{Contents}
+use Rattle.user_admin.specs.States.{opening_of as users_opening}
 use Rattle.xc_core.specs.States.{opening_of}
 use Rattle.craft_server.proofs.Starting.{at_opening, begun}
 use Rattle.craft_server.proofs.Audits.{listed_first, of_shape}
@@ -10,9 +11,9 @@ use Rattle.craft_server.proofs.check.run_check.Goals as goal
 
 pub check-requires-clause-room : goal.check-requires-clause-room
 check-requires-clause-room g c =
-    let f = c.in-Ok.ensures.opened.0 in
-    let x = c.in-Ok.controller in
-    let st = c.in-Ok.ensures.opened.1 in
+    let f = c.in-Ok.ensures.opened.0.0 in
+    let x = c.in-Ok.element.controller in
+    let st = c.in-Ok.ensures.opened.0.1 in
     let told = g.O.Journal.Disk.told in
     let state = g.O.Journal.Disk.state in
     let at = at_opening told state _ f.shelf _ (opening_of state x.state) st.opening in
@@ -24,9 +25,9 @@ returns-in-Err g c = inl (c.in-Err.ensures.opened, refl)
 
 pub returns : goal.returns
 returns g c =
-    let f = c.in-Ok.ensures.opened.0 in
-    let x = c.in-Ok.controller in
-    let st = c.in-Ok.ensures.opened.1 in
+    let f = c.in-Ok.ensures.opened.0.0 in
+    let x = c.in-Ok.element.controller in
+    let st = c.in-Ok.ensures.opened.0.1 in
     let told = g.O.Journal.Disk.told in
     let state = g.O.Journal.Disk.state in
     let at = at_opening told state _ f.shelf _ (opening_of state x.state) st.opening in
@@ -34,6 +35,7 @@ returns g c =
       f,
       opening_of state x.state,
       begun told state f.disk f.shelf _ x st,
+      (let u = c.in-Ok.ensures.opened.1 in record { found = u.0; opening = users_opening state c.in-Ok.element.users; is = u.1.opening }),
       (
         c.in-Ok.ensures.unstopped,
         record {
