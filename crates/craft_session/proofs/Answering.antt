@@ -1,6 +1,6 @@
 -- A unit was answered in the shelf's language.
 use Rattle.std.specs.Prelude.{is_some}
-use Rattle.std.proofs.Common.{◌≡◌, ◌≢◌, ℕ, false, List, [], Option, inl, inr, refl, sym, ◌∙◌, subst}
+use Rattle.std.proofs.Common.{◌≡◌, ◌≢◌, ℕ, Bool, false, List, [], Option, inl, inr, refl, sym, ◌∙◌, subst}
 use base.Stored.{Gv}
 use Rattle.dxc_outside.specs.declared.clock.Moment.{Moment}
 use Rattle.dxc_outside.specs.declared.send.Sent.{Sent}

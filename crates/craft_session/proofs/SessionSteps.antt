@@ -88,7 +88,7 @@ module _ (l : Language Request Moment) (clock_told : Type 0) (c : List Moment) (
       }
 
       -- what a unit hears from where the session stands
-      Hearing : Request → List Gv → Type 0
+      abbrev Hearing : Request → List Gv → Type 0
       Hearing u then_seen = (h : List UserEntry) → SawUsers b.users now.users h → HeardBehind b.users b.place h (l.wants now.attending.user u) (l.heard u) then_seen
 
       consults_on : (u : Request) (then_seen : List Gv) → Hearing u then_seen → Consulted l b then_seen (p.walk.happenings ++ unit u ∷ []) (user_after p.walk.attending.user (l.asks p.walk.attending.user u))

@@ -1,4 +1,4 @@
-use Rattle.std.proofs.Common.{List, ℕ, arith, refl, sym, ap}
+use Rattle.std.proofs.Common.{rules, List, ℕ, arith, refl, sym, ap}
 use Rattle.std.specs.Arc.{arc_value}
 use Rattle.tl1_text.specs.Units.{Input}
 use Rattle.craft_session.specs.Hearing.{unasked}
@@ -18,7 +18,7 @@ returns-in-TooLong g c =
       users = (refl, refl, refl);
       attending = refl;
       reader = refl;
-      consulted = (sym (ap tag_of long), asked_nothing _ _ _ _ _ (ap (wants s desk.attending.user) long) (sym (ap (asks s desk.attending.user unasked) long)) ?);
+      consulted = (sym (ap tag_of long), asked_nothing _ _ _ _ _ (ap (wants s desk.attending.user) long) (sym (ap (asks s desk.attending.user unasked) long)) (search rules));
       apt = tt;
       unstopped = λ _. refl;
       stopped = λ is. cc;
