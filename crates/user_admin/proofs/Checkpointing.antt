@@ -1,14 +1,17 @@
 -- The users' journal while a checkpoint is written, and turned to.
 use Rattle.std.proofs.Common.{◌≡◌, ℕ, zero, suc, ◌+◌, ◌≤◌, ◌<◌, true, false, take, append_assoc, List, [], ◌∷◌, ◌++◌, length, map, Option, Some, None, refl, sym, ◌∙◌, ap, subst, arith}
-use Rattle.std.proofs.lemmas.List.{map-append}
+use Rattle.std.proofs.lemmas.List.{length-append, map-append, map_more}
 use Rattle.std.specs.Prelude.{get_or, slice_index, Result, Ok, Err, OnOk, OnErr}
 use Rattle.std.specs.FinMap.{len}
 use Rattle.dxc_disk.specs.Disks.{DiskState, LeavesOnly}
 use Rattle.journal_core.specs.declared.book.Book.{Book}
 use Rattle.journal_core.specs.declared.spare.Spare.{Spare}
 use Rattle.journal_core.specs.declared.spare.Spare.TheVariants.{Older, Open, Drafted, Tried}
-use Rattle.journal_core.specs.Books.{draft_of, is_drafted, is_tried, rows, turned}
+use Rattle.journal_core.specs.declared.spare.Draft.{Draft}
+use Rattle.journal_core.specs.Areas.{other_half}
+use Rattle.journal_core.specs.Books.{IsReady, draft_of, is_drafted, is_tried, rows, turned}
 use Rattle.journal_core.specs.Turns.{Drafts, Turns}
+use Rattle.journal_core.proofs.AreaSteps.{most_two}
 use Rattle.journal_core.proofs.HeaderSteps.{never}
 use Rattle.journal_core.proofs.KeepSteps.{only_weaker}
 use Rattle.user_admin.specs.declared.op.UserChange.{UserChange}
@@ -105,16 +108,62 @@ drafted_as (Drafted d) e = refl
 drafted_as (Tried d) e = absurd (never refl e)
 
 pub draft_begun : (book : Book) → is_drafted book.spare ≡ true → book ≡ record book { spare = Drafted (record { equipped = (draft_of book.spare).equipped; rows = (draft_of book.spare).rows + 0 }) }
-draft_begun book drafted = λ i. record book { spare = drafted_as book.spare drafted i }
+draft_begun book drafted =
+    let d = draft_of book.spare in
+    let e : d.rows ≡ d.rows + 0 = omega arith in
+    (λ i. record book { spare = drafted_as book.spare drafted i }) ∙ ap (λ (n : ℕ). record book { spare = Drafted (record { equipped = d.equipped; rows = n }) }) e
 
 -- so many rows, and the next one
-pub row_more : (cs : List UserChange) (i : ℕ) (d : UserChange) → i < length cs → take (i + 1) cs ≡ take i cs ++ get_or cs i d ∷ []
-row_more [] i d low = absurd (let z : ⊥ = omega (arith, low) in z)
-row_more (c ∷ cs) zero d low = refl
-row_more (c ∷ cs) (suc i) d low = let next : suc i + 1 ≡ suc (i + 1) = omega arith in ap (λ (n : ℕ). take n (c ∷ cs)) next ∙ ap (λ (xs : List UserChange). c ∷ xs) (row_more cs i d (omega (arith, low)))
-
 pub rows_more : (lines start : List (List ℕ)) (cs : List UserChange) (i : ℕ) (d : UserChange) → i < length cs → lines ≡ start ++ map spelling (take i cs) → lines ++ spelling (get_or cs i d) ∷ [] ≡ start ++ map spelling (take (i + 1) cs)
 rows_more lines start cs i d low is =
     ap (λ (xs : List (List ℕ)). xs ++ spelling (get_or cs i d) ∷ []) is
     ∙ append_assoc start (map spelling (take i cs)) (spelling (get_or cs i d) ∷ [])
-    ∙ ap (λ (xs : List (List ℕ)). start ++ xs) (sym (map-append spelling (take i cs) (get_or cs i d ∷ [])) ∙ ap (map spelling) (sym (row_more cs i d low)))
+    ∙ ap (λ (xs : List (List ℕ)). start ++ xs) (sym (map_more spelling cs i d low))
+
+-- a checkpoint that was turned to leaves room for a record
+ready_turned : (before : Book) (draft : Draft) → draft.rows < 32767 → IsReady (turned before draft)
+ready_turned before draft few = record { below = let most = most_two (other_half before.half) in omega (arith, few, most); still = refl; version = refl }
+
+pub turn_ready : {T E : Type 0} (result : Result T E) (before after : Book) → (draft_of before.spare).rows < 32767 → OnOk result (after ≡ turned before (draft_of before.spare)) → OnOk result (IsReady after)
+turn_ready (Ok v) before after few book = subst IsReady (sym book) (ready_turned before (draft_of before.spare) few)
+turn_ready (Err e) before after few book = tt
+
+-- both hold where it is Ok
+pub both_ok : {T E : Type 0} (P Q : Type 0) (result : Result T E) → OnOk result P → Q → OnOk result (P × Q)
+both_ok P Q (Ok v) p q = (p, q)
+both_ok P Q (Err e) p q = tt
+
+pub on_ok : {T E P : Type 0} (result : Result T E) → P → OnOk result P
+on_ok (Ok v) p = p
+on_ok (Err e) p = tt
+
+-- a draft with so many rows more
+abbrev pub added : Book → ℕ → Book
+added book n = record book { spare = Drafted (record { equipped = (draft_of book.spare).equipped; rows = (draft_of book.spare).rows + n }) }
+
+-- Three groups of rows were added to a draft of none, the last of them if it went well.
+module _ (old one two three : Book) (ds bs cs : List UserChange) (first : one ≡ added old (length ds)) (second : two ≡ added one (length bs)) where
+  pub added_all : {T E : Type 0} (result : Result T E) → (draft_of old.spare).rows ≡ 0 → OnOk result (three ≡ added two (length cs))
+      → OnOk result (three ≡ record old { spare = Drafted (record { equipped = (draft_of old.spare).equipped; rows = length (ds ++ (bs ++ cs)) }) })
+  added_all (Ok v) none third =
+      let d = draft_of old.spare in
+      let outer = length-append ds (bs ++ cs) in
+      let inner = length-append bs cs in
+      let all : d.rows + length ds + length bs + length cs ≡ length (ds ++ (bs ++ cs)) = omega (arith, none, outer, inner) in
+      third ∙ ap (λ (x : Book). added x (length cs)) (second ∙ ap (λ (x : Book). added x (length bs)) first) ∙ ap (λ (n : ℕ). record old { spare = Drafted (record { equipped = d.equipped; rows = n }) }) all
+  added_all (Err e) none third = tt
+
+  pub given_up : {T E : Type 0} (result : Result T E) → OnErr result (three ≡ record two { spare = Open }) → OnErr result (three ≡ record old { spare = Open })
+  given_up (Ok v) third = tt
+  given_up (Err e) third = third ∙ ap (λ (x : Book). record x { spare = Open }) (second ∙ ap (λ (x : Book). added x (length bs)) first)
+
+-- and these are the rows
+pub rows_all : {T E : Type 0} (result : Result T E) (l one two three : List (List ℕ)) (ds bs cs : List UserChange) → l ≡ [] → one ≡ l ++ map spelling ds → two ≡ one ++ map spelling bs → OnOk result (three ≡ two ++ map spelling cs) → OnOk result (three ≡ map spelling (ds ++ (bs ++ cs)))
+rows_all (Ok v) l one two three ds bs cs none first second third =
+    third ∙ (ap (λ (xs : List (List ℕ)). xs ++ map spelling cs) (second ∙ ap (λ (xs : List (List ℕ)). xs ++ map spelling bs) (first ∙ ap (λ (xs : List (List ℕ)). xs ++ map spelling ds) none))
+    ∙ (append_assoc (map spelling ds) (map spelling bs) (map spelling cs)
+    ∙ sym (map-append spelling ds (bs ++ cs) ∙ ap (λ (xs : List (List ℕ)). map spelling ds ++ xs) (map-append spelling bs cs))))
+rows_all (Err e) l one two three ds bs cs none first second third = tt
+
+pub few_rows : (ds bs cs : List UserChange) → length ds ≤ 64 → length bs ≤ 64 → length cs ≤ 64 → length (ds ++ (bs ++ cs)) ≤ 192
+few_rows ds bs cs a b c = let outer = length-append ds (bs ++ cs) in let inner = length-append bs cs in omega (arith, a, b, c, outer, inner)

@@ -1,5 +1,5 @@
 -- What the users' journal stands for, before and after its calls.
-use Rattle.std.proofs.Common.{◌≡◌, ◌⊎◌, inl, inr, ⊎_elim, ℕ, Bool, true, false, List, [], ◌∷◌, ◌++◌, Option, Some, None, refl, sym, ◌∙◌, ap, subst}
+use Rattle.std.proofs.Common.{◌≡◌, ◌⊎◌, inl, inr, ⊎_elim, ℕ, ◌+◌, Bool, true, false, List, [], ◌∷◌, ◌++◌, Option, Some, None, refl, sym, ◌∙◌, ap, subst}
 use Rattle.std.specs.Prelude.{Result, Ok, Err, OnOk, OnErr}
 use Rattle.dxc_num.specs.Dimensions.{Dimensions}
 use Rattle.dxc_disk.specs.Disks.{DiskState, IsDisk, Leaves, LeavesOnly}
@@ -10,7 +10,7 @@ use Rattle.journal_core.specs.Books.{IsKept, IsReady, IsWhole, doubted, is_tried
 use Rattle.journal_core.specs.Turns.{Appends, MayStand, Mends}
 use Rattle.journal_core.proofs.HeaderSteps.{never}
 use Rattle.journal_core.proofs.BookMends.{kept_stands}
-use Rattle.journal_core.proofs.KeepSteps.{none_only, only_weaker}
+use Rattle.journal_core.proofs.KeepSteps.{none_only, only_on, only_weaker}
 use Rattle.user_admin.specs.declared.op.UserChange.{UserChange}
 use Rattle.user_admin.specs.Users.{Users}
 use Rattle.user_admin.specs.Changes.{Fits, effect}
@@ -117,3 +117,27 @@ module _ (told : Type 0) (old new : DiskState) (before after : Book) (shelf user
   failed reach marked book quiet same reads = home_on told old new before after shelf users doubt home kept same (Some c)
       (λ tried. record { change = c; asked = refl; fits = fits; reads = λ t. subst (λ (w : List ℕ). Means shelf w c) (sym (reads t tried)) means })
       (λ t tried. absurd (never (ap (λ (x : Book). is_tried x.spare) book ∙ quiet) tried))
+
+-- one run of calls after the other, which leave no more than that
+pub left_on : (a b c : DiskState) (d e : Dimensions) (shelf users : Users) (doubt : Option UserChange) → e ≡ d → LeavesOnly a b (IsOldOrDoubted d shelf users doubt) → LeavesOnly b c (IsOldOrDoubted e shelf users doubt) → LeavesOnly a c (IsOldOrDoubted d shelf users doubt)
+left_on a b c d e shelf users doubt same first next = only_on a b c (IsOldOrDoubted d shelf users doubt) first (subst (λ (x : Dimensions). LeavesOnly b c (IsOldOrDoubted x shelf users doubt)) same next)
+
+pub more_left : (a b : DiskState) (d : Dimensions) (shelf users : Users) (doubt : Option UserChange) (c : UserChange) → LeavesOnly a b (IsOldOrDoubted d shelf users doubt) → LeavesOnly a b (IsOldOrOneMore d shelf users doubt c)
+more_left a b d shelf users doubt c only = only_weaker a b (IsOldOrDoubted d shelf users doubt) (IsOldOrOneMore d shelf users doubt c) (λ file is. inl is) only
+
+-- An append behind calls that made the journal ready, by its result.
+module _ (told : Type 0) (first old new : DiskState) (at before after : Book) (shelf users : Users) (c : UserChange) (bytes : List ℕ) (means : Means shelf bytes c) (fits : Fits c users) (ready : IsReady before × (before.to_mend ≡ false)) (whole : IsWhole before)
+    (come : (doubt : Option UserChange) → IsAtHome told first at shelf users doubt → IsAtHome told old before shelf users doubt) where
+  pub append_kept : {T E : Type 0} (result : Result T E) → (told → Appends old new before after result bytes) → OnOk result (after ≡ record before { count = before.count + 1; reach = after.reach })
+      → OnOk result ((doubt then_doubt : Option UserChange) → IsAtHome told first at shelf users doubt → IsAtHome told new after shelf (effect c users) then_doubt)
+  append_kept (Ok v) appends book = λ doubt then_doubt home. appended told old new before after shelf users doubt (come doubt home) (λ t. (appends t).kept) c bytes means fits after.reach (before.count + 1) book ready.1 (untried before whole ready.0.still) (λ t. (appends t).ok.1) then_doubt
+  append_kept (Err e) appends book = tt
+
+  pub append_failed : {T E : Type 0} (result : Result T E) → (told → Appends old new before after result bytes) → OnErr result (after ≡ record before { to_mend = after.to_mend; reach = after.reach })
+      → OnErr result ((doubt : Option UserChange) → IsAtHome told first at shelf users doubt → IsAtHome told new after shelf users doubt ⊎ IsAtHome told new after shelf users (Some c))
+  append_failed (Ok v) appends book = tt
+  append_failed (Err e) appends book = λ doubt home. inr (failed told old new before after shelf users doubt (come doubt home) (λ t. (appends t).kept) c bytes means fits after.reach after.to_mend book (untried before whole ready.0.still) (λ t. (appends t).err) (λ t. (appends t).doubt))
+
+pub append_shape : {T E : Type 0} (result : Result T E) (before after : Book) → OnOk result (after ≡ record before { count = before.count + 1; reach = after.reach }) → OnErr result (after ≡ record before { to_mend = after.to_mend; reach = after.reach }) → after.shape ≡ before.shape
+append_shape (Ok v) before after ok err = ap (λ (x : Book). x.shape) ok
+append_shape (Err e) before after ok err = ap (λ (x : Book). x.shape) err

@@ -5,7 +5,8 @@ use Rattle.std.specs.FinMap.{get, len}
 use Rattle.std.proofs.lemmas.List.{length-replicate, length-take}
 use Rattle.std.proofs.lemmas.Bool.Decides.{leb_tells}
 use Rattle.dxc_num.specs.Dimensions.{Dimensions}
-use Rattle.dxc_disk.specs.Disks.{DiskState, CountsOn, IsDisk, IsSettled, LeavesOnly, Looks}
+use Rattle.dxc_disk.specs.Disks.{DiskState, CountsOn, IsDisk, IsSettled, IsSound, LeavesOnly, Looks, Spends}
+use Rattle.dxc_disk.proofs.DiskSteps.{sound_on, spends_more, spends_on}
 use Rattle.dxc_disk.proofs.LookSteps.{looks_settled}
 use Rattle.journal_core.specs.declared.area.Area.{Area}
 use Rattle.journal_core.specs.declared.book.Book.{Book}
@@ -17,6 +18,7 @@ use Rattle.journal_core.specs.Headers.{IsNew, Stands, StandsAlike, header}
 use Rattle.journal_core.specs.Makes.{IsFresh}
 use Rattle.journal_core.specs.Books.{IsKept, IsWhole, area, is_tried, listed}
 use Rattle.journal_core.specs.Opens.{Finds, Founds, IsOpened, IsRefused, OpensNew, OpensOld, made_head}
+use Rattle.journal_core.proofs.AreaSteps.{most_most}
 use Rattle.journal_core.proofs.BookMends.{kept_stands}
 use Rattle.journal_core.proofs.HeaderSteps.{never}
 use Rattle.journal_core.proofs.StandSteps.{stands_once}
@@ -224,3 +226,17 @@ module _ {D : Type 0} (told : Type 0) (state : D → DiskState) (shelf : Content
       settled = λ x. looks_settled b (state s.journal.0) (looks x) (was_settled x);
     },
   )
+
+-- a journal counts few records
+few_counted : (book : Book) → IsWhole book → book.count ≤ 65_536
+few_counted book whole = omega (arith, whole.limit, most_most book.half book.head.version)
+
+-- n for the opening of the journal, and one for each record
+pub fold_room : (n : ℕ) (a b c : DiskState) (book : Book) → IsWhole book → Spends n a b → Spends book.count b c → Spends (n + 65_536) a c
+fold_room n a b c book whole called looked = spends_on n 65_536 a b c called (spends_more book.count 65_536 b c (few_counted book whole) looked)
+
+-- what is sound for both is sound for the records
+pub fold_sound : (n : ℕ) (a b : DiskState) (book : Book) → IsWhole book → a.faults ≤ b.faults → Spends n a b → IsSound (n + 65_536) a → IsSound book.count b
+fold_sound n a b book whole later called sound =
+    let few = few_counted book whole in
+    sound_on n book.count a b later (record { margin = sound.margin; enough = omega (arith, sound.enough, few) }) called

@@ -12,9 +12,12 @@ use Rattle.dxc_model.specs.declared.user.Class.{Class}
 use Rattle.journal_core.specs.declared.book.Book.{Book}
 use Rattle.journal_core.specs.Books.{IsWhole, listed, next_head, rows}
 use Rattle.journal_core.proofs.BookMends.{kept_stands}
+use Rattle.journal_core.proofs.HeaderSteps.{never}
 use Rattle.journal_core.proofs.KeepSteps.{none_only, only_weaker}
 use Rattle.user_admin.specs.declared.op.User.{User}
 use Rattle.user_admin.specs.declared.op.UserChange.{UserChange}
+use Rattle.user_admin.specs.declared.op.UserDone.{UserDone}
+use Rattle.user_admin.specs.declared.op.UserDone.TheVariants as done
 use Rattle.user_admin.specs.declared.op.UserEntry.{UserEntry}
 use Rattle.user_admin.specs.declared.op.UserOp.{UserOp}
 use Rattle.user_admin.specs.declared.op.UserOp.TheVariants as asked_for
@@ -30,6 +33,7 @@ use Rattle.user_admin.specs.Files.{IsFileOn, IsOldOrDoubted, IsOldOrOneMore}
 use Rattle.user_admin.specs.Journals.{IsAtHome}
 use Rattle.user_admin.specs.Histories.{IsInDoubt, IsLegal, IsLegalFrom, IsReading, MayCome, Opening, change_in, changes_of, failure_in, failures, users_after}
 use Rattle.user_admin.specs.Laws.{AreNamed}
+use Rattle.user_admin.specs.Openings.{asked_before}
 use Rattle.user_admin.specs.States.{IsFileAfter, IsFileOf, IsFileWithChange, IsFileWithDoubt, IsOfShelf, IsPaid, SpendsOf, StandsFor, cost, entry, most_room, refused, room_in}
 use Rattle.user_admin.proofs.Always.{limit_kept_always, shelf_users_named, users_named}
 use Rattle.user_admin.proofs.Granted.{none_some, same_some}
@@ -157,35 +161,50 @@ entered told state o s h e disk of_shelf whole doubt doubted home users legal ma
     stands_at told state o s (h ++ e ∷ []) disk of_shelf whole doubt doubted (subst (λ (m : Users). IsAtHome told (state s.journal.0) s.journal.1 (shelf_users o.shelf) m doubt) more home)
     (users ∙ more) (legal_more o h e legal may) faults spends (paid_counted o (h ++ e ∷ []) (state s.journal.0) counts faults spends) (subst (λ (m : Users). AreSpellable (shelf_users o.shelf) m) more spellable)
 
+-- what holds of each cause of the users holds of the first
+module _ (P : Cause → Type 0) (there : P UserThere) (full : P UsersFull) (unknown : P UnknownUser) (last_s : P LastOfClassS) where
+  entry_cause : (b d : Bool) (q : Cause) → (if b then Some UserThere else if d then Some UsersFull else None) ≡ Some q → P q
+  entry_cause true d q is = subst P (same_some _ _ is) there
+  entry_cause false true q is = subst P (same_some _ _ is) full
+  entry_cause false false q is = absurd (none_some q is)
+
+  last_cause : (b : Bool) (q : Cause) → (if b then Some LastOfClassS else None) ≡ Some q → P q
+  last_cause true q is = subst P (same_some _ _ is) last_s
+  last_cause false q is = absurd (none_some q is)
+
+  edit_cause : (u : Option User) (class : Option Class) (users : Users) (q : Cause) → refused_edit u class users ≡ Some q → P q
+  edit_cause None class users q is = subst P (same_some _ _ is) unknown
+  edit_cause (Some u) class users q is = last_cause (is_last_s u users && not (is_of_class_s (class_or class u.class))) q is
+
+  deletion_cause : (u : Option User) (users : Users) (q : Cause) → refused_deletion u users ≡ Some q → P q
+  deletion_cause None users q is = subst P (same_some _ _ is) unknown
+  deletion_cause (Some u) users q is = last_cause (is_last_s u users) q is
+
+  rows_cause : (b : Bool) (q : Cause) → (if b then None else Some UnknownUser) ≡ Some q → P q
+  rows_cause true q is = absurd (none_some q is)
+  rows_cause false q is = subst P (same_some _ _ is) unknown
+
+  pub by_users : (op : UserOp) (users : Users) (q : Cause) → refusal op users ≡ Some q → P q
+  by_users (asked_for.Enter uid pid class) users q is = entry_cause (is_there uid users) (nat_le most_users (len users)) q is
+  by_users (asked_for.Edit uid pid class) users q is = edit_cause (named uid users) class users q is
+  by_users (asked_for.Delete uid) users q is = deletion_cause (named uid users) users q is
+  by_users (asked_for.Rows None) users q is = absurd (none_some q is)
+  by_users (asked_for.Rows (Some uid)) users q is = rows_cause (is_there uid users) q is
+  by_users (asked_for.Look uid) users q is = absurd (none_some q is)
+
 -- no cause of the users is the disk's
-entry_cause : (b d : Bool) (q : Cause) → (if b then Some UserThere else if d then Some UsersFull else None) ≡ Some q → refused q ≡ Denied q
-entry_cause true d q is = ap refused (sym (same_some _ _ is)) ∙ ap Denied (same_some _ _ is)
-entry_cause false true q is = ap refused (sym (same_some _ _ is)) ∙ ap Denied (same_some _ _ is)
-entry_cause false false q is = absurd (none_some q is)
-
-last_cause : (b : Bool) (q : Cause) → (if b then Some LastOfClassS else None) ≡ Some q → refused q ≡ Denied q
-last_cause true q is = ap refused (sym (same_some _ _ is)) ∙ ap Denied (same_some _ _ is)
-last_cause false q is = absurd (none_some q is)
-
-edit_cause : (u : Option User) (class : Option Class) (users : Users) (q : Cause) → refused_edit u class users ≡ Some q → refused q ≡ Denied q
-edit_cause None class users q is = ap refused (sym (same_some _ _ is)) ∙ ap Denied (same_some _ _ is)
-edit_cause (Some u) class users q is = last_cause (is_last_s u users && not (is_of_class_s (class_or class u.class))) q is
-
-deletion_cause : (u : Option User) (users : Users) (q : Cause) → refused_deletion u users ≡ Some q → refused q ≡ Denied q
-deletion_cause None users q is = ap refused (sym (same_some _ _ is)) ∙ ap Denied (same_some _ _ is)
-deletion_cause (Some u) users q is = last_cause (is_last_s u users) q is
-
-rows_cause : (b : Bool) (q : Cause) → (if b then None else Some UnknownUser) ≡ Some q → refused q ≡ Denied q
-rows_cause true q is = absurd (none_some q is)
-rows_cause false q is = ap refused (sym (same_some _ _ is)) ∙ ap Denied (same_some _ _ is)
-
 pub not_by_disk : (op : UserOp) (users : Users) (q : Cause) → refusal op users ≡ Some q → refused q ≡ Denied q
-not_by_disk (asked_for.Enter uid pid class) users q is = entry_cause (is_there uid users) (nat_le most_users (len users)) q is
-not_by_disk (asked_for.Edit uid pid class) users q is = edit_cause (named uid users) class users q is
-not_by_disk (asked_for.Delete uid) users q is = deletion_cause (named uid users) users q is
-not_by_disk (asked_for.Rows None) users q is = absurd (none_some q is)
-not_by_disk (asked_for.Rows (Some uid)) users q is = rows_cause (is_there uid users) q is
-not_by_disk (asked_for.Look uid) users q is = absurd (none_some q is)
+not_by_disk = by_users (λ q. refused q ≡ Denied q) refl refl refl refl
+
+pub asked_none : (op : UserOp) (users : Users) (q : Cause) → refusal op users ≡ Some q → asked_before q ≡ []
+asked_none = by_users (λ q. asked_before q ≡ []) refl refl refl refl
+
+abbrev stands_against : UserDone → Bool
+stands_against (done.Denied DiskFault) = true
+stands_against _ = false
+
+pub other_than_disk : (op : UserOp) (users : Users) (q : Cause) → refusal op users ≡ Some q → done.Denied q ≡ done.Denied DiskFault → ⊥
+other_than_disk op users q is same = never (by_users (λ q. stands_against (done.Denied q) ≡ false) refl refl refl refl op users q is) (ap stands_against same)
 
 -- what a state that stands for a history may keep
 pub record MayKeep (l : Lists) : Type 0 where
@@ -218,6 +237,14 @@ module _ {D : Type 0} (told : Type 0) (state : D → DiskState) (o : Opening) (s
     -- at home with the shelf's users and these
     home_by : (users : Users) (m : Users) (doubt : Option UserChange) → users ≡ m → IsAtHome told (state t.journal.0) t.journal.1 s.lists.value.described users doubt → IsAtHome told (state t.journal.0) t.journal.1 (shelf_users o.shelf) m doubt
     home_by users m doubt same home = subst (λ (w : Users × Users). IsAtHome told (state t.journal.0) t.journal.1 w.0 w.1 doubt) (λ i. (st.of_shelf.described i, same i)) home
+
+    -- nothing was done
+    pub was_kept : t.lists.value.users ≡ s.lists.value.users → t.journal ≡ s.journal → StandsFor told state o t h
+    was_kept users journal = stands_at told state o t h disk of_shelf_on whole st.doubt st.doubted
+        (subst (λ (j : D × Book). IsAtHome told (state j.0) j.1 (shelf_users o.shelf) (users_after o h) st.doubt) (sym journal) st.home)
+        (users ∙ st.users) st.legal
+        (subst (λ (j : D × Book). min (o.faults + failures h) last ≤ (state j.0).faults) (sym journal) st.faults)
+        (subst (λ (j : D × Book). SpendsOf o (room_in h) (state j.0)) (sym journal) st.spends) st.paid st.spellable
 
     -- the users deny it
     pub was_denied : (n : ℕ) (op : UserOp) (q : Cause) → Refuses op s.lists.value.users q → t.lists.value.users ≡ s.lists.value.users → t.journal ≡ s.journal → StandsFor told state o t (h ++ entry n op (refused q) ∷ [])

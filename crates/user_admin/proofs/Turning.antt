@@ -1,5 +1,5 @@
 -- What a place sees in a turn, and behind it.
-use Rattle.std.proofs.Common.{◌≡◌, ◌≢◌, ◌<◌, ℕ, List, [], ◌∷◌, ◌++◌, refl, sym, ◌∙◌, ap, subst}
+use Rattle.std.proofs.Common.{◌≡◌, ◌≢◌, ◌<◌, ℕ, true, None, Some, List, [], ◌∷◌, ◌++◌, refl, sym, ◌∙◌, ap, subst}
 use Rattle.std.proofs.lemmas.List.{map-append}
 use base.Stored.{Gv}
 use Rattle.turnstile.specs.Passing.{Gate, Token}
@@ -9,11 +9,15 @@ use Rattle.dxc_disk.specs.Disks.{CountsOn, DiskState, IsDisk}
 use Rattle.user_admin.specs.declared.op.UserEntry.{UserEntry}
 use Rattle.user_admin.specs.declared.op.UserOp.{UserOp}
 use Rattle.user_admin.specs.declared.op.UserOutcome.{UserOutcome}
+use Rattle.user_admin.specs.declared.op.UserOutcome.TheVariants.{Answered}
+use Rattle.dxc_model.specs.declared.cause.Cause.{Cause}
 use Rattle.user_admin.specs.declared.state.UserState.{UserState}
 use Rattle.user_admin.specs.Coding.{entry_coded, place_of}
-use Rattle.user_admin.specs.Histories.{Opening}
-use Rattle.user_admin.specs.States.{Stands, StandsFor, entry, opening_in, opening_of}
+use Rattle.user_admin.specs.Histories.{IsReading, Opening}
+use Rattle.user_admin.specs.Verdicts.{refusal}
+use Rattle.user_admin.specs.States.{Stands, StandsFor, entry, opening_in, opening_of, refused}
 use Rattle.user_admin.specs.Turns.{AreNumbered, HasPass, IsHistory, Saw, Turned, TurnedBack, codes}
+use Rattle.user_admin.proofs.Standing.{was_denied, was_read}
 
 -- what was seen is one history
 pub saw_once : (o p : Opening) (seen : List Gv) (h g : List UserEntry) → Saw o seen h → Saw p seen g → h ≡ g
@@ -87,3 +91,11 @@ module _ {D : Type 0} (told : Type 0) (state : D → DiskState) where
 
     abbrev pub turned_back : (y : UserState D) (then_seen : List Gv) → StandsFor told state o y (h ++ f.later) → then_seen ≡ in_turn → TurnedBack o own h then_seen
     turned_back y then_seen st is = record { later = f.later; others = f.others; saw = record { codes_are = is ∙ f.codes_are; history = history_of o y (h ++ f.later) st } }
+
+-- what only reads leaves the state as it is
+module _ {D : Type 0} (told : Type 0) (state : D → DiskState) (o : Opening) (s : UserState D) (h : List UserEntry) (st : StandsFor told state o s h) (disk : told → IsDisk (state s.journal.0)) (counts : CountsOn (state s.journal.0)) (n : ℕ) (op : UserOp) where
+  pub read_stands : IsReading op → refusal op s.lists.value.users ≡ None → StandsFor told state o s (h ++ entry n op Answered ∷ [])
+  read_stands reads allowed = was_read told state o s h st s refl refl refl disk counts st.book n op reads allowed refl refl
+
+  pub denied_stands : (q : Cause) → refusal op s.lists.value.users ≡ Some q → StandsFor told state o s (h ++ entry n op (refused q) ∷ [])
+  denied_stands q is = was_denied told state o s h st s refl refl refl disk counts st.book n op q is refl refl

@@ -8,6 +8,7 @@ use Rattle.dxc_model.specs.declared.user.Class.{Class}
 use Rattle.user_admin.specs.declared.op.UserChange.{UserChange}
 use Rattle.user_admin.specs.declared.op.UserEntry.{UserEntry}
 use Rattle.user_admin.specs.declared.op.UserOp.{UserOp}
+use Rattle.user_admin.specs.declared.op.UserRow.{UserRow}
 use Rattle.user_admin.specs.declared.op.UserOp.TheVariants.{Look, Rows}
 use Rattle.user_admin.specs.declared.op.UserOutcome.TheVariants as outcome
 use Rattle.user_admin.specs.declared.turns.UserTook.{UserTook}
@@ -61,7 +62,7 @@ abbrev pub LoggedIn : Opening → ℕ → List UserEntry → List ℕ → List �
 LoggedIn o own h uid pid then_seen found = (t : Turned o own h (entry own (Look uid) outcome.Answered) then_seen) × (found ≡ login uid pid (users_after o (h ++ t.later)))
 
 -- the rows of the users before the place's entry, or the cause against it
-abbrev pub RowsAre : Opening → ℕ → List UserEntry → Option (List ℕ) → List Gv → List (List ℕ × Class) → Type 0
+abbrev pub RowsAre : Opening → ℕ → List UserEntry → Option (List ℕ) → List Gv → List UserRow → Type 0
 RowsAre o own h which then_seen given = (t : Turned o own h (entry own (Rows which) outcome.Answered) then_seen) × (given ≡ rows_in (users_after o (h ++ t.later)) which)
 
 abbrev pub RowsDenied : Opening → ℕ → List UserEntry → Option (List ℕ) → List Gv → Cause → Type 0

@@ -59,6 +59,7 @@ fn add_all<D: Disk>(
     requires empty { D.told → rows journal.old.1 (D.state journal.old.0).reads_as ≡ [] }
     ensures ok { OnOk result (journal.new.1 ≡ record journal.old.1 { spare = Drafted (record { equipped = (draft_of journal.old.1.spare).equipped; rows = length (rows_of described.now users.now) }) }) }
     ensures err { OnErr result (journal.new.1 ≡ record journal.old.1 { spare = Open }) }
+    ensures few { OnOk result (length (rows_of described.now users.now) ≤ 192) }
     ensures rows { D.told → OnOk result (rows journal.new.1 (D.state journal.new.0).reads_as ≡ map spelling (rows_of described.now users.now)) }
     ensures whole { IsWhole journal.new.1 }
     ensures home { (shelf users : Users) → (doubt : Option Change) → IsAtHome D.told (D.state journal.old.0) journal.old.1 shelf users doubt → IsAtHome D.told (D.state journal.new.0) journal.new.1 shelf users doubt }

@@ -1,11 +1,15 @@
 //! The users that a journal's records lead to.
-ghost use Rattle.std.specs.Prelude.{◌≡◌, ℕ, List, length, IfOk, IsErrOf};
+ghost use Rattle.std.specs.Prelude.{◌≡◌, ℕ, List, length, IfOk, IsErrOf, OnErr, OnOk};
 ghost use Rattle.dxc_causes.specs.Causes.{HasCause};
 ghost use Rattle.dxc_disk.specs.Disks.{IsSound, Looks, Spends};
 ghost use Rattle.journal_core.specs.Books.{IsKept, listed};
+ghost use Rattle.user_admin.specs.declared.op.UserChange.{UserChange as Change};
+ghost use Rattle.user_admin.specs.Changes.{Fits, effect};
 ghost use Rattle.user_admin.specs.Files.{FoldsTo};
 ghost use Rattle.user_admin.specs.Journals.{Replays};
+ghost use Rattle.user_admin.specs.Records.{Means};
 
+use crate::op::BadRecord;
 use crate::state::Lists;
 use dxc_disk::{Disk, DiskFault};
 use journal_core::Journal;
@@ -16,6 +20,20 @@ pub(crate) enum FoldFault {
     /// The record of this number is the first that means no change that fits.
     BadRecord(u32),
     Disk,
+}
+
+// Takes the change of a record. One of version 1 has 32 bytes, and means none.
+fn take(lists: &mut Lists, version: u8, bytes: &[u8; 64]) -> Result<(), BadRecord>
+    ensures described { lists.new.described ≡ lists.old.described }
+    ensures good { OnOk result ((version ≡ 2) × ((c : Change) × Means lists.old.described bytes.now c × Fits c lists.old.users × (lists.new.users ≡ effect c lists.old.users))) }
+    ensures bad { OnErr result (version ≡ 2 → (c : Change) → Means lists.old.described bytes.now c → Fits c lists.old.users → ⊥) }
+    ensures same { OnErr result (lists.new.users ≡ lists.old.users) }
+    ensures whole { length bytes.now ≡ 64 }
+{
+    if version != 2 {
+        return Err(BadRecord);
+    }
+    lists.users.take_record(&lists.described, bytes)
 }
 
 /// Takes every record of the journal in order. The journal stays as it is. It takes one of the disk's room for each record.
@@ -32,15 +50,15 @@ pub(crate) fn fold<D: Disk>(journal: &mut Journal<D>, lists: &mut Lists) -> Resu
     ensures room { Spends journal.old.1.count (D.state journal.old.0) (D.state journal.new.0) }
     ensures sound { IsSound journal.old.1.count (D.state journal.old.0) → IsErrOf result FoldFault.Disk → ⊥ }
 {
-    // A record of version 1 is none of these.
-    let is_ours = journal.version() == 2;
+    let version = journal.version();
     for i in 0..journal.count() {
         let bytes = match journal.record(i) {
             Ok(bytes) => bytes,
             Err(DiskFault) => return Err(FoldFault::Disk),
         };
-        if !is_ours || lists.users.take_record(&lists.described, &bytes).is_err() {
-            return Err(FoldFault::BadRecord(i));
+        match take(lists, version, &bytes) {
+            Ok(()) => {}
+            Err(BadRecord) => return Err(FoldFault::BadRecord(i)),
         }
     }
     Ok(())

@@ -1,5 +1,5 @@
 //! The state of the users: who they are, and their journal.
-ghost use Rattle.std.specs.Prelude.{◌≡◌, ◌≢◌, ◌≤◌, ◌<◌, ◌⊎◌, ℕ, List, None, length, option_map, slice_get, MatchResult, Some, IfErr, IfOk, IfSome};
+ghost use Rattle.std.specs.Prelude.{◌≡◌, ◌≢◌, ◌≤◌, ◌<◌, ◌⊎◌, ℕ, List, [], None, length, option_map, slice_get, MatchResult, Some, IfErr, IfOk, IfSome};
 ghost use Rattle.std.specs.FinMap.{entries};
 ghost use Rattle.dxc_causes.specs.Causes.{HasCause, Rose};
 ghost use Rattle.dxc_disk.specs.Disks.{IsSound, LeavesOnly, Spends};
@@ -15,7 +15,7 @@ use crate::fold::{FoldFault, fold};
 use crate::keep::keep;
 use crate::op::{User, UserDone, UserEntry, UserOp, UserRows};
 use crate::secret::copy_as;
-use crate::table::UserTable;
+use crate::table::{UserTable, row_of};
 use arrayvec::ArrayVec;
 use dxc_disk::{Disk, DiskFault};
 use dxc_model::{Cause, Class, Uid};
@@ -71,6 +71,15 @@ impl<D: Disk> Sequential for UserState<D> {
     ghost entry_code = { entry_coded };
 }
 
+fn copy_of(sid: &Sid) -> Sid
+    ensures { result ≡ sid.now }
+{
+    match Sid::of(sid.bytes()) {
+        Some(sid) => sid,
+        None => unreachable!(),
+    }
+}
+
 impl<D: Disk> UserOrigin<D> {
     // Where the users begin.
     fn of(shelf: &Shelf, users: &UserTable, journal: &Journal<D>) -> UserOrigin<D>
@@ -104,9 +113,7 @@ impl<D: Disk + Drop> UserState<D> {
         let Ok(mut lists) = Box::new(alloc, Lists { described, users }) else {
             return Err(UserOpenFault::NoMemory);
         };
-        let Some(sid) = Sid::of(shelf.sid().bytes()) else {
-            unreachable!()
-        };
+        let sid = copy_of(shelf.sid());
         let mut journal = match Journal::open(disk, shelf.shape(), shelf.equipped()) {
             Ok(journal) => journal,
             Err(fault) => return Err(UserOpenFault::Journal(fault)),
@@ -141,6 +148,9 @@ impl<D: Disk> UserState<D> {
         requires stands { (o : Opening) × (h : List Entry) × StandsFor D.told D.state o self.old h }
         ensures changed { (o : Opening) → (h : List Entry) → (place : ℕ) → StandsFor D.told D.state o self.old h → ChangedIs D.told D.state o h place op.now self.new result }
         ensures origin { self.new.origin ≡ self.old.origin }
+        // What the users deny makes no call on the disk, nor does what the gate stops.
+        ensures denied_still { asked_at result ≡ [] → self.new.journal ≡ self.old.journal }
+        ensures stopped_still { result ≡ UserDone.Stopped → self.new.journal ≡ self.old.journal }
         // A crash at any moment leaves the users as they were, with the change in doubt or not, or with this one.
         ensures any_moment { D.told → (o : Opening) → (h : List Entry) → StandsFor D.told D.state o self.old h → LeavesOnly (D.state self.old.journal.0) (D.state self.new.journal.0) (λ file. IsFileAfter o h file ⊎ IsFileWithChange o h op.now file) }
         ensures stopped { result ≡ UserDone.Stopped → Rose (G.stops gate.old) (G.stops gate.new) }
@@ -178,18 +188,31 @@ impl<D: Disk> UserState<D> {
     }
 
     /// The names of all users with their classes, in order of names, or of one; UnknownUser is the only cause against it.
-    pub fn rows(&self, which: Option<Uid>) -> Result<UserRows, Cause>
-        ensures { MatchResult result (λ given. (refusal (UserOp.Rows which) self.now.lists.value.users ≡ None) × (given.items ≡ rows_in self.now.lists.value.users which)) (λ q. refusal (UserOp.Rows which) self.now.lists.value.users ≡ Some q) }
+    pub fn rows(&self, which: &Option<Uid>) -> Result<UserRows, Cause>
+        ensures { MatchResult result (λ given. (refusal (UserOp.Rows which.now) self.now.lists.value.users ≡ None) × (given.items ≡ rows_in self.now.lists.value.users which.now)) (λ q. refusal (UserOp.Rows which.now) self.now.lists.value.users ≡ Some q) }
     {
         let Some(uid) = which else {
             return Ok(self.lists.users.rows());
         };
-        let Some(user) = self.lists.users.named(uid) else {
+        let Some(user) = self.lists.users.named(*uid) else {
             return Err(Cause::UnknownUser);
         };
         let mut rows = ArrayVec::new();
-        rows.push((user.uid, user.class));
+        rows.push(row_of(user));
         Ok(rows)
+    }
+
+    /// Gives the disk back as it is.
+    pub fn close(self) -> D
+        ensures { result ≡ self.journal.0 }
+    {
+        let UserState {
+            sid: _,
+            lists: _,
+            journal,
+            origin: _,
+        } = self;
+        journal.close()
     }
 
     /// A user by its place in the order of names in upper case, from 0; None exactly past the last.

@@ -110,7 +110,7 @@ pub fn rows<D: Disk + Drop, R: Wait>(
     ensures rows { (h : List Entry) → Saw (opening_of D.state turns.now.first) pass.old.seen h → MatchResult result (λ given. RowsAre (opening_of D.state turns.now.first) pass.old.number h which pass.new.seen given.items) (RowsDenied (opening_of D.state turns.now.first) pass.old.number h which pass.new.seen) }
 {
     let turn = turns.enter(pass, rt);
-    let given = turn.state().rows(which);
+    let given = turn.state().rows(&which);
     let place = pass.number();
     let op = UserOp::Rows(which);
     match given {

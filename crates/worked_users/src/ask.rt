@@ -1,0 +1,152 @@
+//! What is done with the users, as bytes that a row can name.
+ghost use Rattle.std.specs.Prelude.{◌↔◌, IfOk, IsTrue, List, OnOk, ◌≡◌};
+ghost use Rattle.user_admin.specs.declared.op.UserEntry.{UserEntry as Entry};
+ghost use Rattle.user_admin.specs.Histories.{Opening};
+ghost use Rattle.user_admin.specs.Spellable.{NamesUid};
+ghost use Rattle.user_admin.specs.States.{StandsFor};
+ghost use Rattle.user_admin.specs.Verdicts.{IsChanging};
+
+use crate::row::{Doing, Step};
+use anyhow::Result;
+use dxc_disk::Disk;
+use dxc_model::{Cause, Class, SessionUser, Uid};
+use dxc_outside::MemGate;
+use std::alloc::Global;
+use tl1_text::Sid;
+use tl1_text::grammar::blocks;
+use user_admin::{UserDone, UserOp, UserState, user_command_of};
+
+fn letter_of(class: Class) -> u8 {
+    match class {
+        Class::R => b'R',
+        Class::P => b'P',
+        Class::S => b'S',
+    }
+}
+
+fn push_user(text: &mut Vec<u8>, uid: Uid, class: Class) -> Result<()> {
+    if !text.is_empty() {
+        text.push(b' ')?;
+    }
+    text.extend_from_slice(uid.bytes())?;
+    text.push(b':')?;
+    text.push(letter_of(class))?;
+    Ok(())
+}
+
+/// All users in order of their names, as NAME:CLASS.
+pub fn list_of<D: Disk>(alloc: Global, state: &UserState<D>) -> Result<Vec<u8>> {
+    let mut text = Vec::new(alloc);
+    for i in 0..64 {
+        if let Some(user) = state.user(i) {
+            push_user(&mut text, user.uid, user.class)?;
+        }
+    }
+    Ok(text)
+}
+
+fn rows_text<D: Disk>(
+    alloc: Global,
+    state: &UserState<D>,
+    which: &Option<Uid>,
+) -> Result<Vec<u8>> {
+    let mut text = Vec::new(alloc);
+    match state.rows(which) {
+        Ok(rows) => {
+            for row in rows.as_slice() {
+                push_user(&mut text, row.uid, row.class)?;
+            }
+        }
+        Err(cause) => text.extend_from_slice(cause.text().as_bytes())?,
+    }
+    Ok(text)
+}
+
+fn class_text(alloc: Global, class: Option<Class>) -> Result<Vec<u8>> {
+    let mut text = Vec::new(alloc);
+    match class {
+        Some(class) => text.push(letter_of(class))?,
+        None => text.push(b'-')?,
+    }
+    Ok(text)
+}
+
+// What a unit of a user of class S asks.
+fn op_of(sid: &Sid, unit: &[u8]) -> Result<UserOp, Cause>
+    ensures { IfOk result NamesUid }
+{
+    if unit.len() > 2047 {
+        return Err(Cause::TooLong);
+    }
+    let user = SessionUser::User {
+        uid: Uid::default(),
+        class: Class::S,
+    };
+    match blocks(unit) {
+        Ok(blocks) => user_command_of(sid, user, unit, &blocks),
+        Err(_) => Err(Cause::BadText),
+    }
+}
+
+fn is_changing(op: &UserOp) -> bool
+    ensures { IsTrue result ↔ IsChanging op.now }
+{
+    match op {
+        UserOp::Enter { .. } | UserOp::Edit { .. } | UserOp::Delete(_) => true,
+        UserOp::Rows(_) | UserOp::Look(_) => false,
+    }
+}
+
+fn change<D: Disk>(alloc: Global, state: &mut UserState<D>, op: &UserOp) -> Result<Vec<u8>>
+    requires changing { IsChanging op.now }
+    requires named { NamesUid op.now }
+    requires stands { (o : Opening) × (h : List Entry) × StandsFor D.told D.state o state.old h }
+    ensures stands { (o : Opening) × (h : List Entry) × StandsFor D.told D.state o state.new h }
+{
+    let mut gate = MemGate::new(Vec::new(alloc));
+    let text = match state.change(op, &mut gate) {
+        UserDone::Done(_) => "COMPLD",
+        UserDone::Denied(cause) => cause.text(),
+        UserDone::Stopped => "STOPPED",
+    };
+    Ok(text.as_bytes().to_vec(alloc)?)
+}
+
+fn answer<D: Disk>(
+    alloc: Global,
+    sid: &Sid,
+    state: &mut UserState<D>,
+    unit: &[u8],
+) -> Result<Vec<u8>>
+    requires stands { (o : Opening) × (h : List Entry) × StandsFor D.told D.state o state.old h }
+    ensures stands { (o : Opening) × (h : List Entry) × StandsFor D.told D.state o state.new h }
+{
+    let op = match op_of(sid, unit) {
+        Ok(op) => op,
+        Err(cause) => return Ok(cause.text().as_bytes().to_vec(alloc)?),
+    };
+    if is_changing(&op) {
+        return change(alloc, state, &op);
+    }
+    match &op {
+        UserOp::Rows(which) => rows_text(alloc, state, which),
+        _ => Ok(Vec::new(alloc)),
+    }
+}
+
+/// What comes of a step.
+pub fn outcome_of<D: Disk>(
+    alloc: Global,
+    sid: &Sid,
+    state: &mut UserState<D>,
+    step: &Step,
+) -> Result<Vec<u8>>
+    requires stands { (o : Opening) × (h : List Entry) × StandsFor D.told D.state o state.old h }
+    ensures stands { (o : Opening) × (h : List Entry) × StandsFor D.told D.state o state.new h }
+{
+    match &step.doing {
+        Doing::Ask(unit) => answer(alloc, sid, state, unit),
+        Doing::Login(uid, pid) => class_text(alloc, state.login_now(uid, pid)),
+        Doing::List => list_of(alloc, state),
+    }
+}
