@@ -1,5 +1,5 @@
 -- The users' journal while a checkpoint is written, and turned to.
-use Rattle.std.proofs.Common.{◌≡◌, ℕ, zero, suc, ◌+◌, ◌≤◌, ◌<◌, true, false, take, append_assoc, List, [], ◌∷◌, ◌++◌, length, map, Option, Some, None, refl, sym, ◌∙◌, ap, subst, arith}
+use Rattle.std.proofs.Common.{◌≡◌, ℕ, ◌+◌, ◌≤◌, ◌<◌, true, false, take, append_assoc, List, [], ◌∷◌, ◌++◌, length, map, Option, refl, sym, ◌∙◌, ap, subst, arith}
 use Rattle.std.proofs.lemmas.List.{length-append, map-append, map_more}
 use Rattle.std.specs.Prelude.{get_or, slice_index, Result, Ok, Err, OnOk, OnErr}
 use Rattle.std.specs.FinMap.{len}
@@ -22,7 +22,7 @@ use Rattle.user_admin.specs.Checkpoints.{rows as rows_of}
 use Rattle.user_admin.specs.Files.{AreMeant, FoldsTo, IsOldOrDoubted}
 use Rattle.user_admin.specs.Journals.{IsAtHome}
 use Rattle.user_admin.specs.Laws.{AreNamed}
-use Rattle.user_admin.specs.Records.{has_long_salt, spelling}
+use Rattle.user_admin.specs.Records.{spelling}
 use Rattle.user_admin.specs.Spellable.{AllSpellable, AreDescribed, AreSpellable}
 use Rattle.user_admin.proofs.Keeping.{doubts_on, home_on, may_called, may_stand}
 use Rattle.user_admin.proofs.Leading.{rows_lead}

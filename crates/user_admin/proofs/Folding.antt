@@ -1,5 +1,5 @@
 -- The users that records lead to.
-use Rattle.std.proofs.Common.{◌≡◌, ℕ, suc, ◌+◌, ◌<◌, ◌≤◌, Bool, true, false, nat_lt, not, cond, List, [], ◌∷◌, ◌++◌, append-nil, length, length-append, take, Option, Some, None, refl, sym, ◌∙◌, ap, subst, arith}
+use Rattle.std.proofs.Common.{◌≡◌, ℕ, ◌+◌, ◌<◌, ◌≤◌, Bool, true, false, nat_lt, List, [], ◌∷◌, ◌++◌, append-nil, length, length-append, take, Option, Some, None, refl, sym, ◌∙◌, ap, subst, arith}
 use Rattle.std.proofs.lemmas.Bool.Decides.{nat_tests}
 use Rattle.std.specs.Prelude.{get_or}
 use Rattle.std.proofs.lemmas.List.{take_more}
@@ -14,13 +14,12 @@ use Rattle.user_admin.specs.declared.op.User.{User}
 use Rattle.user_admin.specs.declared.op.UserChange.{UserChange}
 use Rattle.user_admin.specs.declared.op.UserChange.TheVariants.{Enter, Edit, Delete}
 use Rattle.user_admin.specs.Users.{Users}
-use Rattle.user_admin.specs.Changes.{AllFit, Fits, after, effect}
+use Rattle.user_admin.specs.Changes.{Fits, after, effect}
 use Rattle.user_admin.specs.Records.{HasShelfSecrets, IsName, MayBeSpelled, MaySpell, Means, has_long_salt, is_long}
 use Rattle.user_admin.specs.Spellable.{AreDescribed, AreSpellable}
 use Rattle.user_admin.specs.Files.{AreMeant, FoldsTo}
 use Rattle.user_admin.specs.Journals.{IsBadRecord}
 use Rattle.user_admin.proofs.Always.{record_stands}
-use Rattle.user_admin.proofs.Granted.{none_some, same_some}
 use Rattle.user_admin.proofs.Readback.{spelled_size}
 use Rattle.user_admin.proofs.Spelling.{always_spellable, at_most, shelf_spellable}
 

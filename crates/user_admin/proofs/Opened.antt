@@ -1,7 +1,7 @@
 -- An opening of the users: the disk's journal, and its records.
-use Rattle.std.proofs.Common.{◌≡◌, ◌≢◌, ◌⊎◌, inl, inr, ⊎_elim, ℕ, ◌+◌, ◌-◌, ◌<◌, ◌≤◌, Bool, true, false, append-nil, length-append, List, [], ◌∷◌, ◌++◌, length, Option, Some, None, Result, Ok, Err, refl, sym, ◌∙◌, ap, subst, arith}
-use Rattle.std.specs.Prelude.{◌&&◌, replicate, slice_index}
-use Rattle.std.specs.FinMap.{get, len}
+use Rattle.std.proofs.Common.{◌≡◌, ◌≢◌, ◌⊎◌, inl, inr, ⊎_elim, ℕ, ◌+◌, ◌-◌, ◌<◌, ◌≤◌, false, append-nil, length-append, List, [], ◌++◌, length, None, Result, Ok, Err, refl, sym, ◌∙◌, ap, subst, arith}
+use Rattle.std.specs.Prelude.{replicate, slice_index}
+use Rattle.std.specs.FinMap.{len}
 use Rattle.std.proofs.lemmas.List.{length-replicate, length-take}
 use Rattle.std.proofs.lemmas.Bool.Decides.{leb_tells}
 use Rattle.dxc_num.specs.Dimensions.{Dimensions}
@@ -23,18 +23,15 @@ use Rattle.journal_core.proofs.BookMends.{kept_stands}
 use Rattle.journal_core.proofs.HeaderSteps.{never}
 use Rattle.journal_core.proofs.StandSteps.{stands_once}
 use Rattle.shelf_file.specs.Contents.{Contents}
-use Rattle.user_admin.specs.declared.op.User.{User}
-use Rattle.user_admin.specs.declared.state.UserOrigin.{UserOrigin}
 use Rattle.user_admin.specs.declared.state.UserState.{UserState}
 use Rattle.user_admin.specs.Users.{Users, shelf_users}
 use Rattle.user_admin.specs.Changes.{most_users}
-use Rattle.user_admin.specs.Records.{IsName}
-use Rattle.user_admin.specs.Spellable.{AreDescribed, AreSpellable}
+use Rattle.user_admin.specs.Spellable.{AreDescribed}
 use Rattle.user_admin.specs.Files.{FoldsTo}
 use Rattle.user_admin.specs.Journals.{IsAtHome, IsBadRecord}
-use Rattle.user_admin.specs.Histories.{IsLegal, Opening}
+use Rattle.user_admin.specs.Histories.{Opening}
 use Rattle.user_admin.specs.States.{IsOfShelf, StandsFor, opening_of, recorded}
-use Rattle.user_admin.specs.Openings.{Begins, HasBadRecord, IsFoldOf, IsOpening, LeavesOpened}
+use Rattle.user_admin.specs.Openings.{Begins, HasBadRecord, IsOpening, LeavesOpened}
 use Rattle.user_admin.proofs.Keeping.{untried}
 use Rattle.user_admin.proofs.Folding.{fold_spellable}
 use Rattle.user_admin.proofs.Standing.{paid_counted, stands_at}

@@ -45,11 +45,7 @@ pub fn list_of<D: Disk>(alloc: Global, state: &UserState<D>) -> Result<Vec<u8>> 
     Ok(text)
 }
 
-fn rows_text<D: Disk>(
-    alloc: Global,
-    state: &UserState<D>,
-    which: &Option<Uid>,
-) -> Result<Vec<u8>> {
+fn rows_text<D: Disk>(alloc: Global, state: &UserState<D>, which: &Option<Uid>) -> Result<Vec<u8>> {
     let mut text = Vec::new(alloc);
     match state.rows(which) {
         Ok(rows) => {

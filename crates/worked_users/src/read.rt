@@ -46,7 +46,9 @@ fn take_line(alloc: Global, row: &mut Row, word: &str, rest: &str) -> Result<()>
 }
 
 fn change_byte(journal: &mut [u8], rest: &str) -> Result<()> {
-    let (at, byte) = rest.split_once(' ').context("a place and a byte are wanted")?;
+    let (at, byte) = rest
+        .split_once(' ')
+        .context("a place and a byte are wanted")?;
     let place = journal
         .get_mut(at.parse::<usize>()?)
         .context("no such byte")?;

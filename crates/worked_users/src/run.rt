@@ -100,15 +100,13 @@ fn steps_fault<D: Disk>(
 }
 
 // What is wrong with the disk behind a run.
-fn fault_behind(
-    alloc: Global,
-    shelf: &Shelf,
-    disk: &MemDisk,
-    run: &Run,
-) -> Result<Option<String>> {
+fn fault_behind(alloc: Global, shelf: &Shelf, disk: &MemDisk, run: &Run) -> Result<Option<String>> {
     if let Some(after) = &run.after {
         if disk.bytes() != after.as_slice() {
-            return Ok(Some(format!(in alloc; "the journal was {}", hex::encode(alloc, disk.bytes())?)?));
+            return Ok(Some(format!(in alloc;
+                "the journal was {}",
+                hex::encode(alloc, disk.bytes())?
+            )?));
         }
     }
     for images in &run.images {

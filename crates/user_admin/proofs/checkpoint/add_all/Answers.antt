@@ -1,10 +1,9 @@
-use Rattle.std.proofs.Common.{◌≡◌, ℕ, ◌+◌, ◌≤◌, List, ◌++◌, length, map, ◌∙◌, ap, subst, sym, arith}
+use Rattle.std.proofs.Common.{◌≡◌, ◌≤◌, List, ◌++◌, length, map, ◌∙◌, ap, subst, arith}
 use Rattle.std.specs.Prelude.{OnOk}
 use Rattle.journal_core.specs.declared.book.Book.{Book}
 use Rattle.journal_core.specs.declared.spare.Spare.TheVariants.{Drafted, Open}
 use Rattle.journal_core.specs.Books.{draft_of, is_drafted, rows}
 use Rattle.user_admin.specs.declared.op.UserChange.{UserChange}
-use Rattle.user_admin.specs.Checkpoints.{rows as rows_of}
 use Rattle.user_admin.specs.Records.{spelling}
 use Rattle.user_admin.proofs.Keeping.{left_on}
 use Rattle.user_admin.proofs.Checkpointing.{added_all, few_rows, given_up, on_ok, rows_all}

@@ -1,5 +1,4 @@
-use Rattle.std.proofs.Common.{◌≡◌, ℕ, ◌<◌, ◌≤◌, List, map, length, Option, ◌∙◌, sym, ap, subst, arith}
-use Rattle.dxc_num.specs.Dimensions.{Dimensions}
+use Rattle.std.proofs.Common.{◌≡◌, ℕ, List, length, Option, ◌∙◌, sym, ap, subst, arith}
 use Rattle.dxc_disk.specs.Disks.{LeavesOnly}
 use Rattle.dxc_model.specs.Equipment.{IsEquipment}
 use Rattle.journal_core.specs.declared.book.Book.{Book}

@@ -1,11 +1,10 @@
-use Rattle.std.proofs.Common.{◌≡◌, ℕ, ◌+◌, List, [], ◌∷◌, ◌++◌, get_or, length, length-append, refl, sym, ◌∙◌, ap, subst, arith}
+use Rattle.std.proofs.Common.{◌≡◌, ℕ, ◌+◌, [], ◌∷◌, ◌++◌, get_or, length-append, refl, sym, ◌∙◌, ap, subst, arith}
 use Rattle.dxc_disk.proofs.DiskSteps.{spends_none, spends_on}
 use Rattle.dxc_disk.proofs.LookSteps.{looks_on, looks_same}
 use Rattle.journal_core.specs.Books.{listed}
 use Rattle.user_admin.specs.declared.op.UserChange.{UserChange}
 use Rattle.user_admin.specs.Users.{Users}
 use Rattle.user_admin.specs.Changes.{Fits, effect}
-use Rattle.user_admin.specs.Journals.{IsBadRecord}
 use Rattle.user_admin.specs.Records.{Means}
 use Rattle.user_admin.proofs.Folding.{counted, folds_more, none_folded, not_meant, read_more, refused, was_read, whole_read}
 use Rattle.user_admin.proofs.fold.fold.Goals as goal

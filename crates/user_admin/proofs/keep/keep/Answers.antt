@@ -1,4 +1,4 @@
-use Rattle.std.proofs.Common.{◌≡◌, inl, ℕ, List, Option, slice_index, ◌∙◌, ap, subst}
+use Rattle.std.proofs.Common.{inl, ℕ, List, slice_index, ◌∙◌, ap, subst}
 use Rattle.dxc_num.specs.Dimensions.{Dimensions}
 use Rattle.dxc_disk.specs.Disks.{LeavesOnly}
 use Rattle.journal_core.proofs.KeepSteps.{only_on}

@@ -1,7 +1,5 @@
-use Rattle.std.proofs.Common.{◌≡◌, Option, ◌∙◌, ap}
+use Rattle.std.proofs.Common.{ap}
 use Rattle.journal_core.specs.declared.book.Book.{Book}
-use Rattle.user_admin.specs.declared.op.UserChange.{UserChange}
-use Rattle.user_admin.specs.Journals.{IsAtHome}
 use Rattle.user_admin.proofs.Keeping.{left_on, may_called, mend_home}
 use Rattle.user_admin.proofs.Checkpointing.{both_ok}
 use Rattle.user_admin.proofs.keep.make_ready.Goals as goal

@@ -1,4 +1,4 @@
-use Rattle.std.proofs.Common.{◌≡◌, ◌∙◌, ℕ, ◌+◌, ◌<◌, ◌≤◌, List, [], ◌∷◌, ◌++◌, ap, sym, length, length-append, map, arith}
+use Rattle.std.proofs.Common.{◌∙◌, List, [], ◌∷◌, ◌++◌, ap, sym, length, length-append, map, arith}
 use Rattle.std.proofs.lemmas.List.{map_more, take_all}
 use Rattle.user_admin.specs.declared.op.User.{User}
 use Rattle.user_admin.specs.Verdicts.{row}

@@ -1,9 +1,8 @@
-use Rattle.std.proofs.Common.{List, ◌++◌, refl, sym, ◌∙◌, ap, subst}
+use Rattle.std.proofs.Common.{List, ◌++◌, refl, ◌∙◌, ap, subst}
 use Rattle.user_admin.specs.declared.op.UserEntry.{UserEntry}
 use Rattle.user_admin.specs.declared.op.UserOp.TheVariants.{Look}
 use Rattle.user_admin.specs.declared.op.UserOutcome.TheVariants.{Answered}
-use Rattle.user_admin.specs.declared.state.UserState.{UserState}
-use Rattle.user_admin.specs.States.{StandsFor, entry, opening_of}
+use Rattle.user_admin.specs.States.{entry, opening_of}
 use Rattle.user_admin.specs.Turns.{LoggedIn}
 use Rattle.user_admin.specs.Users.{Users}
 use Rattle.user_admin.specs.Verdicts.{login}

@@ -1,4 +1,4 @@
-use Rattle.std.proofs.Common.{◌≡◌, ◌⊎◌, List, [], Option, Some, refl, sym, ◌∙◌, ap, subst, arith}
+use Rattle.std.proofs.Common.{◌⊎◌, List, Option, Some, refl, sym, ◌∙◌, ap, subst, arith}
 use Rattle.dxc_disk.specs.Disks.{LeavesOnly}
 use Rattle.dxc_outside.specs.declared.gate.GatePlace.{GatePlace}
 use Rattle.user_admin.specs.declared.op.UserChange.{UserChange}

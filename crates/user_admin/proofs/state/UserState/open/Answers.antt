@@ -1,4 +1,4 @@
-use Rattle.std.proofs.Common.{◌≡◌, ℕ, ◌≤◌, Err, Ok, sym, ◌∙◌, ap, subst, arith}
+use Rattle.std.proofs.Common.{ℕ, ◌≤◌, Err, Ok, sym, ◌∙◌, ap, subst, arith}
 use Rattle.std.specs.FinMap.{len}
 use Rattle.dxc_causes.specs.Causes.{HasCause}
 use Rattle.dxc_disk.specs.Disks.{Spends}
