@@ -44,7 +44,7 @@ why_disk : (w : JournalWhy) → status_of_users_why w ≡ Disk → w ≡ why_of.
 why_disk (why_of.BadHeader bytes) was = cc
 why_disk why_of.Disk was = refl
 
-disk_error : {D : Type 0} (f : UserOpenFault D) → status_of_users_fault f ≡ Disk → IsDiskErr {D} (Err f)
+disk_error : {D : Type 0} (f : UserOpenFault D) → status_of_users_fault f ≡ Disk → IsDiskErr {D = D} (Err f)
 disk_error (users_fault.Journal f) was = why_disk f.why was
 disk_error (users_fault.BadRecord i) was = cc
 disk_error (users_fault.Disk d) was = tt
