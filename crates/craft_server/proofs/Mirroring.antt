@@ -11,14 +11,15 @@ use Rattle.standby_link.specs.declared.mirror_disk.MirrorDisk.{MirrorDisk}
 use Rattle.xc_core.specs.States.{Opening, opening_of}
 use Rattle.craft_server.specs.declared.line.Line.TheVariants.{Serve}
 use Rattle.craft_server.specs.declared.opening.Controller.{Controller}
+use Rattle.craft_server.specs.declared.opening.Element.{Element}
 use Rattle.craft_server.specs.declared.status.Status.{Status}
 use Rattle.craft_server.specs.declared.status.Status.TheVariants.{CannotOpen, NoMemory}
 use Rattle.craft_server.specs.Openings.{HasShelf, IsStarted, Named, NotStarted, Sources, named}
-use Rattle.craft_server.specs.Peers.{FoundMirror, IsMirrorOf, IsOpenedOn, IsReady, Mirrors, NotMirrored, mirror_state}
+use Rattle.craft_server.specs.Peers.{FoundMirror, HasMirrored, IsMirrorOf, IsOpenedOn, IsReady, Mirrors, NoMirrored, mirror_state}
 use Rattle.craft_server.specs.Runs.{IsRunOf, Lent, MirrorsFor, OpensFor, Told}
 use Rattle.craft_server.specs.Serving.{IsServing}
 use Rattle.craft_server.proofs.Counting.{rose_behind}
-use Rattle.craft_server.proofs.Starting.{begun, opened_at}
+use Rattle.craft_server.proofs.Starting.{begun, opened_at, users_began}
 
 -- what was started may be served
 pub ready : {D : Type 0} (told : Type 0) (state : D → DiskState) (disk : D) (s : Contents) (workers : ℕ) (x : Controller D) → IsStarted told state disk s workers x → IsReady told state workers x
@@ -44,31 +45,31 @@ module _ {D K : Type 0} (told link_told : Type 0) (state : D → DiskState) (lin
   -- started or not, on the mirror that was found
   pub mirrored : (names : Named) (workers : ℕ) (before after : Sources D) (f : FoundMirror told link_told state link opener_told names before) (r : Result (Controller (MirrorDisk D K)) Status)
       → MatchResult r (IsStarted told (mirror_state state) f.mirror f.shelf workers) (NotStarted told (mirror_state state) f.mirror f.shelf before.stops after.stops)
-      → MatchResult r (IsOpenedOn told link_told state link opener_told names workers before) (NotMirrored told link_told state link opener_told names before after)
+      → MatchResult r (HasMirrored told link_told state link opener_told names workers before) (NoMirrored told link_told state link opener_told names before after)
   mirrored names workers before after f (Ok x) is = (f, is)
   mirrored names workers before after f (Err e) not = inr (inr (f, not))
 
   -- there was no disk or no peer, and why
   pub no_mirror : (names : Named) (before after : Sources D) (mid : ℕ) (s : Contents) (status : Status) → HasShelf opener_told before.opener names.shelf s → after.stops ≡ before.stops → before.opener.faults ≤ mid
-      → (status ≡ NoMemory) ⊎ ((status ≡ CannotOpen) × Rose mid after.opener.faults) → NotMirrored told link_told state link opener_told names before after status
+      → (status ≡ NoMemory) ⊎ ((status ≡ CannotOpen) × Rose mid after.opener.faults) → NoMirrored told link_told state link opener_told names before after status
   no_mirror names before after mid s status described stops later why = inr (inl (s, described, (stops, elim why [
     | inl memory ↦ inl memory
     | inr closed ↦ inr (closed.0, rose_behind before.opener.faults mid after.opener.faults later closed.1)
   ])))
 
   -- what was served on what was started
-  pub serves : (names : Named) (workers : ℕ) (before after : Sources D) (untouched P : Type 0) (status : Status) (x : Controller (MirrorDisk D K)) → IsOpenedOn told link_told state link opener_told names workers before x → P → Mirrors told link_told state link opener_told names before after untouched (λ f o. P) status
+  pub serves : (names : Named) (workers : ℕ) (before after : Sources D) (untouched P : Type 0) (status : Status) (x : Element (MirrorDisk D K) D) → IsOpenedOn told link_told state link opener_told names workers before x → P → Mirrors told link_told state link opener_told names before after untouched (λ f o u. P) status
   serves names workers before after untouched P status x opened ran =
-      let f = opened.0 in
-      inr (f, opening_of (mirror_state state) x.state, begun told (mirror_state state) f.mirror f.shelf workers x opened.1, ran)
+      let h = opened.0 in
+      inr (h.0, opening_of (mirror_state state) x.controller.state, begun told (mirror_state state) h.0.mirror h.0.shelf workers x.controller h.1, users_began told state opener_told names before h.0.shelf x.users opened.1, ran)
 
   -- by the names of a line, and what came of it
   pub mirrors_for : (names other : Named) → names ≡ other → (before after : Sources D) (untouched still P Q : Type 0) (status : Status) → (untouched → still) → (P → Q)
-      → Mirrors told link_told state link opener_told names before after untouched (λ f o. P) status → Mirrors told link_told state link opener_told other before after still (λ f o. Q) status
+      → Mirrors told link_told state link opener_told names before after untouched (λ f o u. P) status → Mirrors told link_told state link opener_told other before after still (λ f o u. Q) status
   mirrors_for names other same before after untouched still P Q status keep on mirrors =
-      subst (λ (n : Named). Mirrors told link_told state link opener_told n before after still (λ f o. Q) status) same (elim mirrors [
+      subst (λ (n : Named). Mirrors told link_told state link opener_told n before after still (λ f o u. Q) status) same (elim mirrors [
         | inl not ↦ inl (not.0, keep not.1)
-        | inr ran ↦ inr (ran.0, ran.1, ran.2, on ran.3)
+        | inr ran ↦ inr (ran.0, ran.1, ran.2, ran.3, on ran.4)
       ])
 
 -- a line of the mode serve, without a peer and with one

@@ -11,8 +11,9 @@ use Rattle.standby_link.specs.Moves.{Joins}
 use Rattle.xc_core.specs.Openings.{Begins}
 use Rattle.xc_core.specs.States.{Opening, opening_of}
 use Rattle.craft_server.specs.declared.opening.Controller.{Controller}
+use Rattle.craft_server.specs.declared.opening.Element.{Element}
 use Rattle.craft_server.specs.declared.status.Status.{Status}
-use Rattle.craft_server.specs.Openings.{HasOpening, HasShelf, IsStarted, Named, NoDisk, NoShelf, NotStarted, Sources}
+use Rattle.craft_server.specs.Openings.{Began, HasOpening, HasShelf, HasUsers, IsStarted, Named, NoDisk, NoShelf, NotStarted, NoUsers, Sources}
 use Rattle.craft_server.specs.Places.{IsAtOpening}
 
 -- a controller that may be served: it stands for no entry yet, its seats are new, and there is one for each worker
@@ -49,18 +50,28 @@ module _ {D K : Type 0} (disk_told link_told : Type 0) (state : D → DiskState)
       pub mirrors : IsMirrorOf before.journal_at names.journal mirror
 
     -- the controller that the names stand for, on the mirror
-    abbrev pub IsOpenedOn : Named → ℕ → Sources D → Controller (MirrorDisk D K) → Type 0
-    IsOpenedOn names workers before x = (f : FoundMirror names before) × IsStarted disk_told (mirror_state state) f.mirror f.shelf workers x
+    abbrev pub HasMirrored : Named → ℕ → Sources D → Controller (MirrorDisk D K) → Type 0
+    HasMirrored names workers before x = (f : FoundMirror names before) × IsStarted disk_told (mirror_state state) f.mirror f.shelf workers x
 
     -- no shelf, no disk or no peer, or a mirror on which the controller didn't start
-    abbrev pub NotMirrored : Named → (before after : Sources D) → Status → Type 0
-    NotMirrored names before after status =
+    abbrev pub NoMirrored : Named → (before after : Sources D) → Status → Type 0
+    NoMirrored names before after status =
         ((after.stops ≡ before.stops) × NoShelf opener_told before.opener after.opener names.shelf status)
         ⊎ (((s : Contents) × HasShelf opener_told before.opener names.shelf s × NoDisk before after status)
         ⊎ ((f : FoundMirror names before) × NotStarted disk_told (mirror_state state) f.mirror f.shelf before.stops after.stops status))
 
+    -- the controller that the names stand for, on the mirror, and its users, on a journal that isn't mirrored
+    abbrev pub IsOpenedOn : Named → ℕ → Sources D → Element (MirrorDisk D K) D → Type 0
+    IsOpenedOn names workers before x = (h : HasMirrored names workers before x.controller) × HasUsers opener_told disk_told state names before h.0.shelf x.users
+
+    -- no controller, or none of its users
+    abbrev pub NotMirrored : Named → (before after : Sources D) → Status → Type 0
+    NotMirrored names before after status =
+        NoMirrored names before after status
+        ⊎ ((f : FoundMirror names before) × (o : Opening) × HasOpening disk_told (mirror_state state) f.mirror f.shelf o × (after.stops ≡ before.stops) × NoUsers opener_told disk_told state names before after f.shelf status)
+
     -- Nothing was opened, why, and nothing else happened; or this was done on what was opened and mirrored.
-    abbrev pub Mirrors : (names : Named) (before after : Sources D) (untouched : Type 0) (done : FoundMirror names before → Opening → Type 0) → Status → Type 0
+    abbrev pub Mirrors : (names : Named) (before after : Sources D) (untouched : Type 0) (done : (f : FoundMirror names before) → Opening → Began opener_told disk_told state names before f.shelf → Type 0) → Status → Type 0
     Mirrors names before after untouched done status =
         (NotMirrored names before after status × untouched)
-        ⊎ ((f : FoundMirror names before) × (o : Opening) × HasOpening disk_told (mirror_state state) f.mirror f.shelf o × done f o)
+        ⊎ ((f : FoundMirror names before) × (o : Opening) × HasOpening disk_told (mirror_state state) f.mirror f.shelf o × (u : Began opener_told disk_told state names before f.shelf) × done f o u)

@@ -3,13 +3,14 @@ ghost use Rattle.std.specs.Prelude.{◌≡◌, ◌≢◌, ◌≤◌, ◌+◌, �
 ghost use Rattle.std.specs.Arc.{arc_value};
 ghost use Rattle.dxc_causes.specs.Causes.{HasCause, Rose};
 ghost use Rattle.fabric_words.specs.New.{AreNew};
+ghost use Rattle.user_admin.specs.Openings.{Begins as UsersBegin};
 ghost use Rattle.craft_server.specs.Openings.{Opens, named, sources};
 ghost use Rattle.craft_server.specs.Peers.{IsReady, Mirrors};
 ghost use Rattle.craft_server.specs.Serving.{RoseBy, IsServe, IsServing, named_in, peer_of, workers_in};
 
 use crate::frames::FrameJob;
 use crate::jobs::{frame_jobs, session_jobs};
-use crate::opening::{Controller, Names, open};
+use crate::opening::{Controller, Element, Names, open};
 use crate::peer::serve_mirrored;
 use crate::places::open_places;
 use crate::sessions::SessionJob;
@@ -25,6 +26,7 @@ use std::sync::{Arc, Wait};
 /// Runs the workers' jobs and the sessions' jobs to their ends.
 fn run_jobs<
     D: Disk + Send + Drop + 'static,
+    U: Disk + Send + Drop + 'static,
     L: Listener + Send + Drop + 'static,
     C: Clock + Send + Drop + 'static,
     G: Gate + Send + Drop + 'static,
@@ -34,7 +36,7 @@ fn run_jobs<
 >(
     spawner: &mut P,
     workers: Vec<FrameJob<N, G>>,
-    sessions: Vec<SessionJob<D, L, C, G>>,
+    sessions: Vec<SessionJob<D, U, L, C, G>>,
     rt: &R,
 ) -> Status
 where
@@ -60,13 +62,19 @@ pub(crate) struct Site<'a> {
 }
 
 /// Opens the lines of each worker and a listener for each place, and runs their jobs to their ends.
-pub(crate) fn serve_on<O: Opener, D: Disk + Send + Drop + 'static, P: Spawner, R: Wait>(
+pub(crate) fn serve_on<
+    O: Opener,
+    D: Disk + Send + Drop + 'static,
+    U: Disk + Send + Drop + 'static,
+    P: Spawner,
+    R: Wait,
+>(
     alloc: Global,
     opener: &mut O,
     site: Site<'_>,
     fabric: &Arc<Fabric>,
     seats: Vec<WorkerSeat>,
-    places: Vec<Place<D>>,
+    places: Vec<Place<D, U>>,
     spawner: &mut P,
     rt: &R,
 ) -> Status
@@ -96,32 +104,35 @@ where
 /// The most sessions at a time.
 const SESSIONS: u16 = 16;
 
-/// Runs a controller's workers and sessions to their ends.
+/// Runs the workers and sessions of a controller and its users to their ends.
 pub(crate) fn serve_opened<
     O: Opener,
     D: Disk + Send + Drop + 'static,
+    U: Disk + Send + Drop + 'static,
     P: Spawner,
     R: Wait,
 >(
     alloc: Global,
     opener: &mut O,
     site: Site<'_>,
-    controller: Controller<D>,
+    element: Element<D, U>,
     spawner: &mut P,
     rt: &R,
 ) -> Status
 where
     <O::Listener as Listener>::Link: Send + 'static,
-    requires { IsReady D.told D.state site.workers controller }
+    requires controller { IsReady D.told D.state site.workers element.controller }
+    requires users { UsersBegin U.told U.state element.users }
     ensures { IsServing (site.entry.workers + 16) (O.state opener.old).faults (O.state opener.new).faults (P.state spawner.old) (P.state spawner.new) result }
 {
+    let Element { controller, users } = element;
     let Controller {
         shelf,
         fabric,
         seats,
         state,
     } = controller;
-    let Ok(places) = open_places(alloc, &shelf, &fabric, state, SESSIONS) else {
+    let Ok(places) = open_places(alloc, &shelf, &fabric, state, users, SESSIONS) else {
         return Status::NoMemory;
     };
     serve_on(alloc, opener, site, &fabric, seats, places, spawner, rt)
@@ -140,10 +151,10 @@ fn serve_alone<O: Opener, G: Gate, P: Spawner, R: Wait>(
 where
     <O::Listener as Listener>::Link: Send + 'static,
     requires { (1 ≤ site.workers) × (site.workers ≤ 8) }
-    ensures { Opens O.told O.Journal.told O.Journal.state (named names.entry.shelf.now names.entry.journal.now) (sources (O.state opener.old) (O.journal_at opener.old) (G.stops gate.old)) (sources (O.state opener.new) (O.journal_at opener.new) (G.stops gate.new)) (P.state spawner.new ≡ P.state spawner.old) (λ f o. (G.stops gate.new ≡ G.stops gate.old) × IsServing (site.entry.workers + 16) (O.state opener.old).faults (O.state opener.new).faults (P.state spawner.old) (P.state spawner.new) result) result }
+    ensures { Opens O.told O.Journal.told O.Journal.state (named names.entry.shelf.now names.entry.journal.now) (sources (O.state opener.old) (O.journal_at opener.old) (G.stops gate.old)) (sources (O.state opener.new) (O.journal_at opener.new) (G.stops gate.new)) (P.state spawner.new ≡ P.state spawner.old) (λ f o u. (G.stops gate.new ≡ G.stops gate.old) × IsServing (site.entry.workers + 16) (O.state opener.old).faults (O.state opener.new).faults (P.state spawner.old) (P.state spawner.new) result) result }
 {
     match open(alloc, opener, names, site.workers, gate) {
-        Ok(controller) => serve_opened(alloc, opener, site, controller, spawner, rt),
+        Ok(element) => serve_opened(alloc, opener, site, element, spawner, rt),
         Err(status) => status,
     }
 }
@@ -164,8 +175,8 @@ pub fn serve_all<O: Opener, G: Gate, P: Spawner, R: Wait>(
 where
     <O::Listener as Listener>::Link: Send + 'static,
     requires { IsServe line.now }
-    ensures alone { peer_of line.now ≡ None → Opens O.told O.Journal.told O.Journal.state (named_in line.now) (sources (O.state opener.old) (O.journal_at opener.old) (G.stops gate.old)) (sources (O.state opener.new) (O.journal_at opener.new) (G.stops gate.new)) (P.state spawner.new ≡ P.state spawner.old) (λ f o. (G.stops gate.new ≡ G.stops gate.old) × IsServing (workers_in line.now + 16) (O.state opener.old).faults (O.state opener.new).faults (P.state spawner.old) (P.state spawner.new) result) result }
-    ensures mirrored { IsSome (peer_of line.now) → Mirrors O.Journal.told O.Peer.told O.Journal.state O.Peer.state O.told (named_in line.now) (sources (O.state opener.old) (O.journal_at opener.old) (G.stops gate.old)) (sources (O.state opener.new) (O.journal_at opener.new) (G.stops gate.new)) (P.state spawner.new ≡ P.state spawner.old) (λ f o. (G.stops gate.new ≡ G.stops gate.old) × IsServing (workers_in line.now + 16) (O.state opener.old).faults (O.state opener.new).faults (P.state spawner.old) (P.state spawner.new) result) result }
+    ensures alone { peer_of line.now ≡ None → Opens O.told O.Journal.told O.Journal.state (named_in line.now) (sources (O.state opener.old) (O.journal_at opener.old) (G.stops gate.old)) (sources (O.state opener.new) (O.journal_at opener.new) (G.stops gate.new)) (P.state spawner.new ≡ P.state spawner.old) (λ f o u. (G.stops gate.new ≡ G.stops gate.old) × IsServing (workers_in line.now + 16) (O.state opener.old).faults (O.state opener.new).faults (P.state spawner.old) (P.state spawner.new) result) result }
+    ensures mirrored { IsSome (peer_of line.now) → Mirrors O.Journal.told O.Peer.told O.Journal.state O.Peer.state O.told (named_in line.now) (sources (O.state opener.old) (O.journal_at opener.old) (G.stops gate.old)) (sources (O.state opener.new) (O.journal_at opener.new) (G.stops gate.new)) (P.state spawner.new ≡ P.state spawner.old) (λ f o u. (G.stops gate.new ≡ G.stops gate.old) × IsServing (workers_in line.now + 16) (O.state opener.old).faults (O.state opener.new).faults (P.state spawner.old) (P.state spawner.new) result) result }
 {
     let Line::Serve {
         shelf,

@@ -1,5 +1,5 @@
 ghost use Rattle.std.specs.Prelude.{◌≡◌};
-ghost use Rattle.craft_server.specs.Statuses.{number_of, status_of, status_of_fault, status_of_sent, status_of_standby};
+ghost use Rattle.craft_server.specs.Statuses.{number_of, status_of, status_of_fault, status_of_sent, status_of_standby, status_of_users_fault};
 
 use craft_session::SessionEnd;
 use dxc_disk::Disk;
@@ -7,6 +7,7 @@ use dxc_outside::Sent;
 use journal_core::JournalWhy;
 use shelf_file::ShelfFault;
 use standby_link::StandbyEnd;
+use user_admin::UserOpenFault;
 use xc_core::OpenFault;
 
 /// Why a journal can't be taken up.
@@ -16,6 +17,9 @@ pub enum JournalBad {
     Header([u8; 32]),
     /// The record of this number, from 0, is the first that makes no change.
     Record(u32),
+    /// The same of the users' journal.
+    UsersHeader([u8; 32]),
+    UsersRecord(u32),
 }
 
 /// How the program ends.
@@ -27,9 +31,9 @@ pub enum Status {
     BadWords,
     /// The shelf file's first fault.
     BadShelf(ShelfFault),
-    /// The journal can't be taken up.
+    /// A journal can't be taken up.
     BadJournal(JournalBad),
-    /// The journal's disk failed while the program opened, or that of a standby's journal.
+    /// A journal's disk failed while the program opened, or that of a standby's journal.
     Disk,
     /// Something that the words name couldn't be opened: the shelf file, the journal, lines, the address or the peer. Or 16 accepts of a
     /// standby in a row failed.
@@ -121,6 +125,21 @@ impl Status {
             OpenFault::Disk(_) => Status::Disk,
             OpenFault::NoMemory => Status::NoMemory,
             OpenFault::Stopped => Status::Stopped,
+        }
+    }
+
+    /// Where the users weren't taken up.
+    pub(crate) fn of_users_fault<D: Disk + Drop>(fault: UserOpenFault<D>) -> Status
+        ensures { result ≡ status_of_users_fault fault }
+    {
+        match fault {
+            UserOpenFault::Journal(fault) => match fault.why {
+                JournalWhy::BadHeader(bytes) => Status::BadJournal(JournalBad::UsersHeader(bytes)),
+                JournalWhy::Disk => Status::Disk,
+            },
+            UserOpenFault::BadRecord(number) => Status::BadJournal(JournalBad::UsersRecord(number)),
+            UserOpenFault::Disk(_) => Status::Disk,
+            UserOpenFault::NoMemory => Status::NoMemory,
         }
     }
 }

@@ -14,7 +14,8 @@ const HELP: &str = "dxc: the controller of a digital cross-connect
   dxc --version               the version
 
 JOURNAL is the name of the journal, which is made where there is none. Every change is in it before it is answered, and a
-start takes it up again. One program at a time has it. That of a standby is to be new: no file, or an empty one.
+start takes it up again; changes of users are in JOURNAL.users beside it. One program at a time has them. That of a standby is
+to be new: no file, or an empty one; it gets no copy of JOURNAL.users.
 
 ADDRESS is where TCP callers come in, such as 127.0.0.1:3083 or [::1]:3083. Each gets a session of its own, in plain bytes.
 LINES names files: worker W reads the frames of LINES.in, a byte for each port, and writes those of LINES.W.out, from 0 on.

@@ -40,10 +40,15 @@ impl Display for Why<'_> {
         match self.status {
             Status::BadWords => write_word(f, self.words),
             Status::BadShelf(fault) => write_shelf_fault(f, fault),
-            Status::BadJournal(JournalBad::Header(bytes)) => write_header(f, &bytes),
+            Status::BadJournal(JournalBad::Header(bytes)) => write_header(f, "journal", &bytes),
             Status::BadJournal(JournalBad::Record(number)) => {
                 writeln!(f, "dxc: record {number}, counted from 0, makes no change")
             }
+            Status::BadJournal(JournalBad::UsersHeader(bytes)) => write_header(f, "users' journal", &bytes),
+            Status::BadJournal(JournalBad::UsersRecord(number)) => writeln!(
+                f,
+                "dxc: record {number} of the users' journal, counted from 0, makes no change"
+            ),
             _ => Ok(()),
         }
     }
@@ -134,8 +139,8 @@ fn write_key<W: Write>(f: &mut Formatter<W>, key: ShelfKey, user: u16, what: &st
     }
 }
 
-fn write_header<W: Write>(f: &mut Formatter<W>, bytes: &[u8; 32]) -> fmt::Result {
-    f.write_str("dxc: the journal begins")?;
+fn write_header<W: Write>(f: &mut Formatter<W>, file: &str, bytes: &[u8; 32]) -> fmt::Result {
+    write!(f, "dxc: the {file} begins")?;
     for byte in bytes {
         write!(f, " {byte:02x}")?;
     }

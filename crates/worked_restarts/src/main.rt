@@ -23,6 +23,7 @@ mod seals;
 mod stale;
 mod stops;
 mod tally;
+mod users;
 
 use crate::course::Course;
 use crate::read::Parts;

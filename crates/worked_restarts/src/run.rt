@@ -98,10 +98,10 @@ fn serve<R: Wait>(
 }
 
 /// Serves the session at the place. How it ended, and what is otherwise of what was written.
-pub fn serve_at<D: Disk + Drop, G: Gate, R: Wait>(
+pub fn serve_at<D: Disk + Drop, U: Disk + Drop, G: Gate, R: Wait>(
     alloc: Global,
     rt: &R,
-    place: &mut Place<D>,
+    place: &mut Place<D, U>,
     session: &Session,
     gate: &mut G,
 ) -> Result<(SessionEnd, Option<String>)> {

@@ -1,6 +1,7 @@
 use Rattle.std.proofs.Common.{◌≡◌, ◌+◌, ◌∙◌, ℕ, refl, sym, ap, ap₂, subst}
 use Rattle.std.specs.Prelude.{IsSome}
 use Rattle.shelf_file.specs.Contents.{Contents}
+use Rattle.user_admin.specs.Histories.{Opening as UsersOpening}
 use Rattle.xc_core.specs.States.{Opening}
 use Rattle.craft_server.specs.Openings.{named, sources}
 use Rattle.craft_server.specs.Serving.{IsServing, named_in, peer_of, workers_in}
@@ -17,9 +18,9 @@ returns-in-None-clause-alone g c = λ none.
     let p = g.P.Spawner.state c.args.spawner.now in
     let q = g.P.Spawner.state c.serve_alone.new.spawner in
     let Serving : ℕ → Type 0 = λ n. (after.stops ≡ before.stops) × IsServing (n + 16) before.opener.faults after.opener.faults p q c.serve_alone.result in
-    let P : Contents → g.row.O-Journal.Denot → Opening → Type 0 = λ s d o. Serving c.in-Serve.workers in
-    let Q : Contents → g.row.O-Journal.Denot → Opening → Type 0 = λ s d o. Serving (workers_in line) in
-    opens_for g.O.Journal.Disk.told g.O.Journal.Disk.state g.O.Opener.told _ _ same before after (q ≡ p) (q ≡ p) P Q c.serve_alone.result (λ u. u) (λ s d o ran. subst Serving (sym (ap workers_in c.in-Serve.is)) ran) c.serve_alone.ensures
+    let P : Contents → g.row.O-Journal.Denot → Opening → g.row.O-Journal.Denot → UsersOpening → Type 0 = λ s d o e p2. Serving c.in-Serve.workers in
+    let Q : Contents → g.row.O-Journal.Denot → Opening → g.row.O-Journal.Denot → UsersOpening → Type 0 = λ s d o e p2. Serving (workers_in line) in
+    opens_for g.O.Journal.Disk.told g.O.Journal.Disk.state g.O.Opener.told _ _ same before after (q ≡ p) (q ≡ p) P Q c.serve_alone.result (λ u. u) (λ s d o e p2 ran. subst Serving (sym (ap workers_in c.in-Serve.is)) ran) c.serve_alone.ensures
 
 pub returns-in-None-clause-mirrored : goal.returns-in-None-clause-mirrored
 returns-in-None-clause-mirrored g c = λ some. absurd (subst IsSome (ap peer_of c.in-Serve.is ∙ c.in-None.is) some)
