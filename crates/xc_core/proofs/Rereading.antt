@@ -89,6 +89,10 @@ module _ {D : Type 0} (told : Type 0) (state : D → DiskState) (b : Past) (p : 
   pub halted_kept : told → IsKept s book
   halted_kept t = let k = h.known t in kept_by k.way.lacking k.journal t
 
+  -- so does what may stand beside the list
+  pub halted_file : told → (file : List ℕ) → MayStand book (listed book s.reads_as) (doubted book s.reads_as) (rows book s.reads_as) file → IsOldOrDoubted b p.doubt file
+  halted_file t = let k = h.known t in may_by k.way.lacking k.journal t
+
   -- each image stands for the changes so far, or for these and the one in doubt
   pub halted_images : told → Leaves s (IsOldOrDoubted b p.doubt)
   halted_images t c image = let k = h.known t in may_by k.way.lacking k.journal t c (kept_stands s book h.past.book (halted_kept t) c image)

@@ -1,6 +1,7 @@
 -- Another controller on registers and journal of one that stopped.
-use Rattle.std.proofs.Common.{◌≡◌, ◌⊎◌, ◌≤◌, ◌^◌, arith, ⊎_elim, ℕ, true, List, [], ◌∷◌, ◌++◌, Option, Some, None, refl, sym, ◌∙◌, ap, subst}
-use Rattle.dxc_disk.specs.Disks.{DiskState}
+use Rattle.std.proofs.Common.{◌≡◌, ◌⊎◌, ◌≤◌, ◌^◌, arith, inl, ⊎_elim, ℕ, zero, suc, true, List, [], ◌∷◌, ◌++◌, Option, Some, None, refl, sym, ◌∙◌, ap, subst, length, inr}
+use Rattle.std.specs.List.{slice_get}
+use Rattle.dxc_disk.specs.Disks.{DiskState, IsDisk}
 use Rattle.dxc_num.specs.Dimensions.{Dimensions}
 use Rattle.dxc_model.specs.declared.op.Change.{Change}
 use Rattle.dxc_model.specs.Tables.{Board}
@@ -21,8 +22,13 @@ use Rattle.xc_recovery.specs.Replays.{ComesTo}
 use Rattle.xc_recovery.specs.Stages.{IsLastWork}
 use Rattle.xc_recovery.proofs.LastWorks.{comes_shape, last_made}
 use Rattle.xc_core.specs.declared.provisioner.Provisioner.{Provisioner}
+use Rattle.standby_link.specs.Laws.{KeepsUp}
+use Rattle.standby_link.specs.Mirrors.{Pair, Primary}
+use Rattle.journal_core.proofs.BookMends.{kept_stands}
+use Rattle.xc_core.specs.Laws.{IsMirrored}
 use Rattle.xc_core.specs.Adoptions.{IsStrange}
-use Rattle.xc_core.specs.Journals.{IsOneMore, IsSoFar}
+use Rattle.xc_core.proofs.Rereading.{halted_file, halted_kept}
+use Rattle.xc_core.specs.Journals.{IsOldOrDoubted, IsOneMore, IsSoFar}
 use Rattle.xc_core.specs.Provisioners.{IsHome, with_halt}
 use Rattle.xc_core.specs.Reckonings.{Past, changed}
 use Rattle.xc_core.specs.Restarts.{IsHalted, IsOnWay, IsOwnWay, LastIs, Lists, TakesUp}
@@ -146,3 +152,34 @@ stopped_adopted told state t b p is file may shelf same x = ⊎_elim
     (λ home. halted_adopted told state t b (with_halt true p) (marked_home told state b p home) file shelf same x may)
     (λ halted. halted_adopted told state t b p halted file shelf same x may)
     is
+
+-- of the moments from the last one on there is one
+last_moment : (before : List (List ℕ)) (file f : List ℕ) (n : ℕ) → length before ≤ n → slice_get (before ++ file ∷ []) n ≡ Some f → f ≡ file
+last_moment [] file f zero le is = let e : Some file ≡ Some f = is in cc
+last_moment [] file f (suc n) le is = absurd (let e : None ≡ Some f = is in cc)
+last_moment (x ∷ xs) file f zero le is = absurd (omega (arith, le))
+last_moment (x ∷ xs) file f (suc n) le is = last_moment xs file f n (omega (arith, le)) is
+
+module _ {D : Type 0} (told : Type 0) (state : D → DiskState) (t : told) (b : Past) (p : Provisioner D) where
+  -- home and marked it is halted, with the same journal
+  stopped : IsHome told state b p ⊎ IsHalted told state b p → IsHalted told state b p ⊎ IsHalted told state b (with_halt true p)
+  stopped is = ⊎_elim (λ home. inr (marked_home told state b p home)) (λ halted. inl halted) is
+
+  pub synced_mirrored : IsDisk (state p.journal.0) → IsHome told state b p ⊎ IsHalted told state b p → (primary : Primary) → primary.answered ≡ length primary.before → primary.file ≡ (state p.journal.0).reads_as → IsMirrored (state p.journal.0) p.journal.1 primary
+  synced_mirrored disk is primary answered reads moment file le at =
+      let s = state p.journal.0 in
+      let book = p.journal.1 in
+      let here : file ≡ s.reads_as = last_moment primary.before primary.file file moment (omega (arith, le, answered)) at ∙ reads in
+      let may = ⊎_elim
+          (λ halted. kept_stands s book halted.past.book (halted_kept told state b p halted t) s.reads_as disk.reads_now)
+          (λ marked. kept_stands s book marked.past.book (halted_kept told state b (with_halt true p) marked t) s.reads_as disk.reads_now)
+          (stopped is) in
+      subst (λ (f : List ℕ). MayStand book (listed book s.reads_as) (doubted book s.reads_as) (rows book s.reads_as) f) (sym here) may
+
+  pub standby_adopted : IsHome told state b p ⊎ IsHalted told state b p → (pair : Pair) → KeepsUp pair → IsMirrored (state p.journal.0) p.journal.1 pair.primary
+      → IsOldOrDoubted b p.doubt pair.standby.file × ((shelf : Contents) → shelf.shape ≡ p.journal.1.shape → IsStrange (Unit {0}) pair.standby.file shelf p.mover → ⊥)
+  standby_adopted is pair keeps mirrored =
+      let may = mirrored keeps.moment pair.standby.file keeps.not_before keeps.read in (
+        ⊎_elim (λ halted. halted_file told state b p halted t pair.standby.file may) (λ marked. halted_file told state b (with_halt true p) marked t pair.standby.file may) (stopped is),
+        λ shelf same x. stopped_adopted told state t b p is pair.standby.file may shelf same x,
+      )
