@@ -1,6 +1,7 @@
 use Rattle.std.proofs.Common.{◌≡◌, ◌+◌, ℕ, inr, refl, sym, ap, ap₂, subst}
 use Rattle.dxc_outside.specs.Links.{LinkState}
 use Rattle.shelf_file.specs.Contents.{Contents}
+use Rattle.user_admin.specs.Histories.{Opening as UsersOpening}
 use Rattle.xc_core.specs.States.{Opening}
 use Rattle.craft_server.specs.declared.line.Line.{Line}
 use Rattle.craft_server.specs.Openings.{named, sources}
@@ -19,10 +20,10 @@ returns-in-Script-clause-run g c =
     let before = lent (sources (g.O.Opener.state c.args.opener.now) (g.O.Opener.journal_at c.args.opener.now) (g.G.Gate.stops c.args.gate.now)) (g.K.Link.state c.args.terminal.now) (g.C.Clock.coming c.args.clock.now) p in
     let after = lent (sources (g.O.Opener.state c.run_script.new.opener) (g.O.Opener.journal_at c.run_script.new.opener) (g.G.Gate.stops c.run_script.new.gate)) (g.K.Link.state c.run_script.new.terminal) (g.C.Clock.coming c.run_script.new.clock) p in
     let status = c.run_script.result in
-    let P : Contents → g.row.O-Journal.Denot → Opening → Type 0 = λ s d o. RanSession g.O.Journal.Disk.told g.K.Link.told g.C.Clock.told (state d) s o before.terminal after.terminal before.clock after.clock before.sources.stops after.sources.stops status in
-    let Q : Contents → g.row.O-Journal.Denot → Opening → Type 0 = λ s d o. RanScript told state before after s o d status in
+    let P : Contents → g.row.O-Journal.Denot → Opening → g.row.O-Journal.Denot → UsersOpening → Type 0 = λ s d o e q. RanSession g.O.Journal.Disk.told g.K.Link.told g.C.Clock.told (state d) (state e) s o q before.terminal after.terminal before.clock after.clock before.sources.stops after.sources.stops status in
+    let Q : Contents → g.row.O-Journal.Denot → Opening → g.row.O-Journal.Denot → UsersOpening → Type 0 = λ s d o e q. RanScript told state before after s o q d e status in
     let ran = opens_for told.disk state told.opener _ (named c.in-Script.shelf c.in-Script.journal) (ap₂ named c.text.ensures c.text-in-Script.ensures) before.sources after.sources ((after.terminal ≡ before.terminal) × (after.clock ≡ before.clock)) (IsUntouched before after) P Q status
-    (λ u. record { terminal = u.0; clock = u.1; spawner = refl }) (λ s d o one. record { session = one; spawner = refl }) c.run_script.ensures in
+    (λ u. record { terminal = u.0; clock = u.1; spawner = refl }) (λ s d o e q one. record { session = one; spawner = refl }) c.run_script.ensures in
     inr (c.in-Ok.line, c.in-Ok.ensures.line, subst (λ (l : Line). IsRunOf told state l before after status) (sym c.in-Script.is) ran)
 
 pub returns-in-Check-clause-run : goal.returns-in-Check-clause-run
@@ -34,10 +35,10 @@ returns-in-Check-clause-run g c =
     let before = lent (sources (g.O.Opener.state c.args.opener.now) (g.O.Opener.journal_at c.args.opener.now) (g.G.Gate.stops c.args.gate.now)) (g.K.Link.state c.args.terminal.now) moments p in
     let after = lent (sources (g.O.Opener.state c.run_check.new.opener) (g.O.Opener.journal_at c.run_check.new.opener) (g.G.Gate.stops c.run_check.new.gate)) (g.K.Link.state c.run_check.new.terminal) moments p in
     let status = c.run_check.result in
-    let P : Contents → g.row.O-Journal.Denot → Opening → Type 0 = λ s d o. (after.sources.stops ≡ before.sources.stops) × IsCheck g.K.Link.told s o before.terminal after.terminal status in
-    let Q : Contents → g.row.O-Journal.Denot → Opening → Type 0 = λ s d o. RanCheck told state before after s o status in
+    let P : Contents → g.row.O-Journal.Denot → Opening → g.row.O-Journal.Denot → UsersOpening → Type 0 = λ s d o e q. (after.sources.stops ≡ before.sources.stops) × IsCheck g.K.Link.told s o before.terminal after.terminal status in
+    let Q : Contents → g.row.O-Journal.Denot → Opening → g.row.O-Journal.Denot → UsersOpening → Type 0 = λ s d o e q. RanCheck told state before after s o status in
     let ran = opens_for told.disk state told.opener _ (named c.in-Check.shelf c.in-Check.journal) (ap₂ named c.text-in-Check.ensures c.text-in-Check-2.ensures) before.sources after.sources (after.terminal ≡ before.terminal) (IsUntouched before after) P Q status
-    (λ u. record { terminal = u; clock = refl; spawner = refl }) (λ s d o one. record { check = one.1; clock = refl; spawner = refl; gate = one.0 }) c.run_check.ensures in
+    (λ u. record { terminal = u; clock = refl; spawner = refl }) (λ s d o e q one. record { check = one.1; clock = refl; spawner = refl; gate = one.0 }) c.run_check.ensures in
     inr (c.in-Ok.line, c.in-Ok.ensures.line, subst (λ (l : Line). IsRunOf told state l before after status) (sym c.in-Check.is) ran)
 
 pub returns-in-Serve-clause-run : goal.returns-in-Serve-clause-run
@@ -49,11 +50,11 @@ returns-in-Serve-clause-run g c =
     let before = lent (sources (g.O.Opener.state c.args.opener.now) (g.O.Opener.journal_at c.args.opener.now) (g.G.Gate.stops c.args.gate.now)) link moments (g.P.Spawner.state c.args.spawner.now) in
     let after = lent (sources (g.O.Opener.state c.serve_all.new.opener) (g.O.Opener.journal_at c.serve_all.new.opener) (g.G.Gate.stops c.serve_all.new.gate)) link moments (g.P.Spawner.state c.serve_all.new.spawner) in
     let status = c.serve_all.result in
-    let P : Contents → g.row.O-Journal.Denot → Opening → Type 0 = λ s d o. (after.sources.stops ≡ before.sources.stops) × IsServing (workers_in c.in-Ok.line + 16) before.sources.opener.faults after.sources.opener.faults before.spawner after.spawner status in
-    let Q : Contents → g.row.O-Journal.Denot → Opening → Type 0 = λ s d o. RanServe told state c.in-Serve.workers before after status in
+    let P : Contents → g.row.O-Journal.Denot → Opening → g.row.O-Journal.Denot → UsersOpening → Type 0 = λ s d o e q. (after.sources.stops ≡ before.sources.stops) × IsServing (workers_in c.in-Ok.line + 16) before.sources.opener.faults after.sources.opener.faults before.spawner after.spawner status in
+    let Q : Contents → g.row.O-Journal.Denot → Opening → g.row.O-Journal.Denot → UsersOpening → Type 0 = λ s d o e q. RanServe told state c.in-Serve.workers before after status in
     let ran = opens_for told.disk state told.opener (named_in c.in-Ok.line) (named c.in-Serve.shelf c.in-Serve.journal) (ap named_in c.in-Serve.is) before.sources after.sources (after.spawner ≡ before.spawner) (IsUntouched before after) P Q status
     (λ u. record { terminal = refl; clock = refl; spawner = u })
-    (λ s d o one. record { serving = subst (λ (l : Line). IsServing (workers_in l + 16) before.sources.opener.faults after.sources.opener.faults before.spawner after.spawner status) c.in-Serve.is one.1; terminal = refl; clock = refl; gate = one.0 }) c.serve_all.ensures in
+    (λ s d o e q one. record { serving = subst (λ (l : Line). IsServing (workers_in l + 16) before.sources.opener.faults after.sources.opener.faults before.spawner after.spawner status) c.in-Serve.is one.1; terminal = refl; clock = refl; gate = one.0 }) c.serve_all.ensures in
     inr (c.in-Ok.line, c.in-Ok.ensures.line, subst (λ (l : Line). IsRunOf told state l before after status) (sym c.in-Serve.is) ran)
 
 pub returns-clause-run : goal.returns-clause-run
