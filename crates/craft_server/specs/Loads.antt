@@ -77,7 +77,7 @@ abbrev pub IsLoadController : Controller MemDisk → Type 0
 IsLoadController x = (disk : MemDisk) × ((mem_state disk).reads_as ≡ []) × ((s : Contents) × IsLoadShelf s × IsStarted (Unit {0}) mem_state disk s 1 x)
 
 -- with its users
-abbrev pub IsLoadStarted : Element MemDisk → Type 0
+abbrev pub IsLoadStarted : Element MemDisk MemDisk → Type 0
 IsLoadStarted x = (c : IsLoadController x.controller) × ((disk : MemDisk) × ((mem_state disk).reads_as ≡ []) × AreUsersStarted (Unit {0}) mem_state disk c.2.0 x.users)
 
 -- memory was wanting, or the gate stopped

@@ -145,7 +145,7 @@ module _ (opener_told : Type 0) {D : Type 0} (disk_told : Type 0) (state : D →
       ⊎ ((u : FoundUsers opener_told names before) × AreUsersNotStarted disk_told state u.disk s status)
 
   -- the controller that the names stand for, and its users
-  abbrev pub IsOpened : Named → ℕ → Sources D → Element D → Type 0
+  abbrev pub IsOpened : Named → ℕ → Sources D → Element D D → Type 0
   IsOpened names workers before x = (h : HasController names workers before x.controller) × HasUsers names before h.0.shelf x.users
 
   -- no controller, or none of its users

@@ -72,7 +72,7 @@ fn load_controller<G: Gate>(alloc: Global, gate: &mut G) -> Result<Controller<Me
 }
 
 // The same with its users.
-fn load_element<G: Gate>(alloc: Global, gate: &mut G) -> Result<Element<MemDisk>, Status>
+fn load_element<G: Gate>(alloc: Global, gate: &mut G) -> Result<Element<MemDisk, MemDisk>, Status>
     ensures started { MatchResult result IsLoadStarted (NotLoaded (G.stops gate.old) (G.stops gate.new)) }
     ensures unstopped { MatchResult result (λ x. G.stops gate.new ≡ G.stops gate.old) (λ s. G.stops gate.old ≤ G.stops gate.new) }
 {

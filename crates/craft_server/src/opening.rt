@@ -32,9 +32,9 @@ pub(crate) struct Controller<D: Disk> {
 
 /// A controller, and the users who may log in.
 #[derive(Drop)]
-pub(crate) struct Element<D: Disk> {
+pub(crate) struct Element<D: Disk, U: Disk> {
     pub(crate) controller: Controller<D>,
-    pub(crate) users: UserState<D>,
+    pub(crate) users: UserState<U>,
 }
 
 /// Opens the shelf file and the journal of these names, and starts the controller with so many workers on what the journal came
@@ -45,7 +45,7 @@ pub(crate) fn open<O: Opener, G: Gate>(
     names: Names<'_>,
     workers: u16,
     gate: &mut G,
-) -> Result<Element<O::Journal>, Status>
+) -> Result<Element<O::Journal, O::Journal>, Status>
     requires workers { (0 < workers) × (workers ≤ 8) }
     ensures opened { MatchResult result (IsOpened O.told O.Journal.told O.Journal.state (named names.entry.shelf.now names.entry.journal.now) workers (sources (O.state opener.old) (O.journal_at opener.old) (G.stops gate.old))) (NotOpened O.told O.Journal.told O.Journal.state (named names.entry.shelf.now names.entry.journal.now) (sources (O.state opener.old) (O.journal_at opener.old) (G.stops gate.old)) (sources (O.state opener.new) (O.journal_at opener.new) (G.stops gate.new))) }
     ensures unstopped { MatchResult result (λ x. G.stops gate.new ≡ G.stops gate.old) (λ s. G.stops gate.old ≤ G.stops gate.new) }

@@ -23,6 +23,7 @@ use std::sync::{Arc, Wait};
 /// Runs the workers' jobs and the sessions' jobs to their ends.
 fn run_jobs<
     D: Disk + Send + Drop + 'static,
+    U: Disk + Send + Drop + 'static,
     L: Listener + Send + Drop + 'static,
     C: Clock + Send + Drop + 'static,
     G: Gate + Send + Drop + 'static,
@@ -32,7 +33,7 @@ fn run_jobs<
 >(
     spawner: &mut P,
     workers: Vec<FrameJob<N, G>>,
-    sessions: Vec<SessionJob<D, D, L, C, G>>,
+    sessions: Vec<SessionJob<D, U, L, C, G>>,
     rt: &R,
 ) -> Status
 where
@@ -58,13 +59,19 @@ pub(crate) struct Site<'a> {
 }
 
 /// Opens the lines of each worker and a listener for each place, and runs their jobs to their ends.
-pub(crate) fn serve_on<O: Opener, D: Disk + Send + Drop + 'static, P: Spawner, R: Wait>(
+pub(crate) fn serve_on<
+    O: Opener,
+    D: Disk + Send + Drop + 'static,
+    U: Disk + Send + Drop + 'static,
+    P: Spawner,
+    R: Wait,
+>(
     alloc: Global,
     opener: &mut O,
     site: Site<'_>,
     fabric: &Arc<Fabric>,
     seats: Vec<WorkerSeat>,
-    places: Vec<Place<D, D>>,
+    places: Vec<Place<D, U>>,
     spawner: &mut P,
     rt: &R,
 ) -> Status
