@@ -122,3 +122,6 @@ returns-clause-loaded g c =
       frames = c.carried.ensures.2 (e.end.0 c.in-End.is);
       carried = c.carried.ensures.1;
     }
+
+pub returns-clause-unstopped : goal.returns-clause-unstopped
+returns-clause-unstopped g c = c.serve_session-end.ensures.unstopped (λ is. let bad = sym c.in-End.is ∙ is in cc) ∙ c.in_ok-controller.ensures.unstopped
