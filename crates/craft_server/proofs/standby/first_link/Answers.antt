@@ -26,4 +26,4 @@ returns-in-End g c =
     subst (λ (a : Came g.row.L-Link.Denot). IsFirst g.L.Listener.told g.L.Link.Link.state (g.L.Listener.state c.args.listener.now) (g.L.Listener.state c.accept.new.self) a) c.in-End.is first
 
 pub returns : goal.returns
-returns g c = let i = c.loop.invariant in all_failed g.L.Listener.told g.L.Link.Link.state (g.L.Listener.state c.args.listener.now) (g.L.Listener.state c.loop.listener) i.coming ?risen ?sound
+returns g c = let i = c.loop.invariant in all_failed g.L.Listener.told g.L.Link.Link.state (g.L.Listener.state c.args.listener.now) (g.L.Listener.state c.loop.listener) i.coming (let risen = i.risen in let low = c.loop-test.false in let high = c.loop.auto.counter-end in omega (arith, risen, low, high)) (λ s. let none = (i.sound s).0 in let low = c.loop-test.false in absurd (omega (arith, none, low)))
