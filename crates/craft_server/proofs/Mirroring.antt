@@ -1,40 +1,19 @@
 -- A controller that is served, its journal mirrored or alone.
-use Rattle.std.proofs.Common.{◌≡◌, ◌⊎◌, ◌≤◌, ◌∙◌, ℕ, List, Option, Some, None, Result, Ok, Err, inl, inr, refl, sym, subst}
+use Rattle.std.proofs.Common.{◌≡◌, ◌∙◌, ℕ, List, Option, Some, None, Result, Ok, Err, inl, inr, refl, sym, subst}
 use Rattle.std.specs.Prelude.{IsSome, MatchResult}
-use Rattle.dxc_causes.specs.Causes.{Rose}
 use Rattle.dxc_disk.specs.Disks.{DiskState}
 use Rattle.dxc_outside.specs.Callers.{ListenerState}
 use Rattle.dxc_outside.specs.Links.{LinkState}
-use Rattle.dxc_outside.specs.Threads.{SpawnerState}
 use Rattle.shelf_file.specs.Contents.{Contents}
 use Rattle.standby_link.specs.declared.mirror_disk.MirrorDisk.{MirrorDisk}
 use Rattle.xc_core.specs.States.{Opening, opening_of}
 use Rattle.craft_server.specs.declared.line.Line.TheVariants.{Serve}
 use Rattle.craft_server.specs.declared.opening.Controller.{Controller}
 use Rattle.craft_server.specs.declared.status.Status.{Status}
-use Rattle.craft_server.specs.declared.status.Status.TheVariants.{CannotOpen, NoMemory}
-use Rattle.craft_server.specs.Openings.{HasShelf, IsStarted, Named, NotStarted, Sources, named}
-use Rattle.craft_server.specs.Peers.{FoundMirror, IsMirrorOf, IsOpenedOn, IsReady, Mirrors, NotMirrored, mirror_state}
+use Rattle.craft_server.specs.Openings.{IsStarted, Named, NotStarted, Sources, named}
+use Rattle.craft_server.specs.Peers.{FoundMirror, IsMirrorOf, IsOpenedOn, Mirrors, NotMirrored, mirror_state}
 use Rattle.craft_server.specs.Runs.{IsRunOf, Lent, MirrorsFor, OpensFor, Told}
-use Rattle.craft_server.specs.Serving.{IsServing}
-use Rattle.craft_server.proofs.Counting.{rose_behind}
-use Rattle.craft_server.proofs.Starting.{begun, opened_at}
-
--- what was started may be served
-pub ready : {D : Type 0} (told : Type 0) (state : D → DiskState) (disk : D) (s : Contents) (workers : ℕ) (x : Controller D) → IsStarted told state disk s workers x → IsReady told state workers x
-ready told state disk s workers x is = record { begins = is.begins; opening = opened_at told state disk s workers x is; seats = is.seats; each = is.each }
-
--- what was served behind faults that were counted before
-pub served_behind : (jobs faults mid later : ℕ) (old new : SpawnerState) (status : Status) → faults ≤ mid → IsServing jobs mid later old new status → IsServing jobs faults later old new status
-served_behind jobs faults mid later old new status before is = record {
-  done = is.done;
-  no_more = is.no_more;
-  waited = is.waited;
-  no_thread = is.no_thread;
-  cannot_open = λ was. rose_behind faults mid later before (is.cannot_open was);
-  not_started = is.not_started;
-  only = is.only;
-}
+use Rattle.craft_server.proofs.Starting.{begun}
 
 module _ {D K : Type 0} (told link_told : Type 0) (state : D → DiskState) (link : K → LinkState) (opener_told : Type 0) where
   -- a mirror of what is handed out behind the reading of a shelf file
@@ -47,14 +26,6 @@ module _ {D K : Type 0} (told link_told : Type 0) (state : D → DiskState) (lin
       → MatchResult r (IsOpenedOn told link_told state link opener_told names workers before) (NotMirrored told link_told state link opener_told names before after)
   mirrored names workers before after f (Ok x) is = (f, is)
   mirrored names workers before after f (Err e) not = inr (inr (f, not))
-
-  -- there was no disk or no peer, and why
-  pub no_mirror : (names : Named) (before after : Sources D) (mid : ℕ) (s : Contents) (status : Status) → HasShelf opener_told before.opener names.shelf s → after.stops ≡ before.stops → before.opener.faults ≤ mid
-      → (status ≡ NoMemory) ⊎ ((status ≡ CannotOpen) × Rose mid after.opener.faults) → NotMirrored told link_told state link opener_told names before after status
-  no_mirror names before after mid s status described stops later why = inr (inl (s, described, (stops, elim why [
-    | inl memory ↦ inl memory
-    | inr closed ↦ inr (closed.0, rose_behind before.opener.faults mid after.opener.faults later closed.1)
-  ])))
 
   -- what was served on what was started
   pub serves : (names : Named) (workers : ℕ) (before after : Sources D) (untouched P : Type 0) (status : Status) (x : Controller (MirrorDisk D K)) → IsOpenedOn told link_told state link opener_told names workers before x → P → Mirrors told link_told state link opener_told names before after untouched (λ f o. P) status
@@ -76,5 +47,5 @@ pub serves_for : (told : Told) {D K L J : Type 0} (state : D → DiskState) (pee
     → (peer ≡ None → OpensFor told state (Serve shelf journal address lines workers None) before after status)
     → (IsSome peer → MirrorsFor told state peer_state listener link listener_at (named shelf journal) workers before after status)
     → IsRunOf told state peer_state listener link listener_at (Serve shelf journal address lines workers peer) before after status
-serves_for told state peer_state listener link listener_at shelf journal address lines workers before after status None alone mirrored = alone refl
-serves_for told state peer_state listener link listener_at shelf journal address lines workers before after status (Some name) alone mirrored = mirrored tt
+serves_for told state peer_state listener link listener_at shelf journal address lines workers before after status None alone with_peer = alone refl
+serves_for told state peer_state listener link listener_at shelf journal address lines workers before after status (Some name) alone with_peer = with_peer refl

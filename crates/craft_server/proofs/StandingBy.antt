@@ -71,7 +71,7 @@ module _ {K : Type 0} (told : Type 0) (state : K → LinkState) (old mid new : L
   }
 
 -- so many failed
-pub all_failed : {K : Type 0} (told : Type 0) (state : K → LinkState) (old new : ListenerState K) → (told → old.coming ≡ new.coming) → RoseBy 16 old.faults new.faults → (IsTrue old.sound → (16 ≡ 0) × IsTrue new.sound) → IsFirst told state old new Failed
+pub all_failed : {K : Type 0} (told : Type 0) (state : K → LinkState) (old new : ListenerState K) → (told → old.coming ≡ new.coming) → RoseBy 16 old.faults new.faults → (IsTrue old.sound → (◌≡◌ {A = ℕ} 16 0) × IsTrue new.sound) → IsFirst told state old new Failed
 all_failed told state old new coming risen sound = record {
   coming = coming;
   end = λ t is. cc;

@@ -1,5 +1,6 @@
 -- No mode ends with the status of words that are no line.
-use Rattle.std.proofs.Common.{◌≡◌, ℕ, List, Option, inl, inr, refl, sym, ◌∙◌, subst}
+use Rattle.std.proofs.Common.{◌≡◌, ℕ, List, Option, Some, None, inl, inr, refl, sym, ◌∙◌, subst}
+use Rattle.std.specs.Prelude.{IsSome}
 use Rattle.dxc_disk.specs.Disks.{DiskState}
 use Rattle.dxc_outside.specs.Callers.{ListenerState}
 use Rattle.dxc_outside.specs.Links.{LinkState}
@@ -90,3 +91,8 @@ stands_words opener_told told listener_told link_told state listener link journa
     ])
   ])
 ]
+
+-- serving, without a peer and with one
+pub serve_words : {P : Type 0} (peer : Option (List ℕ)) → (peer ≡ None → P) → (IsSome peer → P) → P
+serve_words None alone with_peer = alone refl
+serve_words (Some name) alone with_peer = with_peer refl

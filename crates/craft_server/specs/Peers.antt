@@ -1,26 +1,15 @@
 -- A controller whose journal is mirrored to a standby.
-use Rattle.std.specs.Prelude.{◌≡◌, ◌⊎◌, ◌≤◌, ℕ, List, Option, Some, length, IsSomeAnd}
-use Rattle.std.specs.Arc.{arc_value}
+use Rattle.std.specs.Prelude.{◌≡◌, ◌⊎◌, ◌≤◌, ℕ, List, Option, Some, IsSomeAnd}
 use Rattle.dxc_disk.specs.Disks.{DiskState, Looks}
 use Rattle.dxc_outside.specs.Links.{LinkState}
-use Rattle.fabric_words.specs.New.{AreNew}
 use Rattle.shelf_file.specs.Contents.{Contents}
 use Rattle.standby_link.specs.declared.mirror_disk.MirrorDisk.{MirrorDisk}
 use Rattle.standby_link.specs.Lines.{line_at}
 use Rattle.standby_link.specs.Moves.{Joins}
-use Rattle.xc_core.specs.Openings.{Begins}
-use Rattle.xc_core.specs.States.{Opening, opening_of}
+use Rattle.xc_core.specs.States.{Opening}
 use Rattle.craft_server.specs.declared.opening.Controller.{Controller}
 use Rattle.craft_server.specs.declared.status.Status.{Status}
 use Rattle.craft_server.specs.Openings.{HasOpening, HasShelf, IsStarted, Named, NoDisk, NoShelf, NotStarted, Sources}
-use Rattle.craft_server.specs.Places.{IsAtOpening}
-
--- a controller that may be served: it stands for no entry yet, its seats are new, and there is one for each worker
-pub record IsReady {D : Type 0} (disk_told : Type 0) (state : D → DiskState) (workers : ℕ) (x : Controller D) : Type 0 where
-  pub begins : Begins disk_told state x.state
-  pub opening : IsAtOpening (opening_of state x.state) (arc_value x.shelf) (arc_value x.fabric)
-  pub seats : AreNew (arc_value x.fabric) 0 x.seats.items
-  pub each : length x.seats.items ≡ workers
 
 -- what a mirrored disk shows is what the disk below shows
 abbrev pub mirror_state : {D K : Type 0} → (D → DiskState) → MirrorDisk D K → DiskState

@@ -7,7 +7,8 @@ ghost use Rattle.craft_server.specs.Serving.{IsServing};
 
 use crate::Status;
 use crate::opening::{Controller, Names, shelf_of_file, start};
-use crate::serve::{Site, serve_opened};
+use crate::places::open_places;
+use crate::serve::{SESSIONS, Site, serve_on};
 use dxc_outside::{Gate, Listener, Opened, Opener, Spawner};
 use standby_link::MirrorDisk;
 use std::alloc::Global;
@@ -74,8 +75,17 @@ where
     requires { (1 ≤ site.workers) × (site.workers ≤ 8) }
     ensures { Mirrors O.Journal.told O.Peer.told O.Journal.state O.Peer.state O.told (named names.entry.shelf.now names.entry.journal.now) (sources (O.state opener.old) (O.journal_at opener.old) (G.stops gate.old)) (sources (O.state opener.new) (O.journal_at opener.new) (G.stops gate.new)) (P.state spawner.new ≡ P.state spawner.old) (λ f o. (G.stops gate.new ≡ G.stops gate.old) × IsServing (site.entry.workers + 16) (O.state opener.old).faults (O.state opener.new).faults (P.state spawner.old) (P.state spawner.new) result) result }
 {
-    match open_mirrored(alloc, opener, names, peer, site.workers, gate) {
-        Ok(controller) => serve_opened(alloc, opener, site, controller, spawner, rt),
-        Err(status) => status,
-    }
+    let Controller {
+        shelf,
+        fabric,
+        seats,
+        state,
+    } = match open_mirrored(alloc, opener, names, peer, site.workers, gate) {
+        Ok(controller) => controller,
+        Err(status) => return status,
+    };
+    let Ok(places) = open_places(alloc, &shelf, &fabric, state, SESSIONS) else {
+        return Status::NoMemory;
+    };
+    serve_on(alloc, opener, site, &fabric, seats, places, spawner, rt)
 }

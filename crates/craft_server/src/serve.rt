@@ -4,7 +4,7 @@ ghost use Rattle.std.specs.Arc.{arc_value};
 ghost use Rattle.dxc_causes.specs.Causes.{HasCause, Rose};
 ghost use Rattle.fabric_words.specs.New.{AreNew};
 ghost use Rattle.craft_server.specs.Openings.{Opens, named, sources};
-ghost use Rattle.craft_server.specs.Peers.{IsReady, Mirrors};
+ghost use Rattle.craft_server.specs.Peers.{Mirrors};
 ghost use Rattle.craft_server.specs.Serving.{RoseBy, IsServe, IsServing, named_in, peer_of, workers_in};
 
 use crate::frames::FrameJob;
@@ -94,38 +94,7 @@ where
 }
 
 /// The most sessions at a time.
-const SESSIONS: u16 = 16;
-
-/// Runs a controller's workers and sessions to their ends.
-pub(crate) fn serve_opened<
-    O: Opener,
-    D: Disk + Send + Drop + 'static,
-    P: Spawner,
-    R: Wait,
->(
-    alloc: Global,
-    opener: &mut O,
-    site: Site<'_>,
-    controller: Controller<D>,
-    spawner: &mut P,
-    rt: &R,
-) -> Status
-where
-    <O::Listener as Listener>::Link: Send + 'static,
-    requires { IsReady D.told D.state site.workers controller }
-    ensures { IsServing (site.entry.workers + 16) (O.state opener.old).faults (O.state opener.new).faults (P.state spawner.old) (P.state spawner.new) result }
-{
-    let Controller {
-        shelf,
-        fabric,
-        seats,
-        state,
-    } = controller;
-    let Ok(places) = open_places(alloc, &shelf, &fabric, state, SESSIONS) else {
-        return Status::NoMemory;
-    };
-    serve_on(alloc, opener, site, &fabric, seats, places, spawner, rt)
-}
+pub(crate) const SESSIONS: u16 = 16;
 
 // Serves the site with the controller that is opened on these names.
 fn serve_alone<O: Opener, G: Gate, P: Spawner, R: Wait>(
@@ -142,10 +111,19 @@ where
     requires { (1 ≤ site.workers) × (site.workers ≤ 8) }
     ensures { Opens O.told O.Journal.told O.Journal.state (named names.entry.shelf.now names.entry.journal.now) (sources (O.state opener.old) (O.journal_at opener.old) (G.stops gate.old)) (sources (O.state opener.new) (O.journal_at opener.new) (G.stops gate.new)) (P.state spawner.new ≡ P.state spawner.old) (λ f o. (G.stops gate.new ≡ G.stops gate.old) × IsServing (site.entry.workers + 16) (O.state opener.old).faults (O.state opener.new).faults (P.state spawner.old) (P.state spawner.new) result) result }
 {
-    match open(alloc, opener, names, site.workers, gate) {
-        Ok(controller) => serve_opened(alloc, opener, site, controller, spawner, rt),
-        Err(status) => status,
-    }
+    let Controller {
+        shelf,
+        fabric,
+        seats,
+        state,
+    } = match open(alloc, opener, names, site.workers, gate) {
+        Ok(controller) => controller,
+        Err(status) => return status,
+    };
+    let Ok(places) = open_places(alloc, &shelf, &fabric, state, SESSIONS) else {
+        return Status::NoMemory;
+    };
+    serve_on(alloc, opener, site, &fabric, seats, places, spawner, rt)
 }
 
 /// Serves the line's address with 16 sessions at a time, and its lines with its workers. The line is one of `serve`.

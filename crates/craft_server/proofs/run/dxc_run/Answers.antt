@@ -13,7 +13,7 @@ use Rattle.craft_server.specs.Serving.{IsServing, named_in, peer_of, workers_in}
 use Rattle.craft_server.proofs.Loading.{load_words}
 use Rattle.craft_server.proofs.Mirroring.{mirrors_for, serves_for}
 use Rattle.craft_server.proofs.Starting.{opens_for}
-use Rattle.craft_server.proofs.Wording.{stands_words}
+use Rattle.craft_server.proofs.Wording.{mirrors_words, opens_words, serve_words, stands_words}
 use Rattle.craft_server.proofs.run.dxc_run.Goals as goal
 
 pub returns-in-Script-clause-run : goal.returns-in-Script-clause-run
@@ -84,7 +84,9 @@ returns-in-Standby-clause-run g c =
     inr (c.in-Ok.line, c.in-Ok.ensures.line, subst (λ (l : Line). IsRunOf told state g.O.Peer.Link.state listener link listeners l before after status) (sym c.in-Standby.is) (record { stands_by = stands; untouched = record { terminal = refl; clock = refl; spawner = refl }; gate = refl }))
 
 pub returns-in-Serve-clause-words : goal.returns-in-Serve-clause-words
-returns-in-Serve-clause-words g c = λ bad l is. ?
+returns-in-Serve-clause-words g c = λ bad l is. serve_words c.in-Serve.peer
+    (λ none. opens_words _ _ _ _ _ _ _ _ _ _ _ _ _ _ (λ ran. ran.1) (c.serve_all.ensures.alone (ap peer_of c.in-Serve.is ∙ none)) bad)
+    (λ some. mirrors_words _ _ _ _ _ _ _ _ _ _ _ _ _ _ _ _ (λ ran. ran.1) (c.serve_all.ensures.mirrored (subst IsSome (sym (ap peer_of c.in-Serve.is)) some)) bad)
 
 pub returns-in-Standby-clause-words : goal.returns-in-Standby-clause-words
 returns-in-Standby-clause-words g c = λ bad l is. stands_words _ _ _ _ _ _ _ _ _ _ _ _ _ _ c.run_standby.ensures bad
