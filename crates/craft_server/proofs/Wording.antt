@@ -10,16 +10,18 @@ use Rattle.journal_core.specs.declared.fault.JournalWhy.TheVariants as why
 use Rattle.shelf_file.specs.Contents.{Contents}
 use Rattle.standby_link.specs.declared.end.StandbyEnd.{StandbyEnd}
 use Rattle.standby_link.specs.declared.end.StandbyEnd.TheVariants as standby
+use Rattle.user_admin.specs.declared.fault.UserOpenFault.{UserOpenFault}
+use Rattle.user_admin.specs.declared.fault.UserOpenFault.TheVariants as users_fault
 use Rattle.xc_core.specs.States.{Opening}
 use Rattle.xc_core.specs.declared.fault.OpenFault.{OpenFault}
 use Rattle.xc_core.specs.declared.fault.OpenFault.TheVariants as fault
 use Rattle.craft_server.specs.declared.status.Status.{Status}
 use Rattle.craft_server.specs.declared.status.Status.TheVariants.{BadWords}
-use Rattle.craft_server.specs.Openings.{Named, NoShelf, NotStarted, Opens, Sources}
+use Rattle.craft_server.specs.Openings.{Named, NoShelf, NotStarted, NoUsers, Opens, Sources}
 use Rattle.craft_server.specs.Peers.{Mirrors, mirror_state}
 use Rattle.craft_server.specs.Serving.{IsServing}
 use Rattle.craft_server.specs.Standbys.{StandsBy}
-use Rattle.craft_server.specs.Statuses.{status_of_fault, status_of_standby, status_of_why}
+use Rattle.craft_server.specs.Statuses.{status_of_fault, status_of_standby, status_of_users_fault, status_of_users_why, status_of_why}
 
 why_words : (w : JournalWhy) → status_of_why w ≡ BadWords → ⊥
 why_words (why.BadHeader bytes) is = cc
@@ -44,35 +46,57 @@ standby_words standby.Spent is = cc
 not_started_words : {D : Type 0} (told : Type 0) (state : D → DiskState) (d : D) (s : Contents) (stops later : ℕ) → NotStarted told state d s stops later BadWords → ⊥
 not_started_words told state d s stops later not = fault_words not.fault (sym not.is)
 
+users_why_words : (w : JournalWhy) → status_of_users_why w ≡ BadWords → ⊥
+users_why_words (why.BadHeader bytes) is = cc
+users_why_words why.Disk is = cc
+
+users_fault_words : {D : Type 0} (f : UserOpenFault D) → status_of_users_fault f ≡ BadWords → ⊥
+users_fault_words (users_fault.Journal f) is = users_why_words f.why is
+users_fault_words (users_fault.BadRecord i) is = cc
+users_fault_words (users_fault.Disk d) is = cc
+users_fault_words users_fault.NoMemory is = cc
+
+no_users_words : {D : Type 0} (opener_told told : Type 0) (state : D → DiskState) (names : Named) (before after : Sources D) (s : Contents) (status : Status) → NoUsers opener_told told state names before after s status → status ≡ BadWords → ⊥
+no_users_words opener_told told state names before after s status none is = elim none [
+  | inl no_disk ↦ (elim no_disk [ inl e ↦ (let no = sym e ∙ is in cc) | inr e ↦ (let no = sym e.0 ∙ is in cc) ])
+  | inr not ↦ users_fault_words not.1.fault (sym not.1.is ∙ is)
+]
+
 serving_words : (jobs faults later : ℕ) (old new : SpawnerState) → IsServing jobs faults later old new BadWords → ⊥
 serving_words jobs faults later old new is = let e = is.only (λ no. cc) (λ no. cc) (λ no. cc) in cc
 
 -- serving on a journal alone
 pub opens_words : (opener_told : Type 0) {D : Type 0} (told : Type 0) (state : D → DiskState) (names : Named) (before after : Sources D) (untouched P : Type 0) (jobs faults later : ℕ) (old new : SpawnerState) (status : Status) → (P → IsServing jobs faults later old new status)
-    → Opens opener_told told state names before after untouched (λ f o. P) status → status ≡ BadWords → ⊥
+    → Opens opener_told told state names before after untouched (λ f o u. P) status → status ≡ BadWords → ⊥
 opens_words opener_told told state names before after untouched P jobs faults later old new status serving opens is = elim opens [
   | inl not ↦ (elim not.0 [
-    | inl no_shelf ↦ subst (λ (s : Status). NoShelf opener_told before.opener after.opener names.shelf s) is no_shelf.1
-    | inr further ↦ (elim further [
-      | inl no_disk ↦ (elim no_disk.2.1 [ inl e ↦ (let no = sym e ∙ is in cc) | inr e ↦ (let no = sym e.0 ∙ is in cc) ])
-      | inr not_on ↦ not_started_words told state not_on.0.disk not_on.0.shelf before.stops after.stops (subst (λ (s : Status). NotStarted told state not_on.0.disk not_on.0.shelf before.stops after.stops s) is not_on.1)
+    | inl no_controller ↦ (elim no_controller [
+      | inl no_shelf ↦ subst (λ (s : Status). NoShelf opener_told before.opener after.opener names.shelf s) is no_shelf.1
+      | inr further ↦ (elim further [
+        | inl no_disk ↦ (elim no_disk.2.1 [ inl e ↦ (let no = sym e ∙ is in cc) | inr e ↦ (let no = sym e.0 ∙ is in cc) ])
+        | inr not_on ↦ not_started_words told state not_on.0.disk not_on.0.shelf before.stops after.stops (subst (λ (s : Status). NotStarted told state not_on.0.disk not_on.0.shelf before.stops after.stops s) is not_on.1)
+      ])
     ])
+    | inr no_users ↦ no_users_words opener_told told state names before after no_users.0.shelf status no_users.4 is
   ])
-  | inr ran ↦ serving_words jobs faults later old new (subst (λ (s : Status). IsServing jobs faults later old new s) is (serving ran.3))
+  | inr ran ↦ serving_words jobs faults later old new (subst (λ (s : Status). IsServing jobs faults later old new s) is (serving ran.4))
 ]
 
 -- and on a mirrored one
 pub mirrors_words : {D K : Type 0} (told link_told : Type 0) (state : D → DiskState) (link : K → LinkState) (opener_told : Type 0) (names : Named) (before after : Sources D) (untouched P : Type 0) (jobs faults later : ℕ) (old new : SpawnerState) (status : Status) → (P → IsServing jobs faults later old new status)
-    → Mirrors told link_told state link opener_told names before after untouched (λ f o. P) status → status ≡ BadWords → ⊥
+    → Mirrors told link_told state link opener_told names before after untouched (λ f o u. P) status → status ≡ BadWords → ⊥
 mirrors_words told link_told state link opener_told names before after untouched P jobs faults later old new status serving mirrors is = elim mirrors [
   | inl not ↦ (elim not.0 [
-    | inl no_shelf ↦ subst (λ (s : Status). NoShelf opener_told before.opener after.opener names.shelf s) is no_shelf.1
-    | inr further ↦ (elim further [
-      | inl no_disk ↦ (elim no_disk.2.1 [ inl e ↦ (let no = sym e ∙ is in cc) | inr e ↦ (let no = sym e.0 ∙ is in cc) ])
-      | inr not_on ↦ not_started_words told (mirror_state state) not_on.0.mirror not_on.0.shelf before.stops after.stops (subst (λ (s : Status). NotStarted told (mirror_state state) not_on.0.mirror not_on.0.shelf before.stops after.stops s) is not_on.1)
+    | inl no_controller ↦ (elim no_controller [
+      | inl no_shelf ↦ subst (λ (s : Status). NoShelf opener_told before.opener after.opener names.shelf s) is no_shelf.1
+      | inr further ↦ (elim further [
+        | inl no_disk ↦ (elim no_disk.2.1 [ inl e ↦ (let no = sym e ∙ is in cc) | inr e ↦ (let no = sym e.0 ∙ is in cc) ])
+        | inr not_on ↦ not_started_words told (mirror_state state) not_on.0.mirror not_on.0.shelf before.stops after.stops (subst (λ (s : Status). NotStarted told (mirror_state state) not_on.0.mirror not_on.0.shelf before.stops after.stops s) is not_on.1)
+      ])
     ])
+    | inr no_users ↦ no_users_words opener_told told state names before after no_users.0.shelf status no_users.4 is
   ])
-  | inr ran ↦ serving_words jobs faults later old new (subst (λ (s : Status). IsServing jobs faults later old new s) is (serving ran.3))
+  | inr ran ↦ serving_words jobs faults later old new (subst (λ (s : Status). IsServing jobs faults later old new s) is (serving ran.4))
 ]
 
 -- a standby
