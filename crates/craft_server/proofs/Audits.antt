@@ -3,6 +3,7 @@ use Rattle.std.proofs.Common.{◌≡◌, ◌≢◌, ℕ, List, length, Some, Non
 use Rattle.dxc_disk.specs.Disks.{DiskState}
 use Rattle.dxc_outside.specs.declared.send.Sent.{Sent}
 use Rattle.dxc_outside.specs.Links.{LinkState, IsSent}
+use Rattle.dxc_model.specs.declared.op.Change.{Change}
 use Rattle.dxc_model.specs.declared.op.Selection.TheVariants.{All}
 use Rattle.dxc_model.specs.Tables.{Board, rows}
 use Rattle.dxc_num.specs.Dimensions.{Dimensions}
@@ -11,8 +12,9 @@ use Rattle.xc_core.specs.declared.state.Home.{Home}
 use Rattle.xc_core.specs.declared.state.Home.TheVariants.{In, Out}
 use Rattle.xc_core.specs.declared.state.State.{State}
 use Rattle.xc_core.specs.Openings.{Begins, count_home, disk_home}
-use Rattle.xc_core.specs.Reckonings.{Past}
+use Rattle.xc_core.specs.Reckonings.{Past, ReckonsTo}
 use Rattle.xc_core.specs.States.{Opening, opening_of}
+use Rattle.xc_core.proofs.Began.{began_changes}
 use Rattle.craft_server.specs.Listings.{listing, records_at}
 
 module _ {D : Type 0} (told : Type 0) (state : D → DiskState) where
@@ -29,7 +31,7 @@ module _ {D : Type 0} (told : Type 0) (state : D → DiskState) where
     o = opening_of state x
 
     table_first : x.table ≡ o.first.fold.table
-    table_first = b.stands.table ∙ ap (λ (p : Past). p.fold.table) b.stands.reckoned
+    table_first = b.stands.table ∙ ap (λ (p : Past). p.fold.table) (subst (λ (cs : List Change). ReckonsTo o.first cs b.stands.now) (began_changes o.due) b.stands.reckoned)
 
     -- its table is of the shelf's shape
     pub of_shape : x.table.shape ≡ s.shape

@@ -1,5 +1,5 @@
 -- The load mode: how it starts, and what is left at its end.
-use Rattle.std.proofs.Common.{◌≡◌, ◌≢◌, ◌↔◌, ◌<◌, ◌^◌, arith, ℕ, Bool, true, false, IsTrue, List, [], ◌∷◌, length, slice_index_or, Result, Ok, Err, inl, inr, refl, sym, ◌∙◌, ap, subst}
+use Rattle.std.proofs.Common.{◌≡◌, ◌≢◌, ◌↔◌, ◌<◌, ◌^◌, arith, ℕ, Bool, true, false, IsTrue, List, [], ◌∷◌, ◌++◌, length, slice_index_or, Result, Ok, Err, inl, inr, refl, sym, ◌∙◌, ap, subst}
 use Rattle.std.specs.Prelude.{MatchResult}
 use Rattle.dxc_causes.specs.Causes.{Counted, Rose}
 use Rattle.dxc_disk.specs.declared.mem_disk.MemDisk.{MemDisk}

@@ -1,5 +1,5 @@
 -- A controller that was opened, or wasn't.
-use Rattle.std.proofs.Common.{◌≡◌, ◌≢◌, ◌⊎◌, ◌≤◌, ℕ, List, length, length-append, codes, Option, Some, Result, Ok, Err, inl, inr, refl, sym, ◌∙◌, ap, subst, arith}
+use Rattle.std.proofs.Common.{◌≡◌, ◌≢◌, ◌⊎◌, ◌≤◌, ℕ, Bool, List, length, length-append, codes, Option, Some, Result, Ok, Err, inl, inr, refl, sym, ◌∙◌, ap, subst, arith}
 use Rattle.std.specs.Prelude.{MatchResult, IfErr, IfSome}
 use Rattle.std.specs.Arc.{arc_value}
 use Rattle.dxc_causes.specs.Causes.{HasCause, Rose}
@@ -21,7 +21,7 @@ use Rattle.user_admin.specs.States.{opening_of as users_opening}
 use Rattle.xc_core.specs.declared.fault.OpenFault.{OpenFault}
 use Rattle.xc_core.specs.declared.fault.OpenFault.TheVariants as fault_of
 use Rattle.xc_core.specs.declared.state.State.{State}
-use Rattle.xc_core.specs.Openings.{Begins, IsOpening, disk_of}
+use Rattle.xc_core.specs.Openings.{Begins, IsOpening, Opens as OpensFile, disk_of}
 use Rattle.xc_core.specs.States.{Opening, opening_of}
 use Rattle.xc_recovery.proofs.LastWorks.{comes_shape}
 use Rattle.craft_session.specs.Scripts.{opening_room}
@@ -129,7 +129,7 @@ module _ {D : Type 0} (disk_told : Type 0) (state : D → DiskState) where
   begun disk s workers x started = record { fabric = arc_value x.fabric; opening = started.opening }
 
   -- an opening is on the fabric that it was made on, and of the shelf's shape
-  pub at_opening : (file : List ℕ) (s : Contents) (i : FabricId) (o : Opening) → IsOpening disk_told file s i o → IsAtOpening o s i
+  pub at_opening : {due : Bool} {number : ℕ} (file : List ℕ) (s : Contents) (i : FabricId) (o : Opening) → OpensFile disk_told file s i due number o → IsAtOpening o s i
   at_opening file s i o is = record { fabric = is.fabric_is; shape = (comes_shape s.shape is.folded.head is.folded.read o.first.fold.table o.first.fold.colours o.first.fold.work is.folded.comes).0 }
 
   -- that of a controller
