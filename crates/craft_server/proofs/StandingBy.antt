@@ -9,6 +9,7 @@ use Rattle.dxc_outside.specs.declared.listener.Came.{Came}
 use Rattle.dxc_outside.specs.declared.listener.Came.TheVariants.{Link, End, Failed}
 use Rattle.standby_link.specs.declared.end.StandbyEnd.{StandbyEnd}
 use Rattle.standby_link.specs.Serves.{bytes_in}
+use Rattle.craft_server.specs.declared.status.Status.{Status}
 use Rattle.craft_server.specs.declared.status.Status.TheVariants.{CannotOpen, Done}
 use Rattle.craft_server.specs.Serving.{RoseBy}
 use Rattle.craft_server.specs.Standbys.{Ends, HasBoth, IsFirst, RanStandby, StandsBy, read_in}
@@ -26,9 +27,9 @@ no_disk_fault disk_told link_told k k' d d' end (inr served) counts sound rose =
 
 module _ (opener_told disk_told listener_told link_told : Type 0) {D L K : Type 0} (disk : D → DiskState) (listener : L → ListenerState K) (link : K → LinkState) (journal_at : List ℕ → Option D) (listener_at : List ℕ → Option L) (faults later : ℕ) (journal address : List ℕ) (b : HasBoth opener_told disk_told listener_told link_told disk listener link journal_at listener_at journal address) (door : L) where
   -- the first link was served
-  pub served_one : (first : Came K) (caller served : K) (copy : D) (end : StandbyEnd) → first ≡ Link caller → IsFirst listener_told link (listener b.door) (listener door) first → RanStandby disk_told link_told (link caller) (link served) (disk b.copy) (disk copy) end
-      → StandsBy opener_told disk_told listener_told link_told disk listener link journal_at listener_at faults later journal address (status_of_standby end)
-  served_one first caller served copy end is came ran =
+  pub served_one : (first : Came K) (caller served : K) (copy : D) (end : StandbyEnd) (status : Status) → first ≡ Link caller → status ≡ status_of_standby end → IsFirst listener_told link (listener b.door) (listener door) first → RanStandby disk_told link_told (link caller) (link served) (disk b.copy) (disk copy) end
+      → StandsBy opener_told disk_told listener_told link_told disk listener link journal_at listener_at faults later journal address status
+  served_one first caller served copy end status is status_is came ran =
       let one = subst (λ (f : Came K). IsFirst listener_told link (listener b.door) (listener door) f) is came in
       inr (inr (b, inr (inr (record {
         caller = caller;
@@ -38,7 +39,7 @@ module _ (opener_told disk_told listener_told link_told : Type 0) {D L K : Type 
         new_disk = copy;
         end = end;
         ran = ran;
-        status_is = refl;
+        status_is = status_is;
       }))))
 
   -- the listener said End

@@ -48,7 +48,10 @@ pub fn sent_fault(
         Vec::new(alloc),
         Vec::new(alloc),
     );
-    let copy = served(alloc, link, MemDisk::new(alloc, nothing, Vec::new(alloc))?)?;
+    let disk = MemDisk::new(alloc, nothing, Vec::new(alloc))
+        .ok()
+        .context("no memory for a disk")?;
+    let copy = served(alloc, link, disk)?;
     if copy.file.as_slice() == copy_wanted {
         return Ok(None);
     }

@@ -113,11 +113,9 @@ impl Row {
     }
 
     pub fn disk(&self, alloc: Global) -> Result<MemDisk> {
-        Ok(MemDisk::new(
-            alloc,
-            self.file.clone()?,
-            self.faults.clone()?,
-        )?)
+        MemDisk::new(alloc, self.file.clone()?, self.faults.clone()?)
+            .ok()
+            .context("no memory for a disk")
     }
 
     /// Takes a line of the row's own.

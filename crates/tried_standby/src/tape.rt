@@ -43,7 +43,7 @@ impl Drop for Tape {
             written,
         } = self;
         if let Ok(bytes) = link.output().to_vec(alloc) {
-            let _ = written.set(bytes);
+            let _ = written.try_set(bytes);
         }
     }
 }

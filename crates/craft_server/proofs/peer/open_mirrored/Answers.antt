@@ -1,6 +1,5 @@
-use Rattle.std.proofs.Common.{sym, ◌∙◌}
 use Rattle.craft_server.specs.Openings.{named, sources}
-use Rattle.craft_server.proofs.Mirroring.{mirror_behind, mirrored, no_mirror}
+use Rattle.craft_server.proofs.Mirroring.{mirror_behind, mirrored}
 use Rattle.craft_server.proofs.peer.open_mirrored.Goals as goal
 
 pub returns-clause-opened : goal.returns-clause-opened

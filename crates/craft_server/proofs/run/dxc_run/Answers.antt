@@ -84,9 +84,18 @@ returns-in-Standby-clause-run g c =
     inr (c.in-Ok.line, c.in-Ok.ensures.line, subst (λ (l : Line). IsRunOf told state g.O.Peer.Link.state listener link listeners l before after status) (sym c.in-Standby.is) (record { stands_by = stands; untouched = record { terminal = refl; clock = refl; spawner = refl }; gate = refl }))
 
 pub returns-in-Serve-clause-words : goal.returns-in-Serve-clause-words
-returns-in-Serve-clause-words g c = λ bad l is. serve_words c.in-Serve.peer
-    (λ none. opens_words _ _ _ _ _ _ _ _ _ _ _ _ _ _ (λ ran. ran.1) (c.serve_all.ensures.alone (ap peer_of c.in-Serve.is ∙ none)) bad)
-    (λ some. mirrors_words _ _ _ _ _ _ _ _ _ _ _ _ _ _ _ _ (λ ran. ran.1) (c.serve_all.ensures.mirrored (subst IsSome (sym (ap peer_of c.in-Serve.is)) some)) bad)
+returns-in-Serve-clause-words g c = λ bad l is.
+    let before = sources (g.O.Opener.state c.args.opener.now) (g.O.Opener.journal_at c.args.opener.now) (g.G.Gate.stops c.args.gate.now) in
+    let after = sources (g.O.Opener.state c.serve_all.new.opener) (g.O.Opener.journal_at c.serve_all.new.opener) (g.G.Gate.stops c.serve_all.new.gate) in
+    let p = g.P.Spawner.state c.args.spawner.now in
+    let q = g.P.Spawner.state c.serve_all.new.spawner in
+    let line = c.in-Ok.line in
+    let status = c.serve_all.result in
+    let jobs = workers_in line + 16 in
+    let P : Type 0 = (after.stops ≡ before.stops) × IsServing jobs before.opener.faults after.opener.faults p q status in
+    serve_words c.in-Serve.peer
+    (λ none. opens_words g.O.Opener.told g.O.Journal.Disk.told g.O.Journal.Disk.state (named_in line) before after (q ≡ p) P jobs before.opener.faults after.opener.faults p q status (λ ran. ran.1) (c.serve_all.ensures.alone (ap peer_of c.in-Serve.is ∙ none)) bad)
+    (λ some. mirrors_words g.O.Journal.Disk.told g.O.Peer.Link.told g.O.Journal.Disk.state g.O.Peer.Link.state g.O.Opener.told (named_in line) before after (q ≡ p) P jobs before.opener.faults after.opener.faults p q status (λ ran. ran.1) (c.serve_all.ensures.mirrored (subst IsSome (sym (ap peer_of c.in-Serve.is)) some)) bad)
 
 pub returns-in-Standby-clause-words : goal.returns-in-Standby-clause-words
 returns-in-Standby-clause-words g c = λ bad l is. stands_words _ _ _ _ _ _ _ _ _ _ _ _ _ _ c.run_standby.ensures bad

@@ -22,7 +22,7 @@ returns-in-None-clause-alone g c = λ none.
     opens_for g.O.Journal.Disk.told g.O.Journal.Disk.state g.O.Opener.told _ _ same before after (q ≡ p) (q ≡ p) P Q c.serve_alone.result (λ u. u) (λ s d o ran. subst Serving (sym (ap workers_in c.in-Serve.is)) ran) c.serve_alone.ensures
 
 pub returns-in-None-clause-mirrored : goal.returns-in-None-clause-mirrored
-returns-in-None-clause-mirrored g c = λ some. absurd (subst IsSome (ap peer_of c.in-Serve.is ∙ c.in-None.is) some)
+returns-in-None-clause-mirrored g c = λ some. let no = subst IsSome (ap peer_of c.in-Serve.is ∙ c.in-None.is) some in cc
 
 pub returns-in-Some-clause-alone : goal.returns-in-Some-clause-alone
 returns-in-Some-clause-alone g c = λ none. let no = sym (ap peer_of c.in-Serve.is ∙ c.in-Some.is) ∙ none in cc
