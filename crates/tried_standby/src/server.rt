@@ -4,6 +4,7 @@ use crate::row::{Row, Server};
 use crate::tape::Tape;
 use anyhow::{Context, Result};
 use craft_server::dxc_run;
+use dxc_disk::MemDisk;
 use dxc_outside::{MemClock, MemGate, MemLines, MemLink, MemOpener, MemSpawner, Name};
 use std::alloc::Global;
 use std::collections::VecDeque;
@@ -63,18 +64,22 @@ fn quiet_link(alloc: Global, bytes: &[u8]) -> Result<MemLink> {
     ))
 }
 
-// The shelf file, the row's disk, and lines without a frame.
+// The shelf file, the row's disk, one for users that holds nothing, and lines without a frame.
 fn files_of(rt: &HostRuntime, row: &Row) -> Result<MemOpener> {
     let alloc = rt.alloc();
     let shelf = fs::read(rt, "two_by_one.toml")?;
     let lines = MemLines::new(Vec::new(alloc), Vec::new(alloc), Vec::new(alloc));
     let shelf_name = Name::of("shelf".to_string(alloc)?);
     let journal_name = Name::of("journal".to_string(alloc)?);
+    let users_name = Name::of("journal.users".to_string(alloc)?);
+    let users = MemDisk::new(alloc, Vec::new(alloc), Vec::new(alloc))
+        .ok()
+        .context("no memory for a disk")?;
     let lines_name = Name::of("lines".to_string(alloc)?);
     Ok(
         MemOpener::new(alloc, Vec::new(alloc))
             .with_shelves(vec![in alloc; (shelf_name, shelf)]?)
-            .with_journals(vec![in alloc; (journal_name, row.disk(alloc)?)]?)
+            .with_journals(vec![in alloc; (journal_name, row.disk(alloc)?), (users_name, users)]?)
             .with_lines(vec![in alloc; (lines_name, 0u16, lines)]?),
     )
 }
