@@ -328,8 +328,8 @@ def full_crashes():
     full = header(2, 0, journal.element_of(2, 1)) + b"".join(pairs) * 16_383 + pairs[0] + b"\0"
     unit = delete(ONE)
     calls = calls_of(full, unit)
-    # One kind of crash alone: each row writes a full journal anew, and the migrations have all kinds.
-    yield from grouped("a checkpoint, a crash", range(len(calls) + 1), lambda at: crash(full, at, "lost", unit, calls, True))
+    for left in LEFTS:
+        yield from grouped("a checkpoint, a crash", range(len(calls) + 1), lambda at: crash(full, at, left, unit, calls))
 
 
 def faults():

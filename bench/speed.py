@@ -170,7 +170,7 @@ def main():
                 sheet.line(name, what, (long - short) / (many - few) / records, plain, "instructions")
         for shape, plain in EMPTY:
             if wanted("empty"):
-                sheet.line("empty", f"a start on an empty journal, {shape[0]}", started(room, shape, ""), plain, "instructions")
+                sheet.line("empty", f"an empty journal, {shape[0]} by {shape[1]}", started(room, shape, ""), plain, "instructions")
         if wanted("checkpnt"):
             shape, few, many = CHECKPOINT
             least, most = (checkpoint(room, shape, rows) for rows in (few, many))
