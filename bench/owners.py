@@ -33,6 +33,8 @@ LOG_IN = "ACT-USER::ANNA:1::bc;"
 ENTRY = "ENT-CRS-T0::DS0-1-1,DS0-2-1:1;"
 DELETION = "DLT-CRS-T0::DS0-1-1,DS0-2-1:1;"
 CANNOT_OPEN = 6
+# A record's bytes, and how many records an area of the journal holds.
+RECORD, MOST = 64, 32_767
 FAULT = "dxc: cannot open\n"
 
 
@@ -59,7 +61,7 @@ def records(shelf, journal):
 def is_grown(before, after):
     """Whether the second journal is the first, or the first with whole records behind it."""
     added = len(after) - len(before)
-    return added % 32 == 0 and added >= 0 and after.startswith(before[:-1])
+    return added % RECORD == 0 and added >= 0 and after.startswith(before[:-1])
 
 
 def closed_streams(folder, shelf):
@@ -77,10 +79,18 @@ def closed_streams(folder, shelf):
     return tried
 
 
+def records_behind(count, changes):
+    """How many records a journal of so many has behind these changes, entries and deletions of one connection in turn from an empty table:
+    where it is full, the next change's stands behind those of the rows."""
+    for change in range(changes):
+        count = (change % 2 if count == MOST else count) + 1
+    return count
+
+
 def owners(folder, shelf, moments):
     journal = os.path.join(folder, "owned.journal")
     rng = random.Random(1)
-    kept = 0
+    kept = count = 0
     for _ in range(moments):
         session = subprocess.Popen([PROGRAM, "script", shelf, journal], stdin=subprocess.PIPE, stdout=subprocess.PIPE)
         session.stdin.write(LOG_IN.encode())
@@ -97,8 +107,9 @@ def owners(folder, shelf, moments):
         written = session.stdout.read().decode()
         expect(session.wait() == 0, "the session failed")
         expect("DENY" not in written, f"the session was denied a change: {written[-200:]}")
-        kept += written.count("COMPLD")
-        expect(records(shelf, journal) == kept, f"{kept} changes were acknowledged, and other many are in the journal")
+        acknowledged = written.count("COMPLD")
+        kept, count = kept + acknowledged, records_behind(count, acknowledged)
+        expect(records(shelf, journal) == count, f"{kept} changes were acknowledged, and the journal hasn't {count} records")
     return kept
 
 

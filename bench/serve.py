@@ -212,7 +212,7 @@ def times(units):
                     rate = timed(server, callers, units, b"RTRV-CRS-T0::DS0-1-1:2;", at_once)
                     print(f"times: {callers} callers, {'in one go' if at_once else 'one by one'}, beside {beside}: {rate} answers a second")
             print(f"memory: {server.resident()} KiB resident at most")
-    for modules, slots in ((8, 24), (32, 32)):
+    for modules, slots in ((8, 24), (32, 32), (64, 96)):
         for workers in (1, 2, 4):
             count = 20_000_000 // (modules * slots)
             with Server(modules, slots, workers, bytes(modules * slots) * count) as server:

@@ -17,7 +17,7 @@ import tempfile
 import time
 
 sys.dont_write_bytecode = True
-from streams import busy, chains, churn, direct, full, headers, mixed, refused, retrievals
+from streams import LOG_IN, busy, chains, churn, direct, filled, full, headers, mixed, refused, retrievals
 
 TOP = os.path.dirname(os.path.dirname(os.path.abspath(__file__)))
 PROGRAM = os.path.join(TOP, "crates", "dxc", "out", "dxc")
@@ -57,9 +57,20 @@ STREAMS = [
     ("churn32", "four changes of a full switch", (32, 32), True, 200, 1200, lambda n: churn(32, 32, n),
      13942.3, "870608806920a287a1a64b5068718431b590a2ba45f9c62b2035d44198764e7e"),
 ]
+# Starts on a journal of few and of many units: name, what is counted, shape, the units, their stream, how many records a unit makes; the
+# conventional program's instructions of a record, where they were measured.
+STARTS = [
+    ("start", "a record at a start", (8, 24), 200, 1200, direct, 2, 700),
+    ("start64", "a record at a start, 64 by 96", (64, 96), 200, 1200, direct, 2, None),
+    ("startchn", "a record at a start, chains", (32, 2), 200, 1200, lambda n: chains(32, n), 2, None),
+]
+# Starts on an empty journal, with the conventional program's instructions.
+EMPTY = [((8, 24), 648_000), ((64, 96), None)]
+# The shape and two numbers of rows between which a checkpoint is counted.
+CHECKPOINT = ((64, 96), 144, 6_144)
 # The conventional program's instructions of `load 0`, and its largest resident memory in KiB while a table of the shape is filled.
 LOAD = 59_100_000
-MEMORY_KIB = {(8, 24): 2356, (32, 32): 2400}
+MEMORY_KIB = {(8, 24): 2356, (32, 32): 2400, (64, 96): None}
 
 
 class Room:
@@ -96,6 +107,22 @@ def measured(room, shape, filled, text):
     return collected(words, text)
 
 
+def started(room, shape, text):
+    """Instructions of a start on the journal that the stream leaves."""
+    words = room.words(shape)
+    subprocess.run(words, input=text.encode(), stdout=subprocess.DEVNULL, check=True)
+    return collected(words)[0]
+
+
+def checkpoint(room, shape, rows):
+    """Instructions of the change behind a full journal whose table has so many rows: it writes them into the other area first."""
+    words = room.words(shape)
+    fill, change = filled(*shape, rows)
+    subprocess.run(words, input=fill.encode(), stdout=subprocess.DEVNULL, check=True)
+    without = collected(words, LOG_IN)[0]
+    return collected(words, LOG_IN + change)[0] - without
+
+
 def resident(room, shape):
     """The largest resident memory in KiB while the table is filled and all of it is retrieved: read while the program still waits."""
     text = full(*shape) + "RTRV-CRS-T0::ALL:1;RTRV-HDR:::LAST;"
@@ -119,9 +146,9 @@ class Sheet:
         self.most, self.failed = most, False
 
     def line(self, name, what, ours, plain, unit, same=True):
-        ratio = ours / plain
-        self.failed = self.failed or not same or (self.most is not None and ratio > self.most)
-        print(f"{name:9} {what:33} {ours:12,.0f} {unit:12} {ratio:5.2f}{'' if same else ' DIFFERS'}", flush=True)
+        ratio = ours / plain if plain else None
+        self.failed = self.failed or not same or (None not in (self.most, ratio) and ratio > self.most)
+        print(f"{name:9} {what:33} {ours:12,.0f} {unit:12} {f'{ratio:5.2f}' if ratio else ''}{'' if same else ' DIFFERS'}", flush=True)
 
 
 def main():
@@ -137,6 +164,17 @@ def main():
             if wanted(name):
                 (short, _), (long, wrote) = (measured(room, shape, filled, stream(units)) for units in (few, many))
                 sheet.line(name, what, (long - short) / (many - few), plain, "instructions", digest in (None, wrote))
+        for name, what, shape, few, many, stream, records, plain in STARTS:
+            if wanted(name):
+                short, long = (started(room, shape, stream(units)) for units in (few, many))
+                sheet.line(name, what, (long - short) / (many - few) / records, plain, "instructions")
+        for shape, plain in EMPTY:
+            if wanted("empty"):
+                sheet.line("empty", f"an empty journal, {shape[0]} by {shape[1]}", started(room, shape, ""), plain, "instructions")
+        if wanted("checkpnt"):
+            shape, few, many = CHECKPOINT
+            least, most = (checkpoint(room, shape, rows) for rows in (few, many))
+            sheet.line("checkpnt", f"a row of a checkpoint, {shape[0]} by {shape[1]}", (most - least) / (many - few), None, "instructions")
         load = collected([PROGRAM, "load", "0"]) if wanted("load") else None
         if load:
             sheet.line("load", "all of load 0", load[0], LOAD, "instructions")

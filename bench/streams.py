@@ -153,6 +153,14 @@ def full(modules, slots):
     return LOG_IN + "".join(entry(a, outputs[a], slots, i + 1) for i, a in enumerate(order))
 
 
+def filled(modules, slots, rows, records=32_767):
+    """Enters so many connections, and then deletes and enters the first in turn, until the journal has so many records; and one change more."""
+    ends = [(a, (a + slots) % (modules * slots)) for a in range(rows)]
+    turns = [deletion(*ends[0], slots, 1), entry(*ends[0], slots, 1)]
+    more = records - rows
+    return LOG_IN + "".join(entry(a, b, slots, 1) for a, b in ends) + "".join(turns[i % 2] for i in range(more)), turns[more % 2]
+
+
 def churn(modules, slots, rounds):
     """On a full table: two connections are deleted, and entered again crosswise. Most entries need a chain."""
     rng, outputs = random.Random(5), permutation(modules * slots)

@@ -1,7 +1,5 @@
 -- The completion codes among the responses that the load was written.
-use Rattle.std.specs.Prelude.{ℕ, zero, suc, ◌+◌, ◌==◌, Bool, true, false, ◌&&◌, List, [], ◌∷◌, if◌then◌else◌}
-use Rattle.dxc_load.specs.declared.codes.Spot.{Spot}
-use Rattle.dxc_load.specs.declared.codes.Spot.TheVariants.{Login, Front, Tag, Code, Rest}
+use Rattle.std.specs.Prelude.{◌≡◌, ℕ, zero, suc, ◌+◌, ◌<◌, ◌==◌, false, List, [], ◌∷◌, ◌++◌, length, if◌then◌else◌}
 
 -- the first letters of COMPLD and DENY
 abbrev pub compld : ℕ
@@ -9,6 +7,15 @@ compld = 67
 
 abbrev pub deny : ℕ
 deny = 68
+
+-- where a reader of responses is: in the response to the log-in; with so many bytes and one more before the tag; in the tag; at the first
+-- letter of the completion code; behind it, up to the response's end
+pub data Spot : Type 0 where
+  Login : Spot
+  Front : ℕ → Spot
+  Tag : Spot
+  Code : Spot
+  Rest : Spot
 
 -- where a reader is behind a byte: a response has 33 bytes before its tag, a blank behind it, and ends with a semicolon
 abbrev pub next_spot : Spot → ℕ → Spot
@@ -19,23 +26,19 @@ next_spot Tag b = if b == 32 then Code else Tag
 next_spot Code b = Rest
 next_spot Rest b = if b == 59 then Front 32 else Rest
 
-abbrev pub is_code : Spot → Bool
-is_code Login = false
-is_code (Front n) = false
-is_code Tag = false
-is_code Code = true
-is_code Rest = false
+-- 1 where this is the letter
+abbrev pub code_of : ℕ → ℕ → ℕ
+code_of letter b = if b == letter then 1 else 0
 
 -- 1 where this letter stands at the place of a code
 abbrev pub codes_at : ℕ → Spot → ℕ → ℕ
-codes_at letter s b = if is_code s && (b == letter) then 1 else 0
+codes_at letter Login b = 0
+codes_at letter (Front n) b = 0
+codes_at letter Tag b = 0
+codes_at letter Code b = code_of letter b
+codes_at letter Rest b = 0
 
--- where a reader is behind these bytes
-abbrev pub spot_after : Spot → List ℕ → Spot
-spot_after s [] = s
-spot_after s (b ∷ bs) = spot_after (next_spot s b) bs
-
--- how many of the codes in them begin with this letter
+-- how many of the codes in these bytes begin with this letter
 abbrev pub coded_from : ℕ → Spot → List ℕ → ℕ
 coded_from letter s [] = 0
 coded_from letter s (b ∷ bs) = codes_at letter s b + coded_from letter (next_spot s b) bs
@@ -43,3 +46,20 @@ coded_from letter s (b ∷ bs) = codes_at letter s b + coded_from letter (next_s
 -- and how many of the codes behind the first response, which is the log-in's
 abbrev pub coded_in : ℕ → List ℕ → ℕ
 coded_in letter bs = coded_from letter Login bs
+
+-- no byte has this value
+abbrev pub HasNone : ℕ → List ℕ → Type 0
+HasNone byte [] = Unit {0}
+HasNone byte (b ∷ bs) = ((b == byte) ≡ false) × HasNone byte bs
+
+-- what stands behind the first byte of this value
+abbrev pub IsBehind : ℕ → List ℕ → List ℕ → Type 0
+IsBehind byte text rest = (front : List ℕ) × HasNone byte front × (text ≡ front ++ byte ∷ rest)
+
+-- in a text that begins in a response, no code stands behind it
+abbrev pub HasNoCode : List ℕ → Type 0
+HasNoCode text = (letter : ℕ) → coded_from letter Rest text ≡ 0
+
+-- or the first one begins with this letter, and the rest stands behind it
+abbrev pub IsNextCode : List ℕ → ℕ → List ℕ → Type 0
+IsNextCode text b rest = ((letter : ℕ) → coded_from letter Rest text ≡ code_of letter b + coded_from letter Rest rest) × (length rest < length text)

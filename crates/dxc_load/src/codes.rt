@@ -1,5 +1,7 @@
-ghost use Rattle.std.specs.Prelude.{◌≡◌, ◌<◌, ◌+◌, ◌^◌};
-ghost use Rattle.dxc_load.specs.Codes.{codes_at, coded_in, compld, deny, next_spot as spot_behind};
+ghost use Rattle.std.specs.Prelude.{◌≡◌, ◌<◌, ◌+◌, ◌^◌, MatchOption};
+ghost use Rattle.dxc_load.specs.Codes.{HasNoCode, HasNone, IsBehind, IsNextCode, code_of, coded_in, compld, deny};
+
+use memchr::memchr;
 
 /// How many commands were answered with each completion code.
 #[derive(Clone, Copy, Debug, PartialEq, Eq)]
@@ -8,52 +10,42 @@ pub struct Codes {
     pub denied: u64,
 }
 
-/// Where a reader of responses is.
-#[derive(Clone, Copy)]
-enum Spot {
-    /// In the response to the log-in.
-    Login,
-    /// So many bytes and one more stand before the tag.
-    Front(u8),
-    Tag,
-    /// At the first letter of the completion code.
-    Code,
-    /// Behind it, up to the response's end.
-    Rest,
-}
-
-/// A response of the load begins with a header of 30 bytes, since its SID has four, and with an M and two blanks; then come the tag,
-/// a blank and the completion code.
-const FRONT: Spot = Spot::Front(32);
+/// How many bytes a response of the load has in front of its tag: a header of 30, since its SID has four, then an M and two blanks.
+const FRONT: usize = 33;
 
 /// The byte that ends a response.
 const END: u8 = b';';
 
-/// Where it is behind a byte.
-fn next_spot(spot: Spot, byte: u8) -> Spot
-    ensures { result ≡ spot_behind spot byte }
+/// What stands behind the first such byte.
+fn behind(byte: u8, text: &[u8]) -> Option<&[u8]>
+    ensures { MatchOption result (HasNone byte text.now) (λ rest. IsBehind byte text.now rest.now) }
 {
-    match spot {
-        Spot::Login | Spot::Rest if byte == END => FRONT,
-        Spot::Login => Spot::Login,
-        Spot::Rest | Spot::Code => Spot::Rest,
-        Spot::Front(0) => Spot::Tag,
-        Spot::Front(more) => Spot::Front(more - 1),
-        Spot::Tag if byte == b' ' => Spot::Code,
-        Spot::Tag => Spot::Tag,
-    }
+    let at = memchr(byte, text)?;
+    Some(&text[at + 1..])
+}
+
+/// The first letter of the next response's completion code, and what stands behind it. The text begins in the response before. Behind the
+/// tag stand a blank and the code.
+fn next_code(text: &[u8]) -> Option<(u8, &[u8])>
+    ensures { MatchOption result (HasNoCode text.now) (λ p. IsNextCode text.now p.0 p.1.now) }
+{
+    let response = behind(END, text)?;
+    let tag = response.get(FRONT..)?;
+    let code = behind(b' ', tag)?;
+    let (letter, rest) = code.split_first()?;
+    Some((*letter, rest))
 }
 
 impl Codes {
-    // Counts the byte, where it is the first letter of a code.
-    fn count(&mut self, spot: Spot, byte: u8)
+    // Counts the code of this first letter.
+    fn count(&mut self, letter: u8)
         requires { (self.old.completed < 2 ^ 63) × (self.old.denied < 2 ^ 63) }
-        ensures completed { self.new.completed ≡ self.old.completed + codes_at compld spot byte }
-        ensures denied { self.new.denied ≡ self.old.denied + codes_at deny spot byte }
+        ensures completed { self.new.completed ≡ self.old.completed + code_of compld letter }
+        ensures denied { self.new.denied ≡ self.old.denied + code_of deny letter }
     {
-        match (spot, byte) {
-            (Spot::Code, b'C') => self.completed += 1,
-            (Spot::Code, b'D') => self.denied += 1,
+        match letter {
+            b'C' => self.completed += 1,
+            b'D' => self.denied += 1,
             _ => {}
         }
     }
@@ -64,14 +56,14 @@ pub fn codes_in(written: &[u8]) -> Codes
     ensures completed { result.completed ≡ coded_in compld written.now }
     ensures denied { result.denied ≡ coded_in deny written.now }
 {
-    let mut spot = Spot::Login;
     let mut codes = Codes {
         completed: 0,
         denied: 0,
     };
-    for byte in written {
-        codes.count(spot, *byte);
-        spot = next_spot(spot, *byte);
+    let mut text = written;
+    while let Some((letter, rest)) = next_code(text) {
+        codes.count(letter);
+        text = rest;
     }
     codes
 }

@@ -1,0 +1,396 @@
+#!/usr/bin/env python3
+"""Writes the rows of crates/worked_journals: journals that are old, torn, changed or left behind by a crash, and what comes of them.
+
+usage: bench/journals.py            writes crates/worked_journals/data/rows.txt
+       bench/journals.py --check    ends with an error where that file is another one
+
+What comes of a row is reckoned by the plain element (bench/plain.py) over a plain journal (bench/journal.py).
+"""
+import itertools
+import os
+import sys
+
+import journal
+from journal import AREAS, File, header, record
+from plain import Conn
+
+TOP = os.path.dirname(os.path.dirname(os.path.abspath(__file__)))
+ROWS = os.path.join(TOP, "crates", "worked_journals", "data", "rows.txt")
+HEAD = """# Worked rows of journals. `bench/journals.py` writes them. Each has a shelf and a journal of its own, and one or more runs of the program.
+#
+#   row TEXT       begins a row            shelf M N      its modules and slots, 2 and 1 where nothing is said
+#   old HEX        bytes behind those of the old journal so far; 00*N stands for N zeros
+#   again N HEX    these bytes N times      from N         zeros up to this place
+#   each A B WHAT  the row is made again for each place from A to B: `cut`, the old journal ends there; `change N`, its byte there has the bits
+#                  of N turned; `fail LEFT`, that write or sync of the first run fails; `crash LEFT`, that one and all later ones do, and the
+#                  file is what such a crash leaves. LEFT is what is left of the write that failed, or of those that no sync came behind:
+#                  lost, whole, front (its first half), sealed (filled with A5)
+#   script, check  begin a run             any            whatever is written and however it ends
+#   send TEXT      what is sent            answer TAG CODE | LINE ..    a response that must come       report N TEXT   a report
+#   list TEXT      a line that must come   status N       how the run must end, 0 where nothing is said
+#   enters N S     enters the first N ports, each to the one S behind it; retrieves, lists: wants them so
+#   calls N        how many writes and syncs the journal must see
+#   length N       how many bytes the journal must then have            piece N HEX    which bytes it must have there
+#   repeat N       the line behind it, N times; its parts are parted by ~
+"""
+LOGIN = "ACT-USER::ANNA:1::bc"
+LEFTS = ("lost", "whole", "front", "sealed")
+ONE, TWO = "DS0-1-1,DS0-2-1", "DS0-2-1,DS0-1-1"
+OLD = bytes.fromhex("a54458434a524e4c 0100000200010000 0000000000030000 0000000000000000 a501000000010001" + "00" * 25)
+
+
+def spelled(data):
+    """Hexadecimal text, in which many zeros are counted."""
+    words = []
+    for is_zero, run in itertools.groupby(data, lambda byte: byte == 0):
+        run = bytes(run)
+        words.append(f"00*{len(run)}" if is_zero and len(run) > 2 else run.hex())
+    return " ".join(words)
+
+
+class Row:
+    """A row with the journal as its runs leave it."""
+
+    def __init__(self, name, modules=2, slots=1, old=b"", each=None):
+        self.name, self.shape, self.content, self.each = name, (modules, slots), bytes(old), each
+        self.first, self.lines = self.content, []
+        self.old_lines = list(old_lines(self.content)) if old else []
+
+    def text(self):
+        head = [f"row {self.name}", f"shelf {self.shape[0]} {self.shape[1]}"] + ([f"each {self.each}"] if self.each else [])
+        return "\n".join(head + self.old_lines + self.lines) + "\n"
+
+    def script(self, *units, failing=None, calls=True):
+        """A session that is sent these units behind a log-in."""
+        file = File(self.content, failing)
+        units = (LOGIN, *units)
+        answers = journal.script(file, *self.shape, units)
+        self.content = bytes(file.content)
+        self.lines += ["script"] + [f"send {unit};" for unit in units]
+        self.lines += self.refusal(file) if answers is None else [answer_line(*answer) for answer in answers]
+        self.lines += [f"calls {len(file.calls)}"] if calls else []
+        return self
+
+    def check(self):
+        file = File(self.content)
+        rows = journal.check(file, *self.shape)
+        self.content = bytes(file.content)
+        self.lines += ["check"] + (self.refusal(file) if rows is None else [f"list {line}" for line in rows])
+        return self
+
+    def refusal(self, file):
+        failed = file.failing is not None and len(file.calls) > file.failing
+        return ["status 5" if failed else "status 4"]
+
+    def file(self, *pieces):
+        """The journal's length, and the bytes in these ranges."""
+        self.lines += [f"length {len(self.content)}"]
+        self.lines += [f"piece {first} {spelled(self.content[first:last])}" for first, last in pieces or [(0, len(self.content))]]
+        return self
+
+
+def old_lines(content):
+    """Zeros between the areas aren't spelled."""
+    first, second = content[: AREAS[1]], content[AREAS[1] :]
+    kept = first.rstrip(b"\0")
+    kept = first if len(kept) + 200 > len(first) else kept
+    size = journal.SIZE[2 if kept[8:9] == b"\2" else 1]
+    yield from repeated(kept, size)
+    if len(kept) < len(content) and len(kept) < len(first):
+        yield f"from {len(first)}"
+    if second:
+        yield f"old {spelled(second)}"
+
+
+def repeated(content, size):
+    """The bytes of an area, in which two records that come again and again are counted."""
+    two = content[32 : 32 + 2 * size]
+    times = 0
+    while two and content[32 + 2 * size * times : 32 + 2 * size * (times + 1)] == two:
+        times += 1
+    if times < 4:
+        yield f"old {spelled(content)}"
+        return
+    yield f"old {spelled(content[:32])}"
+    yield f"again {times} {spelled(two)}"
+    if rest := content[32 + 2 * size * times :]:
+        yield f"old {spelled(rest)}"
+
+
+def answer_line(tag, is_done, lines):
+    return " | ".join([f"answer {tag} {'COMPLD' if is_done else 'DENY'}", *lines])
+
+
+def enter(pair, tag="1", more=""):
+    return f"ENT-CRS-T0::{pair}:{tag}{more}"
+
+
+def delete(pair, tag="1"):
+    return f"DLT-CRS-T0::{pair}:{tag}"
+
+
+def area(version, generation, records, modules=2, slots=1):
+    """An area of an element of which all modules are equipped."""
+    return header(version, generation, journal.element_of(modules, slots)) + b"".join(records) + b"\0"
+
+
+def two_areas(first, second):
+    return first + bytes(AREAS[1] - len(first)) + second
+
+
+def entry(pair, cct=0, label="", version=2, choices=((0, 0, 0),), modules=2, slots=1):
+    return record(journal.element_of(modules, slots), "ENT-CRS-T0", Conn(pair, cct, label), choices[: cct + 1], version)
+
+
+def deletion(pair, version=2, label=""):
+    return record(journal.element_of(2, 1), "DLT-CRS-T0", Conn(pair, 0, label), [(0, 0, 0)], version)
+
+
+FROM, BACK = ((1, 1), (2, 1)), ((2, 1), (1, 1))
+
+
+def grouped(name, places, make):
+    """Rows of the places; neighbours to which the same comes are one row."""
+    for lines, group in itertools.groupby(places, lambda at: make(at).lines):
+        group = list(group)
+        row = make(group[0])
+        row.name, row.lines = name, lines
+        row.each = f"{group[0]} {group[-1]} {row.each}"
+        yield row
+
+
+def labels():
+    yield Row("the smallest entry").script(enter(ONE)).file().check()
+    edit = f"ED-CRS-T0::{ONE}"
+    yield (
+        Row("a label")
+        .script(enter(ONE, 1, '::1WAY,"CIRCUIT 7"'), "RTRV-CRS-T0:::2", f'{edit}:3::1WAY,"CIRCUIT 7"', f"{edit}:4::1WAY,C8", f"{edit}:5::1WAY", "RTRV-CRS-T0:::6")
+        .file()
+        .check()
+    )
+    yield (
+        Row("labels of 24 and 25 bytes, an empty one, one of printed text, and one with a control byte")
+        .script(enter(ONE, 1, f"::,{'a' * 25}"), enter(ONE, 2, "::2WAY,\"x\ty\""), enter(ONE, 3, f"::2WAY,{'b' * 24}"), "RTRV-CRS-T0:::4", f"{edit}:5::2WAY,\"\"")
+        .script(f"{edit}:2::1WAY,\"a:b;c,d 'e' ~!\"", "RTRV-CRS-T0:::3", delete(ONE, 4), enter(ONE, 5), f"{edit}:6::", f"{edit}:7::,C9", f"{edit}:8::2WAY,C9")
+        .check()
+        .script(delete(ONE))
+        .file((0, 32), (32 + 64 * 5, 32 + 64 * 6 + 1))
+    )
+
+
+def middles():
+    four = [enter("DS0-2-1,DS0-2-2"), enter("DS0-1-1,DS0-2-1"), enter("DS0-3-1,DS0-1-2"), enter("DS0-3-2,DS0-3-1")]
+    fifth, listed = "DS0-1-2,DS0-1-1", "RTRV-CRS-T0:::9"
+    yield (
+        Row("a middle taken out and put back", 3, 2)
+        .script(*four[:2], "RMV-MID::MID-1:6", "RMV-MID::MID-2:7", "RST-MID::MID-2:8", "RST-MID::MID-1:9", "RST-MID::MID-1:A")
+        .file()
+        .check()
+    )
+    yield (
+        Row("no middle while one is out", 3, 2)
+        .script(*four, "RMV-MID::MID-2:6", enter(fifth, 7), "RST-MID::MID-2:8", enter(fifth, 9), listed)
+        .file()
+        .check()
+    )
+    yield (
+        Row("a start with a middle out, a chain of one leg, and a middle for each of two legs or for none", 3, 2)
+        .script(*four, "RMV-MID::MID-1:6")
+        .check()
+        .script(delete("DS0-2-1,DS0-2-2"), enter(fifth, 7), enter("DS0-2-1,DS0-2-2", 8), "RMV-MID::MID-1:9", delete("DS0-3-1,DS0-1-2", "A"), "RST-MID::MID-1:B")
+        .file((0, 32))
+        .check()
+    )
+    yield Row("names of middles", 64, 96).script("RMV-MID::MID-0:1", "RMV-MID::MID-97:2", "RMV-MID::96:3", "RMV-MID::mid-96:4", "RST-MID::MID-95:5", "RST-MID::MID-96:6", "RMV-MID:::7", "RMV-MID::MID-1,MID-2:8", "RMV-MID::MID-1:9::1WAY")
+    yield Row("names of ports of the largest shape", 64, 96).script(enter("DS0-64-96,DS0-1-1"), enter("DS0-65-1,DS0-1-1"), enter("DS0-1-97,DS0-1-1"), "RTRV-CRS-T0::MOD-64:2", "DLT-EQPT::MOD-63:3", "DLT-EQPT::MOD-64:4").file()
+
+
+def versions():
+    yield Row("a journal of version 1 moves over", old=OLD).script(enter(TWO)).file((0, 65), (AREAS[1], AREAS[1] + 161)).check()
+    yield Row("a journal of version 1 that nothing changes", old=OLD).script("RTRV-CRS-T0:::2").file().check()
+    first, second = area(2, 0, [entry(FROM)]), area(2, 1, [entry(BACK, label="C8")])
+    named = {
+        "area 1 is the next generation": two_areas(first, second),
+        "area 0 is the next generation": two_areas(area(2, 2, [entry(FROM)]), second),
+        "area 0 is two generations on": two_areas(area(2, 0, [entry(FROM)]), area(2, 2, [entry(BACK)])),
+        "both areas of one generation": two_areas(first, area(2, 0, [entry(BACK)])),
+        "a generation of 3": area(2, 3, [entry(FROM)]),
+        "a generation of 3 beside a good area": two_areas(first, area(2, 3, [entry(BACK)])),
+        "a version of 3": area(3, 0, [entry(FROM)]),
+        "a version of 0": area(0, 0, [entry(FROM)]),
+        "area 1 alone": two_areas(b"\0" + first[1:], second),
+        "area 0 of version 1, area 1 of version 2": two_areas(area(1, 0, [entry(FROM, version=1)]), second),
+        "area 0 of version 2, area 1 of version 1": two_areas(area(2, 2, [entry(FROM)]), area(1, 1, [entry(BACK, version=1)])),
+        "area 1 of version 1 is current": two_areas(area(1, 0, [entry(FROM, version=1)]), area(1, 1, [entry(BACK, version=1)])),
+        "records of version 2 in an area of version 1": area(1, 0, [entry(FROM), deletion(FROM)]),
+        "a record of version 1 in an area of version 2": area(2, 0, [entry(FROM, version=1), entry(BACK, version=1)]),
+        "a middle out in version 1": area(1, 0, [record(journal.element_of(2, 1), "RMV-MID", 1, (), 1)]),
+        "a deletion with another label": area(2, 0, [entry(FROM, label="A"), deletion(FROM, label="B")]),
+        "a middle taken out twice": area(2, 0, [record(journal.element_of(2, 1), "RMV-MID", 1, ())] * 2),
+        "a header of 32 bytes": area(2, 0, [])[:32],
+        "an unsealed header of 33 bytes": b"\0" + area(2, 0, [])[1:],
+        "an unsealed header of 34 bytes": b"\0" + area(2, 0, [])[1:] + b"\0",
+        "another shape": area(2, 0, [entry(FROM)], 3, 1),
+    }
+    for name, old in named.items():
+        row = Row(name, old=old).check()
+        yield row.file((0, min(len(old), 200))) if "status 4" in row.lines else row.script(delete(ONE), enter(ONE), enter(TWO)).check()
+
+
+def full_journals():
+    pairs = [entry(FROM, version=1), deletion(FROM, version=1)]
+    full = header(1, 0, journal.element_of(2, 1)) + b"".join(pairs) * 32_768 + b"\0"
+    yield Row("a full journal of version 1", old=full).script(enter(ONE)).file((AREAS[1], AREAS[1] + 97)).check()
+    for failing in (2, 5):
+        row = Row("a full journal of version 1, and a call fails", old=full, each=f"{failing} {failing} fail lost")
+        yield row.script(enter(ONE), enter(ONE, 2), failing=failing).check()
+    pairs = [entry(FROM), deletion(FROM)]
+    full = header(2, 0, journal.element_of(2, 1)) + b"".join(pairs) * 16_383 + pairs[0] + b"\0"
+    yield Row("a full journal of version 2", old=full).script(delete(ONE), enter(TWO)).file((AREAS[1], AREAS[1] + 225)).check()
+    back = two_areas(full, area(2, 2, [entry(BACK)]))
+    yield Row("a full journal that turns back to a used area", old=back).script(delete(ONE)).file((AREAS[1], AREAS[1] + 161)).check()
+
+
+def torn():
+    """Journals that end at each byte, and journals with each byte of a header and a record changed."""
+    first = area(2, 0, [entry(FROM, label="C8"), entry(BACK)])
+    files = {
+        "version 2, torn": (first, range(len(first) + 1)),
+        "version 1, torn": (OLD, range(len(OLD) + 1)),
+        "area 1, torn": (two_areas(area(2, 0, [entry(BACK)]), area(2, 1, [entry(FROM), entry(BACK)])), range(AREAS[1] - 2, AREAS[1] + 162)),
+    }
+    for name, (old, places) in files.items():
+        yield from grouped(name, places, lambda at: cut(old, at))
+    for bits in (0x01, 0x80, 0xA5):
+        yield from grouped(f"bits {bits:02x} of each byte turned", range(96), lambda at: changed(area(2, 0, [entry(FROM, label="C8")]), at, bits))
+        yield from grouped(f"bits {bits:02x} of each byte turned, version 1", range(64), lambda at: changed(OLD, at, bits))
+    both = two_areas(area(2, 2, [entry(BACK)]), area(2, 0, [entry(FROM)]))
+    yield from grouped("each header byte of area 1 turned", range(AREAS[1], AREAS[1] + 32), lambda at: changed(both, at, 1))
+    yield from grouped("each header byte of area 0 turned", range(32), lambda at: changed(both, at, 1))
+
+
+def like(row, old, content):
+    """The row with the runs behind this content; its old journal is spelled as it was before it was torn or changed."""
+    row.content = content
+    row.old_lines = list(old_lines(old))
+    return row
+
+
+def cut(old, at):
+    return like(Row("", each="cut"), old, old[:at]).check().check()
+
+
+def changed(old, at, bits):
+    content = bytearray(old)
+    content[at] ^= bits
+    return like(Row("", each=f"change {bits}"), old, bytes(content)).check()
+
+
+def crash(old, at, left, unit, calls, then=True):
+    row = like(Row("", each=f"crash {left}"), old, journal.crashed(old, calls, at, left))
+    row.lines += ["script", "any", f"send {LOGIN};", f"send {unit};"]
+    row.check()
+    return row.script("RTRV-CRS-T0:::2", enter(TWO, 3), delete(ONE, 4), calls=False).check() if then else row
+
+
+def calls_of(old, unit):
+    file = File(old)
+    journal.script(file, 2, 1, (LOGIN, unit))
+    return file.calls
+
+
+def crashes():
+    """A crash in front of each write and sync of a making, a migration, checkpoints to either area, and the changes behind them."""
+    near = two_areas(area(1, 0, [entry(FROM, version=1)]), area(1, 1, [entry(BACK, version=1)]))
+    for name, old, unit in (
+        ("a making and an entry", b"", enter(ONE)),
+        ("an entry", area(2, 0, [entry(BACK)]), enter(ONE, 1, "::1WAY,C8")),
+        ("a migration", OLD, enter(TWO)),
+        ("a migration to area 0", near, delete(TWO)),
+        ("a migration with no change behind it", near, "RMV-MID::MID-1:2"),
+    ):
+        calls = calls_of(old, unit)
+        for left in LEFTS:
+            yield from grouped(f"{name}, a crash", last_of(calls), lambda at: crash(old, at, left, unit, calls))
+        if len(calls) > 50:
+            for places in (range(20), range(480, last_of(calls)[0])):
+                yield from grouped(f"{name}, a crash among its zeros", places, lambda at: crash(old, at, "front", unit, calls, False))
+    yield from full_crashes()
+
+
+def last_of(calls):
+    """The places of all calls, or of those behind the zeros between the areas."""
+    return range(0 if len(calls) < 50 else len(calls) - 12, len(calls) + 1)
+
+
+def full_crashes():
+    pairs = [entry(FROM), deletion(FROM)]
+    full = header(2, 0, journal.element_of(2, 1)) + b"".join(pairs) * 16_383 + pairs[0] + b"\0"
+    unit = delete(ONE)
+    calls = calls_of(full, unit)
+    for left in LEFTS:
+        yield from grouped("a checkpoint, a crash", range(len(calls) + 1), lambda at: crash(full, at, left, unit, calls))
+
+
+def faults():
+    """A write or sync that fails: the command is denied, and the same again is completed."""
+    near = two_areas(area(1, 0, [entry(FROM, version=1)]), area(1, 1, [entry(BACK, version=1)]))
+    for name, old, unit in (("a making and an entry", b"", enter(ONE)), ("a migration to area 0", near, enter(ONE)), ("a migration", OLD, enter(TWO))):
+        calls = calls_of(old, unit)
+        for left in LEFTS:
+            yield from grouped(f"{name}, a call fails", last_of(calls), lambda at: fault(old, at, left, unit))
+        if len(calls) > 50:
+            yield from grouped(f"{name}, one of its zeros fails", range(20), lambda at: fault(old, at, "front", unit))
+
+
+def fault(old, at, left, unit):
+    row = Row("", old=old, each=f"fail {left}").script(unit, unit.replace(":1", ":2", 1), failing=at, calls=False)
+    return row if "status 5" in row.lines else row.check()
+
+
+def largest():
+    """A full table of the largest shape, entered, retrieved, audited, and written as a checkpoint."""
+    ports, login = 6_144, [f"send {LOGIN};", "answer 1 COMPLD"]
+    more = journal.MOST[2] - ports
+    out, back = f"send {delete(ONE)}; ~ answer 1 COMPLD", f"send {enter(ONE)}; ~ answer 1 COMPLD"
+    return [
+        "row a full table of 64 modules of 96 slots",
+        "shelf 64 96",
+        "script",
+        *login,
+        f"enters {ports} 96",
+        f"retrieves {ports} 96",
+        f"calls {6 + 4 * ports}",
+        f"length {33 + 64 * ports}",
+        "check",
+        f"lists {ports} 96",
+        f"list RECORDS {ports}",
+        "script",
+        *login,
+        f"repeat {more // 2}",
+        f"{out} ~ {back}",
+        "repeat 1",
+        f"{out} ~ {back}",
+        f"calls {1 + 4 * more + 3 + ports - 1 + 3 + 4}",
+        f"length {AREAS[1] + 33 + 64 * ports}",
+        "check",
+        f"lists {ports} 96",
+        f"list RECORDS {ports}",
+    ]
+
+
+def rows():
+    return itertools.chain(labels(), middles(), versions(), full_journals(), torn(), crashes(), faults())
+
+
+def main():
+    text = "\n".join([HEAD, *(row.text() for row in rows()), *largest(), ""])
+    if sys.argv[1:] == ["--check"]:
+        with open(ROWS, encoding="ascii") as file:
+            sys.exit(file.read() != text)
+    with open(ROWS, "w", encoding="ascii") as file:
+        file.write(text)
+
+
+if __name__ == "__main__":
+    main()

@@ -1,0 +1,42 @@
+//! Many connections: each port's to the one so many behind it.
+use anyhow::Result;
+use std::alloc::Global;
+
+/// The first so many ports of a shape, and how far each is connected.
+#[derive(Clone, Copy, Debug)]
+pub struct Entries {
+    pub count: u16,
+    pub step: u16,
+    pub modules: u16,
+    pub slots: u16,
+}
+
+impl Entries {
+    /// The rows without quotes, in the table's order.
+    pub fn rows(self, alloc: Global) -> Result<Vec<String>> {
+        let mut rows = Vec::new(alloc);
+        for port in 0..self.count {
+            rows.push(format!(in alloc; "{}:1WAY", self.pair(alloc, port)?)?)?;
+        }
+        Ok(rows)
+    }
+
+    /// The names of a port and of the one it is connected to.
+    pub fn pair(self, alloc: Global, port: u16) -> Result<String> {
+        let ports = self.modules.saturating_mul(self.slots);
+        let to = port.saturating_add(self.step).checked_rem(ports);
+        let from = self.name(alloc, port)?;
+        let to = self.name(alloc, to.unwrap_or(0))?;
+        Ok(format!(in alloc; "{from},{to}")?)
+    }
+
+    fn name(self, alloc: Global, port: u16) -> Result<String> {
+        let module = port.checked_div(self.slots).unwrap_or(0);
+        let slot = port.checked_rem(self.slots).unwrap_or(0);
+        Ok(format!(in alloc;
+            "DS0-{}-{}",
+            module.saturating_add(1),
+            slot.saturating_add(1)
+        )?)
+    }
+}

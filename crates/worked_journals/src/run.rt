@@ -1,0 +1,173 @@
+use crate::each::Kind;
+use crate::file::{Fate, MemFile, copy_of};
+use crate::opener::RowOpener;
+use crate::row::{Row, Run};
+use anyhow::{Context, Result};
+use craft_server::{Status, dxc_run};
+use dxc_outside::{AlwaysGo, MemClock, MemLink, MemSpawner, Moment, Name};
+use std::alloc::Global;
+use std::mem;
+use std::sync::{Arc, Mutex, Wait};
+use std::thread::Threads;
+
+const NOON: Moment = Moment {
+    year: 26,
+    month: 3,
+    day: 1,
+    hour: 12,
+    minute: 0,
+    second: 0,
+};
+
+/// What a run did.
+#[derive(Drop)]
+struct Came {
+    status: Status,
+    output: Vec<u8>,
+    calls: u64,
+}
+
+/// Makes the row's runs, with what it is tried with done at this place. Some: what isn't as it must be.
+pub fn run_row<R: Threads + Wait + Copy + Send + 'static>(
+    alloc: Global,
+    rt: &R,
+    row: &Row,
+    at: u32,
+) -> Result<Option<String>> {
+    let mut journal = old_journal(alloc, row, at)?;
+    for (number, run) in row.runs.iter().enumerate() {
+        let kind = if number == 0 {
+            row.each.kind
+        } else {
+            Kind::Plain
+        };
+        let came = make_run(alloc, rt, row, run, &mut journal, kind, at as u64)?;
+        if let Some(why) = otherwise(alloc, run, &came, &journal)? {
+            return Ok(Some(format!(in alloc; "run {number}: {why}")?));
+        }
+    }
+    Ok(None)
+}
+
+// The journal before the first run.
+fn old_journal(alloc: Global, row: &Row, at: u32) -> Result<Vec<u8>> {
+    let kept = match row.each.kind {
+        Kind::Cut => row.journal.get(..at as usize).unwrap_or(&row.journal),
+        _ => &row.journal,
+    };
+    let mut journal = copy_of(alloc, kept).ok().context("no memory")?;
+    if let Kind::Change(bits) = row.each.kind {
+        let byte = journal
+            .get_mut(at as usize)
+            .context("there is no such byte")?;
+        *byte ^= bits;
+    }
+    Ok(journal)
+}
+
+// Runs the program on the journal, which is then what the run, or the crash in it, leaves.
+fn make_run<R: Threads + Wait + Copy + Send + 'static>(
+    alloc: Global,
+    rt: &R,
+    row: &Row,
+    run: &Run,
+    journal: &mut Vec<u8>,
+    kind: Kind,
+    at: u64,
+) -> Result<Came> {
+    let fate = match kind {
+        Kind::Fail(left) => Fate::One(at, left),
+        Kind::Crash(_) => Fate::All(at),
+        Kind::Plain | Kind::Cut | Kind::Change(_) => Fate::None,
+    };
+    let old = mem::replace(journal, Vec::new(alloc));
+    let file = Arc::new(alloc, Mutex::new(MemFile::new(alloc, old, fate)))?;
+    let (status, output) = served(alloc, rt, row, run, Arc::try_clone(&file)?)?;
+    let mut file = file.try_lock().context("the file is in use")?;
+    if let Kind::Crash(left) = kind {
+        file.crash(left).ok().context("no memory")?;
+    }
+    *journal = file.take_bytes(alloc);
+    Ok(Came {
+        status,
+        output,
+        calls: file.calls(),
+    })
+}
+
+// The status of the program over the file, and what it wrote.
+fn served<R: Threads + Wait + Copy + Send + 'static>(
+    alloc: Global,
+    rt: &R,
+    row: &Row,
+    run: &Run,
+    file: Arc<Mutex<MemFile>>,
+) -> Result<(Status, Vec<u8>)> {
+    let words = vec![in alloc;
+        Name::of(run.mode.clone()?),
+        Name::of("s".to_string(alloc)?),
+        Name::of("j".to_string(alloc)?),
+    ]?;
+    let mut terminal = MemLink::new(
+        copy_of(alloc, &run.input).ok().context("no memory")?,
+        Vec::new(alloc),
+        Vec::new(alloc),
+        Vec::new(alloc),
+    );
+    let mut opener = RowOpener::new(alloc, shelf_text(alloc, row)?, file);
+    let status = dxc_run(
+        alloc,
+        &words,
+        &mut opener,
+        &mut terminal,
+        &mut MemClock::new(vec![in alloc; NOON]?),
+        &mut AlwaysGo,
+        &mut MemSpawner::<R>::new(Vec::new(alloc)),
+        rt,
+    );
+    let output = copy_of(alloc, terminal.output());
+    Ok((status, output.ok().context("no memory")?))
+}
+
+// A shelf of the row's shape with all modules equipped, and a user ANNA of class S with the PID bc.
+fn shelf_text(alloc: Global, row: &Row) -> Result<String> {
+    Ok(format!(in alloc;
+        "sid = \"DXC1\"\nmodules = {}\nslots = {}\n[[user]]\nuid = \"ANNA\"\nclass = \"S\"\nsalt = \"61\"\ndigest = \"ba7816bf8f01cfea414140de5dae2223b00361a396177a9cb410ff61f20015ad\"\n",
+        row.modules, row.slots
+    )?)
+}
+
+// What the run did otherwise than it must.
+fn otherwise(alloc: Global, run: &Run, came: &Came, journal: &[u8]) -> Result<Option<String>> {
+    if let Some(wanted) = &run.output {
+        let status = came.status.number();
+        if status != run.status {
+            return Ok(Some(format!(in alloc; "status {status}")?));
+        }
+        if came.output.as_slice() != wanted.as_slice() {
+            let written = String::from_utf8_lossy(alloc, &came.output)?;
+            return Ok(Some(format!(in alloc; "written was {written}")?));
+        }
+    }
+    if run.calls.is_some_and(|wanted| wanted != came.calls) {
+        return Ok(Some(format!(in alloc; "the journal saw {} calls", came.calls)?));
+    }
+    journal_otherwise(alloc, run, journal)
+}
+
+// What of the journal is otherwise than it must be.
+fn journal_otherwise(alloc: Global, run: &Run, journal: &[u8]) -> Result<Option<String>> {
+    let length = journal.len();
+    if run.length.is_some_and(|wanted| wanted != length) {
+        return Ok(Some(format!(in alloc; "the journal has {length} bytes")?));
+    }
+    for piece in &run.pieces {
+        let end = piece.at.saturating_add(piece.bytes.len());
+        let found = journal.get(piece.at..end.min(length)).unwrap_or(&[]);
+        if found != piece.bytes.as_slice() {
+            let found = hex::encode(alloc, found)?;
+            return Ok(Some(format!(in alloc; "the journal has {found} at {}", piece.at)?));
+        }
+    }
+    Ok(None)
+}
