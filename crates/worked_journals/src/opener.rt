@@ -3,13 +3,13 @@ ghost use Rattle.dxc_causes.specs.Causes.{HasCause};
 ghost use Rattle.dxc_outside.specs.Openings.{most_shelf_bytes};
 
 use crate::disk::RowDisk;
-use crate::file::MemFile;
+use crate::file::{Fate, MemFile};
 use dxc_causes::NoMemory;
-use dxc_outside::{AlwaysGo, MemClock, MemLines, MemListener, Opened, Opener};
+use dxc_outside::{AlwaysGo, MemClock, MemLines, MemLink, MemListener, Opened, Opener};
 use std::alloc::Global;
 use std::sync::{Arc, Mutex};
 
-/// Opens the shelf file and the journal of a row, whatever their names. It tells nothing of what they hold.
+/// Opens the shelf file and the journal of a row, whatever their names, and a new journal of users. It tells nothing of what they hold.
 #[derive(Drop)]
 pub struct RowOpener {
     alloc: Global,
@@ -52,6 +52,11 @@ fn append(into: &mut Vec<u8>, text: &[u8]) -> Result<(), NoMemory>
     Ok(())
 }
 
+// A file of no bytes, no call on which fails.
+fn new_file(alloc: Global) -> Option<Arc<Mutex<MemFile>>> {
+    Arc::new(alloc, Mutex::new(MemFile::new(alloc, Vec::new(alloc), Fate::None))).ok()
+}
+
 impl Opener for RowOpener {
     ghost use Rattle.std.specs.Prelude.{None};
 
@@ -65,11 +70,15 @@ impl Opener for RowOpener {
 
     type Gate = AlwaysGo;
 
+    type Peer = MemLink;
+
     ghost told = { ⊥ };
 
     ghost state = { λ o. record { shelf_at = λ _. None; faults = o.faults } };
 
     ghost journal_at = { λ _ _. None };
+
+    ghost listener_at = { λ _ _. None };
 
     fn shelf(&mut self, _alloc: Global, _name: &str, into: &mut Vec<u8>) -> Opened<()> {
         match append(into, self.shelf.as_bytes()) {
@@ -78,10 +87,15 @@ impl Opener for RowOpener {
         }
     }
 
-    fn journal(&mut self, alloc: Global, _name: &str) -> Opened<RowDisk> {
-        match Arc::try_clone(&self.file) {
-            Ok(file) => Opened::Open(RowDisk::new(alloc, file)),
-            Err(_) => Opened::NoMemory,
+    fn journal(&mut self, alloc: Global, name: &str) -> Opened<RowDisk> {
+        let file = if name.ends_with(".users") {
+            new_file(alloc)
+        } else {
+            Arc::try_clone(&self.file).ok()
+        };
+        match file {
+            Some(file) => Opened::Open(RowDisk::new(alloc, file)),
+            None => Opened::NoMemory,
         }
     }
 
@@ -90,6 +104,10 @@ impl Opener for RowOpener {
     }
 
     fn listener(&mut self, _alloc: Global, _address: &str) -> Opened<MemListener> {
+        self.fail()
+    }
+
+    fn peer(&mut self, _alloc: Global, _address: &str) -> Opened<MemLink> {
         self.fail()
     }
 
