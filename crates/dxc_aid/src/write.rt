@@ -8,15 +8,15 @@ use arrayvec::ArrayVec;
 use dxc_num::{Middle, Port, Shape};
 
 /// Appends the port's name, in upper case.
-pub fn write_port(shape: Shape, port: Port, out: &mut ArrayVec<u8, 128>)
+pub fn write_port<const N: usize>(shape: Shape, port: Port, out: &mut ArrayVec<u8, N>)
     requires inside { IsPort shape port }
-    requires room { array_vec_len out.old + 16 ≤ 128 }
+    requires room { array_vec_len out.old + 16 ≤ N }
     ensures name { out.new.items ≡ out.old.items ++ port_name shape port }
     ensures short { array_vec_len out.new ≤ array_vec_len out.old + 16 }
 {
     append(out, b"DS0-");
     append_number(out, shape.module_of(port) + 1);
-    append(out, b"-");
+    out.push(b'-');
     append_number(out, shape.slot_of(port) + 1);
 }
 
@@ -42,8 +42,8 @@ pub fn write_middle(shape: Shape, middle: Middle, out: &mut ArrayVec<u8, 128>)
     append_number(out, middle.0 as u16 + 1);
 }
 
-fn append(out: &mut ArrayVec<u8, 128>, text: &[u8])
-    requires { array_vec_len out.old + length text.now ≤ 128 }
+fn append<const N: usize>(out: &mut ArrayVec<u8, N>, text: &[u8])
+    requires { array_vec_len out.old + length text.now ≤ N }
     ensures { out.new.items ≡ out.old.items ++ text.now }
 {
     let _ = out.try_extend_from_slice(text);
@@ -51,8 +51,8 @@ fn append(out: &mut ArrayVec<u8, 128>, text: &[u8])
 
 /// Appends a number of at most five digits, in decimal. Shapes have numbers of one or two, which are written at once.
 #[tactic(auto, using(crate::proofs::Numbers::decimal_one))]
-fn append_number(out: &mut ArrayVec<u8, 128>, number: u16)
-    requires { array_vec_len out.old + 5 ≤ 128 }
+fn append_number<const N: usize>(out: &mut ArrayVec<u8, N>, number: u16)
+    requires { array_vec_len out.old + 5 ≤ N }
     ensures digits { out.new.items ≡ out.old.items ++ decimal number }
     ensures short { array_vec_len out.new ≤ array_vec_len out.old + 5 }
 {
