@@ -1,23 +1,68 @@
 // Names as they are written.
-ghost use Rattle.std.specs.Prelude.{◌≡◌, ◌≤◌, ◌+◌, ◌++◌, length, codes, decimal};
+ghost use Rattle.std.specs.Prelude.{◌≡◌, ◌≤◌, ◌+◌, ◌/◌, ◌%◌, ◌++◌, length, codes, decimal};
 ghost use Rattle.arrayvec.specs.ArrayVec.{array_vec_len};
-ghost use Rattle.dxc_num.specs.Dimensions.{IsModule, IsPort, IsWorking};
+ghost use Rattle.dxc_num.specs.Dimensions.{IsModule, IsPort, IsWorking, module_of, slot_of};
 ghost use Rattle.dxc_aid.specs.Names.{port_name, module_name, middle_name};
 
 use arrayvec::ArrayVec;
 use dxc_num::{Middle, Port, Shape};
 
 /// Appends the port's name, in upper case.
+#[tactic(auto, using(crate::proofs::Writes::one_digit, crate::proofs::Writes::two_digits))]
 pub fn write_port<const N: usize>(shape: Shape, port: Port, out: &mut ArrayVec<u8, N>)
     requires inside { IsPort shape port }
     requires room { array_vec_len out.old + 16 ≤ N }
     ensures name { out.new.items ≡ out.old.items ++ port_name shape port }
     ensures short { array_vec_len out.new ≤ array_vec_len out.old + 16 }
 {
-    append(out, b"DS0-");
-    append_number(out, shape.module_of(port) + 1);
-    out.push(b'-');
-    append_number(out, shape.slot_of(port) + 1);
+    let (number, slot) = (module_number(shape, port), slot_number(shape, port));
+    if number < 10 {
+        if slot < 10 {
+            let name = [b'D', b'S', b'0', b'-', ones(number), b'-', ones(slot)];
+            append(out, &name);
+        } else {
+            let name = [b'D', b'S', b'0', b'-', ones(number), b'-', tens(slot), ones(slot)];
+            append(out, &name);
+        }
+    } else if slot < 10 {
+        let name = [b'D', b'S', b'0', b'-', tens(number), ones(number), b'-', ones(slot)];
+        append(out, &name);
+    } else {
+        let name = [b'D', b'S', b'0', b'-', tens(number), ones(number), b'-', tens(slot), ones(slot)];
+        append(out, &name);
+    }
+}
+
+/// The number of the port's module, from 1.
+fn module_number(shape: Shape, port: Port) -> u16
+    requires { IsPort shape port }
+    ensures number { result ≡ module_of shape port + 1 }
+    ensures short { result ≤ 99 }
+{
+    let _ = shape.slots();
+    shape.module_of(port) + 1
+}
+
+/// The number of its slot, from 1.
+fn slot_number(shape: Shape, port: Port) -> u16
+    ensures number { result ≡ slot_of shape port + 1 }
+    ensures short { result ≤ 99 }
+{
+    let _ = shape.slots();
+    shape.slot_of(port) + 1
+}
+
+fn tens(number: u16) -> u8
+    requires { number ≤ 99 }
+    ensures { result ≡ 48 + number / 10 }
+{
+    b'0' + (number / 10) as u8
+}
+
+fn ones(number: u16) -> u8
+    ensures { result ≡ 48 + number % 10 }
+{
+    b'0' + (number % 10) as u8
 }
 
 /// Appends the module's name, in upper case.

@@ -52,7 +52,8 @@ impl Ctag {
     }
 }
 
-fn is_ctag(bytes: &[u8]) -> bool
+/// Whether the bytes are a tag.
+pub fn is_ctag(bytes: &[u8]) -> bool
     ensures { result ≡ reads_as_ctag bytes.now }
 {
     (1..=Ctag::MOST).contains(&bytes.len()) && alphanumeric(bytes) && !zeros(bytes)
