@@ -1,15 +1,16 @@
 ghost use Rattle.std.specs.Prelude.{◌≡◌, ◌≤◌, length, map, drop};
-ghost use Rattle.std.specs.List.{list_any};
-ghost use Rattle.tl1_text.specs.Spans.{IsIn, block_at, AreBlocksOf};
+ghost use Rattle.std.specs.List.{All, list_any};
+ghost use Rattle.tl1_text.specs.Spans.{IsIn, text_at, block_at, AreBlocksOf};
 ghost use Rattle.tl1_command.specs.Blocks.{block, has_value_from as has_from};
 ghost use Rattle.tl1_command.specs.Commands.{named_by};
 ghost use Rattle.tl1_command.specs.Meanings.{is_other_target as other_target, is_not_logged_in as not_logged_in, is_not_entitled as not_entitled, is_missing as misses, has_too_many as too_many, has_general as general_there, first_refusal};
-ghost use Rattle.tl1_command.specs.Parts.{AreValues, AreParts};
+ghost use Rattle.tl1_command.specs.Parts.{AreParts};
 
 use crate::form::{Form, form_of};
-use crate::parts::{Named, Parts, Values, block_text, values_at};
+use crate::parts::{Named, Parts, block_text, has_value_from, values_at};
+use arrayvec::ArrayVec;
 use dxc_model::{Cause, CommandCode, SessionUser, entitled};
-use tl1_text::{Blocks, Sid, is_ctag};
+use tl1_text::{Blocks, Ctag, Sid, Span};
 
 /// The TID is neither empty nor the SID, case aside.
 pub fn is_other_target(sid: &Sid, target: &[u8]) -> bool
@@ -58,18 +59,19 @@ fn has_too_many(
     form: Form,
     unit: &[u8],
     blocks: &Blocks,
-    aids: Values,
-    payload: Values,
+    aids: &ArrayVec<Span, 8>,
+    payload: &ArrayVec<Span, 8>,
 ) -> bool
     requires short { length unit.now ≤ 2047 }
     requires blocks { AreBlocksOf unit.now blocks.now.block.items }
-    requires aids { AreValues unit.now (block 2 (map (block_at unit.now) blocks.now.block.items)).values aids }
-    requires payload { AreValues unit.now (block 5 (map (block_at unit.now) blocks.now.block.items)).values payload }
-    requires few { form.aids ≤ 2 }
+    requires aids_in { All (IsIn unit.now) aids.now.items }
+    requires payload_in { All (IsIn unit.now) payload.now.items }
+    requires aids { map (text_at unit.now) aids.now.items ≡ (block 2 (map (block_at unit.now) blocks.now.block.items)).values }
+    requires payload { map (text_at unit.now) payload.now.items ≡ (block 5 (map (block_at unit.now) blocks.now.block.items)).values }
     ensures { result ≡ too_many form (map (block_at unit.now) blocks.now.block.items) }
 {
-    aids.has_from(unit, form.aids)
-        || payload.has_from(unit, form.values())
+    has_value_from(unit, aids, form.aids)
+        || has_value_from(unit, payload, form.values())
         || has_further(unit, blocks)
 }
 
@@ -80,7 +82,8 @@ pub fn has_further(unit: &[u8], blocks: &Blocks) -> bool
     ensures { result ≡ list_any (has_from 0) (drop 6 (map (block_at unit.now) blocks.now.block.items)) }
 {
     for number in 6..blocks.block.len() {
-        if values_at(unit, blocks, number).has_from(unit, 0) {
+        let values = values_at(unit, blocks, number);
+        if has_value_from(unit, &values, 0) {
             return true;
         }
     }
@@ -93,7 +96,11 @@ pub fn has_general(unit: &[u8], blocks: &Blocks) -> bool
     requires blocks { AreBlocksOf unit.now blocks.now.block.items }
     ensures { result ≡ general_there (map (block_at unit.now) blocks.now.block.items) }
 {
-    values_at(unit, blocks, 4).has_from(unit, 0)
+    if block_text(unit, blocks, 4).is_empty() {
+        return false;
+    }
+    let values = values_at(unit, blocks, 4);
+    has_value_from(unit, &values, 0)
 }
 
 /// The first cause of those that code, user and the parts of the unit show, before the parameters are read.
@@ -111,7 +118,7 @@ pub fn refusal(
     ensures { result ≡ first_refusal sid.now user.now code (map (block_at unit.now) blocks.now.block.items) }
 {
     let form = form_of(code);
-    if !is_ctag(block_text(unit, blocks, 3)) {
+    if Ctag::of(block_text(unit, blocks, 3)).is_none() {
         Some(Cause::BadCtag)
     } else if is_other_target(sid, block_text(unit, blocks, 1)) {
         Some(Cause::OtherTarget)
@@ -121,7 +128,7 @@ pub fn refusal(
         Some(Cause::NotEntitled)
     } else if is_missing(form, unit, parts.named) {
         Some(Cause::Missing)
-    } else if has_too_many(form, unit, blocks, parts.aids, parts.payload) {
+    } else if has_too_many(form, unit, blocks, &parts.aids, &parts.payload) {
         Some(Cause::TooMany)
     } else if has_general(unit, blocks) {
         Some(Cause::GeneralBlock)

@@ -44,8 +44,7 @@ pub struct Form {
 impl Form {
     /// How many parameters of the first payload block the command names.
     pub fn values(self) -> usize
-        ensures count { result ≡ all_values self }
-        ensures few { result ≤ 2 }
+        ensures { result ≡ all_values self }
     {
         self.value.named() + self.label.named()
     }

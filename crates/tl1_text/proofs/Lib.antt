@@ -13,5 +13,3 @@ pub mod CutBlocks
 pub mod TagFacts
 pub mod Totals
 pub mod Tables
-pub mod Lanes
-pub mod StopFacts

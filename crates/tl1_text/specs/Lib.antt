@@ -3,7 +3,6 @@ pub mod Reading
 pub mod Grammar
 pub mod Walk
 pub mod Spans
-pub mod Stops
 pub mod Cuts
 pub mod Values
 pub mod Tags

@@ -52,8 +52,7 @@ impl Ctag {
     }
 }
 
-/// Whether the bytes are a tag.
-pub fn is_ctag(bytes: &[u8]) -> bool
+fn is_ctag(bytes: &[u8]) -> bool
     ensures { result ≡ reads_as_ctag bytes.now }
 {
     (1..=Ctag::MOST).contains(&bytes.len()) && alphanumeric(bytes) && !zeros(bytes)

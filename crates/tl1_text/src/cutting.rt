@@ -2,11 +2,9 @@
 ghost use Rattle.std.specs.Prelude.{◌≡◌, ◌≤◌, ◌<◌, ◌+◌, ℕ, List, None, length, MatchOption};
 ghost use Rattle.tl1_text.specs.Walk.{blocks_of};
 ghost use Rattle.tl1_text.specs.Cuts.{IsCutTo, IsCut};
-ghost use Rattle.tl1_text.specs.Stops.{AreStops};
 
-use crate::place::Place;
+use crate::place::{Place, plain_end};
 use crate::span::Span;
-use crate::stops::Stops;
 use arrayvec::ArrayVec;
 
 /// A block has at most so many parameters.
@@ -34,20 +32,16 @@ impl Cutting {
     }
 
     /// Passes the plain bytes that may stand here, and tells where they end.
-    fn pass(&mut self, unit: &[u8], stops: &mut Stops, from: usize) -> usize
+    fn pass(&mut self, unit: &[u8], from: usize) -> usize
         requires cut { IsCutTo unit.now from self.old }
-        requires seen { AreStops unit.now stops.old }
-        requires from { stops.old.from ≤ from }
         ensures cut { IsCutTo unit.now result self.new }
-        ensures seen { AreStops unit.now stops.new }
-        ensures from { stops.new.from ≤ result }
         ensures forwards { from ≤ result }
         ensures within { result ≤ length unit.now }
     {
         if !self.place.takes_plain() {
             return from;
         }
-        let end = stops.plain_end(unit, from);
+        let end = plain_end(unit, from, unit.len());
         if from < end {
             self.place = Place::Plain;
         }
@@ -107,10 +101,9 @@ pub fn cut(unit: &[u8]) -> Option<ArrayVec<Span, 10>>
     ensures { MatchOption result (blocks_of unit.now ≡ None) (λ found. IsCut unit.now found.items) }
 {
     let mut cutting = Cutting::new();
-    let mut stops = Stops::none();
     let mut at = 0;
     while at < unit.len() {
-        at = cutting.pass(unit, &mut stops, at);
+        at = cutting.pass(unit, at);
         if at < unit.len() {
             cutting.step(unit, at)?;
             at += 1;

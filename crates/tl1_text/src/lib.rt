@@ -10,10 +10,9 @@ mod place;
 mod reader;
 mod sid;
 mod span;
-mod stops;
 mod values;
 
-pub use ctag::{Ctag, ctag_in, ctag_of, is_ctag};
+pub use ctag::{Ctag, ctag_in, ctag_of};
 pub use reader::{Fed, UnitKind, UnitReader};
 pub use sid::Sid;
 pub use span::{BadText, Blocks, Span};
