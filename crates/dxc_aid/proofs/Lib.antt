@@ -2,3 +2,4 @@ pub mod Numbers
 pub mod Cases
 pub mod Ports
 pub mod Selections
+pub mod Writes

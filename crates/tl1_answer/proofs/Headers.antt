@@ -9,11 +9,11 @@ none_of [] is = refl
 none_of (x ∷ xs) is = absurd (omega (arith, is))
 
 -- texts appended one by one
-abbrev behind : List ℕ → List (List ℕ) → List ℕ
+abbrev pub behind : List ℕ → List (List ℕ) → List ℕ
 behind front [] = front
 behind front (t ∷ ts) = behind (front ++ t) ts
 
-behind_front : (front : List ℕ) (ts : List (List ℕ)) → behind front ts ≡ front ++ behind [] ts
+pub behind_front : (front : List ℕ) (ts : List (List ℕ)) → behind front ts ≡ front ++ behind [] ts
 behind_front front [] = sym (append-nil front)
 behind_front front (t ∷ ts) = behind_front (front ++ t) ts ∙ append_assoc front t (behind [] ts) ∙ ap (λ (l : List ℕ). front ++ l) (sym (behind_front t ts))
 

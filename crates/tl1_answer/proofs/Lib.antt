@@ -1,2 +1,3 @@
 pub mod Cuts
 pub mod Headers
+pub mod Rows

@@ -1,11 +1,14 @@
-ghost use Rattle.std.specs.Prelude.{◌≡◌, ◌≤◌, ◌↔◌, [], IsTrue, length, codes, option_map};
+ghost use Rattle.std.specs.Prelude.{◌≡◌, ◌≤◌, ◌↔◌, true, false, [], ◌∷◌, IsTrue, length, codes, option_map};
 ghost use Rattle.dxc_outside.specs.Moments.{IsMoment};
 ghost use Rattle.tl1_answer.specs.Messages.{head, report as whole_report, with_line};
 
 use crate::append::append;
-use crate::message::{append_head, append_line, append_report};
+use crate::message::{append_denial, append_head, append_line, append_report};
 use crate::stamp::Stamp;
+use crate::text::append_row;
 use arrayvec::ArrayVec;
+use dxc_model::{Cause, Conn};
+use dxc_num::Shape;
 use dxc_outside::Moment;
 use std::marker::Model;
 use tl1_text::{Ctag, Sid};
@@ -27,6 +30,9 @@ pub enum Code {
     /// The command was denied.
     Deny,
 }
+
+/// No row and no denial takes more bytes than these, with the marks of its lines and the block's ending byte.
+const AMPLE: usize = 80;
 
 /// One block of an answer, of at most 4,096 bytes.
 ///
@@ -52,7 +58,9 @@ impl Model for Answer {
 
 impl Answer {
     ghost use Rattle.std.specs.Prelude.{◌<◌};
-    ghost use Rattle.tl1_answer.specs.Blocks.{Draft, IsBegun, IsUnended, begun, lined, ended, alone, fits};
+    ghost use Rattle.tl1_answer.specs.Blocks.{Draft, IsBegun, IsUnended, IsAdded, begun, lined, ended, alone, fits};
+    ghost use Rattle.tl1_answer.specs.Responses.{denial};
+    ghost use Rattle.tl1_answer.specs.Texts.{IsOfShape, row_text};
 
     /// An empty block.
     pub fn new() -> Answer
@@ -96,6 +104,33 @@ impl Answer {
             self.unended = false;
             Fits::Cut
         }
+    }
+
+    /// Adds a connection's row as a text line, and answers true; nothing and false where the block may be too full for a row.
+    pub fn row(&mut self, shape: Shape, conn: &Conn) -> bool
+        requires unended { IsUnended self.old }
+        requires inside { IsOfShape shape conn.now }
+        ensures added { result ≡ true → IsAdded self.old (row_text shape conn.now ∷ []) self.new }
+        ensures kept { result ≡ false → self.new ≡ self.old }
+    {
+        let has_room = self.block.len() < 4096 - AMPLE;
+        if has_room {
+            append_row(shape, conn, &mut self.block);
+        }
+        has_room
+    }
+
+    /// Adds the two lines of a denial, and answers true; nothing and false where the block may be too full for them.
+    pub fn denial(&mut self, cause: Cause) -> bool
+        requires unended { IsUnended self.old }
+        ensures added { result ≡ true → IsAdded self.old (denial cause) self.new }
+        ensures kept { result ≡ false → self.new ≡ self.old }
+    {
+        let has_room = self.block.len() < 4096 - AMPLE;
+        if has_room {
+            append_denial(&mut self.block, cause);
+        }
+        has_room
     }
 
     /// Begins the next block, with the same header and M line.

@@ -2,11 +2,13 @@
 ghost use Rattle.std.specs.Prelude.{◌≡◌, ◌≤◌, ◌+◌, ◌++◌, length, codes, option_map};
 ghost use Rattle.arrayvec.specs.ArrayVec.{array_vec_len};
 ghost use Rattle.tl1_answer.specs.Messages.{header, or_zero, code_text, head, report as whole_report, with_line};
+ghost use Rattle.tl1_answer.specs.Responses.{with_lines, denial};
 
 use crate::answer::Code;
 use crate::append::{append, append_number};
 use crate::stamp::Stamp;
 use arrayvec::ArrayVec;
+use dxc_model::Cause;
 use tl1_text::{Ctag, Sid};
 
 fn append_header(out: &mut ArrayVec<u8, 4096>, sid: &Sid, stamp: &Stamp)
@@ -58,6 +60,18 @@ pub fn append_line(out: &mut ArrayVec<u8, 4096>, text: &[u8])
     append(out, b"   ");
     append(out, text);
     append(out, b"\r\n");
+}
+
+/// The two text lines of a denial: the code, and the comment line.
+pub fn append_denial(out: &mut ArrayVec<u8, 4096>, cause: Cause)
+    requires { array_vec_len out.old + 80 ≤ 4096 }
+    ensures lines { out.new.items ≡ with_lines out.old.items (denial cause) }
+    ensures short { array_vec_len out.new ≤ array_vec_len out.old + 80 }
+{
+    append_line(out, cause.code().as_bytes());
+    append(out, b"   /* ");
+    append(out, cause.text().as_bytes());
+    append(out, b" */\r\n");
 }
 
 /// The completion code behind a blank, and the line's end.

@@ -1,6 +1,7 @@
 // The texts of rows and changes.
 ghost use Rattle.std.specs.Prelude.{◌≡◌, ◌≤◌, ◌+◌, ◌++◌, [], length};
 ghost use Rattle.arrayvec.specs.ArrayVec.{array_vec_len};
+ghost use Rattle.tl1_answer.specs.Messages.{with_line};
 ghost use Rattle.tl1_answer.specs.Texts.{IsOfShape, IsChangeOf, cct_text as text_of_cct, with_conn, with_label, row_text as text_of_row, change_text as text_of_change};
 
 use crate::append::append;
@@ -19,6 +20,18 @@ pub fn row_text(shape: Shape, conn: &Conn, out: &mut ArrayVec<u8, 128>)
     append(out, b"\"");
     append_conn(shape, conn, out);
     append(out, b"\"");
+}
+
+/// Appends a connection's row as a text line.
+pub fn append_row(shape: Shape, conn: &Conn, out: &mut ArrayVec<u8, 4096>)
+    requires inside { IsOfShape shape conn.now }
+    requires room { array_vec_len out.old + 80 ≤ 4096 }
+    ensures line { out.new.items ≡ with_line out.old.items (text_of_row shape conn.now) }
+    ensures short { array_vec_len out.new ≤ array_vec_len out.old + 80 }
+{
+    append(out, b"   \"");
+    append_conn(shape, conn, out);
+    append(out, b"\"\r\n");
 }
 
 /// Clears `out`, and writes a connection as in its row, without quotes.
@@ -70,35 +83,34 @@ pub fn change_text(shape: Shape, change: &Change, out: &mut ArrayVec<u8, 128>)
     append(out, b"\"");
 }
 
-fn append_conn(shape: Shape, conn: &Conn, out: &mut ArrayVec<u8, 128>)
+fn append_conn<const N: usize>(shape: Shape, conn: &Conn, out: &mut ArrayVec<u8, N>)
     requires inside { IsOfShape shape conn.now }
-    requires room { array_vec_len out.old ≤ 16 }
+    requires room { array_vec_len out.old + 63 ≤ N }
     ensures text { out.new.items ≡ with_conn out.old.items shape conn.now }
     ensures short { array_vec_len out.new ≤ array_vec_len out.old + 63 }
 {
     write_port(shape, conn.from, out);
-    append(out, b",");
+    out.push(b',');
     write_port(shape, conn.to, out);
-    append(out, b":");
+    out.push(b':');
     append(out, cct_text(conn.cct));
     append_label(&conn.label, out);
 }
 
 /// A colon and the label; nothing where that is empty.
-fn append_label(label: &Label, out: &mut ArrayVec<u8, 128>)
-    requires room { array_vec_len out.old ≤ 103 }
+fn append_label<const N: usize>(label: &Label, out: &mut ArrayVec<u8, N>)
+    requires room { array_vec_len out.old + 25 ≤ N }
     ensures text { out.new.items ≡ with_label out.old.items label.now }
     ensures short { array_vec_len out.new ≤ array_vec_len out.old + 25 }
 {
     if !label.is_empty() {
-        append(out, b":");
+        out.push(b':');
         append(out, label.bytes());
     }
 }
 
-fn cct_text(cct: Cct) -> &'static [u8]
-    ensures text { result.now ≡ text_of_cct cct }
-    ensures short { length result.now ≡ 4 }
+fn cct_text(cct: Cct) -> &'static [u8; 4]
+    ensures { result.now ≡ text_of_cct cct }
 {
     match cct {
         Cct::OneWay => b"1WAY",

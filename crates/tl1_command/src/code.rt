@@ -3,11 +3,11 @@ ghost use Rattle.tl1_command.specs.Codes.{code_named, is_same_text};
 
 use dxc_model::CommandCode;
 
-/// Whether two texts are the same but for ASCII case.
+/// Whether two texts are the same but for ASCII case. Most are the same as they stand.
 pub fn is_same(text: &[u8], name: &str) -> bool
     ensures { result ≡ is_same_text text.now name.now }
 {
-    text.eq_ignore_ascii_case(name.as_bytes())
+    text == name.as_bytes() || text.eq_ignore_ascii_case(name.as_bytes())
 }
 
 /// The command of a code, case aside; None where it is no command's.

@@ -3,7 +3,7 @@ use Rattle.dxc_aid.proofs.Numbers.{decimal_two}
 use Rattle.dxc_aid.proofs.write.append_number.Goals as goal
 
 pub returns-then-number-lt100-clause-digits : goal.returns-then-number-lt100-clause-digits
-returns-then-number-lt100-clause-digits c =
+returns-then-number-lt100-clause-digits g c =
     let tens : List ℕ = (48 + c.args.number / 10) ∷ [] in
     let ones : List ℕ = (48 + c.args.number % 10) ∷ [] in
     c.push-then-number-lt100-2.ensures.items
