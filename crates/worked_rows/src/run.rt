@@ -1,19 +1,11 @@
 use crate::row::{Row, Run};
 use anyhow::Result;
 use craft_server::dxc_run;
-use dxc_outside::{HostOpener, MemClock, MemGate, MemLink, MemSpawner, Moment, Name};
+use dxc_outside::{HostOpener, MemClock, MemGate, MemLink, MemSpawner, Name};
 use std::fs;
 use std::sync::Wait;
 use std::thread::Threads;
-
-const NOON: Moment = Moment {
-    year: 26,
-    month: 3,
-    day: 1,
-    hour: 12,
-    minute: 0,
-    second: 0,
-};
+use worked_common::NOON;
 
 /// Runs the row's runs on a journal of its own. None where they did what they must, else what didn't hold.
 pub fn run_row<R: Threads + Wait + Copy + Send + 'static>(
@@ -42,8 +34,8 @@ fn fault_of<R: Threads + Wait + Copy + Send + 'static>(
         words.push(Name::of(word.clone()?))?;
     }
     let mut terminal = MemLink::new(
-        run.input.clone()?,
-        run.pieces.clone()?,
+        run.terminal.input.clone()?,
+        run.terminal.pieces.clone()?,
         Vec::new(alloc),
         Vec::new(alloc),
     );
@@ -64,7 +56,7 @@ fn fault_of<R: Threads + Wait + Copy + Send + 'static>(
     if status.number() != run.status {
         return Ok(Some(format!(in alloc; "status {}", status.number())?));
     }
-    if terminal.output() != run.output.as_slice() {
+    if terminal.output() != run.terminal.output.as_slice() {
         let written = String::from_utf8_lossy(alloc, terminal.output())?;
         return Ok(Some(format!(in alloc; "written was {written}")?));
     }

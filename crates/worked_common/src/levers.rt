@@ -1,7 +1,7 @@
 use dxc_causes::NoMemory;
 use std::alloc::Global;
-use std::sync::Arc;
 use std::sync::atomic::{AtomicU64, Ordering};
+use std::sync::{Arc, OnceLock};
 
 /// No call of this number comes.
 const NEVER: u64 = u64::MAX;
@@ -12,6 +12,8 @@ pub struct Levers {
     calls: AtomicU64,
     failing: AtomicU64,
     shows: AtomicU64,
+    /// What the disk held when it was dropped.
+    left: OnceLock<Vec<u8>>,
 }
 
 impl Levers {
@@ -20,6 +22,7 @@ impl Levers {
             calls: AtomicU64::new(0),
             failing: AtomicU64::new(NEVER),
             shows: AtomicU64::new(0),
+            left: OnceLock::new(),
         };
         Ok(Arc::new(alloc, levers)?)
     }
@@ -46,5 +49,16 @@ impl Levers {
     /// Whether the other bytes are shown.
     pub fn shows(&self) -> bool {
         self.shows.load(Ordering::SeqCst) == 1
+    }
+
+    /// The disk is dropped, and held this.
+    pub fn note_left(&self, bytes: Vec<u8>) {
+        let _ = self.left.try_set(bytes);
+    }
+
+    /// What the disk held when it was dropped; None where it wasn't yet.
+    pub fn left(&self) -> Option<&[u8]> {
+        let bytes = self.left.get()?;
+        Some(bytes.as_slice())
     }
 }

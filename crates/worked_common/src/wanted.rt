@@ -1,7 +1,30 @@
 //! What a session must be written, line by line.
 
-use anyhow::{Context, Result};
+use crate::words::two;
+use anyhow::Result;
 use std::alloc::Global;
+
+/// Appends what a line of a row wants; false where the word is none of these.
+pub fn add_wanted(
+    alloc: Global,
+    sid: &str,
+    word: &str,
+    rest: &str,
+    into: &mut Vec<u8>,
+) -> Result<bool> {
+    match word {
+        "want" => add_line(alloc, sid, rest, into)?,
+        "compld" => add_completed(alloc, sid, rest, into)?,
+        "deny" => add_denied(alloc, sid, rest, into)?,
+        "rows" => add_rows(alloc, sid, rest, into)?,
+        "report" => {
+            let (number, text) = two(rest)?;
+            add_report(alloc, sid, number.parse::<u64>()?, text, into)?;
+        }
+        _ => return Ok(false),
+    }
+    Ok(true)
+}
 
 /// Appends the header of the fixed clock.
 pub fn add_header(alloc: Global, sid: &str, into: &mut Vec<u8>) -> Result<()> {
@@ -23,7 +46,7 @@ pub fn add_line(alloc: Global, sid: &str, line: &str, into: &mut Vec<u8>) -> Res
     Ok(())
 }
 
-/// Appends a whole message, with these lines between its header and its end.
+// Appends a whole message, with these lines between its header and its end.
 fn add_message(alloc: Global, sid: &str, lines: &[&str], into: &mut Vec<u8>) -> Result<()> {
     add_header(alloc, sid, into)?;
     for line in lines {
@@ -39,10 +62,10 @@ pub fn add_completed(alloc: Global, sid: &str, tag: &str, into: &mut Vec<u8>) ->
     add_message(alloc, sid, &[head.as_str()], into)
 }
 
-/// Appends a denial.
-pub fn add_denied(alloc: Global, sid: &str, rest: &str, into: &mut Vec<u8>) -> Result<()> {
-    let (tag, rest) = rest.split_once(' ').context("a tag is wanted")?;
-    let (code, text) = rest.split_once(' ').context("a code is wanted")?;
+// Appends a denial.
+fn add_denied(alloc: Global, sid: &str, rest: &str, into: &mut Vec<u8>) -> Result<()> {
+    let (tag, rest) = two(rest)?;
+    let (code, text) = two(rest)?;
     let head = format!(in alloc; "M  {tag} DENY")?;
     let code = format!(in alloc; "   {code}")?;
     let text = format!(in alloc; "   /* {text} */")?;
@@ -63,9 +86,9 @@ pub fn add_report(
     add_message(alloc, sid, &[head.as_str(), text.as_str()], into)
 }
 
-/// Appends a response COMPLD with rows, which stand behind its tag.
-pub fn add_rows(alloc: Global, sid: &str, rest: &str, into: &mut Vec<u8>) -> Result<()> {
-    let (tag, rows) = rest.split_once(' ').context("a row is wanted")?;
+// Appends a response COMPLD with rows, which stand behind its tag.
+fn add_rows(alloc: Global, sid: &str, rest: &str, into: &mut Vec<u8>) -> Result<()> {
+    let (tag, rows) = two(rest)?;
     let head = format!(in alloc; "M  {tag} COMPLD")?;
     add_header(alloc, sid, into)?;
     add_line(alloc, sid, head.as_str(), into)?;

@@ -2,7 +2,7 @@ ghost use Rattle.std.specs.Prelude.{IsErr};
 ghost use Rattle.dxc_causes.specs.Causes.{HasCause};
 
 use crate::levers::Levers;
-use dxc_disk::{Disk, DiskFault, MemDisk};
+use dxc_disk::{Disk, DiskFault};
 use std::sync::Arc;
 
 /// What comes of the bytes of a write that fails.
@@ -18,10 +18,9 @@ pub enum Torn {
 const OTHER: u8 = 0x5A;
 
 /// A disk in memory on which a row lets a call fail, and which reads as other bytes than it holds while the row says so. It tells nothing of its
-/// content.
-#[derive(Drop)]
+/// content. Where it is dropped it leaves its bytes with its levers.
 pub struct RowDisk {
-    held: MemDisk,
+    held: Vec<u8>,
     shown: Vec<u8>,
     torn: Torn,
     levers: Arc<Levers>,
@@ -29,7 +28,7 @@ pub struct RowDisk {
 }
 
 impl RowDisk {
-    pub fn new(held: MemDisk, shown: Vec<u8>, torn: Torn, levers: Arc<Levers>) -> RowDisk {
+    pub fn new(held: Vec<u8>, shown: Vec<u8>, torn: Torn, levers: Arc<Levers>) -> RowDisk {
         RowDisk {
             held,
             shown,
@@ -57,7 +56,7 @@ impl RowDisk {
         if self.levers.shows() {
             &self.shown
         } else {
-            self.held.bytes()
+            &self.held
         }
     }
 
@@ -72,15 +71,18 @@ impl RowDisk {
 }
 
 // Writes where a disk of these bytes can be written.
-fn write_within(held: &mut MemDisk, at: u64, from: &[u8]) -> Option<()> {
-    if at as usize > held.bytes().len() {
+fn write_within(held: &mut Vec<u8>, at: u64, from: &[u8]) -> Option<()> {
+    let at = at as usize;
+    if at > held.len() {
         return None;
     }
-    held.write_at(at, from).ok()
+    let over = from.len().min(held.len() - at);
+    held[at..at + over].copy_from_slice(&from[..over]);
+    held.extend_from_slice(&from[over..]).ok()
 }
 
 // What a failed write leaves.
-fn tear(held: &mut MemDisk, torn: Torn, at: u64, from: &[u8]) {
+fn tear(held: &mut Vec<u8>, torn: Torn, at: u64, from: &[u8]) {
     match torn {
         Torn::Lost => {}
         Torn::Whole => {
@@ -137,5 +139,18 @@ impl Disk for RowDisk {
     fn sync(&mut self) -> Result<(), DiskFault> {
         let fails = self.levers.fails();
         RowDisk::counted((!fails).then_some(()), &mut self.faults)
+    }
+}
+
+impl Drop for RowDisk {
+    fn drop(self) {
+        let RowDisk {
+            held,
+            shown: _,
+            torn: _,
+            levers,
+            faults: _,
+        } = self;
+        levers.note_left(held);
     }
 }
