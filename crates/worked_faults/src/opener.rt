@@ -3,7 +3,7 @@ ghost use Rattle.dxc_causes.specs.Causes.{HasCause};
 
 use crate::lines::RowLines;
 use crate::listener::RowListener;
-use dxc_outside::{MemClock, MemGate, Opened, Opener};
+use dxc_outside::{MemClock, MemGate, MemOpener, Opened, Opener};
 use std::alloc::Global;
 use std::collections::VecDeque;
 use worked_common::{NOON, RowDisk};
@@ -11,7 +11,8 @@ use worked_common::{NOON, RowDisk};
 /// What a run of the program opens.
 #[derive(Drop)]
 pub struct Holding {
-    pub shelf: Vec<u8>,
+    /// It has the shelf file.
+    pub files: MemOpener,
     pub disk: Option<RowDisk>,
     /// The lines of the workers, in their order.
     pub lines: VecDeque<RowLines>,
@@ -21,7 +22,7 @@ pub struct Holding {
     pub gates: VecDeque<MemGate>,
 }
 
-/// Hands out what it holds, whatever it is asked for by name. Calls of those that may fail are numbered from 0; those of the numbers in `failing`
+/// Hands out what it holds, all but the shelf file whatever the name. Calls of those that may fail are numbered from 0; those of the numbers in `failing`
 /// fail, and one for what it doesn't hold.
 #[derive(Drop)]
 pub struct RowOpener {
@@ -78,15 +79,18 @@ impl Opener for RowOpener {
 
     ghost journal_at = { λ _ _. None };
 
-    fn shelf(&mut self, _alloc: Global, _name: &str, into: &mut Vec<u8>) -> Opened<()> {
+    fn shelf(&mut self, alloc: Global, name: &str, into: &mut Vec<u8>) -> Opened<()> {
         match self.opened(Some(())) {
             Opened::Open(()) => {}
-            _ => return Opened::Failed,
+            Opened::Failed => return Opened::Failed,
+            Opened::NoMemory => return Opened::NoMemory,
         }
-        if into.extend_from_slice(&self.holding.shelf).is_err() {
-            return Opened::NoMemory;
+        match self.holding.files.shelf(alloc, name, into) {
+            Opened::Open(()) => Opened::Open(()),
+            // It is there under its name.
+            Opened::Failed => Opened::NoMemory,
+            Opened::NoMemory => Opened::NoMemory,
         }
-        Opened::Open(())
     }
 
     fn journal(&mut self, _alloc: Global, _name: &str) -> Opened<RowDisk> {

@@ -6,7 +6,7 @@ use crate::listener::RowListener;
 use crate::opener::{Holding, RowOpener};
 use crate::row::{Caller, Place, Run, Worker};
 use anyhow::Result;
-use dxc_outside::{MemGate, MemLines, MemLink};
+use dxc_outside::{MemGate, MemLines, MemLink, MemOpener};
 use std::alloc::Global;
 use std::collections::VecDeque;
 use std::sync::{Arc, OnceLock};
@@ -35,13 +35,13 @@ impl<'a> Outside<'a> {
     pub fn new(
         alloc: Global,
         run: &'a Run,
-        shelf: Vec<u8>,
+        files: MemOpener,
         disk: RowDisk,
     ) -> Result<Outside<'a>> {
         let mut wanted = Vec::new(alloc);
         let terminal = link_of(alloc, &run.terminal, "the terminal", &mut wanted)?;
         let mut holding = Holding {
-            shelf,
+            files,
             disk: Some(disk),
             lines: VecDeque::new(alloc),
             listeners: VecDeque::new(alloc),
@@ -112,7 +112,9 @@ fn hold_worker<'a>(
         Vec::new(alloc),
     );
     holding.lines.push_back(RowLines::new(alloc, held, kept))?;
-    holding.gates.push_back(MemGate::new(worker.stops.clone()?))?;
+    holding
+        .gates
+        .push_back(MemGate::new(worker.stops.clone()?))?;
     Ok(())
 }
 

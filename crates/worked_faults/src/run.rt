@@ -2,7 +2,7 @@ use crate::outside::{Outside, Wanted};
 use crate::row::{Row, Run};
 use anyhow::{Context, Result};
 use craft_server::dxc_run;
-use dxc_outside::{MemClock, MemGate, MemSpawner, Name};
+use dxc_outside::{MemClock, MemGate, MemOpener, MemSpawner, Name};
 use std::alloc::Global;
 use std::fs;
 use std::sync::{Arc, Wait};
@@ -23,11 +23,18 @@ pub fn run_row<R: Threads + Wait + Copy + Send + 'static>(
         levers.set(run.disk.first().copied(), false);
         let shown = Vec::new(alloc);
         let disk = RowDisk::new(journal, shown, row.torn, Arc::try_clone(&levers)?);
-        if let Some(why) = fault_of(alloc, waits, run, Outside::new(alloc, run, shelf.clone()?, disk)?)? {
+        let named = (Name::of(row.shelf.clone()?), shelf.clone()?);
+        let files = MemOpener::new(alloc, Vec::new(alloc)).with_shelves(vec![in alloc; named]?);
+        let outside = Outside::new(alloc, run, files, disk)?;
+        if let Some(why) = fault_of(alloc, waits, run, outside)? {
             return Ok(Some(why));
         }
         journal = levers.left().context("the disk is held")?.to_vec(alloc)?;
-        if run.journal.as_ref().is_some_and(|wanted| wanted.as_slice() != journal.as_slice()) {
+        if run
+            .journal
+            .as_ref()
+            .is_some_and(|wanted| wanted.as_slice() != journal.as_slice())
+        {
             return Ok(Some(format!(in alloc; "the journal was {journal:?}")?));
         }
     }

@@ -28,8 +28,8 @@ use roll_engine::Advance;
 use shelf_file::Shelf;
 use std::alloc::Global;
 use std::sync::{Arc, Wait};
-use worked_common::Levers;
 use turnstile::{Pass, Turnstile};
+use worked_common::Levers;
 use xc_core::State;
 
 /// DS0-2-2.

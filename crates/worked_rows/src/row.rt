@@ -7,8 +7,6 @@ use worked_common::{Exchange, bytes_of};
 pub struct Run {
     pub words: Vec<String>,
     pub terminal: Exchange,
-    /// The askings, from 0, at which the gate stops.
-    pub stops: Vec<u64>,
     pub status: u8,
     /// What the journal's file then is, where the row says it.
     pub journal: Option<Vec<u8>>,
@@ -48,7 +46,6 @@ impl Run {
         Ok(Run {
             words,
             terminal: Exchange::new(alloc),
-            stops: Vec::new(alloc),
             status: 0,
             journal: None,
         })
@@ -57,7 +54,6 @@ impl Run {
     /// Takes a line of the run's own, for an element of this name.
     pub fn take(&mut self, alloc: Global, sid: &str, word: &str, rest: &str) -> Result<()> {
         match word {
-            "stop" => self.stops.push(rest.parse::<u64>()?)?,
             "status" => self.status = rest.parse::<u8>()?,
             "after" => self.journal = Some(bytes_of(alloc, rest)?),
             _ => ensure!(

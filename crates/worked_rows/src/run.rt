@@ -1,7 +1,7 @@
 use crate::row::{Row, Run};
 use anyhow::Result;
 use craft_server::dxc_run;
-use dxc_outside::{HostOpener, MemClock, MemGate, MemLink, MemSpawner, Name};
+use dxc_outside::{AlwaysGo, HostOpener, MemClock, MemLink, MemSpawner, Name};
 use std::fs;
 use std::sync::Wait;
 use std::thread::Threads;
@@ -40,7 +40,6 @@ fn fault_of<R: Threads + Wait + Copy + Send + 'static>(
         Vec::new(alloc),
     );
     let mut clock = MemClock::new(vec![in alloc; NOON]?);
-    let mut gate = MemGate::new(run.stops.clone()?);
     let mut opener = HostOpener::new(rt.clone()?, Vec::new(alloc));
     let mut spawner = MemSpawner::<R>::new(Vec::new(alloc));
     let status = dxc_run(
@@ -49,7 +48,7 @@ fn fault_of<R: Threads + Wait + Copy + Send + 'static>(
         &mut opener,
         &mut terminal,
         &mut clock,
-        &mut gate,
+        &mut AlwaysGo,
         &mut spawner,
         waits,
     );
