@@ -13,17 +13,18 @@ use crate::audit::Audit;
 use crate::carriage::Carriage;
 use crate::carrier::Carrier;
 use crate::crew::Crew;
+use crate::disk::RowDisk;
+use crate::levers::Levers;
 use crate::row::Row;
 use anyhow::{Context, Result, bail, ensure};
 use craft_session::Place;
-use dxc_disk::Disk;
+use dxc_disk::{Disk, MemDisk};
 use dxc_outside::AlwaysGo;
 use fabric_words::{Fabric, WorkerSeat};
 use shelf_file::{Shelf, shelf_of};
 use std::alloc::Global;
 use std::sync::Arc;
 use turnstile::{Pass, Turnstile};
-use worked_common::{Levers, RowDisk};
 use xc_core::{Core, State};
 
 /// The turnstile of an element.
@@ -43,7 +44,7 @@ impl Element {
     /// The element that the row's shelf and journal describe.
     pub fn open(alloc: Global, row: &Row) -> Result<Element> {
         let levers = Levers::new(alloc).ok().context("no memory")?;
-        let disk = disk_of(row, &levers)?;
+        let disk = disk_of(alloc, row, &levers)?;
         let Started {
             shelf,
             fabric,
@@ -73,9 +74,10 @@ pub struct Started<D: Disk> {
 }
 
 /// The disk of the row's journal, with these levers.
-pub fn disk_of(row: &Row, levers: &Arc<Levers>) -> Result<RowDisk> {
+pub fn disk_of(alloc: Global, row: &Row, levers: &Arc<Levers>) -> Result<RowDisk> {
+    let held = MemDisk::new(alloc, row.journal.clone()?, Vec::new(alloc));
     Ok(RowDisk::new(
-        row.journal.clone()?,
+        held.ok().context("no memory")?,
         row.shown.clone()?,
         row.torn,
         Arc::try_clone(levers)?,

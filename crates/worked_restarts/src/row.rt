@@ -1,9 +1,9 @@
-use crate::answer::{SID, add_answer};
+use crate::answer::{add_answer, add_report};
 use crate::carriage::IDLE;
 use crate::carrier::Asked;
-use anyhow::{Context, Result, ensure};
+use crate::disk::Torn;
+use anyhow::{Context, Result};
 use std::alloc::Global;
-use worked_common::{Torn, add_wanted, bytes_of};
 
 /// What a worker must have written of the frame behind a session.
 #[derive(Drop)]
@@ -109,6 +109,7 @@ impl Session {
             "fails" => self.failing = Some(rest.parse::<u64>()?),
             "shows" => self.shows = true,
             "answer" => add_answer(alloc, rest, &mut self.output)?,
+            "report" => add_report(alloc, rest, &mut self.output)?,
             "asked" => self.asked = Some(asked_of(rest)?),
             "calls" => self.calls = Some(rest.parse::<u64>()?),
             "frames" => {
@@ -123,10 +124,7 @@ impl Session {
                     self.words.push(number.parse::<u64>()?)?;
                 }
             }
-            _ => ensure!(
-                add_wanted(alloc, SID, word, rest, &mut self.output)?,
-                "the word {word} isn't known"
-            ),
+            _ => None.context("the word isn't known")?,
         }
         Ok(())
     }
@@ -168,4 +166,14 @@ fn frame_of(alloc: Global, text: &str) -> Result<Vec<u8>> {
         frame.push(if byte == b'.' { IDLE } else { byte })?;
     }
     Ok(frame)
+}
+
+// The bytes that hexadecimal digits spell; blanks between them fall away.
+fn bytes_of(alloc: Global, text: &str) -> Result<Vec<u8>> {
+    let mut bytes = Vec::new(alloc);
+    for word in text.split(' ') {
+        let some = hex::decode(alloc, word.as_bytes()).ok();
+        bytes.extend_from_slice(&some.context("no hexadecimal bytes")?)?;
+    }
+    Ok(bytes)
 }

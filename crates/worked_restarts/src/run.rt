@@ -3,10 +3,18 @@ use crate::row::{Row, Session};
 use anyhow::{Context, Result};
 use craft_session::{Place, SessionEnd, serve_session};
 use dxc_disk::Disk;
-use dxc_outside::{Gate, MemClock, MemLink};
+use dxc_outside::{Gate, MemClock, MemLink, Moment};
 use std::alloc::Global;
 use std::sync::Wait;
-use worked_common::NOON;
+
+const NOON: Moment = Moment {
+    year: 26,
+    month: 3,
+    day: 1,
+    hour: 12,
+    minute: 0,
+    second: 0,
+};
 
 /// What came of a row.
 #[derive(Drop)]

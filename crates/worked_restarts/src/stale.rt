@@ -15,6 +15,7 @@ use crate::beside::{Beside, change_beside};
 use crate::element::{
     Started, Turns, disk_of, next_pass, next_place, next_seat, next_worker, start, turns_of,
 };
+use crate::levers::Levers;
 use crate::row::{Row, Session};
 use crate::run::{serve_at, words_otherwise};
 use anyhow::{Context, Result, bail, ensure};
@@ -29,7 +30,6 @@ use shelf_file::Shelf;
 use std::alloc::Global;
 use std::sync::{Arc, Wait};
 use turnstile::{Pass, Turnstile};
-use worked_common::Levers;
 use xc_core::State;
 
 /// DS0-2-2.
@@ -57,7 +57,7 @@ pub fn run_stale<R: Wait>(alloc: Global, rt: &R, row: &Row) -> Result<Option<Str
         fabric,
         seats,
         state,
-    } = start(alloc, row, disk_of(row, &levers)?)?;
+    } = start(alloc, row, disk_of(alloc, row, &levers)?)?;
     let late = second_seat(alloc, &fabric, seats)?;
     let Seated { turns, place, pass } = seat_two(alloc, &shelf, &fabric, state)?;
     between(

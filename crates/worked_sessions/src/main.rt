@@ -18,6 +18,7 @@ mod random;
 mod read;
 mod row;
 mod run;
+mod wanted;
 
 use crate::read::rows_of;
 use crate::run::run_row;

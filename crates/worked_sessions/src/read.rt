@@ -3,9 +3,9 @@ use crate::gate::Act;
 use crate::plain::Spot;
 use crate::random::{Plan, take_random};
 use crate::row::{Carried, NEVER, POINTS, Row, Session, Size};
-use anyhow::{Context, Result, ensure};
+use crate::wanted::{add_completed, add_denied, add_line, add_report, add_rows};
+use anyhow::{Context, Result, bail, ensure};
 use std::alloc::Global;
-use worked_common::{add_completed, add_report, add_wanted, two};
 
 /// The rows that the text describes, line by line.
 pub fn rows_of(alloc: Global, text: &str) -> Result<Vec<Row>> {
@@ -54,6 +54,11 @@ fn take_line(alloc: Global, row: &mut Row, word: &str, rest: &str) -> Result<()>
         }
     }
     Ok(())
+}
+
+// The words in front of the first blank and behind it.
+fn two(text: &str) -> Result<(&str, &str)> {
+    text.split_once(' ').context("two words are wanted")
 }
 
 fn point(text: &str) -> Result<usize> {
@@ -152,6 +157,8 @@ fn take_wanted(
 ) -> Result<()> {
     let wanted = &mut session.wanted;
     match word {
+        "want" => add_line(alloc, sid, rest, wanted),
+        "compld" => add_completed(alloc, sid, rest, wanted),
         "compldx" => {
             let (count, tag) = two(rest)?;
             for _ in 0..count.parse::<u32>()? {
@@ -159,15 +166,15 @@ fn take_wanted(
             }
             Ok(())
         }
-        "reports" => take_reports(alloc, sid, rest, wanted),
-        "login" => take_login(alloc, session, sid, rest),
-        _ => {
-            ensure!(
-                add_wanted(alloc, sid, word, rest, wanted)?,
-                "the word {word} isn't known"
-            );
-            Ok(())
+        "deny" => add_denied(alloc, sid, rest, wanted),
+        "report" => {
+            let (number, text) = two(rest)?;
+            add_report(alloc, sid, number.parse::<u64>()?, text, wanted)
         }
+        "reports" => take_reports(alloc, sid, rest, wanted),
+        "rows" => add_rows(alloc, sid, rest, wanted),
+        "login" => take_login(alloc, session, sid, rest),
+        _ => bail!("the word {word} isn't known"),
     }
 }
 
