@@ -4,13 +4,16 @@
 usage: bench/memory.py
 
 A run that is refused memory ends with status 8 (or, where what is refused isn't needed to serve, as it would have), says so, and the
-journal behind it stands for what it stood for, or for the commands that were answered COMPLD. It takes a C compiler, for a library that
+journal behind it stands for what it stood for, or for the commands that were answered COMPLD. A server whose thread is refused ends with
+status 7 where no session runs, and else goes on with those that do. It takes a C compiler, for a library that
 is loaded before the C library (bench/refusing.c).
 """
 import os
+import socket
 import subprocess
 import sys
 import tempfile
+import time
 
 TOP = os.path.dirname(os.path.dirname(os.path.abspath(__file__)))
 PROGRAM = os.path.join(TOP, "crates", "dxc", "out", "dxc")
@@ -18,7 +21,8 @@ SHELF = os.path.join(TOP, "examples", "shelf.toml")
 COMMANDS = "ACT-USER::ANNA:1::bc;ENT-CRS-T0::DS0-2-1,DS0-1-1:2;RTRV-CRS-T0:::3;"
 KEPT = ["DS0-1-1,DS0-2-1:1WAY"]
 ENTERED = "DS0-2-1,DS0-1-1:1WAY"
-NO_MEMORY = 8
+NO_MEMORY, NO_THREAD = 8, 7
+SAYS = {NO_MEMORY: "dxc: no memory\n", NO_THREAD: "dxc: cannot start a thread\n"}
 
 
 def expect(fact, what):
@@ -36,7 +40,40 @@ def rows(journal):
     return checked.stdout.splitlines()[:-1]
 
 
-def refused_in_turn(folder, library, mode, commands):
+def answered(server, port):
+    """What a session of the server is answered; nothing where it ends before it serves one."""
+    while server.poll() is None:
+        try:
+            with socket.create_connection(("127.0.0.1", port), 5) as link:
+                link.sendall(COMMANDS.encode())
+                text = b""
+                while text.count(b";") < COMMANDS.count(";"):
+                    more = link.recv(4096)
+                    if not more:
+                        break
+                    text += more
+                return text.decode()
+        except OSError:
+            time.sleep(0.01)
+    return ""
+
+
+def served(folder, journal, **world):
+    """A server that is sent the commands over one session, and then ended, as a run that came to its end."""
+    lines = os.path.join(folder, "l")
+    open(f"{lines}.in", "wb").close()
+    with socket.socket() as free:
+        free.bind(("127.0.0.1", 0))
+        port = free.getsockname()[1]
+    words = [PROGRAM, "serve", SHELF, journal, f"127.0.0.1:{port}", lines, "2"]
+    with subprocess.Popen(words, stderr=subprocess.PIPE, text=True, env=dict(os.environ, **world)) as server:
+        text = answered(server, port)
+        status = server.poll()
+        server.kill()
+        return subprocess.CompletedProcess(words, 0 if status is None else status, text, server.stderr.read())
+
+
+def refused_in_turn(folder, library, mode):
     """Runs the mode with each growth refused; how many growths there were, and how many runs ended for want of memory."""
     journal, reached = os.path.join(folder, "j"), os.path.join(folder, "reached")
     ended = number = 0
@@ -47,10 +84,14 @@ def refused_in_turn(folder, library, mode, commands):
                 os.remove(name)
         made = run(["script", SHELF, journal], "ACT-USER::ANNA:1::bc;ENT-CRS-T0::DS0-1-1,DS0-2-1:2;")
         expect(made.returncode == 0 and rows(journal) == KEPT, "a journal can't be made")
-        ran = run([mode, SHELF, journal], commands, LD_PRELOAD=library, REFUSED=str(number), REACHED=reached)
-        expect(ran.returncode in (0, NO_MEMORY), f"{mode}, growth {number}: status {ran.returncode}, {ran.stderr!r}")
-        expect((ran.returncode == NO_MEMORY) == (ran.stderr == "dxc: no memory\n"), f"{mode}, growth {number}: it says {ran.stderr!r}")
-        ended += ran.returncode == NO_MEMORY
+        world = {"LD_PRELOAD": library, "REFUSED": str(number), "REACHED": reached}
+        if mode == "serve":
+            ran = served(folder, journal, **world)
+        else:
+            ran = run([mode, SHELF, journal], COMMANDS if mode == "script" else "", **world)
+        expect(ran.returncode in (0, NO_MEMORY) or (mode == "serve" and ran.returncode == NO_THREAD), f"{mode}, growth {number}: status {ran.returncode}, {ran.stderr!r}")
+        expect(ran.stderr == SAYS.get(ran.returncode, ""), f"{mode}, growth {number}: it says {ran.stderr!r}")
+        ended += ran.returncode != 0
         wanted = KEPT + [ENTERED] * ("M  2 COMPLD" in ran.stdout)
         expect(sorted(rows(journal)) == wanted, f"{mode}, growth {number}: the journal has {rows(journal)}")
         if not os.path.exists(reached):
@@ -63,8 +104,8 @@ def main():
         library = os.path.join(folder, "refusing.so")
         source = os.path.join(TOP, "bench", "refusing.c")
         subprocess.run(["cc", "-O1", "-shared", "-fPIC", "-o", library, source, "-ldl"], check=True)
-        for mode, commands in (("script", COMMANDS), ("check", "")):
-            growths, ended = refused_in_turn(folder, library, mode, commands)
+        for mode in ("script", "check", "serve"):
+            growths, ended = refused_in_turn(folder, library, mode)
             expect(ended > 0, f"{mode}: no growth was refused")
             print(f"{mode}: {growths} growths, each refused in a run of its own: {ended} runs ended for want of memory, nothing was lost")
 

@@ -1,6 +1,7 @@
-use crate::row::{Row, Run, bytes_of};
+use crate::row::{Row, Run};
 use anyhow::{Context, Result};
 use std::alloc::Global;
+use worked_common::bytes_of;
 
 /// The rows that the text describes, line by line.
 pub fn rows_of(alloc: Global, text: &str) -> Result<Vec<Row>> {

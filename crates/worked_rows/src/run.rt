@@ -1,19 +1,11 @@
 use crate::row::{Row, Run};
 use anyhow::Result;
 use craft_server::dxc_run;
-use dxc_outside::{HostOpener, MemClock, MemGate, MemLink, MemSpawner, Moment, Name};
+use dxc_outside::{AlwaysGo, HostOpener, MemClock, MemLink, MemSpawner, Name};
 use std::fs;
 use std::sync::Wait;
 use std::thread::Threads;
-
-const NOON: Moment = Moment {
-    year: 26,
-    month: 3,
-    day: 1,
-    hour: 12,
-    minute: 0,
-    second: 0,
-};
+use worked_common::NOON;
 
 /// The journals of a row.
 const JOURNAL: &str = "row.journal";
@@ -47,13 +39,12 @@ fn fault_of<R: Threads + Wait + Copy + Send + 'static>(
         words.push(Name::of(word.clone()?))?;
     }
     let mut terminal = MemLink::new(
-        run.input.clone()?,
-        run.pieces.clone()?,
+        run.terminal.input.clone()?,
+        run.terminal.pieces.clone()?,
         Vec::new(alloc),
         Vec::new(alloc),
     );
     let mut clock = MemClock::new(vec![in alloc; NOON]?);
-    let mut gate = MemGate::new(run.stops.clone()?);
     let mut opener = HostOpener::new(rt.clone()?, Vec::new(alloc));
     let mut spawner = MemSpawner::<R>::new(Vec::new(alloc));
     let status = dxc_run(
@@ -62,14 +53,14 @@ fn fault_of<R: Threads + Wait + Copy + Send + 'static>(
         &mut opener,
         &mut terminal,
         &mut clock,
-        &mut gate,
+        &mut AlwaysGo,
         &mut spawner,
         waits,
     );
     if status.number() != run.status {
         return Ok(Some(format!(in alloc; "status {}", status.number())?));
     }
-    if terminal.output() != run.output.as_slice() {
+    if terminal.output() != run.terminal.output.as_slice() {
         let written = String::from_utf8_lossy(alloc, terminal.output())?;
         return Ok(Some(format!(in alloc; "written was {written}")?));
     }

@@ -1,0 +1,62 @@
+use crate::wanted::{add_completed, add_wanted};
+use crate::words::{bytes_of, two};
+use anyhow::Result;
+use std::alloc::Global;
+
+/// What is sent over a link and what must be written to it.
+#[derive(Drop)]
+pub struct Exchange {
+    pub input: Vec<u8>,
+    /// The lengths of the pieces in which the input is read first; 0 means that nothing comes for a time.
+    pub pieces: Vec<usize>,
+    pub output: Vec<u8>,
+}
+
+impl Exchange {
+    pub fn new(alloc: Global) -> Exchange {
+        Exchange {
+            input: Vec::new(alloc),
+            pieces: Vec::new(alloc),
+            output: Vec::new(alloc),
+        }
+    }
+
+    /// Takes a line of its own, for an element of this name; false where the word is none of its own.
+    pub fn take(&mut self, alloc: Global, sid: &str, word: &str, rest: &str) -> Result<bool> {
+        match word {
+            "login" => self.take_login(alloc, sid, rest)?,
+            "send" => self.input.extend_from_slice(rest.as_bytes())?,
+            "hex" => self.input.extend_from_slice(&bytes_of(alloc, rest)?)?,
+            "fill" => self.take_fill(rest)?,
+            "pieces" => self.take_pieces(rest)?,
+            "list" => {
+                self.output.extend_from_slice(rest.as_bytes())?;
+                self.output.push(b'\n')?;
+            }
+            _ => return add_wanted(alloc, sid, word, rest, &mut self.output),
+        }
+        Ok(true)
+    }
+
+    fn take_login(&mut self, alloc: Global, sid: &str, rest: &str) -> Result<()> {
+        let (uid, tag) = two(rest)?;
+        let unit = format!(in alloc; "ACT-USER::{uid}:{tag}::bc;")?;
+        self.input.extend_from_slice(unit.as_bytes())?;
+        add_completed(alloc, sid, tag, &mut self.output)
+    }
+
+    fn take_fill(&mut self, rest: &str) -> Result<()> {
+        let (count, text) = two(rest)?;
+        for _ in 0..count.parse::<u32>()? {
+            self.input.extend_from_slice(text.as_bytes())?;
+        }
+        Ok(())
+    }
+
+    fn take_pieces(&mut self, rest: &str) -> Result<()> {
+        for length in rest.split(' ') {
+            self.pieces.push(length.parse::<usize>()?)?;
+        }
+        Ok(())
+    }
+}
