@@ -26,19 +26,40 @@ fn disk_of(alloc: Global, bytes: Vec<u8>) -> Result<MemDisk> {
 pub fn run_row(alloc: Global, shelf: &Shelf, row: &Row) -> Result<Option<String>> {
     let mut journal = row.journal.clone()?;
     for run in &row.runs {
-        let disk = disk_of(alloc, journal.clone()?)?;
-        match run_on(alloc, shelf, disk, run)? {
-            Ok(Some(disk)) => {
-                if let Some(why) = fault_behind(alloc, shelf, &disk, run)? {
-                    return Ok(Some(why));
-                }
-                journal = disk.bytes().to_vec(alloc)?;
-            }
-            Ok(None) => {}
-            Err(why) => return Ok(Some(why)),
+        if let Some(why) = fault_of(alloc, shelf, &mut journal, run)? {
+            return Ok(Some(why));
         }
     }
     Ok(None)
+}
+
+// What came of a run.
+#[derive(Drop)]
+enum Ran<D: Disk> {
+    /// The users weren't taken up, as it must be.
+    Refused,
+    /// Each step came to what it must; this is the disk behind them.
+    Ended(D),
+    /// Something didn't hold.
+    Failed(String),
+}
+
+// What a run did otherwise than it must; the journal is then what its disk holds.
+fn fault_of(
+    alloc: Global,
+    shelf: &Shelf,
+    journal: &mut Vec<u8>,
+    run: &Run,
+) -> Result<Option<String>> {
+    let disk = disk_of(alloc, journal.clone()?)?;
+    match run_on(alloc, shelf, disk, run)? {
+        Ran::Refused => Ok(None),
+        Ran::Failed(why) => Ok(Some(why)),
+        Ran::Ended(disk) => {
+            *journal = disk.bytes().to_vec(alloc)?;
+            fault_behind(alloc, shelf, &disk, run)
+        }
+    }
 }
 
 // Why the users weren't taken up.
@@ -64,29 +85,23 @@ fn other(alloc: Global, what: &str, found: &[u8]) -> Result<String> {
     Ok(format!(in alloc; "{what} gave {found}")?)
 }
 
-// The disk behind the run, where the users were taken up; what didn't hold, if something didn't.
-fn run_on<D: Disk + Drop>(
-    alloc: Global,
-    shelf: &Shelf,
-    disk: D,
-    run: &Run,
-) -> Result<Result<Option<D>, String>> {
+fn run_on<D: Disk + Drop>(alloc: Global, shelf: &Shelf, disk: D, run: &Run) -> Result<Ran<D>> {
     let mut state = match UserState::open(alloc, shelf, disk) {
         Ok(state) => state,
         Err(fault) => {
             let found = refusal_text(alloc, &fault)?;
             if found == run.opens {
-                return Ok(Ok(None));
+                return Ok(Ran::Refused);
             }
-            return Ok(Err(other(alloc, "the opening", &found)?));
+            return Ok(Ran::Failed(other(alloc, "the opening", &found)?));
         }
     };
     if run.opens.as_slice() != b"users".as_slice() {
-        return Ok(Err(other(alloc, "the opening", b"users")?));
+        return Ok(Ran::Failed(other(alloc, "the opening", b"users")?));
     }
     match steps_fault(alloc, shelf, &mut state, &run.steps)? {
-        Some(why) => Ok(Err(why)),
-        None => Ok(Ok(Some(state.close()))),
+        Some(why) => Ok(Ran::Failed(why)),
+        None => Ok(Ran::Ended(state.close())),
     }
 }
 
@@ -98,7 +113,8 @@ fn steps_fault<D: Disk>(
 ) -> Result<Option<String>>
     requires stands { (o : Opening) × (h : List Entry) × StandsFor D.told D.state o state.old h }
 {
-    for (number, step) in steps.iter().enumerate() {
+    for number in 0..steps.len() {
+        let step = &steps[number];
         let found = outcome_of(alloc, shelf.sid(), state, step)?;
         if found != step.want {
             let what = format!(in alloc; "step {number}")?;
@@ -126,12 +142,7 @@ fn fault_behind(alloc: Global, shelf: &Shelf, disk: &MemDisk, run: &Run) -> Resu
     Ok(None)
 }
 
-const TEARS: [Tear; 4] = [
-    Tear::Lost,
-    Tear::Whole,
-    Tear::Front(20),
-    Tear::Filled(0xA5),
-];
+const TEARS: [Tear; 4] = [Tear::Lost, Tear::Whole, Tear::Front(20), Tear::Filled(0xA5)];
 
 // What is wrong with what a crash leaves.
 fn images_fault(
