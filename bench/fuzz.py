@@ -4,7 +4,7 @@
 usage: bench/fuzz.py [UNITS [SEED]]     (a million units, seed 1, where nothing is given)
 
 The sessions take turns, so that there is one order; a session that is told changes may be written its reports at any time, in their order.
-Calls on the journal fail at random: a change or an INIT-SYS may then be denied with SROF, exactly where such a call failed in it. The server is killed
+Calls on the journals fail at random: a change or an INIT-SYS may then be denied with SROF, exactly where such a call failed in it. The server is killed
 and started again every few thousand units: the journal then stands for what was completed, or for that and the change that was in hand or denied
 for a fault. It takes a C compiler, for a library that is loaded before the C library (bench/faults.c).
 """
@@ -125,6 +125,19 @@ def middle():
     return f"MID-{random.randint(1, SLOTS + (random.random() < 0.05))}"
 
 
+def of_users(tag):
+    """A users' command, of no user that the run itself logs in as."""
+    uid, pid, rank = random.choice(("FAY", "gil", "HAL", "BEN", "CARA", "toolonganame")), random.choice(("bc", "cb", "")), random.choice("RPSx")
+    return random.choice(
+        (
+            f"ENT-USER-SECU::{uid}:{tag}::{pid},{rank}",
+            f"ED-USER-SECU::{uid}:{tag}::{pid}{random.choice(('', ',' + rank))}",
+            f"DLT-USER-SECU::{uid}:{tag}",
+            f"RTRV-USER-SECU::{random.choice(('', uid, 'anna'))}:{tag}",
+        )
+    )
+
+
 def sound_unit():
     tag, cct = random.choice(("1", "A7", "zz9", "00x")), random.choice(("", "::1WAY", "::2WAY", "::2way", f"::{label()}", f"::2WAY{label()}"))
     return random.choice(
@@ -138,9 +151,10 @@ def sound_unit():
             lambda: f"RTRV-HDR:{random.choice(('', 'DXC1', 'dxc1', 'OTHER'))}::{tag}",
             lambda: f"{random.choice(('ENT', 'DLT'))}-EQPT::MOD-{random.randint(1, MODULES)}:{tag}",
             lambda: f"{random.choice(('ALW', 'INH'))}-MSG-ALL::{random.choice(('', 'ALL', 'all', 'X'))}:{tag}",
-            lambda: f"ACT-USER::{random.choice((*RANKS, 'nobody', 'anna'))}:{tag}::{random.choice(('bc', 'bc', 'bc', 'cb'))}",
+            lambda: f"ACT-USER::{random.choice((*RANKS, 'nobody', 'anna', 'fay', 'Hal'))}:{tag}::{random.choice(('bc', 'bc', 'bc', 'cb'))}",
             lambda: f"CANC-USER::{random.choice(('', *RANKS))}:{tag}" if random.random() < 0.2 else f"RTRV-HDR:::{tag}",
             lambda: f"INIT-SYS:::{tag}",
+            lambda: of_users(tag),
         )
     )().encode()
 
@@ -196,6 +210,8 @@ class Run:
         self.element = plain.Element(b"DXC1", MODULES, SLOTS, users, set(range(1, MODULES + 1)))
         # Changes that were denied for a fault since the last that was completed: the journal may hold one of them.
         self.doubts, self.is_due = [], False
+        # The names of users whose change was denied for a fault since then.
+        self.doubted = set()
 
     def path(self, name):
         return os.path.join(self.folder, name)
@@ -260,6 +276,9 @@ class Run:
         in_doubt = {change.what for change in self.doubts if "EQPT" in change.op}
         middles = {change.what for change in self.doubts if "MID" in change.op}
         self.doubts = []
+        for name in self.doubted:
+            self.let_go(caller, name)
+        self.doubted = set()
         for number in middles:
             self.put_back(caller, number)
         for module in range(1, MODULES + 1):
@@ -271,6 +290,12 @@ class Run:
                     self.element.changes.append(f"ENT-EQPT:MOD-{module}")
             else:
                 self.turn(caller, f"ENT-EQPT::MOD-{module}:1;".encode())
+
+    def let_go(self, caller, name):
+        """Deletes a user who may be there or not."""
+        caller.link.sendall(f"DLT-USER-SECU::{name}:1;".encode())
+        caller.answer()
+        self.element.keep(self.element.named(name.encode()), None)
 
     def put_back(self, caller, number):
         """Puts a middle back that may be out or not: its circuits are where they were in either case."""
@@ -299,7 +324,15 @@ class Run:
         is_restart = wanted[2] == ['"WARM"']
         # A restart that failed is made again in front of the next change, whatever the table says of that one.
         may_fail = session.change or is_restart or (session.asks and self.is_due)
-        if may_fail and lines[:1] == ["SROF"] and self.faults.failed() > before:
+        if session.people:
+            if lines[:1] == ["SROF"] and self.faults.failed() > before:
+                wanted = (wanted[0], False, plain.denial("DiskFault"))
+                self.refused += 1
+                self.doubted.add(next(user.name for user in session.people if user))
+            else:
+                self.element.keep(*session.people)
+                self.doubted = set()
+        elif may_fail and lines[:1] == ["SROF"] and self.faults.failed() > before:
             wanted = (wanted[0], False, plain.denial("DiskFault"))
             self.refused += 1
             self.is_due |= is_restart

@@ -97,4 +97,5 @@ def main():
     print(f"{runs} runs killed: {changes} acknowledged changes, all of them kept; {in_hand} times the one in hand besides")
 
 
-main()
+if __name__ == "__main__":
+    main()

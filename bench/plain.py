@@ -26,6 +26,10 @@ COMMANDS = {  # code: classes, parameters of the AID block, of the first payload
     b"RMV-MID": ("S", (True,), ()),
     b"RST-MID": ("S", (True,), ()),
     b"INIT-SYS": ("S", (), ()),
+    b"ENT-USER-SECU": ("S", (True,), (True, True)),
+    b"ED-USER-SECU": ("S", (True,), (False, False)),
+    b"DLT-USER-SECU": ("S", (True,), ()),
+    b"RTRV-USER-SECU": ("S", (False,), ()),
 }
 CAUSES = {
     "TooLong": ("IISP", "UNIT LONGER THAN 2048 BYTES"),
@@ -50,6 +54,10 @@ CAUSES = {
     "ModuleBusy": ("SNVS", "MODULE HAS CONNECTIONS"),
     "ModuleThere": ("SNVS", "MODULE ALREADY EQUIPPED"),
     "NoConnection": ("SNCC", "NOT A CONNECTION"),
+    "UserThere": ("SNVS", "USER ALREADY THERE"),
+    "UnknownUser": ("PIUI", "USER NOT KNOWN"),
+    "LastOfClassS": ("SNVS", "LAST USER OF CLASS S"),
+    "UsersFull": ("SSRE", "64 USERS ARE KEPT"),
     "MiddleOut": ("SNVS", "A MIDDLE IS OUT"),
     "MiddleIn": ("SNVS", "MIDDLE IS IN SERVICE"),
     "NoMiddle": ("SARB", "NO MIDDLE FOR THIS CONNECTION"),
@@ -57,6 +65,8 @@ CAUSES = {
 }
 CCTS = {b"1WAY": 0, b"2WAY": 1}
 CCTS_BY_NUMBER = ("1WAY", "2WAY")
+UID = re.compile(rb"[A-Za-z][A-Za-z0-9]{0,9}\Z")
+MOST_USERS = 64
 TAG = re.compile(rb"[A-Za-z0-9]{1,6}\Z")
 CODE = re.compile(rb"[A-Za-z0-9]+(-[A-Za-z0-9]+){0,2}\Z")
 PORT = re.compile(rb"DS0-([1-9][0-9]{0,2})-([1-9][0-9]{0,2})\Z", re.IGNORECASE)
@@ -296,17 +306,45 @@ class Element:
         self.take(change)
         self.changes.append(change.text())
 
+    def named(self, uid):
+        return next((user for user in self.users if user.name.encode() == uid.upper()), None)
+
+    def granted(self, op, uid, pid, rank):
+        """The user before a command and the one behind it, None for none, where it isn't denied."""
+        user, last = self.named(uid), [user.name for user in self.users if user.rank == "S"]
+        if op == "ENT":
+            if user:
+                raise Denied("UserThere")
+            if len(self.users) == MOST_USERS:
+                raise Denied("UsersFull")
+            return None, self.under(uid, pid, rank)
+        if not user:
+            raise Denied("UnknownUser")
+        if last == [user.name] and (op == "DLT" or rank not in ("", "S")):
+            raise Denied("LastOfClassS")
+        if op == "DLT":
+            return user, None
+        return user, self.under(uid, pid, rank or user.rank) if pid else User(user.name, rank or user.rank, user.salt, user.digest)
+
+    def under(self, uid, pid, rank):
+        salt = hashlib.sha256(self.sid + b"\0" + uid.upper()).digest()[:16]
+        return User(uid.upper().decode(), rank, salt, hashlib.sha256(salt + pid).digest())
+
+    def keep(self, was, now):
+        self.users = sorted([user for user in self.users if user is not was] + ([now] if now else []), key=lambda user: user.name)
+
 
 class Session:
     """What one session is answered. `change` is the change that the unit in hand is granted, with a path for each leg, which its caller makes
-    where it was completed, and else takes back; `asks` whether the unit came to the table with a change, granted or not."""
+    where it was completed, and else takes back; `asks` whether the unit came to the table with a change, granted or not. `people` is the user
+    before and behind a users' command that is granted, which its caller keeps where it was completed."""
 
     def __init__(self, element):
-        self.element, self.user, self.cursor, self.change, self.choices, self.asks = element, None, None, None, (), False
+        self.element, self.user, self.cursor, self.change, self.choices, self.asks, self.people = element, None, None, None, (), False, None
 
     def answer(self, unit):
         """The tag, whether it is completed, and the text lines."""
-        self.change, self.asks = None, False
+        self.change, self.asks, self.people = None, False, None
         if unit is None:
             return "0", False, denial("TooLong")
         tag = (tag_of(unit) or b"0").decode()
@@ -330,16 +368,16 @@ class Session:
                 raise Denied("NotLoggedIn")
         if self.user is not None and self.user.rank not in ranks:
             raise Denied("NotEntitled")
-        given = self.parameters(blocks, names, values)
+        given = self.parameters(code, blocks, names, values)
         return self.act(code.decode(), given[: len(names)], given[len(names) :])
 
-    def parameters(self, blocks, names, values):
+    def parameters(self, code, blocks, names, values):
         """The named parameters, empty where they aren't there."""
         aid, payload = blocks[2][1], [parameters for _, parameters in blocks[5:]]
         first = payload[0] if payload else []
         named = [(aid, at, must) for at, must in enumerate(names)] + [(first, at, must) for at, must in enumerate(values)]
         given = [block[at] if at < len(block) else b"" for block, at, _ in named]
-        if any(must and not value for value, (_, _, must) in zip(given, named)):
+        if any(must and not value for value, (_, _, must) in zip(given, named)) or (code == b"ED-USER-SECU" and not any(given[1:])):
             raise Denied("Missing")
         others = aid[len(names) :] + first[len(values) :] + [value for block in payload[1:] for value in block]
         if any(others):
@@ -360,6 +398,8 @@ class Session:
             if names[0].upper() not in (b"", b"ALL"):
                 raise Denied("BadAid")
             self.cursor = None if code[0] == "I" else len(element.changes) if self.cursor is None else self.cursor
+        elif code.endswith("-USER-SECU"):
+            return self.on_users(code.partition("-")[0], names[0], *values)
         elif code == "RTRV-CRS-T0":
             return [f'"{text}"' for text in element.rows(element.selection(names[0]))]
         elif code == "INIT-SYS":
@@ -385,13 +425,25 @@ class Session:
         self.choices = self.element.planned(change)
         self.change = change
 
+    def on_users(self, op, uid, pid=b"", rank=b""):
+        if (op == "ENT" or rank) and rank not in (b"R", b"P", b"S"):
+            raise Denied("BadValue")
+        if (op != "RTRV" or uid) and not UID.match(uid):
+            raise Denied("BadAid")
+        if op != "RTRV":
+            self.people = self.element.granted(op, uid, pid, rank.decode())
+            return []
+        if uid and not self.element.named(uid):
+            raise Denied("UnknownUser")
+        return [f'"{user.name}:{user.rank}"' for user in self.element.users if user.name.encode() == uid.upper() or not uid]
+
     def log_in(self, uid, pid):
-        for user in self.element.users:
-            if user.name.encode() == uid.upper() and hashlib.sha256(user.salt + pid).digest() == user.digest:
-                if self.user is not None:
-                    raise Denied("AlreadyLoggedIn")
-                self.user = user
-                return []
+        user = self.element.named(uid)
+        if user and hashlib.sha256(user.salt + pid).digest() == user.digest:
+            if self.user is not None:
+                raise Denied("AlreadyLoggedIn")
+            self.user = user
+            return []
         raise Denied("BadIdentity")
 
 

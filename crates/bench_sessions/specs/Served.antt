@@ -9,10 +9,10 @@ use Rattle.craft_session.specs.Meanings.{language}
 use Rattle.craft_session.specs.Sessions.{IsServed}
 use Rattle.bench_sessions.specs.declared.caller.Caller.{Caller}
 
--- its link was written a run over the one history of all places, of all that it held where neither a fault came nor 2^32 reads
-pub record Serves {D C : Type 0} (told : Type 0) (coming : C → List Moment) (old new : Caller D C) : Type 0 where
+-- its link was written a run over the one history of all places, and one over that of the users, of all that it held where neither a fault came nor 2^32 reads
+pub record Serves {D U C : Type 0} (told : Type 0) (coming : C → List Moment) (old new : Caller D U C) : Type 0 where
   pub end : SessionEnd
-  pub session : IsServed (language old.place.shelf) (Unit {0}) told (link_state old.link) (link_state new.link) (coming old.clock) (coming new.clock) old.place.seat new.place.seat end
+  pub session : IsServed (language old.place.shelf) (Unit {0}) told (link_state old.link) (link_state new.link) (coming old.clock) (coming new.clock) old.place.seat new.place.seat old.place.users new.place.users end
   pub all_read : end ≡ End → (link_state new.link).left ≡ []
   pub read_fault : end ≡ ReadFault → Rose (link_state old.link).read_faults (link_state new.link).read_faults
   pub write_fault : end ≡ WriteFault → Rose (link_state old.link).write_faults (link_state new.link).write_faults
@@ -20,5 +20,5 @@ pub record Serves {D C : Type 0} (told : Type 0) (coming : C → List Moment) (o
   pub spent : end ≡ Spent → Counted (link_state old.link).reads (link_state new.link).reads (2 ^ 32)
 
 -- each of them
-abbrev pub AllServed : {D C : Type 0} → Type 0 → (C → List Moment) → List (Caller D C) → List (Caller D C) → Type 0
-AllServed {D} {C} told coming olds news = (i : ℕ) (d : Caller D C) → i < length olds → Serves told coming (slice_index_or olds i d) (slice_index_or news i d)
+abbrev pub AllServed : {D U C : Type 0} → Type 0 → (C → List Moment) → List (Caller D U C) → List (Caller D U C) → Type 0
+AllServed {D} {U} {C} told coming olds news = (i : ℕ) (d : Caller D U C) → i < length olds → Serves told coming (slice_index_or olds i d) (slice_index_or news i d)

@@ -17,13 +17,13 @@ const RESPONSE: usize = 128;
 
 /// A place, and the link on which it is to serve.
 #[derive(Drop)]
-pub struct Caller<D: Disk, C> {
-    pub place: Place<D>,
+pub struct Caller<D: Disk, U: Disk, C> {
+    pub place: Place<D, U>,
     pub link: MemLink,
     pub clock: C,
 }
 
-impl<D: Disk + Drop, C: Clock> Caller<D, C> {
+impl<D: Disk + Drop, U: Disk + Drop, C: Clock> Caller<D, U, C> {
     // Serves the link to its end.
     fn serve<R: Wait>(&mut self, rt: &R)
         ensures { Serves C.told C.coming self.old self.new }
@@ -39,9 +39,9 @@ impl<D: Disk + Drop, C: Clock> Caller<D, C> {
 }
 
 /// Serves all callers to their ends, each on a thread of its own.
-pub fn serve_all<D: Disk + Drop + Send, C: Clock + Send, R: Threads + Wait + Sync>(
+pub fn serve_all<D: Disk + Drop + Send, U: Disk + Drop + Send, C: Clock + Send, R: Threads + Wait + Sync>(
     rt: &R,
-    callers: &mut [Caller<D, C>],
+    callers: &mut [Caller<D, U, C>],
 )
     ensures { AllServed C.told C.coming callers.old callers.new }
 {
@@ -50,13 +50,13 @@ pub fn serve_all<D: Disk + Drop + Send, C: Clock + Send, R: Threads + Wait + Syn
 }
 
 /// A caller at each place, who is to ask so many units of the kind.
-pub fn callers_at<D: Disk + Drop, R: SystemClock + Copy + Drop>(
+pub fn callers_at<D: Disk + Drop, U: Disk + Drop, R: SystemClock + Copy + Drop>(
     alloc: Global,
-    places: Vec<Place<D>>,
+    places: Vec<Place<D, U>>,
     kind: Kind,
     units: u32,
     rt: R,
-) -> Result<Vec<Caller<D, HostClock<R>>>> {
+) -> Result<Vec<Caller<D, U, HostClock<R>>>> {
     let mut callers = Vec::new(alloc);
     let mut number = 0u16;
     for place in places {
@@ -78,7 +78,7 @@ pub fn callers_at<D: Disk + Drop, R: SystemClock + Copy + Drop>(
 }
 
 /// The responses that all of them were written.
-pub fn counts_of<D: Disk, C>(callers: &[Caller<D, C>]) -> Counts {
+pub fn counts_of<D: Disk, U: Disk, C>(callers: &[Caller<D, U, C>]) -> Counts {
     let mut counts = Counts::NONE;
     for caller in callers {
         counts = counts.with(caller.link.output());

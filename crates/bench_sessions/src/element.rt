@@ -1,9 +1,10 @@
 //! An element with the circuits that stand while sessions are measured.
-ghost use Rattle.std.specs.Prelude.{◌≡◌, ◌<◌, [], true, IfOk, vec_len};
+ghost use Rattle.std.specs.Prelude.{◌≡◌, ◌<◌, [], IfOk, length, vec_len};
 ghost use Rattle.std.specs.Arc.{arc_value};
+ghost use Rattle.user_admin.specs.Openings.{Begins as UsersBegin};
 ghost use Rattle.xc_core.specs.Openings.{Begins};
 ghost use Rattle.xc_core.specs.States.{opening_of};
-ghost use Rattle.craft_server.specs.Places.{IsAtOpening};
+ghost use Rattle.craft_server.specs.Places.{AreFresh, IsAtOpening, fresh_pass};
 
 use crate::counts::Counts;
 use crate::kind::LOG_IN;
@@ -16,7 +17,8 @@ use fabric_words::Fabric;
 use shelf_file::{Shelf, shelf_of};
 use std::alloc::Global;
 use std::sync::{Arc, Wait};
-use turnstile::{Pass, Turnstile};
+use turnstile::{Pass, Sequential, Turnstile};
+use user_admin::UserState;
 use xc_core::{Core, State};
 
 const SHELF: &str = "sid = \"DXC1\"
@@ -35,10 +37,8 @@ const ROOM: usize = 131_081 + 65_536 * 72 + 405_570;
 /// From each module to the next one, on each slot but the last.
 const CIRCUITS: u64 = 8 * 23;
 
-type Turns<D> = Arc<Turnstile<State<D>>>;
-
 /// So many places at the state of an element on which 184 circuits stand.
-pub fn open_places<R: Wait>(alloc: Global, count: u16, rt: &R) -> Result<Vec<Place<MemDisk>>>
+pub fn open_places<R: Wait>(alloc: Global, count: u16, rt: &R) -> Result<Vec<Place<MemDisk, MemDisk>>>
     ensures { IfOk result (λ ps. vec_len ps ≡ count) }
 {
     ensure!(count > 0, "no session");
@@ -47,18 +47,22 @@ pub fn open_places<R: Wait>(alloc: Global, count: u16, rt: &R) -> Result<Vec<Pla
     let Ok(disk) = MemDisk::with_room(alloc, Vec::new(alloc), Vec::new(alloc), ROOM) else {
         bail!("no memory");
     };
-    let mut places = start(alloc, &shelf, disk, count)?;
+    let Ok(users_disk) = MemDisk::new(alloc, Vec::new(alloc), Vec::new(alloc)) else {
+        bail!("no memory");
+    };
+    let mut places = start(alloc, &shelf, disk, users_disk, count)?;
     fill(alloc, &mut places[0], rt)?;
     Ok(places)
 }
 
 // So many places of a controller over a disk, on a new fabric of the shelf's shape.
-fn start<D: Disk + Drop>(
+fn start<D: Disk + Drop, U: Disk + Drop>(
     alloc: Global,
     shelf: &Arc<Shelf>,
     disk: D,
+    users_disk: U,
     count: u16,
-) -> Result<Vec<Place<D>>>
+) -> Result<Vec<Place<D, U>>>
     requires some { 0 < count }
     ensures { IfOk result (λ ps. vec_len ps ≡ count) }
 {
@@ -68,60 +72,92 @@ fn start<D: Disk + Drop>(
     let Ok(state) = Core::open(alloc, shelf, disk, mover, &fabric, &mut AlwaysGo) else {
         bail!("no journal");
     };
+    let Ok(users) = UserState::open(alloc, shelf, users_disk) else {
+        bail!("no users");
+    };
     let fabric = Arc::new(alloc, fabric)?;
-    let Ok(places) = places_of(alloc, shelf, &fabric, state, count) else {
+    let Ok(places) = places_of(alloc, shelf, &fabric, state, users, count) else {
         bail!("no memory");
     };
     Ok(places)
 }
 
-// The places of a state, on the shelf and on the fabric that its Provisioner writes.
-fn places_of<D: Disk + Drop>(
+// The places of a state and of the users, on the shelf and on the fabric that the state's Provisioner writes.
+fn places_of<D: Disk + Drop, U: Disk + Drop>(
     alloc: Global,
     shelf: &Arc<Shelf>,
     fabric: &Arc<Fabric>,
     state: State<D>,
+    users: UserState<U>,
     count: u16,
-) -> Result<Vec<Place<D>>, NoMemory>
+) -> Result<Vec<Place<D, U>>, NoMemory>
     requires some { 0 < count }
     requires begins { Begins D.told D.state state }
+    requires users_begin { UsersBegin U.told U.state users }
     requires opening { IsAtOpening (opening_of D.state state) (arc_value shelf.now) (arc_value fabric.now) }
     ensures { IfOk result (λ ps. vec_len ps ≡ count) }
 {
-    let (turns, mut passes) = Turnstile::new(alloc, state, count)?;
-    let Ok(turns) = Arc::new(alloc, turns) else {
-        return Err(NoMemory);
-    };
+    let (turns, mut passes) = turns_of(alloc, state, count)?;
+    let (users, mut users_passes) = turns_of(alloc, users, count)?;
     let mut places = Vec::with_capacity(alloc, count as usize)?;
     for number in 0..count {
         let pass = passes.remove(0);
-        places.push_reserved(place_of(alloc, number, pass, shelf, fabric, &turns)?);
+        let users_pass = users_passes.remove(0);
+        let place = place_of(alloc, number, pass, users_pass, shelf, fabric, &turns, &users)?;
+        places.push_reserved(place);
     }
     Ok(places)
 }
 
-// The place of a pass that has seen nothing.
-fn place_of<D: Disk + Drop>(
+// A turnstile of the state, and its passes.
+fn turns_of<S: Sequential + Drop>(
+    alloc: Global,
+    state: S,
+    count: u16,
+) -> Result<(Arc<Turnstile<S>>, Vec<Pass>), NoMemory>
+    requires some { 0 < count }
+    requires stands { S.stands state [] }
+    ensures turns { IfOk result (λ r. ((arc_value r.0).first ≡ state) × ((arc_value r.0).passes ≡ count)) }
+    ensures each { IfOk result (λ r. length r.1.items ≡ count) }
+    ensures fresh { IfOk result (λ r. AreFresh (arc_value r.0).id 0 r.1.items) }
+{
+    let (turns, passes) = Turnstile::new(alloc, state, count)?;
+    let Ok(turns) = Arc::new(alloc, turns) else {
+        return Err(NoMemory);
+    };
+    Ok((turns, passes))
+}
+
+// The place of passes that have seen nothing.
+fn place_of<D: Disk + Drop, U: Disk + Drop>(
     alloc: Global,
     number: u16,
     pass: Pass,
+    users_pass: Pass,
     shelf: &Arc<Shelf>,
     fabric: &Arc<Fabric>,
-    turns: &Turns<D>,
-) -> Result<Place<D>, NoMemory>
+    turns: &Arc<Turnstile<State<D>>>,
+    users: &Arc<Turnstile<UserState<U>>>,
+) -> Result<Place<D, U>, NoMemory>
     requires within { number < (arc_value turns.now).passes }
-    requires fresh { pass ≡ record { number = number; free = true; id = (arc_value turns.now).id; seen = [] } }
+    requires users_within { number < (arc_value users.now).passes }
+    requires fresh { pass ≡ fresh_pass (arc_value turns.now).id number }
+    requires users_fresh { users_pass ≡ fresh_pass (arc_value users.now).id number }
     requires begins { Begins D.told D.state (arc_value turns.now).first }
+    requires users_begin { UsersBegin U.told U.state (arc_value users.now).first }
     requires opening { IsAtOpening (opening_of D.state (arc_value turns.now).first) (arc_value shelf.now) (arc_value fabric.now) }
 {
-    let (Ok(shelf), Ok(fabric), Ok(turns)) = (
+    let (Ok(shelf), Ok(fabric), Ok(turns), Ok(users)) = (
         Arc::try_clone(shelf),
         Arc::try_clone(fabric),
         Arc::try_clone(turns),
+        Arc::try_clone(users),
     ) else {
         return Err(NoMemory);
     };
-    Place::new(alloc, pass, number, shelf, fabric, turns)
+    Place::new(
+        alloc, pass, users_pass, number, shelf, fabric, turns, users,
+    )
 }
 
 // The units that enter the circuits, behind a log-in.
@@ -140,7 +176,11 @@ fn fill_units(alloc: Global) -> Result<Vec<u8>> {
 }
 
 // Enters the circuits. An error: one of them was denied.
-fn fill<D: Disk + Drop, R: Wait>(alloc: Global, place: &mut Place<D>, rt: &R) -> Result<()> {
+fn fill<D: Disk + Drop, U: Disk + Drop, R: Wait>(
+    alloc: Global,
+    place: &mut Place<D, U>,
+    rt: &R,
+) -> Result<()> {
     let mut link = MemLink::new(
         fill_units(alloc)?,
         Vec::new(alloc),

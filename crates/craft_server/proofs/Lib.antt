@@ -8,3 +8,6 @@ pub mod Audits
 pub mod Scripting
 pub mod LoadShelf
 pub mod Loading
+pub mod Mirroring
+pub mod Wording
+pub mod StandingBy

@@ -20,12 +20,15 @@ use Rattle.journal_core.specs.declared.fault.JournalWhy.{JournalWhy}
 use Rattle.journal_core.specs.declared.fault.JournalWhy.TheVariants as why
 use Rattle.journal_core.specs.Headers.{IsNew}
 use Rattle.shelf_file.specs.Contents.{Contents}
+use Rattle.user_admin.specs.declared.fault.UserOpenFault.{UserOpenFault}
+use Rattle.user_admin.specs.declared.fault.UserOpenFault.TheVariants as users_fault
+use Rattle.user_admin.specs.Openings.{Fails as UsersFail}
 use Rattle.xc_core.specs.declared.fault.OpenFault.{OpenFault}
 use Rattle.xc_core.specs.declared.fault.OpenFault.TheVariants as fault
 use Rattle.xc_core.specs.declared.state.Home.{Home}
 use Rattle.xc_core.specs.declared.state.State.{State}
 use Rattle.xc_core.specs.Openings.{Fails}
-use Rattle.xc_core.specs.States.{HomeIs, Opening, Stands, StandsFor, opening_of}
+use Rattle.xc_core.specs.States.{HomeIs, Opening, Stands, StandsFor, began, opening_of}
 use Rattle.xc_core.proofs.Standing.{table_is}
 use Rattle.craft_session.specs.declared.end.SessionEnd.{SessionEnd}
 use Rattle.craft_session.specs.declared.end.SessionEnd.TheVariants.{End, Spent}
@@ -34,9 +37,9 @@ use Rattle.craft_server.specs.declared.status.Status.{Status}
 use Rattle.craft_server.specs.declared.status.Status.TheVariants.{BadWords, Disk}
 use Rattle.craft_server.specs.declared.status.Status.TheVariants as Status_of
 use Rattle.craft_server.specs.declared.stock.Stock.{Stock}
-use Rattle.craft_server.specs.Loads.{IsLoad, IsLoadShelf, IsLoadStarted, NotLoaded}
-use Rattle.craft_server.specs.Openings.{IsStarted, NotStarted}
-use Rattle.craft_server.specs.Statuses.{status_of_fault, status_of_sent, status_of_why}
+use Rattle.craft_server.specs.Loads.{IsLoad, IsLoadController, IsLoadShelf, NotLoaded}
+use Rattle.craft_server.specs.Openings.{AreUsersNotStarted, IsStarted, NotStarted}
+use Rattle.craft_server.specs.Statuses.{status_of_fault, status_of_sent, status_of_users_fault, status_of_users_why, status_of_why}
 use Rattle.craft_server.specs.Stocks.{IsStock, IsStockAfter}
 
 -- the first of a fabric's new seats
@@ -77,14 +80,37 @@ module _ (disk : MemDisk) (s : Contents) (stops later : ℕ) (status : Status) (
 
 -- it started or not
 pub load_started : (disk : MemDisk) (s : Contents) (stops later : ℕ) (r : Result (Controller MemDisk) Status) → IsFresh (mem_state disk) [] [] (2 ^ 21) → IsLoadShelf s
-    → MatchResult r (IsStarted (Unit {0}) mem_state disk s 1) (NotStarted (Unit {0}) mem_state disk s stops later) → MatchResult r IsLoadStarted (NotLoaded stops later)
+    → MatchResult r (IsStarted (Unit {0}) mem_state disk s 1) (NotStarted (Unit {0}) mem_state disk s stops later) → MatchResult r IsLoadController (NotLoaded stops later)
 load_started disk s stops later (Ok x) fresh shelf started = (disk, fresh.content, (s, shelf, started))
 load_started disk s stops later (Err e) fresh shelf not = not_loaded disk s stops later e fresh not
 
+-- on such a disk the users are taken up, unless memory is wanting
+module _ (disk : MemDisk) (s : Contents) (status : Status) (fresh : IsFresh (mem_state disk) [] [] (2 ^ 18)) (n : AreUsersNotStarted (Unit {0}) mem_state disk s status) where
+  users_new : IsNew (mem_state disk).reads_as
+  users_new = subst IsNew (sym fresh.content) empty_new
+
+  no_users_fault : status ≡ Disk → ⊥
+  no_users_fault is = n.disk_failed is (record { margin = fresh.margin; enough = let e = fresh.enough in omega (arith, e) })
+
+  users_by_why : (w : JournalWhy) → status ≡ status_of_users_why w → ((bytes : _) → w ≡ why.BadHeader bytes → ⊥) → status ≡ Status_of.NoMemory
+  users_by_why (why.BadHeader bytes) is not = absurd (not bytes refl)
+  users_by_why why.Disk is not = absurd (no_users_fault is)
+
+  users_by_fault : (f : UserOpenFault MemDisk) → n.fault ≡ f → status ≡ Status_of.NoMemory
+  users_by_fault (users_fault.Journal j) is =
+      let fails = subst (λ (x : UserOpenFault MemDisk). UsersFail mem_state (mem_state disk) s x) is (n.why tt) in
+      users_by_why j.why (n.is ∙ ap (λ (x : UserOpenFault MemDisk). status_of_users_fault x) is) (λ bytes bad. (fails bytes bad).0 users_new)
+  users_by_fault (users_fault.BadRecord i) is = absurd ((subst (λ (x : UserOpenFault MemDisk). UsersFail mem_state (mem_state disk) s x) is (n.why tt)).0 users_new)
+  users_by_fault (users_fault.Disk d) is = absurd (no_users_fault (n.is ∙ ap (λ (x : UserOpenFault MemDisk). status_of_users_fault x) is))
+  users_by_fault users_fault.NoMemory is = n.is ∙ ap (λ (x : UserOpenFault MemDisk). status_of_users_fault x) is
+
+  pub users_not_loaded : (stops later : ℕ) → NotLoaded stops later status
+  users_not_loaded stops later = inl (users_by_fault n.fault refl)
+
 module _ {D : Type 0} (told : Type 0) (state : D → DiskState) where
   -- a state that was found stands for a history behind the opening
-  pub found_stands : (o : Opening) (x : State D) (h : List Entry) → opening_of state x ≡ o → Stands told state x h → StandsFor told state o x h
-  found_stands o x h is st = subst (λ (p : Opening). StandsFor told state p x h) is st
+  pub found_stands : (o : Opening) (x : State D) (h : List Entry) → opening_of state x ≡ o → Stands told state x h → StandsFor told state o x (began o.due ++ h)
+  found_stands o x h is st = subst (λ (p : Opening). StandsFor told state p x (began p.due ++ h)) is st
 
   -- what a state comes to that stands for a history
   pub stock_after : (o : Opening) (x : State D) (h : List Entry) (s : Stock) → StandsFor told state o x h → IsStock x s → IsStockAfter o h s

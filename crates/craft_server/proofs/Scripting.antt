@@ -6,18 +6,22 @@ use Rattle.dxc_disk.specs.Disks.{DiskState}
 use Rattle.dxc_outside.specs.declared.clock.Moment.{Moment}
 use Rattle.dxc_outside.specs.Links.{LinkState}
 use Rattle.shelf_file.specs.Contents.{Contents}
+use Rattle.user_admin.specs.declared.state.UserState.{UserState}
+use Rattle.user_admin.specs.Histories.{Opening as UsersOpening}
+use Rattle.user_admin.specs.States.{opening_of as users_opening}
+use Rattle.user_admin.specs.Turns.{AreNumbered as AreUsersNumbered}
 use Rattle.xc_core.specs.States.{Opening, opening_of}
 use Rattle.xc_core.specs.Turns.{AreNumbered, SawNoneAstray}
 use Rattle.craft_session.specs.declared.end.SessionEnd.{SessionEnd}
 use Rattle.craft_session.specs.declared.end.SessionEnd.TheVariants.{End, ReadFault, WriteFault, Stopped, Spent}
 use Rattle.craft_session.specs.Meanings.{language}
-use Rattle.craft_session.specs.Seats.{IsSameSeat, PlaceAt}
+use Rattle.craft_session.specs.Seats.{IsSameSeat, IsSameUserSeat, PlaceAt}
 use Rattle.craft_session.specs.Sessions.{IsServed}
 use Rattle.craft_session.proofs.Scripts.{script_of}
 use Rattle.craft_server.specs.declared.opening.Controller.{Controller}
 use Rattle.craft_server.specs.declared.status.Status.{Status}
 use Rattle.craft_server.specs.declared.status.Status.TheVariants.{Done, Link, Stopped as Was_stopped, Spent as Ran_out}
-use Rattle.craft_server.specs.Openings.{IsStarted}
+use Rattle.craft_server.specs.Openings.{AreUsersStarted, IsStarted}
 use Rattle.craft_server.specs.Places.{ArePlaces, place_at}
 use Rattle.craft_server.specs.Scripts.{RanSession}
 use Rattle.craft_server.specs.Statuses.{status_of}
@@ -60,23 +64,26 @@ spent_at Stopped is = cc
 spent_at Spent is = refl
 
 -- the first of the places
-pub first_place : (s : Contents) (o : Opening) (places : ℕ) (ps : List PlaceAt) (d : PlaceAt) → ArePlaces s o places 0 ps → 0 < length ps → slice_index_or ps 0 d ≡ place_at s o places 0
-first_place s o places [] d all some = absurd (omega arith)
-first_place s o places (p ∷ ps) d all some = all.0
+pub first_place : (s : Contents) (o : Opening) (u : UsersOpening) (places : ℕ) (ps : List PlaceAt) (d : PlaceAt) → ArePlaces s o u places 0 ps → 0 < length ps → slice_index_or ps 0 d ≡ place_at s o u places 0
+first_place s o u places [] d all some = absurd (omega arith)
+first_place s o u places (p ∷ ps) d all some = all.0
 
-module _ {D : Type 0} (disk_told : Type 0) (state : D → DiskState) (told clock_told : Type 0) (k l : LinkState) (c d : List Moment) (stops later : ℕ) (s : Contents) (disk : D) where
+module _ {D : Type 0} (disk_told : Type 0) (state : D → DiskState) (told clock_told : Type 0) (k l : LinkState) (c d : List Moment) (stops later : ℕ) (s : Contents) (disk users_disk : D) where
   -- what the session at its one place did
-  pub ran_session : (workers : ℕ) (x : Controller D) (old new : PlaceAt) (end : SessionEnd) (status : Status) → IsStarted disk_told state disk s workers x → old ≡ place_at (arc_value x.shelf) (opening_of state x.state) 1 0 → IsSameSeat old.seat new.seat → AreNumbered new.seat.places new.seat.seen → SawNoneAstray disk_told new.seat.seen
-      → IsServed (language old.shelf) told clock_told k l c d old.seat new.seat end → IsEnd k l stops later end → status ≡ status_of end → RanSession disk_told told clock_told (state disk) s (opening_of state x.state) k l c d stops later status
-  ran_session workers x old new end status started is same numbers astray served e status_is =
+  pub ran_session : (workers : ℕ) (x : Controller D) (u : UserState D) (old new : PlaceAt) (end : SessionEnd) (status : Status) → IsStarted disk_told state disk s workers x → AreUsersStarted disk_told state users_disk s u → old ≡ place_at (arc_value x.shelf) (opening_of state x.state) (users_opening state u) 1 0
+      → IsSameSeat old.seat new.seat → IsSameUserSeat old.users new.users → AreNumbered new.seat.places new.seat.seen → AreUsersNumbered new.users.places new.users.seen → SawNoneAstray disk_told new.seat.seen
+      → IsServed (language old.shelf) told clock_told k l c d old.seat new.seat old.users new.users end → IsEnd k l stops later end → status ≡ status_of end → RanSession disk_told told clock_told (state disk) (state users_disk) s (opening_of state x.state) (users_opening state u) k l c d stops later status
+  ran_session workers x u old new end status started users_started is same users_same numbers users_numbers astray served e status_is =
       let o : Opening = opening_of state x.state in
-      let at : old ≡ place_at s o 1 0 = is ∙ ap (λ (y : Contents). place_at y o 1 0) started.shelf in
-      let ran = subst (λ (p : PlaceAt). IsServed (language p.shelf) told clock_told k l c d p.seat new.seat end) at served in
-      let one : new.seat.places ≡ 1 = same.2 ∙ ap (λ (p : PlaceAt). p.seat.places) at in
+      let p : UsersOpening = users_opening state u in
+      let at : old ≡ place_at s o p 1 0 = is ∙ ap (λ (y : Contents). place_at y o p 1 0) started.shelf in
+      let ran = subst (λ (q : PlaceAt). IsServed (language q.shelf) told clock_told k l c d q.seat new.seat q.users new.users end) at served in
+      let one : new.seat.places ≡ 1 = same.2 ∙ ap (λ (q : PlaceAt). q.seat.places) at in
+      let users_one : new.users.places ≡ 1 = users_same.2 ∙ ap (λ (q : PlaceAt). q.users.places) at in
       record {
         end = end;
         status_is = status_is;
-        wrote = script_of disk_told told clock_told (state disk) k l c d s (place_at s o 1 0).seat new.seat end started.of_disk refl refl one numbers astray ran;
+        wrote = script_of disk_told told clock_told (state disk) (state users_disk) k l c d s (place_at s o p 1 0).seat new.seat (place_at s o p 1 0).users new.users end started.of_disk users_started.of_disk refl refl refl refl one users_one numbers users_numbers astray ran;
         ended = (λ done. e.ended.0 (done_at end (sym status_is ∙ done)), λ ended. status_is ∙ ap status_of (e.ended.1 ended));
         cause = λ link. link_at k l stops later end e (sym status_is ∙ link);
         stopped = λ was. e.stopped (stopped_at end (sym status_is ∙ was));

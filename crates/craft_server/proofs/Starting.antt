@@ -1,15 +1,23 @@
 -- A controller that was opened, or wasn't.
-use Rattle.std.proofs.Common.{◌≡◌, ℕ, List, length, Option, Some, Result, Ok, Err, inl, inr, refl, sym, ◌∙◌, ap, subst}
-use Rattle.std.specs.Prelude.{MatchResult, IfSome}
+use Rattle.std.proofs.Common.{◌≡◌, ◌≢◌, ◌⊎◌, ◌≤◌, ℕ, List, length, length-append, codes, Option, Some, Result, Ok, Err, inl, inr, refl, sym, ◌∙◌, ap, subst, arith}
+use Rattle.std.specs.Prelude.{MatchResult, IfErr, IfSome}
 use Rattle.std.specs.Arc.{arc_value}
-use Rattle.dxc_causes.specs.Causes.{HasCause}
-use Rattle.dxc_disk.specs.Disks.{CountsOn, DiskState, Spends}
+use Rattle.dxc_causes.specs.Causes.{HasCause, Rose}
+use Rattle.dxc_disk.specs.Disks.{CountsOn, DiskState, IsSound, Spends}
 use Rattle.dxc_outside.specs.declared.opened.Opened.{Opened}
 use Rattle.dxc_outside.specs.declared.opened.Opened.TheVariants.{Open}
 use Rattle.dxc_outside.specs.Openings.{Hands}
 use Rattle.fabric_words.specs.New.{AreNew}
 use Rattle.fabric_words.specs.Seats.{FabricId}
 use Rattle.shelf_file.specs.Contents.{Contents}
+use Rattle.journal_core.specs.declared.fault.JournalWhy.{JournalWhy}
+use Rattle.journal_core.specs.declared.fault.JournalWhy.TheVariants as why_of
+use Rattle.user_admin.specs.declared.fault.UserOpenFault.{UserOpenFault}
+use Rattle.user_admin.specs.declared.fault.UserOpenFault.TheVariants as users_fault
+use Rattle.user_admin.specs.declared.state.UserState.{UserState}
+use Rattle.user_admin.specs.Histories.{Opening as UsersOpening}
+use Rattle.user_admin.specs.Openings.{Begins as UsersBegin, Fails as UsersFail, IsDiskErr, IsOpening as IsUsersOpening, disk_of as users_disk_of}
+use Rattle.user_admin.specs.States.{opening_of as users_opening}
 use Rattle.xc_core.specs.declared.fault.OpenFault.{OpenFault}
 use Rattle.xc_core.specs.declared.fault.OpenFault.TheVariants as fault_of
 use Rattle.xc_core.specs.declared.state.State.{State}
@@ -17,16 +25,34 @@ use Rattle.xc_core.specs.Openings.{Begins, IsOpening, disk_of}
 use Rattle.xc_core.specs.States.{Opening, opening_of}
 use Rattle.xc_recovery.proofs.LastWorks.{comes_shape}
 use Rattle.craft_session.specs.Scripts.{opening_room}
-use Rattle.craft_session.proofs.Scripts.{opening_of_disk}
+use Rattle.craft_session.specs.PlainUsers.{users_opening_room}
+use Rattle.craft_session.proofs.Scripts.{opening_of_disk, users_opening_of_disk}
 use Rattle.craft_server.specs.declared.opening.Controller.{Controller}
 use Rattle.craft_server.specs.declared.status.Status.{Status}
-use Rattle.craft_server.specs.declared.status.Status.TheVariants.{NoMemory}
+use Rattle.craft_server.specs.declared.status.Status.TheVariants.{CannotOpen, Disk, NoMemory}
+use Rattle.craft_server.specs.Statuses.{status_of_users_fault, status_of_users_why}
+use Rattle.craft_server.proofs.Counting.{rose_behind}
 use Rattle.craft_server.specs.Places.{IsAtOpening}
-use Rattle.craft_server.specs.Openings.{Found, HasOpening, IsOpened, IsStarted, Named, NotOpened, NotStarted, Opens, Sources}
+use Rattle.craft_server.specs.Openings.{AreUsersNotStarted, AreUsersStarted, Began, Found, HasController, HasOpening, HasUsers, IsStarted, Named, NoController, NoUsers, NotStarted, Opens, Sources, users_name}
 
 -- the disk that was handed out is the one of that name
 pub handed : {J : Type 0} (told : Type 0) (old_at mid_at new_at : List ℕ → Option J) (opened : Opened J) (d : J) (name : List ℕ) → (told → (n : List ℕ) → mid_at n ≡ old_at n) → opened ≡ Open d → (told → Hands opened (mid_at name) (new_at name)) → told → old_at name ≡ Some d
 handed {J} told old_at mid_at new_at opened d name same is hands t = sym (same t name) ∙ subst (λ (x : Opened J). Hands x (mid_at name) (new_at name)) is (hands t)
+
+-- the users' disk stood against it
+why_disk : (w : JournalWhy) → status_of_users_why w ≡ Disk → w ≡ why_of.Disk
+why_disk (why_of.BadHeader bytes) was = cc
+why_disk why_of.Disk was = refl
+
+disk_error : {D : Type 0} (f : UserOpenFault D) → status_of_users_fault f ≡ Disk → IsDiskErr {D = D} (Err f)
+disk_error (users_fault.Journal f) was = why_disk f.why was
+disk_error (users_fault.BadRecord i) was = cc
+disk_error (users_fault.Disk d) was = tt
+disk_error users_fault.NoMemory was = cc
+
+-- the name of a users' journal isn't that of the journal beside it
+users_apart : (n : List ℕ) → users_name n ≢ n
+users_apart n is = let longer = length-append n (codes ".users") in let same = ap length is in absurd (omega (arith, longer, same))
 
 module _ {D : Type 0} (disk_told : Type 0) (state : D → DiskState) where
   -- the controller on what an opening came to
@@ -40,7 +66,8 @@ module _ {D : Type 0} (disk_told : Type 0) (state : D → DiskState) where
     begins = begins;
     of_disk = opening_of_disk disk_told failed state counts disk x.state begins
         (subst (λ (y : Result (State D) (OpenFault D)). IfSome (disk_of y) (λ d. HasCause (state disk).faults (state d).faults failed)) is cause)
-        (subst (λ (y : Result (State D) (OpenFault D)). IfSome (disk_of y) (λ d. Spends opening_room (state disk) (state d))) is spends);
+        (subst (λ (y : Result (State D) (OpenFault D)). IfSome (disk_of y) (λ d. Spends opening_room (state disk) (state d))) is spends)
+        opening.due_is;
     seats = subst (λ (i : FabricId). AreNew i 0 x.seats.items) (sym fabric) seats.1;
     each = seats.0;
   }
@@ -52,9 +79,50 @@ module _ {D : Type 0} (disk_told : Type 0) (state : D → DiskState) where
   -- started or not, on what was found
   pub opened : (opener_told : Type 0) (names : Named) (workers : ℕ) (before after : Sources D) (f : Found opener_told names before) (r : Result (Controller D) Status)
       → MatchResult r (IsStarted disk_told state f.disk f.shelf workers) (NotStarted disk_told state f.disk f.shelf before.stops after.stops)
-      → MatchResult r (IsOpened opener_told disk_told state names workers before) (NotOpened opener_told disk_told state names before after)
+      → MatchResult r (HasController opener_told disk_told state names workers before) (NoController opener_told disk_told state names before after)
   opened opener_told names workers before after f (Ok x) is = (f, is)
   opened opener_told names workers before after f (Err e) not = inr (inr (f, not))
+
+  -- the users were taken up, on what their opening came to
+  pub users_started : (failed : Type 0) → ((x : D) → CountsOn (state x)) → (disk : D) (s : Contents) (x : UserState D) (r : Result (UserState D) (UserOpenFault D)) → r ≡ Ok x → IsUsersOpening disk_told (state disk).reads_as s (users_opening state x) → UsersBegin disk_told state x
+      → IfSome (users_disk_of r) (λ d. HasCause (state disk).faults (state d).faults failed) → IfSome (users_disk_of r) (λ d. Spends users_opening_room (state disk) (state d)) → AreUsersStarted disk_told state disk s x
+  users_started failed counts disk s x r is opening begins cause spends = record {
+    opening = opening;
+    begins = begins;
+    of_disk = users_opening_of_disk disk_told failed state counts disk x begins
+        (subst (λ (y : Result (UserState D) (UserOpenFault D)). IfSome (users_disk_of y) (λ d. HasCause (state disk).faults (state d).faults failed)) is cause)
+        (subst (λ (y : Result (UserState D) (UserOpenFault D)). IfSome (users_disk_of y) (λ d. Spends users_opening_room (state disk) (state d))) is spends);
+  }
+
+  -- or why they weren't
+  pub users_not_started : (disk : D) (s : Contents) (fault : UserOpenFault D) (r : Result (UserState D) (UserOpenFault D)) (status : Status) → r ≡ Err fault → status ≡ status_of_users_fault fault → (disk_told → IfErr r (UsersFail state (state disk) s))
+      → (IsSound users_opening_room (state disk) → IsDiskErr r → ⊥) → AreUsersNotStarted disk_told state disk s status
+  users_not_started disk s fault r status is status_is why sound = record {
+    fault = fault;
+    is = status_is;
+    why = λ t. subst (λ (y : Result (UserState D) (UserOpenFault D)). IfErr y (UsersFail state (state disk) s)) is (why t);
+    disk_failed = λ was enough. sound enough (subst (λ (y : Result (UserState D) (UserOpenFault D)). IsDiskErr y) (sym is) (disk_error fault (sym status_is ∙ was)));
+  }
+
+  -- memory was wanting
+  pub users_no_memory : (disk : D) (s : Contents) → AreUsersNotStarted disk_told state disk s NoMemory
+  users_no_memory disk s = record { fault = users_fault.NoMemory; is = refl; why = λ _. tt; disk_failed = λ is. cc }
+
+  -- the users beside a controller, by what a later call tells
+  pub with_users : (opener_told : Type 0) (names : Named) (before mid after : Sources D) (s lent : Contents) (r : Result (UserState D) Status) → lent ≡ s → (opener_told → (n : List ℕ) → n ≢ names.journal → mid.journal_at n ≡ before.journal_at n) → before.opener.faults ≤ mid.opener.faults
+      → MatchResult r (λ u. (d : D) × (opener_told → mid.journal_at (users_name names.journal) ≡ Some d) × AreUsersStarted disk_told state d lent u)
+          (λ status. ((status ≡ NoMemory) ⊎ ((status ≡ CannotOpen) × Rose mid.opener.faults after.opener.faults)) ⊎ ((d : D) × (opener_told → mid.journal_at (users_name names.journal) ≡ Some d) × AreUsersNotStarted disk_told state d lent status))
+      → MatchResult r (HasUsers opener_told disk_told state names before s) (NoUsers opener_told disk_told state names before after s)
+  with_users opener_told names before mid after s lent (Ok u) is others later given =
+      (record { disk = given.0; handed = λ t. sym (others t (users_name names.journal) (users_apart names.journal)) ∙ given.1 t }, subst (λ (y : Contents). AreUsersStarted disk_told state given.0 y u) is given.2)
+  with_users opener_told names before mid after s lent (Err status) is others later given = elim given [
+    | inl none ↦ inl (elim none [ inl m ↦ inl m | inr f ↦ inr (f.0, rose_behind before.opener.faults mid.opener.faults after.opener.faults later f.1) ])
+    | inr not ↦ inr (record { disk = not.0; handed = λ t. sym (others t (users_name names.journal) (users_apart names.journal)) ∙ not.1 t }, subst (λ (y : Contents). AreUsersNotStarted disk_told state not.0 y status) is not.2)
+  ]
+
+  -- where the history of the users begins
+  pub users_began : (opener_told : Type 0) (names : Named) (before : Sources D) (s : Contents) (x : UserState D) → HasUsers opener_told disk_told state names before s x → Began opener_told disk_told state names before s
+  users_began opener_told names before s x has = record { found = has.0; opening = users_opening state x; is = has.1.opening }
 
   -- where the history of a controller begins
   pub begun : (disk : D) (s : Contents) (workers : ℕ) (x : Controller D) → IsStarted disk_told state disk s workers x → HasOpening disk_told state disk s (opening_of state x.state)
@@ -69,10 +137,10 @@ module _ {D : Type 0} (disk_told : Type 0) (state : D → DiskState) where
   opened_at disk s workers x started = subst (λ (y : Contents). IsAtOpening (opening_of state x.state) y (arc_value x.fabric)) (sym started.shelf) (at_opening (state disk).reads_as s (arc_value x.fabric) (opening_of state x.state) started.opening)
 
   -- what was opened by these names was by the line's, and what was done there is what the line asks for
-  pub opens_for : (opener_told : Type 0) (names other : Named) → names ≡ other → (before after : Sources D) (untouched still : Type 0) (P Q : Contents → D → Opening → Type 0) (status : Status) → (untouched → still) → ((s : Contents) (d : D) (o : Opening) → P s d o → Q s d o)
-      → Opens opener_told disk_told state names before after untouched (λ f o. P f.shelf f.disk o) status → Opens opener_told disk_told state other before after still (λ f o. Q f.shelf f.disk o) status
+  pub opens_for : (opener_told : Type 0) (names other : Named) → names ≡ other → (before after : Sources D) (untouched still : Type 0) (P Q : Contents → D → Opening → D → UsersOpening → Type 0) (status : Status) → (untouched → still) → ((s : Contents) (d : D) (o : Opening) (e : D) (p : UsersOpening) → P s d o e p → Q s d o e p)
+      → Opens opener_told disk_told state names before after untouched (λ f o u. P f.shelf f.disk o u.found.disk u.opening) status → Opens opener_told disk_told state other before after still (λ f o u. Q f.shelf f.disk o u.found.disk u.opening) status
   opens_for opener_told names other same before after untouched still P Q status keep on opens =
-      subst (λ (n : Named). Opens opener_told disk_told state n before after still (λ f o. Q f.shelf f.disk o) status) same (elim opens [
+      subst (λ (n : Named). Opens opener_told disk_told state n before after still (λ f o u. Q f.shelf f.disk o u.found.disk u.opening) status) same (elim opens [
         | inl not ↦ inl (not.0, keep not.1)
-        | inr ran ↦ inr (ran.0, ran.1, ran.2, on ran.0.shelf ran.0.disk ran.1 ran.3)
+        | inr ran ↦ inr (ran.0, ran.1, ran.2, ran.3, on ran.0.shelf ran.0.disk ran.1 ran.3.found.disk ran.3.opening ran.4)
       ])

@@ -8,4 +8,6 @@ pub mod Places
 pub mod Listings
 pub mod Serving
 pub mod Scripts
+pub mod Peers
+pub mod Standbys
 pub mod Runs

@@ -10,11 +10,13 @@ use Rattle.dxc_model.specs.Equipment.{has_bit}
 use Rattle.fabric_core.specs.declared.worker.Worker.{Worker}
 use Rattle.fabric_words.specs.Seats.{FabricId}
 use Rattle.shelf_file.specs.Contents.{Contents}
+use Rattle.user_admin.specs.Histories.{Opening as UsersOpening}
+use Rattle.user_admin.specs.Openings.{IsOpening as IsUsersOpening}
 use Rattle.xc_core.specs.Openings.{IsOpening}
 use Rattle.xc_core.specs.States.{Opening}
 use Rattle.craft_session.specs.declared.end.SessionEnd.TheVariants.{End}
 use Rattle.craft_session.specs.Meanings.{language}
-use Rattle.craft_session.specs.Seats.{SeatAt}
+use Rattle.craft_session.specs.Seats.{SeatAt, UserSeatAt}
 use Rattle.craft_session.specs.Sessions.{IsServed}
 use Rattle.dxc_load.specs.declared.summary.Summary.{Summary}
 use Rattle.dxc_load.specs.Carrying.{carried_in}
@@ -23,9 +25,10 @@ use Rattle.dxc_load.specs.Script.{load_moment, load_shape}
 use Rattle.dxc_load.specs.Sending.{unread}
 use Rattle.dxc_load.specs.Summaries.{summary_line}
 use Rattle.craft_server.specs.declared.opening.Controller.{Controller}
+use Rattle.craft_server.specs.declared.opening.Element.{Element}
 use Rattle.craft_server.specs.declared.status.Status.{Status}
 use Rattle.craft_server.specs.declared.status.Status.TheVariants.{NoMemory, Stopped}
-use Rattle.craft_server.specs.Openings.{IsStarted}
+use Rattle.craft_server.specs.Openings.{AreUsersStarted, IsStarted}
 use Rattle.craft_server.specs.Places.{place_at}
 use Rattle.craft_server.specs.Statuses.{status_of_sent}
 use Rattle.craft_server.specs.Stocks.{IsLeft}
@@ -47,7 +50,7 @@ pub record IsLoadShelf (s : Contents) : Type 0 where
   pub equipped : (m : ℕ) → m < 8 → has_bit s.equipped m ≡ true
   pub users : s.users ≡ record { name = codes "LOAD"; class = P; salt = 97 ∷ []; digest = load_digest } ∷ []
 
--- The script was sent to a session on a new journal, and all of it was read. The codes are those of its responses, connections and switches are what
+-- The script was sent to a session on new journals, and all of it was read. The codes are those of its responses, connections and switches are what
 -- it left, and the bytes are those that a worker noted in 10,000 frames.
 pub record IsLoaded (number : ℕ) (v : Summary) : Type 0 where
   pub shelf : Contents
@@ -56,8 +59,11 @@ pub record IsLoaded (number : ℕ) (v : Summary) : Type 0 where
   pub opening : Opening
   pub opened : IsOpening (Unit {0}) [] shelf fabric opening
   pub link : LinkState
+  pub users_opening : UsersOpening
+  pub users_opened : IsUsersOpening (Unit {0}) [] shelf users_opening
   pub seat : SeatAt
-  pub served : IsServed (language shelf) (Unit {0}) (Unit {0}) (unread number) link (load_moment ∷ []) (load_moment ∷ []) (place_at shelf opening 2 0).seat seat End
+  pub users : UserSeatAt
+  pub served : IsServed (language shelf) (Unit {0}) (Unit {0}) (unread number) link (load_moment ∷ []) (load_moment ∷ []) (place_at shelf opening users_opening 2 0).seat seat (place_at shelf opening users_opening 2 0).users users End
   pub all_read : link.left ≡ []
   pub completed : v.codes.completed ≡ coded_in compld link.written
   pub denied : v.codes.denied ≡ coded_in deny link.written
@@ -67,8 +73,12 @@ pub record IsLoaded (number : ℕ) (v : Summary) : Type 0 where
   pub carried : v.carried ≡ carried_in worker.notes
 
 -- a controller of the load
-abbrev pub IsLoadStarted : Controller MemDisk → Type 0
-IsLoadStarted x = (disk : MemDisk) × ((mem_state disk).reads_as ≡ []) × ((s : Contents) × IsLoadShelf s × IsStarted (Unit {0}) mem_state disk s 1 x)
+abbrev pub IsLoadController : Controller MemDisk → Type 0
+IsLoadController x = (disk : MemDisk) × ((mem_state disk).reads_as ≡ []) × ((s : Contents) × IsLoadShelf s × IsStarted (Unit {0}) mem_state disk s 1 x)
+
+-- with its users
+abbrev pub IsLoadStarted : Element MemDisk MemDisk → Type 0
+IsLoadStarted x = (c : IsLoadController x.controller) × ((disk : MemDisk) × ((mem_state disk).reads_as ≡ []) × AreUsersStarted (Unit {0}) mem_state disk c.2.0 x.users)
 
 -- memory was wanting, or the gate stopped
 abbrev pub NotLoaded : (stops later : ℕ) → Status → Type 0

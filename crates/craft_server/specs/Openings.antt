@@ -1,5 +1,5 @@
 -- What the words name is opened, or why it isn't.
-use Rattle.std.specs.Prelude.{◌≡◌, ◌≢◌, ◌⊎◌, ℕ, List, length, Option, Some}
+use Rattle.std.specs.Prelude.{◌≡◌, ◌≢◌, ◌⊎◌, ℕ, List, ◌++◌, length, codes, Option, Some}
 use Rattle.std.specs.Arc.{arc_value}
 use Rattle.dxc_causes.specs.Causes.{Rose}
 use Rattle.dxc_disk.specs.Disks.{DiskState, IsSound}
@@ -12,11 +12,18 @@ use Rattle.shelf_file.specs.Checks.{IsFirstFault}
 use Rattle.xc_core.specs.declared.fault.OpenFault.{OpenFault}
 use Rattle.xc_core.specs.Openings.{Begins, Fails, IsOpening}
 use Rattle.xc_core.specs.States.{Opening, opening_of}
+use Rattle.user_admin.specs.declared.fault.UserOpenFault.{UserOpenFault}
+use Rattle.user_admin.specs.declared.state.UserState.{UserState}
+use Rattle.user_admin.specs.Histories.{Opening as UsersOpening}
+use Rattle.user_admin.specs.Openings.{Begins as UsersBegin, Fails as UsersFail, IsOpening as IsUsersOpening}
+use Rattle.user_admin.specs.States.{opening_of as users_opening}
+use Rattle.craft_session.specs.PlainUsers.{IsUsersOpeningOf, users_opening_room}
 use Rattle.craft_session.specs.Scripts.{IsOpeningOf, opening_room}
 use Rattle.craft_server.specs.declared.opening.Controller.{Controller}
+use Rattle.craft_server.specs.declared.opening.Element.{Element}
 use Rattle.craft_server.specs.declared.status.Status.{Status}
-use Rattle.craft_server.specs.declared.status.Status.TheVariants.{Done, BadWords, BadShelf, BadJournal, Disk, CannotOpen, NoThread, NoMemory, Link, Stopped, Spent}
-use Rattle.craft_server.specs.Statuses.{status_of_fault}
+use Rattle.craft_server.specs.declared.status.Status.TheVariants.{Done, BadWords, BadShelf, BadJournal, Disk, CannotOpen, NoThread, NoMemory, Link, Stopped, Spent, BadMessage, NotEmpty}
+use Rattle.craft_server.specs.Statuses.{status_of_fault, status_of_users_fault}
 
 -- the names of a shelf file and a journal
 pub record Named : Type 0 where
@@ -25,6 +32,10 @@ pub record Named : Type 0 where
 
 abbrev pub named : List ℕ → List ℕ → Named
 named shelf journal = record { shelf = shelf; journal = journal }
+
+-- the name of the users' journal beside a journal of this name
+abbrev pub users_name : List ℕ → List ℕ
+users_name journal = journal ++ codes ".users"
 
 -- what an opening asks: the opener, which would hand out these disks by name, and the gate, by its count of stops
 pub record Sources (D : Type 0) : Type 0 where
@@ -56,6 +67,8 @@ NoShelf told o p name Stopped = ⊥
 NoShelf told o p name (BadJournal f) = ⊥
 NoShelf told o p name Disk = ⊥
 NoShelf told o p name Spent = ⊥
+NoShelf told o p name BadMessage = ⊥
+NoShelf told o p name NotEmpty = ⊥
 
 -- no disk was handed out, and why
 abbrev pub NoDisk : {D : Type 0} → Sources D → Sources D → Status → Type 0
@@ -92,20 +105,65 @@ pub record Found (opener_told : Type 0) {D : Type 0} (names : Named) (before : S
   pub disk : D
   pub handed : opener_told → before.journal_at names.journal ≡ Some disk
 
+-- the disk that the opener handed out for the users' journal
+pub record FoundUsers (opener_told : Type 0) {D : Type 0} (names : Named) (before : Sources D) : Type 0 where
+  pub disk : D
+  pub handed : opener_told → before.journal_at (users_name names.journal) ≡ Some disk
+
+module _ {D : Type 0} (disk_told : Type 0) (state : D → DiskState) where
+  -- the users were taken up from what this disk's journal came to, and their state stands for no entry behind it
+  pub record AreUsersStarted (disk : D) (s : Contents) (x : UserState D) : Type 0 where
+    pub opening : IsUsersOpening disk_told (state disk).reads_as s (users_opening state x)
+    pub begins : UsersBegin disk_told state x
+    pub of_disk : IsUsersOpeningOf (state disk) (users_opening state x)
+
+  -- why they weren't taken up
+  pub record AreUsersNotStarted (disk : D) (s : Contents) (status : Status) : Type 0 where
+    pub fault : UserOpenFault D
+    pub is : status ≡ status_of_users_fault fault
+    pub why : disk_told → UsersFail state (state disk) s fault
+    pub disk_failed : status ≡ Disk → IsSound users_opening_room (state disk) → ⊥
+
 module _ (opener_told : Type 0) {D : Type 0} (disk_told : Type 0) (state : D → DiskState) where
   -- the controller that the names stand for
-  abbrev pub IsOpened : Named → ℕ → Sources D → Controller D → Type 0
-  IsOpened names workers before x = (f : Found opener_told names before) × IsStarted disk_told state f.disk f.shelf workers x
+  abbrev pub HasController : Named → ℕ → Sources D → Controller D → Type 0
+  HasController names workers before x = (f : Found opener_told names before) × IsStarted disk_told state f.disk f.shelf workers x
 
   -- no shelf, no disk, or one on which the controller didn't start
-  abbrev pub NotOpened : Named → (before after : Sources D) → Status → Type 0
-  NotOpened names before after status =
+  abbrev pub NoController : Named → (before after : Sources D) → Status → Type 0
+  NoController names before after status =
       ((after.stops ≡ before.stops) × NoShelf opener_told before.opener after.opener names.shelf status)
       ⊎ (((s : Contents) × HasShelf opener_told before.opener names.shelf s × NoDisk before after status)
       ⊎ ((f : Found opener_told names before) × NotStarted disk_told state f.disk f.shelf before.stops after.stops status))
 
+  -- the users of that journal
+  abbrev pub HasUsers : Named → Sources D → Contents → UserState D → Type 0
+  HasUsers names before s x = (u : FoundUsers opener_told names before) × AreUsersStarted disk_told state u.disk s x
+
+  -- no disk for it, or one on which they weren't taken up
+  abbrev pub NoUsers : Named → (before after : Sources D) → Contents → Status → Type 0
+  NoUsers names before after s status =
+      ((status ≡ NoMemory) ⊎ ((status ≡ CannotOpen) × Rose before.opener.faults after.opener.faults))
+      ⊎ ((u : FoundUsers opener_told names before) × AreUsersNotStarted disk_told state u.disk s status)
+
+  -- the controller that the names stand for, and its users
+  abbrev pub IsOpened : Named → ℕ → Sources D → Element D D → Type 0
+  IsOpened names workers before x = (h : HasController names workers before x.controller) × HasUsers names before h.0.shelf x.users
+
+  -- no controller, or none of its users
+  abbrev pub NotOpened : Named → (before after : Sources D) → Status → Type 0
+  NotOpened names before after status =
+      NoController names before after status
+      ⊎ ((f : Found opener_told names before) × (o : Opening) × HasOpening disk_told state f.disk f.shelf o × (after.stops ≡ before.stops) × NoUsers names before after f.shelf status)
+
+  -- where the users' history begins that the second disk's journal came to
+  pub record Began (names : Named) (before : Sources D) (s : Contents) : Type 0 where
+    pub found : FoundUsers opener_told names before
+    pub opening : UsersOpening
+    pub is : IsUsersOpening disk_told (state found.disk).reads_as s opening
+
   -- Nothing was opened, why, and nothing else happened; or this was done on what was opened.
-  abbrev pub Opens : (names : Named) (before after : Sources D) (untouched : Type 0) (done : Found opener_told names before → Opening → Type 0) → Status → Type 0
+  abbrev pub Opens : (names : Named) (before after : Sources D) (untouched : Type 0) (done : (f : Found opener_told names before) → Opening → Began names before f.shelf → Type 0) → Status → Type 0
   Opens names before after untouched done status =
       (NotOpened names before after status × untouched)
-      ⊎ ((f : Found opener_told names before) × (o : Opening) × HasOpening disk_told state f.disk f.shelf o × done f o)
+      ⊎ ((f : Found opener_told names before) × (o : Opening) × HasOpening disk_told state f.disk f.shelf o × (u : Began names before f.shelf) × done f o u)

@@ -1,35 +1,42 @@
 -- What the program does, by its words.
-use Rattle.std.specs.Prelude.{◌≡◌, ◌⊎◌, ◌+◌, ℕ, List, length}
+use Rattle.std.specs.Prelude.{◌≡◌, ◌⊎◌, ◌+◌, ℕ, List, Option, Some, None, length}
 use Rattle.dxc_disk.specs.Disks.{DiskState}
 use Rattle.dxc_outside.specs.declared.clock.Moment.{Moment}
 use Rattle.dxc_outside.specs.declared.send.Sent.{Sent}
+use Rattle.dxc_outside.specs.Callers.{ListenerState}
 use Rattle.dxc_outside.specs.Links.{LinkState, IsSent}
 use Rattle.dxc_outside.specs.Threads.{SpawnerState}
 use Rattle.dxc_model.specs.declared.op.Selection.TheVariants.{All}
 use Rattle.dxc_model.specs.Tables.{rows}
 use Rattle.shelf_file.specs.Contents.{Contents}
+use Rattle.user_admin.specs.Histories.{Opening as UsersOpening}
 use Rattle.xc_core.specs.States.{Opening}
 use Rattle.craft_server.specs.declared.line.Line.{Line}
-use Rattle.craft_server.specs.declared.line.Line.TheVariants.{Script, Check, Serve, Load}
+use Rattle.craft_server.specs.declared.line.Line.TheVariants.{Script, Check, Serve, Standby, Load}
 use Rattle.craft_server.specs.declared.status.Status.{Status}
 use Rattle.craft_server.specs.declared.status.Status.TheVariants.{BadWords, NoMemory}
 use Rattle.craft_server.specs.Lines.{IsLine}
 use Rattle.craft_server.specs.Listings.{listing}
 use Rattle.craft_server.specs.Loads.{IsLoad}
-use Rattle.craft_server.specs.Openings.{Found, Opens, Sources}
+use Rattle.craft_server.specs.Openings.{Began, Found, Named, Opens, Sources, named}
+use Rattle.craft_server.specs.Peers.{Mirrors}
 use Rattle.craft_server.specs.Scripts.{RanSession}
 use Rattle.craft_server.specs.Serving.{IsServing, named_in}
+use Rattle.craft_server.specs.Standbys.{StandsBy}
 use Rattle.craft_server.specs.Statuses.{status_of_sent}
 
--- whether opener, disk, terminal and clock tell what they hold
+-- whether opener, disk, terminal, clock, peer, listener and the listener's links tell what they hold
 pub record Told : Type 1 where
   pub opener : Type 0
   pub disk : Type 0
   pub terminal : Type 0
   pub clock : Type 0
+  pub peer : Type 0
+  pub listener : Type 0
+  pub link : Type 0
 
-abbrev pub told_by : (opener disk terminal clock : Type 0) → Told
-told_by opener disk terminal clock = record { opener = opener; disk = disk; terminal = terminal; clock = clock }
+abbrev pub told_by : (opener disk terminal clock peer listener link : Type 0) → Told
+told_by opener disk terminal clock peer listener link = record { opener = opener; disk = disk; terminal = terminal; clock = clock; peer = peer; listener = listener; link = link }
 
 -- what the program is lent, at a moment
 pub record Lent (D : Type 0) : Type 0 where
@@ -55,8 +62,8 @@ pub record IsUntouched {D : Type 0} (before after : Lent D) : Type 0 where
 
 module _ (told : Told) {D : Type 0} (state : D → DiskState) where
   -- one session was served over the terminal
-  pub record RanScript (before after : Lent D) (s : Contents) (o : Opening) (disk : D) (status : Status) : Type 0 where
-    pub session : RanSession told.disk told.terminal told.clock (state disk) s o before.terminal after.terminal before.clock after.clock before.sources.stops after.sources.stops status
+  pub record RanScript (before after : Lent D) (s : Contents) (o : Opening) (p : UsersOpening) (disk users_disk : D) (status : Status) : Type 0 where
+    pub session : RanSession told.disk told.terminal told.clock (state disk) (state users_disk) s o p before.terminal after.terminal before.clock after.clock before.sources.stops after.sources.stops status
     pub spawner : after.spawner ≡ before.spawner
 
   -- the table was written to the terminal
@@ -74,11 +81,12 @@ module _ (told : Told) {D : Type 0} (state : D → DiskState) where
     pub gate : after.sources.stops ≡ before.sources.stops
 
   -- what a line's mode did on what was opened
-  abbrev pub Ran : (l : Line) (before after : Lent D) (status : Status) → Found told.opener (named_in l) before.sources → Opening → Type 0
-  Ran (Script shelf journal) before after status f o = RanScript before after f.shelf o f.disk status
-  Ran (Check shelf journal) before after status f o = RanCheck before after f.shelf o status
-  Ran (Serve shelf journal address lines workers) before after status f o = RanServe workers before after status
-  Ran (Load number) before after status f o = ⊥
+  abbrev pub Ran : (l : Line) (before after : Lent D) (status : Status) → (f : Found told.opener (named_in l) before.sources) → Opening → Began told.opener told.disk state (named_in l) before.sources f.shelf → Type 0
+  Ran (Script shelf journal) before after status f o u = RanScript before after f.shelf o u.opening f.disk u.found.disk status
+  Ran (Check shelf journal) before after status f o u = RanCheck before after f.shelf o status
+  Ran (Serve shelf journal address lines workers peer) before after status f o u = RanServe workers before after status
+  Ran (Standby journal address) before after status f o u = ⊥
+  Ran (Load number) before after status f o u = ⊥
 
   -- what its names stand for was opened, or why not, and the mode ran on it
   abbrev pub OpensFor : Line → (before after : Lent D) → Status → Type 0
@@ -92,16 +100,29 @@ module _ (told : Told) {D : Type 0} (state : D → DiskState) where
     pub clock : after.clock ≡ before.clock
     pub spawner : after.spawner ≡ before.spawner
 
+-- the words are no line, or memory was wanting to read them
+abbrev pub NoLine : List (List ℕ) → Status → Type 0
+NoLine words status = ((status ≡ BadWords) × ((l : Line) → IsLine words l → ⊥)) ⊎ (status ≡ NoMemory)
+
+module _ (told : Told) {D K L J : Type 0} (state : D → DiskState) (peer : K → LinkState) (listener : L → ListenerState J) (link : J → LinkState) (listener_at : List ℕ → Option L) where
+  -- what the names stand for was opened and mirrored, or why not, and sessions and frame workers were started on it
+  abbrev pub MirrorsFor : (names : Named) (workers : ℕ) (before after : Lent D) → Status → Type 0
+  MirrorsFor names workers before after status = Mirrors told.disk told.peer state peer told.opener names before.sources after.sources (IsUntouched before after) (λ f o u. RanServe told state workers before after status) status
+
+  -- a standby ran, by what the opener would hand out, with terminal, clock, spawner and gate untouched
+  pub record RanBy (journal address : List ℕ) (before after : Lent D) (status : Status) : Type 0 where
+    pub stands_by : StandsBy told.opener told.disk told.listener told.link state listener link before.sources.journal_at listener_at before.sources.opener.faults after.sources.opener.faults journal address status
+    pub untouched : IsUntouched before after
+    pub gate : after.sources.stops ≡ before.sources.stops
+
   -- what a line did
   abbrev pub IsRunOf : Line → (before after : Lent D) → Status → Type 0
-  IsRunOf (Load number) before after status = RanLoad number before after status
-  IsRunOf (Script shelf journal) before after status = OpensFor (Script shelf journal) before after status
-  IsRunOf (Check shelf journal) before after status = OpensFor (Check shelf journal) before after status
-  IsRunOf (Serve shelf journal address lines workers) before after status = OpensFor (Serve shelf journal address lines workers) before after status
-
-  -- the words are no line, or memory was wanting to read them
-  abbrev pub NoLine : List (List ℕ) → Status → Type 0
-  NoLine words status = ((status ≡ BadWords) × ((l : Line) → IsLine words l → ⊥)) ⊎ (status ≡ NoMemory)
+  IsRunOf (Load number) before after status = RanLoad told state number before after status
+  IsRunOf (Script shelf journal) before after status = OpensFor told state (Script shelf journal) before after status
+  IsRunOf (Check shelf journal) before after status = OpensFor told state (Check shelf journal) before after status
+  IsRunOf (Serve shelf journal address lines workers None) before after status = OpensFor told state (Serve shelf journal address lines workers None) before after status
+  IsRunOf (Serve shelf journal address lines workers (Some name)) before after status = MirrorsFor (named shelf journal) workers before after status
+  IsRunOf (Standby journal address) before after status = RanBy journal address before after status
 
   -- what the program did, by its words
   abbrev pub IsRun : List (List ℕ) → (before after : Lent D) → Status → Type 0

@@ -1,10 +1,11 @@
--- What a script did: one session, alone on what the journal came to.
+-- What a script did: one session, alone on what the journals came to.
 use Rattle.std.specs.Prelude.{◌≡◌, ◌≢◌, ◌↔◌, ◌^◌, ◌⊎◌, ℕ, List, IsTrue}
 use Rattle.dxc_causes.specs.Causes.{Rose, Counted}
 use Rattle.dxc_disk.specs.Disks.{DiskState}
 use Rattle.dxc_outside.specs.declared.clock.Moment.{Moment}
 use Rattle.dxc_outside.specs.Links.{LinkState}
 use Rattle.shelf_file.specs.Contents.{Contents}
+use Rattle.user_admin.specs.Histories.{Opening as UsersOpening}
 use Rattle.xc_core.specs.States.{Opening}
 use Rattle.craft_session.specs.declared.end.SessionEnd.{SessionEnd}
 use Rattle.craft_session.specs.Scripts.{IsScript}
@@ -13,10 +14,10 @@ use Rattle.craft_server.specs.declared.status.Status.TheVariants.{Done, Link, St
 use Rattle.craft_server.specs.Statuses.{status_of}
 
 -- one session from the opening on, by its end, and the status; so many stops were before and after it
-pub record RanSession (disk_told told clock_told : Type 0) (disk : DiskState) (s : Contents) (o : Opening) (k l : LinkState) (c d : List Moment) (stops later : ℕ) (status : Status) : Type 0 where
+pub record RanSession (disk_told told clock_told : Type 0) (disk users_disk : DiskState) (s : Contents) (o : Opening) (p : UsersOpening) (k l : LinkState) (c d : List Moment) (stops later : ℕ) (status : Status) : Type 0 where
   pub end : SessionEnd
   pub status_is : status ≡ status_of end
-  pub wrote : IsScript disk_told disk 0 o clock_told c d s told k l end
+  pub wrote : IsScript disk_told disk users_disk 0 o p clock_told c d s told k l end
   pub ended : (status ≡ Done) ↔ IsTrue l.ended
   pub cause : status ≡ Link → Rose k.read_faults l.read_faults ⊎ Rose k.write_faults l.write_faults
   pub stopped : status ≡ Stopped → Rose stops later

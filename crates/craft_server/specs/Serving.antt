@@ -1,9 +1,9 @@
 -- The serving of callers, and the program's jobs.
-use Rattle.std.specs.Prelude.{◌≡◌, ◌≢◌, ℕ, ◌+◌, ◌≤◌, ◌⊎◌, min, true, []}
+use Rattle.std.specs.Prelude.{◌≡◌, ◌≢◌, ℕ, ◌+◌, ◌≤◌, ◌⊎◌, min, true, List, [], Option, None}
 use Rattle.dxc_causes.specs.Causes.{Rose, last}
 use Rattle.dxc_outside.specs.Threads.{SpawnerState}
 use Rattle.craft_server.specs.declared.line.Line.{Line}
-use Rattle.craft_server.specs.declared.line.Line.TheVariants.{Script, Check, Serve, Load}
+use Rattle.craft_server.specs.declared.line.Line.TheVariants.{Script, Check, Serve, Standby, Load}
 use Rattle.craft_server.specs.declared.status.Status.{Status}
 use Rattle.craft_server.specs.declared.status.Status.TheVariants.{Done, CannotOpen, NoThread, NoMemory}
 use Rattle.craft_server.specs.Openings.{Named, named}
@@ -16,22 +16,33 @@ RoseBy n before now = min (before + n) last ≤ now
 abbrev pub IsServe : Line → Type 0
 IsServe (Script shelf journal) = ⊥
 IsServe (Check shelf journal) = ⊥
-IsServe (Serve shelf journal address lines workers) = (1 ≤ workers) × (workers ≤ 8)
+IsServe (Serve shelf journal address lines workers peer) = (1 ≤ workers) × (workers ≤ 8)
+IsServe (Standby journal address) = ⊥
 IsServe (Load number) = ⊥
 
 -- how many frame workers a line asks for
 abbrev pub workers_in : Line → ℕ
 workers_in (Script shelf journal) = 0
 workers_in (Check shelf journal) = 0
-workers_in (Serve shelf journal address lines workers) = workers
+workers_in (Serve shelf journal address lines workers peer) = workers
+workers_in (Standby journal address) = 0
 workers_in (Load number) = 0
 
 -- the names of shelf file and journal that a line has
 abbrev pub named_in : Line → Named
 named_in (Script shelf journal) = named shelf journal
 named_in (Check shelf journal) = named shelf journal
-named_in (Serve shelf journal address lines workers) = named shelf journal
+named_in (Serve shelf journal address lines workers peer) = named shelf journal
+named_in (Standby journal address) = named [] journal
 named_in (Load number) = named [] []
+
+-- the peer that a line has
+abbrev pub peer_of : Line → Option (List ℕ)
+peer_of (Script shelf journal) = None
+peer_of (Check shelf journal) = None
+peer_of (Serve shelf journal address lines workers peer) = peer
+peer_of (Standby journal address) = None
+peer_of (Load number) = None
 
 -- what became of so many jobs of an opened controller, by the counts of the opener's faults and of the spawner
 pub record IsServing (jobs faults later : ℕ) (old new : SpawnerState) (status : Status) : Type 0 where

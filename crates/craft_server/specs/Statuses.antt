@@ -6,11 +6,15 @@ use Rattle.journal_core.specs.declared.fault.JournalWhy.{JournalWhy}
 use Rattle.journal_core.specs.declared.fault.JournalWhy.TheVariants as why
 use Rattle.xc_core.specs.declared.fault.OpenFault.{OpenFault}
 use Rattle.xc_core.specs.declared.fault.OpenFault.TheVariants as fault
+use Rattle.user_admin.specs.declared.fault.UserOpenFault.{UserOpenFault}
+use Rattle.user_admin.specs.declared.fault.UserOpenFault.TheVariants as users
 use Rattle.craft_session.specs.declared.end.SessionEnd.{SessionEnd}
 use Rattle.craft_session.specs.declared.end.SessionEnd.TheVariants as end
-use Rattle.craft_server.specs.declared.status.JournalBad.TheVariants.{Header, Record}
+use Rattle.standby_link.specs.declared.end.StandbyEnd.{StandbyEnd}
+use Rattle.standby_link.specs.declared.end.StandbyEnd.TheVariants as standby
+use Rattle.craft_server.specs.declared.status.JournalBad.TheVariants.{Header, Record, UsersHeader, UsersRecord}
 use Rattle.craft_server.specs.declared.status.Status.{Status}
-use Rattle.craft_server.specs.declared.status.Status.TheVariants.{Done, BadWords, BadShelf, BadJournal, Disk, CannotOpen, NoThread, NoMemory, Link, Stopped, Spent}
+use Rattle.craft_server.specs.declared.status.Status.TheVariants.{Done, BadWords, BadShelf, BadJournal, Disk, CannotOpen, NoThread, NoMemory, Link, Stopped, Spent, BadMessage, NotEmpty}
 
 -- the number that the process ends with
 abbrev pub number_of : Status → ℕ
@@ -25,6 +29,8 @@ number_of NoMemory = 8
 number_of Link = 9
 number_of Stopped = 10
 number_of Spent = 11
+number_of BadMessage = 12
+number_of NotEmpty = 13
 
 abbrev pub status_of : SessionEnd → Status
 status_of end.End = Done
@@ -32,6 +38,15 @@ status_of end.ReadFault = Link
 status_of end.WriteFault = Link
 status_of end.Stopped = Stopped
 status_of end.Spent = Spent
+
+abbrev pub status_of_standby : StandbyEnd → Status
+status_of_standby standby.End = Done
+status_of_standby standby.ReadFault = Link
+status_of_standby standby.WriteFault = Link
+status_of_standby standby.DiskFault = Disk
+status_of_standby standby.BadMessage = BadMessage
+status_of_standby standby.NotEmpty = NotEmpty
+status_of_standby standby.Spent = Spent
 
 abbrev pub status_of_sent : Sent → Status
 status_of_sent sent.Whole = Done
@@ -48,3 +63,14 @@ status_of_fault (fault.BadRecord i) = BadJournal (Record i)
 status_of_fault (fault.Disk d) = Disk
 status_of_fault fault.NoMemory = NoMemory
 status_of_fault fault.Stopped = Stopped
+
+abbrev pub status_of_users_why : JournalWhy → Status
+status_of_users_why (why.BadHeader bytes) = BadJournal (UsersHeader bytes)
+status_of_users_why why.Disk = Disk
+
+-- the status of users that weren't taken up
+abbrev pub status_of_users_fault : {D : Type 0} → UserOpenFault D → Status
+status_of_users_fault (users.Journal f) = status_of_users_why f.why
+status_of_users_fault (users.BadRecord i) = BadJournal (UsersRecord i)
+status_of_users_fault (users.Disk d) = Disk
+status_of_users_fault users.NoMemory = NoMemory

@@ -12,7 +12,7 @@ ghost use Rattle.craft_server.specs.Openings.{Opens, named, sources};
 ghost use Rattle.craft_server.specs.Runs.{IsCheck};
 
 use crate::Status;
-use crate::opening::{Names, open};
+use crate::opening::{Element, Names, open};
 use crate::script::WORKERS;
 use arrayvec::ArrayVec;
 use dxc_disk::Disk;
@@ -31,10 +31,13 @@ pub(crate) fn run_check<O: Opener, K: Link, G: Gate>(
     terminal: &mut K,
     gate: &mut G,
 ) -> Status
-    ensures { Opens O.told O.Journal.told O.Journal.state (named names.entry.shelf.now names.entry.journal.now) (sources (O.state opener.old) (O.journal_at opener.old) (G.stops gate.old)) (sources (O.state opener.new) (O.journal_at opener.new) (G.stops gate.new)) (K.state terminal.new ≡ K.state terminal.old) (λ f o. (G.stops gate.new ≡ G.stops gate.old) × IsCheck K.told f.shelf o (K.state terminal.old) (K.state terminal.new) result) result }
+    ensures { Opens O.told O.Journal.told O.Journal.state (named names.entry.shelf.now names.entry.journal.now) (sources (O.state opener.old) (O.journal_at opener.old) (G.stops gate.old)) (sources (O.state opener.new) (O.journal_at opener.new) (G.stops gate.new)) (K.state terminal.new ≡ K.state terminal.old) (λ f o u. (G.stops gate.new ≡ G.stops gate.old) × IsCheck K.told f.shelf o (K.state terminal.old) (K.state terminal.new) result) result }
 {
-    let controller = match open(alloc, opener, names, WORKERS, gate) {
-        Ok(controller) => controller,
+    let Element {
+        controller,
+        users: _,
+    } = match open(alloc, opener, names, WORKERS, gate) {
+        Ok(element) => element,
         Err(status) => return status,
     };
     let ports = controller.shelf.shape().ports();

@@ -68,12 +68,12 @@ pub(crate) fn frame_jobs<O: Opener>(
 }
 
 // The job of the place, on a listener at the address.
-fn session_job<O: Opener, D: Disk + Drop>(
+fn session_job<O: Opener, D: Disk + Drop, U: Disk + Drop>(
     alloc: Global,
     opener: &mut O,
     address: &str,
-    place: Place<D>,
-) -> Result<SessionJob<D, O::Listener, O::Clock, O::Gate>, Status>
+    place: Place<D, U>,
+) -> Result<SessionJob<D, U, O::Listener, O::Clock, O::Gate>, Status>
     ensures cause { HasCause (O.state opener.old).faults (O.state opener.new).faults (result ≡ Err Status.CannotOpen) }
     ensures only { (s : Status) → result ≡ Err s → s ≢ Status.CannotOpen → s ≡ Status.NoMemory }
 {
@@ -90,12 +90,12 @@ fn session_job<O: Opener, D: Disk + Drop>(
 }
 
 /// A job for each place, in their order.
-pub(crate) fn session_jobs<O: Opener, D: Disk + Drop>(
+pub(crate) fn session_jobs<O: Opener, D: Disk + Drop, U: Disk + Drop>(
     alloc: Global,
     opener: &mut O,
     address: &str,
-    places: Vec<Place<D>>,
-) -> Result<Vec<SessionJob<D, O::Listener, O::Clock, O::Gate>>, Status>
+    places: Vec<Place<D, U>>,
+) -> Result<Vec<SessionJob<D, U, O::Listener, O::Clock, O::Gate>>, Status>
     ensures jobs { IfOk result (λ jobs. vec_len jobs ≡ vec_len places) }
     ensures cause { HasCause (O.state opener.old).faults (O.state opener.new).faults (result ≡ Err Status.CannotOpen) }
     ensures only { (s : Status) → result ≡ Err s → s ≢ Status.CannotOpen → s ≡ Status.NoMemory }

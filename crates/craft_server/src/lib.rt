@@ -10,15 +10,15 @@ mod load;
 mod matching;
 mod number;
 mod opening;
+mod peer;
 mod places;
 mod run;
 mod script;
 mod serve;
 mod sessions;
+mod standby;
 mod status;
 mod stock;
-#[cfg(test)]
-mod tests;
 mod threads;
 
 pub use frames::FrameJob;

@@ -1,5 +1,5 @@
 ghost use Rattle.std.specs.Prelude.{◌≡◌, ◌≤◌, ◌⊎◌, [], true};
-ghost use Rattle.craft_session.specs.Seats.{IsSameSeat};
+ghost use Rattle.craft_session.specs.Seats.{IsSameSeat, IsSameUserSeat};
 ghost use Rattle.craft_server.specs.Serving.{RoseBy};
 
 use craft_session::{Place, serve_session};
@@ -17,12 +17,12 @@ pub enum LinksEnd {
 }
 
 /// So many accepts in a row may not fail.
-const FAILURES: u8 = 16;
+pub(crate) const FAILURES: u8 = 16;
 
 /// Serves each caller of the listener by one session, one after another, until the listener says End or 16 accepts in a row failed.
 /// A session that ends by a fault, or that the gate stops, ends for its caller alone.
-pub fn serve_links<L: Listener, C: Clock, G: Gate, D: Disk + Drop, R: Wait>(
-    place: &mut Place<D>,
+pub fn serve_links<L: Listener, C: Clock, G: Gate, D: Disk + Drop, U: Disk + Drop, R: Wait>(
+    place: &mut Place<D, U>,
     listener: &mut L,
     clock: &mut C,
     gate: &mut G,
@@ -30,6 +30,7 @@ pub fn serve_links<L: Listener, C: Clock, G: Gate, D: Disk + Drop, R: Wait>(
 ) -> LinksEnd
     ensures shelf { place.new.shelf ≡ place.old.shelf }
     ensures seat { IsSameSeat place.old.seat place.new.seat }
+    ensures users { IsSameUserSeat place.old.users place.new.users }
     ensures end { result ≡ LinksEnd.End → (L.state listener.new).ended ≡ true }
     ensures said_end { (L.state listener.new).ended ≡ true → (result ≡ LinksEnd.End) ⊎ ((L.state listener.old).ended ≡ true) }
     ensures all_served { L.told → result ≡ LinksEnd.End → (L.state listener.new).coming ≡ [] }

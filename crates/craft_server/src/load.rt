@@ -1,11 +1,11 @@
-//! The load script, run by one session on a journal in memory.
+//! The load script, run by one session on journals in memory.
 ghost use Rattle.std.specs.Prelude.{◌≡◌, ◌≤◌, ◌⊎◌, ◌^◌, [], IfOk, MatchResult};
 ghost use Rattle.dxc_disk.specs.Fresh.{IsFresh};
 ghost use Rattle.dxc_disk.specs.MemView.{mem_state};
-ghost use Rattle.craft_server.specs.Loads.{IsLoad, IsLoadStarted, IsLoadShelf, IsLoaded, NotLoaded};
+ghost use Rattle.craft_server.specs.Loads.{IsLoad, IsLoadController, IsLoadStarted, IsLoadShelf, IsLoaded, NotLoaded};
 
 use crate::Status;
-use crate::opening::{Controller, start};
+use crate::opening::{Controller, Element, start, start_users};
 use crate::places::open_place;
 use crate::stock::stock_of;
 use arrayvec::ArrayVec;
@@ -50,15 +50,40 @@ fn load_disk(alloc: Global) -> Result<MemDisk, NoMemory>
     MemDisk::with_room(alloc, Vec::new(alloc), Vec::new(alloc), DISK_ROOM)
 }
 
+/// The same of the users' disk, which is called while it is opened alone.
+const USERS_ROOM: usize = 1 << 18;
+
+// Such a disk for the users.
+fn load_users_disk(alloc: Global) -> Result<MemDisk, NoMemory>
+    ensures { IfOk result (λ d. IsFresh (mem_state d) [] [] (2 ^ 18)) }
+{
+    MemDisk::with_room(alloc, Vec::new(alloc), Vec::new(alloc), USERS_ROOM)
+}
+
 // The controller of the load, with one worker.
 fn load_controller<G: Gate>(alloc: Global, gate: &mut G) -> Result<Controller<MemDisk>, Status>
-    ensures started { MatchResult result IsLoadStarted (NotLoaded (G.stops gate.old) (G.stops gate.new)) }
+    ensures started { MatchResult result IsLoadController (NotLoaded (G.stops gate.old) (G.stops gate.new)) }
     ensures unstopped { MatchResult result (λ x. G.stops gate.new ≡ G.stops gate.old) (λ s. G.stops gate.old ≤ G.stops gate.new) }
 {
     let (Ok(shelf), Ok(disk)) = (load_shelf(alloc), load_disk(alloc)) else {
         return Err(Status::NoMemory);
     };
     start(alloc, shelf, disk, 1, gate)
+}
+
+// The same with its users.
+fn load_element<G: Gate>(alloc: Global, gate: &mut G) -> Result<Element<MemDisk, MemDisk>, Status>
+    ensures started { MatchResult result IsLoadStarted (NotLoaded (G.stops gate.old) (G.stops gate.new)) }
+    ensures unstopped { MatchResult result (λ x. G.stops gate.new ≡ G.stops gate.old) (λ s. G.stops gate.old ≤ G.stops gate.new) }
+{
+    let controller = load_controller(alloc, gate)?;
+    let Ok(disk) = load_users_disk(alloc) else {
+        return Err(Status::NoMemory);
+    };
+    match start_users(alloc, &controller.shelf, disk) {
+        Ok(users) => Ok(Element { controller, users }),
+        Err(status) => Err(status),
+    }
 }
 
 /// How many bytes of responses are kept.
@@ -74,19 +99,20 @@ fn loaded<G: Gate, R: Wait>(
     ensures loaded { MatchResult result (IsLoaded number) (NotLoaded (G.stops gate.old) (G.stops gate.new)) }
     ensures unstopped { MatchResult result (λ v. G.stops gate.new ≡ G.stops gate.old) (λ s. G.stops gate.old ≤ G.stops gate.new) }
 {
+    let Element { controller, users } = load_element(alloc, gate)?;
     let Controller {
         shelf,
         fabric,
         mut seats,
         state,
-    } = load_controller(alloc, gate)?;
+    } = controller;
     let (Ok(mut rows), Ok(written)) = (
         Vec::with_capacity(alloc, shelf.shape().ports() as usize),
         Vec::with_capacity(alloc, WRITTEN_ROOM),
     ) else {
         return Err(Status::NoMemory);
     };
-    let Ok((mut place, mut pass, turns)) = open_place(alloc, &shelf, &fabric, state) else {
+    let Ok((mut place, mut pass, turns)) = open_place(alloc, &shelf, &fabric, state, users) else {
         return Err(Status::NoMemory);
     };
     let mut link = LoadLink::new(number, fabric, seats.remove(0), written);

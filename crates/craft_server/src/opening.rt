@@ -1,14 +1,17 @@
 //! The opening of what the words name.
-ghost use Rattle.std.specs.Prelude.{◌≡◌, ◌≤◌, ◌<◌, ℕ, List, MatchResult};
-ghost use Rattle.craft_server.specs.Openings.{HasShelf, IsOpened, IsStarted, NoShelf, NotOpened, NotStarted, named, sources};
+ghost use Rattle.std.specs.Prelude.{◌≡◌, ◌≢◌, ◌⊎◌, ◌≤◌, Some, IfOk, ◌<◌, ℕ, List, MatchResult};
+ghost use Rattle.dxc_causes.specs.Causes.{Rose};
+ghost use Rattle.craft_server.specs.Openings.{AreUsersNotStarted, AreUsersStarted, FoundUsers, HasController, HasShelf, IsOpened, IsStarted, NoController, NoShelf, NotOpened, NotStarted, named, sources, users_name as name_of_users};
 
 use crate::Status;
 use dxc_disk::Disk;
-use dxc_outside::{Gate, Opened, Opener};
+use dxc_causes::NoMemory;
+use dxc_outside::{Gate, Name, Opened, Opener};
 use fabric_words::{Fabric, WorkerSeat};
 use shelf_file::{Shelf, ShelfFault, shelf_of};
 use std::alloc::Global;
 use std::sync::Arc;
+use user_admin::UserState;
 use xc_core::{Core, State};
 
 /// The names of a shelf file and a journal.
@@ -27,9 +30,36 @@ pub(crate) struct Controller<D: Disk> {
     pub(crate) state: State<D>,
 }
 
+/// A controller, and the users who may log in.
+#[derive(Drop)]
+pub(crate) struct Element<D: Disk, U: Disk> {
+    pub(crate) controller: Controller<D>,
+    pub(crate) users: UserState<U>,
+}
+
 /// Opens the shelf file and the journal of these names, and starts the controller with so many workers on what the journal came
-/// to. The gate is asked before each register write.
+/// to; then the users' journal beside it. The gate is asked before each register write.
 pub(crate) fn open<O: Opener, G: Gate>(
+    alloc: Global,
+    opener: &mut O,
+    names: Names<'_>,
+    workers: u16,
+    gate: &mut G,
+) -> Result<Element<O::Journal, O::Journal>, Status>
+    requires workers { (0 < workers) × (workers ≤ 8) }
+    ensures opened { MatchResult result (IsOpened O.told O.Journal.told O.Journal.state (named names.entry.shelf.now names.entry.journal.now) workers (sources (O.state opener.old) (O.journal_at opener.old) (G.stops gate.old))) (NotOpened O.told O.Journal.told O.Journal.state (named names.entry.shelf.now names.entry.journal.now) (sources (O.state opener.old) (O.journal_at opener.old) (G.stops gate.old)) (sources (O.state opener.new) (O.journal_at opener.new) (G.stops gate.new))) }
+    ensures unstopped { MatchResult result (λ x. G.stops gate.new ≡ G.stops gate.old) (λ s. G.stops gate.old ≤ G.stops gate.new) }
+    ensures later { (O.state opener.old).faults ≤ (O.state opener.new).faults }
+{
+    let controller = open_controller(alloc, opener, names, workers, gate)?;
+    match open_users(alloc, opener, names.journal, &controller.shelf) {
+        Ok(users) => Ok(Element { controller, users }),
+        Err(status) => Err(status),
+    }
+}
+
+// The shelf file and the journal of these names, and the controller on what the journal came to.
+fn open_controller<O: Opener, G: Gate>(
     alloc: Global,
     opener: &mut O,
     names: Names<'_>,
@@ -37,7 +67,8 @@ pub(crate) fn open<O: Opener, G: Gate>(
     gate: &mut G,
 ) -> Result<Controller<O::Journal>, Status>
     requires workers { (0 < workers) × (workers ≤ 8) }
-    ensures opened { MatchResult result (IsOpened O.told O.Journal.told O.Journal.state (named names.entry.shelf.now names.entry.journal.now) workers (sources (O.state opener.old) (O.journal_at opener.old) (G.stops gate.old))) (NotOpened O.told O.Journal.told O.Journal.state (named names.entry.shelf.now names.entry.journal.now) (sources (O.state opener.old) (O.journal_at opener.old) (G.stops gate.old)) (sources (O.state opener.new) (O.journal_at opener.new) (G.stops gate.new))) }
+    ensures opened { MatchResult result (HasController O.told O.Journal.told O.Journal.state (named names.entry.shelf.now names.entry.journal.now) workers (sources (O.state opener.old) (O.journal_at opener.old) (G.stops gate.old))) (NoController O.told O.Journal.told O.Journal.state (named names.entry.shelf.now names.entry.journal.now) (sources (O.state opener.old) (O.journal_at opener.old) (G.stops gate.old)) (sources (O.state opener.new) (O.journal_at opener.new) (G.stops gate.new))) }
+    ensures others { O.told → (n : List ℕ) → n ≢ names.entry.journal.now → O.journal_at opener.new n ≡ O.journal_at opener.old n }
     ensures unstopped { MatchResult result (λ x. G.stops gate.new ≡ G.stops gate.old) (λ s. G.stops gate.old ≤ G.stops gate.new) }
     ensures later { (O.state opener.old).faults ≤ (O.state opener.new).faults }
 {
@@ -49,8 +80,8 @@ pub(crate) fn open<O: Opener, G: Gate>(
     }
 }
 
-// The shelf that the file of that name describes.
-fn shelf_of_file<O: Opener>(alloc: Global, opener: &mut O, name: &str) -> Result<Shelf, Status>
+/// The shelf that the file of that name describes.
+pub(crate) fn shelf_of_file<O: Opener>(alloc: Global, opener: &mut O, name: &str) -> Result<Shelf, Status>
     ensures shelf { MatchResult result (HasShelf O.told (O.state opener.old) name.now) (NoShelf O.told (O.state opener.old) (O.state opener.new) name.now) }
     ensures journals { O.told → (n : List ℕ) → O.journal_at opener.new n ≡ O.journal_at opener.old n }
     ensures later { (O.state opener.old).faults ≤ (O.state opener.new).faults }
@@ -98,4 +129,48 @@ pub(crate) fn start<D: Disk + Drop, G: Gate>(
         seats,
         state,
     })
+}
+
+// The name of the users' journal beside a journal of this name.
+fn users_name(alloc: Global, journal: &str) -> Result<Name, NoMemory>
+    ensures { IfOk result (λ n. n ≡ name_of_users journal.now) }
+{
+    let mut name = String::new(alloc);
+    name.push_str(journal)?;
+    name.push_str(".users")?;
+    Ok(Name::of(name))
+}
+
+/// The users that the journal came to that stands beside a journal of this name.
+pub(crate) fn open_users<O: Opener>(
+    alloc: Global,
+    opener: &mut O,
+    journal: &str,
+    shelf: &Shelf,
+) -> Result<UserState<O::Journal>, Status>
+    ensures users { MatchResult result (λ x. (d : O.Journal) × (O.told → O.journal_at opener.old (name_of_users journal.now) ≡ Some d) × AreUsersStarted O.Journal.told O.Journal.state d shelf.now x) (λ status. ((status ≡ Status.NoMemory) ⊎ ((status ≡ Status.CannotOpen) × Rose (O.state opener.old).faults (O.state opener.new).faults)) ⊎ ((d : O.Journal) × (O.told → O.journal_at opener.old (name_of_users journal.now) ≡ Some d) × AreUsersNotStarted O.Journal.told O.Journal.state d shelf.now status)) }
+    ensures later { (O.state opener.old).faults ≤ (O.state opener.new).faults }
+{
+    let Ok(name) = users_name(alloc, journal) else {
+        return Err(Status::NoMemory);
+    };
+    match opener.journal(alloc, name.text()) {
+        Opened::Open(disk) => start_users(alloc, shelf, disk),
+        Opened::Failed => Err(Status::CannotOpen),
+        Opened::NoMemory => Err(Status::NoMemory),
+    }
+}
+
+/// The users of the shelf after the changes that the disk's journal stands for.
+pub(crate) fn start_users<D: Disk + Drop>(
+    alloc: Global,
+    shelf: &Shelf,
+    disk: D,
+) -> Result<UserState<D>, Status>
+    ensures { MatchResult result (AreUsersStarted D.told D.state disk shelf.now) (AreUsersNotStarted D.told D.state disk shelf.now) }
+{
+    match UserState::open(alloc, shelf, disk) {
+        Ok(users) => Ok(users),
+        Err(fault) => Err(Status::of_users_fault(fault)),
+    }
 }

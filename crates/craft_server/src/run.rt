@@ -8,17 +8,20 @@ use crate::check::run_check;
 use crate::load::run_load;
 use crate::opening::Names;
 use crate::script::run_script;
+use crate::standby::run_standby;
 use crate::{Line, Status, WordsFault, line_of, serve_all};
 use dxc_outside::{Clock, Gate, Link, Listener, Name, Opener, Spawner};
 use std::alloc::Global;
 use std::sync::Wait;
 
 /// Runs a line of words: `script SHELF JOURNAL`, `check SHELF JOURNAL` or `serve SHELF JOURNAL ADDRESS LINES WORKERS`, by the names of
-/// a shelf file, which is read in the form that `shelf_of` tells, and of a journal, which is made where it is new; or `load NUMBER`. The
-/// controller starts on what the journal stands for; that of `load` on a new journal in memory.
+/// a shelf file, which is read in the form that `shelf_of` tells, and of a journal, which is made where it is new; or `standby JOURNAL
+/// ADDRESS`, or `load NUMBER`. The controller starts on what the journal stands for; that of `load` on a new journal in memory.
 ///
 /// `script` serves one session over the terminal; `check` writes each row of the table and the number of records to it; `serve`
-/// serves 16 callers of the address at a time, and carries the frames of the lines with 1 to 8 workers. `load` serves one session
+/// serves 16 callers of the address at a time, and carries the frames of the lines with 1 to 8 workers. With one word more, PEER, it first
+/// joins the standby there, which gets a copy of the journal and of each change; where that is lost it goes on alone. `standby` waits for one
+/// primary at the address, and makes on the journal, which is to be new, what it sends, to the end of the link. `load` serves one session
 /// that is sent the load script of the number, with a frame behind each command, and writes one line that sums it up. The gate is asked
 /// while the controller starts and, in `script` and `load`, before a change is journalled, before each register write and before the table takes a change.
 pub fn dxc_run<O: Opener, K: Link, C: Clock, G: Gate, P: Spawner, R: Wait>(
@@ -34,7 +37,7 @@ pub fn dxc_run<O: Opener, K: Link, C: Clock, G: Gate, P: Spawner, R: Wait>(
 where
     <O::Listener as Listener>::Link: Send + 'static,
     ensures words { result ≡ Status.BadWords → (l : ALine) → IsLine words.now l → ⊥ }
-    ensures run { IsRun (told_by O.told O.Journal.told K.told C.told) O.Journal.state words.now (lent (sources (O.state opener.old) (O.journal_at opener.old) (G.stops gate.old)) (K.state terminal.old) (C.coming clock.old) (P.state spawner.old)) (lent (sources (O.state opener.new) (O.journal_at opener.new) (G.stops gate.new)) (K.state terminal.new) (C.coming clock.new) (P.state spawner.new)) result }
+    ensures run { IsRun (told_by O.told O.Journal.told K.told C.told O.Peer.told O.Listener.told O.Listener.Link.told) O.Journal.state O.Peer.state O.Listener.state O.Listener.Link.state (O.listener_at opener.old) words.now (lent (sources (O.state opener.old) (O.journal_at opener.old) (G.stops gate.old)) (K.state terminal.old) (C.coming clock.old) (P.state spawner.old)) (lent (sources (O.state opener.new) (O.journal_at opener.new) (G.stops gate.new)) (K.state terminal.new) (C.coming clock.new) (P.state spawner.new)) result }
 {
     let line = match line_of(alloc, words) {
         Ok(line) => line,
@@ -57,6 +60,9 @@ where
             run_check(alloc, opener, names, terminal, gate)
         }
         Line::Serve { .. } => serve_all(alloc, opener, &line, gate, spawner, rt),
+        Line::Standby { journal, address } => {
+            run_standby(alloc, opener, journal.text(), address.text(), rt)
+        }
         Line::Load { number } => run_load(alloc, *number, terminal, gate, rt),
     }
 }

@@ -3,7 +3,7 @@ ghost use Rattle.craft_server.specs.Openings.{Opens, named, sources};
 ghost use Rattle.craft_server.specs.Scripts.{RanSession};
 
 use crate::Status;
-use crate::opening::{Controller, Names, open};
+use crate::opening::{Controller, Element, Names, open};
 use crate::places::open_places;
 use craft_session::serve_session;
 use dxc_outside::{Clock, Gate, Link, Opener};
@@ -23,18 +23,19 @@ pub(crate) fn run_script<O: Opener, K: Link, C: Clock, G: Gate, R: Wait>(
     gate: &mut G,
     rt: &R,
 ) -> Status
-    ensures { Opens O.told O.Journal.told O.Journal.state (named names.entry.shelf.now names.entry.journal.now) (sources (O.state opener.old) (O.journal_at opener.old) (G.stops gate.old)) (sources (O.state opener.new) (O.journal_at opener.new) (G.stops gate.new)) ((K.state terminal.new ≡ K.state terminal.old) × (C.coming clock.new ≡ C.coming clock.old)) (λ f o. RanSession O.Journal.told K.told C.told (O.Journal.state f.disk) f.shelf o (K.state terminal.old) (K.state terminal.new) (C.coming clock.old) (C.coming clock.new) (G.stops gate.old) (G.stops gate.new) result) result }
+    ensures { Opens O.told O.Journal.told O.Journal.state (named names.entry.shelf.now names.entry.journal.now) (sources (O.state opener.old) (O.journal_at opener.old) (G.stops gate.old)) (sources (O.state opener.new) (O.journal_at opener.new) (G.stops gate.new)) ((K.state terminal.new ≡ K.state terminal.old) × (C.coming clock.new ≡ C.coming clock.old)) (λ f o u. RanSession O.Journal.told K.told C.told (O.Journal.state f.disk) (O.Journal.state u.found.disk) f.shelf o u.opening (K.state terminal.old) (K.state terminal.new) (C.coming clock.old) (C.coming clock.new) (G.stops gate.old) (G.stops gate.new) result) result }
 {
+    let Element { controller, users } = match open(alloc, opener, names, WORKERS, gate) {
+        Ok(element) => element,
+        Err(status) => return status,
+    };
     let Controller {
         shelf,
         fabric,
         seats: _,
         state,
-    } = match open(alloc, opener, names, WORKERS, gate) {
-        Ok(controller) => controller,
-        Err(status) => return status,
-    };
-    let Ok(mut places) = open_places(alloc, &shelf, &fabric, state, 1) else {
+    } = controller;
+    let Ok(mut places) = open_places(alloc, &shelf, &fabric, state, users, 1) else {
         return Status::NoMemory;
     };
     let mut place = places.remove(0);

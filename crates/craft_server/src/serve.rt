@@ -1,14 +1,16 @@
 //! Sessions and frame workers, side by side.
-ghost use Rattle.std.specs.Prelude.{◌≡◌, ◌≢◌, ◌≤◌, ◌+◌, ◌⊎◌, length, vec_len, true};
+ghost use Rattle.std.specs.Prelude.{◌≡◌, ◌≢◌, ◌≤◌, ◌+◌, ◌⊎◌, length, vec_len, true, None, IsSome};
 ghost use Rattle.std.specs.Arc.{arc_value};
 ghost use Rattle.dxc_causes.specs.Causes.{HasCause, Rose};
 ghost use Rattle.fabric_words.specs.New.{AreNew};
-ghost use Rattle.craft_server.specs.Openings.{Opens, sources};
-ghost use Rattle.craft_server.specs.Serving.{RoseBy, IsServe, IsServing, named_in, workers_in};
+ghost use Rattle.craft_server.specs.Openings.{Opens, named, sources};
+ghost use Rattle.craft_server.specs.Peers.{Mirrors};
+ghost use Rattle.craft_server.specs.Serving.{RoseBy, IsServe, IsServing, named_in, peer_of, workers_in};
 
 use crate::frames::FrameJob;
 use crate::jobs::{frame_jobs, session_jobs};
-use crate::opening::{Controller, Names, open};
+use crate::opening::{Controller, Element, Names, open};
+use crate::peer::serve_mirrored;
 use crate::places::open_places;
 use crate::sessions::SessionJob;
 use crate::threads::run_all;
@@ -23,6 +25,7 @@ use std::sync::{Arc, Wait};
 /// Runs the workers' jobs and the sessions' jobs to their ends.
 fn run_jobs<
     D: Disk + Send + Drop + 'static,
+    U: Disk + Send + Drop + 'static,
     L: Listener + Send + Drop + 'static,
     C: Clock + Send + Drop + 'static,
     G: Gate + Send + Drop + 'static,
@@ -32,7 +35,7 @@ fn run_jobs<
 >(
     spawner: &mut P,
     workers: Vec<FrameJob<N, G>>,
-    sessions: Vec<SessionJob<D, L, C, G>>,
+    sessions: Vec<SessionJob<D, U, L, C, G>>,
     rt: &R,
 ) -> Status
 where
@@ -58,13 +61,19 @@ pub(crate) struct Site<'a> {
 }
 
 /// Opens the lines of each worker and a listener for each place, and runs their jobs to their ends.
-pub(crate) fn serve_on<O: Opener, D: Disk + Send + Drop + 'static, P: Spawner, R: Wait>(
+pub(crate) fn serve_on<
+    O: Opener,
+    D: Disk + Send + Drop + 'static,
+    U: Disk + Send + Drop + 'static,
+    P: Spawner,
+    R: Wait,
+>(
     alloc: Global,
     opener: &mut O,
     site: Site<'_>,
     fabric: &Arc<Fabric>,
     seats: Vec<WorkerSeat>,
-    places: Vec<Place<D>>,
+    places: Vec<Place<D, U>>,
     spawner: &mut P,
     rt: &R,
 ) -> Status
@@ -92,12 +101,44 @@ where
 }
 
 /// The most sessions at a time.
-const SESSIONS: u16 = 16;
+pub(crate) const SESSIONS: u16 = 16;
+
+// Serves the site with the controller that is opened on these names.
+fn serve_alone<O: Opener, G: Gate, P: Spawner, R: Wait>(
+    alloc: Global,
+    opener: &mut O,
+    names: Names<'_>,
+    site: Site<'_>,
+    gate: &mut G,
+    spawner: &mut P,
+    rt: &R,
+) -> Status
+where
+    <O::Listener as Listener>::Link: Send + 'static,
+    requires { (1 ≤ site.workers) × (site.workers ≤ 8) }
+    ensures { Opens O.told O.Journal.told O.Journal.state (named names.entry.shelf.now names.entry.journal.now) (sources (O.state opener.old) (O.journal_at opener.old) (G.stops gate.old)) (sources (O.state opener.new) (O.journal_at opener.new) (G.stops gate.new)) (P.state spawner.new ≡ P.state spawner.old) (λ f o u. (G.stops gate.new ≡ G.stops gate.old) × IsServing (site.entry.workers + 16) (O.state opener.old).faults (O.state opener.new).faults (P.state spawner.old) (P.state spawner.new) result) result }
+{
+    let Element { controller, users } = match open(alloc, opener, names, site.workers, gate) {
+        Ok(element) => element,
+        Err(status) => return status,
+    };
+    let Controller {
+        shelf,
+        fabric,
+        seats,
+        state,
+    } = controller;
+    let Ok(places) = open_places(alloc, &shelf, &fabric, state, users, SESSIONS) else {
+        return Status::NoMemory;
+    };
+    serve_on(alloc, opener, site, &fabric, seats, places, spawner, rt)
+}
 
 /// Serves the line's address with 16 sessions at a time, and its lines with its workers. The line is one of `serve`.
 ///
 /// The controller is opened first, and the gate asked meanwhile; then the lines of each worker and a listener for each session.
-/// The frame workers are started before the sessions. It ends when all of them have ended.
+/// The frame workers are started before the sessions. It ends when all of them have ended. Where the line has a peer, the standby there
+/// is joined before the controller is opened.
 pub fn serve_all<O: Opener, G: Gate, P: Spawner, R: Wait>(
     alloc: Global,
     opener: &mut O,
@@ -109,7 +150,8 @@ pub fn serve_all<O: Opener, G: Gate, P: Spawner, R: Wait>(
 where
     <O::Listener as Listener>::Link: Send + 'static,
     requires { IsServe line.now }
-    ensures { Opens O.told O.Journal.told O.Journal.state (named_in line.now) (sources (O.state opener.old) (O.journal_at opener.old) (G.stops gate.old)) (sources (O.state opener.new) (O.journal_at opener.new) (G.stops gate.new)) (P.state spawner.new ≡ P.state spawner.old) (λ f o. (G.stops gate.new ≡ G.stops gate.old) × IsServing (workers_in line.now + 16) (O.state opener.old).faults (O.state opener.new).faults (P.state spawner.old) (P.state spawner.new) result) result }
+    ensures alone { peer_of line.now ≡ None → Opens O.told O.Journal.told O.Journal.state (named_in line.now) (sources (O.state opener.old) (O.journal_at opener.old) (G.stops gate.old)) (sources (O.state opener.new) (O.journal_at opener.new) (G.stops gate.new)) (P.state spawner.new ≡ P.state spawner.old) (λ f o u. (G.stops gate.new ≡ G.stops gate.old) × IsServing (workers_in line.now + 16) (O.state opener.old).faults (O.state opener.new).faults (P.state spawner.old) (P.state spawner.new) result) result }
+    ensures mirrored { IsSome (peer_of line.now) → Mirrors O.Journal.told O.Peer.told O.Journal.state O.Peer.state O.told (named_in line.now) (sources (O.state opener.old) (O.journal_at opener.old) (G.stops gate.old)) (sources (O.state opener.new) (O.journal_at opener.new) (G.stops gate.new)) (P.state spawner.new ≡ P.state spawner.old) (λ f o u. (G.stops gate.new ≡ G.stops gate.old) × IsServing (workers_in line.now + 16) (O.state opener.old).faults (O.state opener.new).faults (P.state spawner.old) (P.state spawner.new) result) result }
 {
     let Line::Serve {
         shelf,
@@ -117,6 +159,7 @@ where
         address,
         lines,
         workers,
+        peer,
     } = line
     else {
         unreachable!()
@@ -125,22 +168,22 @@ where
         shelf: shelf.text(),
         journal: journal.text(),
     };
-    let Controller {
-        shelf,
-        fabric,
-        seats,
-        state,
-    } = match open(alloc, opener, names, *workers, gate) {
-        Ok(controller) => controller,
-        Err(status) => return status,
-    };
-    let Ok(places) = open_places(alloc, &shelf, &fabric, state, SESSIONS) else {
-        return Status::NoMemory;
-    };
     let site = Site {
         address: address.text(),
         lines: lines.text(),
         workers: *workers,
     };
-    serve_on(alloc, opener, site, &fabric, seats, places, spawner, rt)
+    match peer {
+        None => serve_alone(alloc, opener, names, site, gate, spawner, rt),
+        Some(peer) => serve_mirrored(
+            alloc,
+            opener,
+            names,
+            peer.text(),
+            site,
+            gate,
+            spawner,
+            rt,
+        ),
+    }
 }

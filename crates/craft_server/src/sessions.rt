@@ -6,15 +6,15 @@ use std::sync::Wait;
 
 /// Sessions at one place, one after another.
 #[derive(Drop)]
-pub struct SessionJob<D: Disk, L, C, G> {
-    pub place: Place<D>,
+pub struct SessionJob<D: Disk, U: Disk, L, C, G> {
+    pub place: Place<D, U>,
     pub listener: L,
     pub clock: C,
     pub gate: G,
 }
 
-impl<D: Disk + Drop, L: Listener + Drop, C: Clock + Drop, G: Gate + Drop> Task
-    for SessionJob<D, L, C, G> {
+impl<D: Disk + Drop, U: Disk + Drop, L: Listener + Drop, C: Clock + Drop, G: Gate + Drop> Task
+    for SessionJob<D, U, L, C, G> {
     /// Serves callers until the listener ends or fails.
     fn run<R: Wait>(self, rt: &R) {
         let SessionJob {

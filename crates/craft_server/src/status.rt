@@ -1,11 +1,13 @@
 ghost use Rattle.std.specs.Prelude.{◌≡◌};
-ghost use Rattle.craft_server.specs.Statuses.{number_of, status_of, status_of_fault, status_of_sent};
+ghost use Rattle.craft_server.specs.Statuses.{number_of, status_of, status_of_fault, status_of_sent, status_of_standby, status_of_users_fault};
 
 use craft_session::SessionEnd;
 use dxc_disk::Disk;
 use dxc_outside::Sent;
 use journal_core::JournalWhy;
 use shelf_file::ShelfFault;
+use standby_link::StandbyEnd;
+use user_admin::UserOpenFault;
 use xc_core::OpenFault;
 
 /// Why a journal can't be taken up.
@@ -15,6 +17,9 @@ pub enum JournalBad {
     Header([u8; 32]),
     /// The record of this number, from 0, is the first that makes no change.
     Record(u32),
+    /// The same of the users' journal.
+    UsersHeader([u8; 32]),
+    UsersRecord(u32),
 }
 
 /// How the program ends.
@@ -26,22 +31,27 @@ pub enum Status {
     BadWords,
     /// The shelf file's first fault.
     BadShelf(ShelfFault),
-    /// The journal can't be taken up.
+    /// A journal can't be taken up.
     BadJournal(JournalBad),
-    /// The journal's disk failed while the program opened.
+    /// A journal's disk failed while the program opened, or that of a standby's journal.
     Disk,
-    /// Something that the words name couldn't be opened: the shelf file, the journal, lines or the address.
+    /// Something that the words name couldn't be opened: the shelf file, the journal, lines, the address or the peer. Or 16 accepts of a
+    /// standby in a row failed.
     CannotOpen,
     /// A thread couldn't be started. No further one was, and those that ran have ended.
     NoThread,
     /// Memory was wanting while the program opened.
     NoMemory,
-    /// The terminal failed.
+    /// The terminal failed, or a standby's link.
     Link,
     /// The gate stopped: the command in hand has no response.
     Stopped,
     /// 2^32 reads were made.
     Spent,
+    /// What came over a standby's link is no item of a primary's.
+    BadMessage,
+    /// The journal of a standby held bytes before the first item.
+    NotEmpty,
 }
 
 impl Status {
@@ -61,6 +71,8 @@ impl Status {
             Status::Link => 9,
             Status::Stopped => 10,
             Status::Spent => 11,
+            Status::BadMessage => 12,
+            Status::NotEmpty => 13,
         }
     }
 
@@ -73,6 +85,20 @@ impl Status {
             SessionEnd::ReadFault | SessionEnd::WriteFault => Status::Link,
             SessionEnd::Stopped => Status::Stopped,
             SessionEnd::Spent => Status::Spent,
+        }
+    }
+
+    /// After a standby's run.
+    pub(crate) fn of_standby(end: StandbyEnd) -> Status
+        ensures { result ≡ status_of_standby end }
+    {
+        match end {
+            StandbyEnd::End => Status::Done,
+            StandbyEnd::ReadFault | StandbyEnd::WriteFault => Status::Link,
+            StandbyEnd::DiskFault => Status::Disk,
+            StandbyEnd::BadMessage => Status::BadMessage,
+            StandbyEnd::NotEmpty => Status::NotEmpty,
+            StandbyEnd::Spent => Status::Spent,
         }
     }
 
@@ -99,6 +125,21 @@ impl Status {
             OpenFault::Disk(_) => Status::Disk,
             OpenFault::NoMemory => Status::NoMemory,
             OpenFault::Stopped => Status::Stopped,
+        }
+    }
+
+    /// Where the users weren't taken up.
+    pub(crate) fn of_users_fault<D: Disk + Drop>(fault: UserOpenFault<D>) -> Status
+        ensures { result ≡ status_of_users_fault fault }
+    {
+        match fault {
+            UserOpenFault::Journal(fault) => match fault.why {
+                JournalWhy::BadHeader(bytes) => Status::BadJournal(JournalBad::UsersHeader(bytes)),
+                JournalWhy::Disk => Status::Disk,
+            },
+            UserOpenFault::BadRecord(number) => Status::BadJournal(JournalBad::UsersRecord(number)),
+            UserOpenFault::Disk(_) => Status::Disk,
+            UserOpenFault::NoMemory => Status::NoMemory,
         }
     }
 }

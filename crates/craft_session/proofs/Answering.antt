@@ -1,6 +1,7 @@
 -- A unit was answered in the shelf's language.
 use Rattle.std.specs.Prelude.{is_some}
-use Rattle.std.proofs.Common.{◌≡◌, ℕ, Bool, false, List, [], Option, sym, ◌∙◌, subst}
+use Rattle.std.proofs.Common.{◌≡◌, ◌≢◌, ℕ, Bool, false, List, [], Option, inl, inr, refl, sym, ◌∙◌, subst}
+use base.Stored.{Gv}
 use Rattle.dxc_outside.specs.declared.clock.Moment.{Moment}
 use Rattle.dxc_outside.specs.declared.send.Sent.{Sent}
 use Rattle.dxc_outside.specs.declared.send.Sent.TheVariants.{Whole, Cut as Sent_cut}
@@ -9,7 +10,11 @@ use Rattle.dxc_model.specs.declared.entry.Entry.{Entry}
 use Rattle.tl1_text.specs.declared.reader.UnitKind.{UnitKind}
 use Rattle.tl1_text.specs.declared.reader.UnitKind.TheVariants.{Whole as WholeUnit, TooLong as TooLongUnit, More}
 use Rattle.tl1_text.specs.Reading.{Reader, hand}
-use Rattle.tl1_text.specs.Units.{Input, IsUnit, whole, too_long}
+use Rattle.tl1_text.specs.Units.{Input, IsUnit}
+use Rattle.user_admin.specs.declared.op.UserEntry.{UserEntry}
+use Rattle.user_admin.specs.declared.op.UserRow.{UserRow}
+use Rattle.user_admin.specs.Histories.{Opening as UsersOpening}
+use Rattle.user_admin.specs.Turns.{Saw as SawUsers, TurnedBack}
 use Rattle.shelf_file.specs.Contents.{Contents}
 use Rattle.xc_core.specs.States.{Opening}
 use Rattle.xc_core.specs.Seeing.{Saw}
@@ -17,55 +22,99 @@ use Rattle.craft_session.specs.declared.ask.Ask.{Ask}
 use Rattle.craft_session.specs.declared.end.Progress.{Progress}
 use Rattle.craft_session.specs.declared.end.Progress.TheVariants.{On, Cut, Stopped}
 use Rattle.craft_session.specs.Acting.{Acts, Stops}
+use Rattle.craft_session.specs.Asks.{Language, Reply}
+use Rattle.craft_session.specs.Happenings.{Request}
+use Rattle.craft_session.specs.Hearing.{Heard, HeardBehind, IsAsked, IsHeard, IsUnasked, Wanted, rows_heard, unasked}
 use Rattle.craft_session.specs.Progresses.{progress_of}
-use Rattle.craft_session.specs.Desks.{IsReplied, IsSaidOf, IsStoppedAt, IsAnswered}
-use Rattle.craft_session.specs.Meanings.{asks, tag_of, language}
-use Rattle.craft_session.specs.Seats.{IsSameSeat, SeatAt}
-use Rattle.craft_session.specs.Sessions.{Now, Beginning, IsAt, IsSaid, Stands, Goes}
-use Rattle.craft_session.proofs.SessionSteps.{goes_on, goes_cut, goes_stopped, whole_ended, long_ended}
+use Rattle.craft_session.specs.Desks.{IsReplied, IsSaidOf, IsStoppedAt, IsAnswered, input_of}
+use Rattle.craft_session.specs.Meanings.{asks, tag_of, language, wants}
+use Rattle.craft_session.specs.Seats.{IsSameSeat, IsSameUserSeat, SeatAt, UserSeatAt}
+use Rattle.craft_session.specs.Sessions.{Now, Beginning, Halts, IsAt, IsSaid, Stands, Goes}
+use Rattle.craft_session.proofs.SessionSteps.{goes_on, goes_cut, goes_stopped, goes_unheard, whole_ended, long_ended}
 
 module _ (s : Contents) (told clock_told : Type 0) (k j : LinkState) (c d : List Moment) (b : Beginning) (now : Now) (kind : UnitKind) (r : Reader) (ahead : List ℕ) (stands : Stands (language s) told clock_told k j c d b now false kind r ahead)
-    (seat : SeatAt) (at : IsAt b seat) (j2 : LinkState) (d2 : List Moment) (tag : Option (List ℕ)) (a : Ask) (after : Now) where
-  said : (sent : Sent) (u : Input) (x : IsSaidOf s told clock_told j j2 d d2 sent tag a seat now after) → tag ≡ tag_of u → IsSaid (language s) told clock_told j j2 d d2 sent u x.reply
-  said sent u x tag_is =
-      let replied = subst (λ (y : Option (List ℕ)). IsReplied s told clock_told j j2 d d2 sent y x.reply) tag_is x.said in
-      record { moment = replied.moment; wrote = replied.wrote; now = replied.now; later = replied.later }
+    (seat : SeatAt) (users : UserSeatAt) (at : IsAt b seat users) (j2 : LinkState) (d2 : List Moment) (after : Now) (users_seen : users.seen ≡ now.users) where
+  said : (sent : Sent) (u : Request) (reply : Reply) → IsReplied s told clock_told j j2 d d2 sent (tag_of u.input) (rows_heard u.heard) reply → IsSaid (language s) told clock_told j j2 d d2 sent u reply
+  said sent u reply x = record { moment = x.moment; wrote = x.wrote; now = x.now; later = x.later }
 
-  -- the place of the seat is that of the beginning
+  -- the place of the seats is that of the beginning
   here : (P : (o : Opening) → ℕ → Type 0) → P seat.opening seat.place → P b.opening b.place
   here P x = subst (λ (w : Opening × ℕ). P w.0 w.1) (λ k. (at.0 k, at.1 k)) x
 
-  acts : (sent : Sent) (u : Input) (x : IsSaidOf s told clock_told j j2 d d2 sent tag a seat now after) → a ≡ asks s now.attending.user u → (h : List Entry) → Saw b.opening now.seen h → Acts b.opening b.place h now.attending (asks s now.attending.user u) x.reply after.attending after.seen
-  acts sent u x ask_is = subst (λ (y : Ask). (h : List Entry) → Saw b.opening now.seen h → Acts b.opening b.place h now.attending y x.reply after.attending after.seen) ask_is
-      (here (λ o n. (h : List Entry) → Saw o now.seen h → Acts o n h now.attending a x.reply after.attending after.seen) x.acts)
+  there : (P : (o : UsersOpening) → ℕ → List Gv → Type 0) → P users.opening users.place users.seen → P b.users b.place now.users
+  there P x = subst (λ (w : UsersOpening × (ℕ × List Gv)). P w.0 w.1.0 w.1.1) (λ k. (at.2 k, (at.3 k, users_seen k))) x
 
-  stops : IsStoppedAt j j2 d d2 a seat now after → (u : Input) → a ≡ asks s now.attending.user u → (h : List Entry) → Saw b.opening now.seen h → Stops b.opening b.place h now.attending (asks s now.attending.user u) after.attending after.seen
-  stops x u ask_is = subst (λ (y : Ask). (h : List Entry) → Saw b.opening now.seen h → Stops b.opening b.place h now.attending y after.attending after.seen) ask_is
-      (here (λ o n. (h : List Entry) → Saw o now.seen h → Stops o n h now.attending a after.attending after.seen) x.stops)
+  hears : (w : Wanted) (x : Heard) → IsHeard users w x after.users → (h : List UserEntry) → SawUsers b.users now.users h → HeardBehind b.users b.place h w x after.users
+  hears w x behind = there (λ o n seen. (h : List UserEntry) → SawUsers o seen h → HeardBehind o n h w x after.users) behind
 
-  pub answered : (how : Progress) (u : Input) → IsUnit stands.rest u × (hand r ≡ []) → IsAnswered s told clock_told j j2 d d2 tag a seat now after how → tag ≡ tag_of u → a ≡ asks s now.attending.user u → Goes (language s) told clock_told k j2 c d2 b after how (is_some after.attending.watch) r ahead
-  answered On u ended x tag_is ask_is = goes_on (language s) told clock_told k c b j d now r kind ahead stands u ended j2 d2 x.reply after (said _ u x tag_is) (acts _ u x ask_is)
-  answered Cut u ended x tag_is ask_is = goes_cut (language s) told clock_told k c b j d now r kind ahead stands u ended j2 d2 x.reply after (said _ u x tag_is) (acts _ u x ask_is)
-  answered Stopped u ended x tag_is ask_is = goes_stopped (language s) told clock_told k c b j d now r kind ahead stands u ended j2 d2 after x.link x.clock
-      (stops x u ask_is)
+  acts : (a : Ask) (reply : Reply) → ((h : List Entry) → Saw seat.opening now.seen h → Acts seat.opening seat.place h now.attending a reply after.attending after.seen) → (h : List Entry) → Saw b.opening now.seen h → Acts b.opening b.place h now.attending a reply after.attending after.seen
+  acts a reply x = here (λ o n. (h : List Entry) → Saw o now.seen h → Acts o n h now.attending a reply after.attending after.seen) x
 
-  pub answered_whole : (how : Progress) → kind ≡ WholeUnit → IsAnswered s told clock_told j j2 d d2 tag a seat now after how → tag ≡ tag_of (whole r.kept) → a ≡ asks s now.attending.user (whole r.kept) → Goes (language s) told clock_told k j2 c d2 b after how (is_some after.attending.watch) r ahead
-  answered_whole how is = answered how (whole r.kept) (whole_ended (language s) told clock_told k c b j d now r kind ahead stands is)
+  stops : (a : Ask) → ((h : List Entry) → Saw seat.opening now.seen h → Stops seat.opening seat.place h now.attending a after.attending after.seen) → (h : List Entry) → Saw b.opening now.seen h → Stops b.opening b.place h now.attending a after.attending after.seen
+  stops a x = here (λ o n. (h : List Entry) → Saw o now.seen h → Stops o n h now.attending a after.attending after.seen) x
 
-  pub answered_long : (how : Progress) → kind ≡ TooLongUnit → IsAnswered s told clock_told j j2 d d2 tag a seat now after how → tag ≡ tag_of too_long → a ≡ asks s now.attending.user too_long → Goes (language s) told clock_told k j2 c d2 b after how (is_some after.attending.watch) r ahead
-  answered_long how is = answered how too_long (long_ended (language s) told clock_told k c b j d now r kind ahead stands is)
+  module _ (u : Input) (ended : IsUnit stands.rest u × (hand r ≡ [])) where
+    said_on : (sent : Sent) (x : IsSaidOf s told clock_told j j2 d d2 sent u seat users now after) → IsSaid (language s) told clock_told j j2 d d2 sent (record { input = u; heard = x.heard }) x.reply
+    said_on sent x = said sent (record { input = u; heard = x.heard }) x.reply x.said
+
+    answered_by_stop : IsStoppedAt s j j2 d d2 u seat users now after → Halts (language s) told clock_told k j2 c d2 b after
+    answered_by_stop x = elim x.stopped [
+      | inl t ↦ goes_stopped (language s) told clock_told k c b j d now r kind ahead stands (record { input = u; heard = t.heard }) ended j2 d2 after x.link x.clock (hears (wants s now.attending.user u) t.heard t.behind) (stops (asks s now.attending.user t.heard u) t.stops)
+      | inr t ↦ goes_unheard (language s) told clock_told k c b j d now r kind ahead stands (record { input = u; heard = unasked }) ended j2 d2 after t.unasked.op x.link x.clock t.unasked.wanted t.unasked.changing
+          (there (λ o n seen. (h : List UserEntry) → SawUsers o seen h → TurnedBack o n h after.users) t.unasked.behind) t.seen t.attending
+    ]
+
+    pub answered : (how : Progress) → IsAnswered s told clock_told j j2 d d2 u seat users now after how → Goes (language s) told clock_told k j2 c d2 b after how (is_some after.attending.watch) r ahead
+    answered On x = goes_on (language s) told clock_told k c b j d now r kind ahead stands (record { input = u; heard = x.heard }) ended j2 d2 x.reply after (said_on Whole x) (hears (wants s now.attending.user u) x.heard x.behind) (acts (asks s now.attending.user x.heard u) x.reply x.acts)
+    answered Cut x = goes_cut (language s) told clock_told k c b j d now r kind ahead stands (record { input = u; heard = x.heard }) ended j2 d2 x.reply after (said_on Sent_cut x) (hears (wants s now.attending.user u) x.heard x.behind) (acts (asks s now.attending.user x.heard u) x.reply x.acts)
+    answered Stopped x = answered_by_stop x
+
+-- a unit that ended, whole or too long
+pub input_ended : (l : Language Request Moment) (told clock_told : Type 0) (k j : LinkState) (c d : List Moment) (b : Beginning) (now : Now) (r : Reader) (ahead : List ℕ) (kind : UnitKind) (s : Stands l told clock_told k j c d b now false kind r ahead) → kind ≢ More → IsUnit s.rest (input_of kind r) × (hand r ≡ [])
+input_ended l told clock_told k j c d b now r ahead WholeUnit s ended = whole_ended l told clock_told k c b j d now r WholeUnit ahead s refl
+input_ended l told clock_told k j c d b now r ahead TooLongUnit s ended = long_ended l told clock_told k c b j d now r TooLongUnit ahead s refl
+input_ended l told clock_told k j c d b now r ahead More s ended = absurd (ended refl)
 
 -- a response was written, or a part of it
-pub answered_by : (s : Contents) (told clock_told : Type 0) (k j : LinkState) (c d : List Moment) (tag : Option (List ℕ)) (a : Ask) (seat : SeatAt) (before after : Now) (sent : Sent) (how : Progress) → how ≡ progress_of sent
-    → IsSaidOf s told clock_told k j c d sent tag a seat before after → IsAnswered s told clock_told k j c d tag a seat before after how
-answered_by s told clock_told k j c d tag a seat before after Whole how is x = subst (λ (y : Progress). IsAnswered s told clock_told k j c d tag a seat before after y) (sym is) x
-answered_by s told clock_told k j c d tag a seat before after Sent_cut how is x = subst (λ (y : Progress). IsAnswered s told clock_told k j c d tag a seat before after y) (sym is) x
+pub answered_by : (s : Contents) (told clock_told : Type 0) (k j : LinkState) (c d : List Moment) (u : Input) (seat : SeatAt) (users : UserSeatAt) (before after : Now) (sent : Sent) (how : Progress) → how ≡ progress_of sent
+    → IsSaidOf s told clock_told k j c d sent u seat users before after → IsAnswered s told clock_told k j c d u seat users before after how
+answered_by s told clock_told k j c d u seat users before after Whole how is x = subst (λ (y : Progress). IsAnswered s told clock_told k j c d u seat users before after y) (sym is) x
+answered_by s told clock_told k j c d u seat users before after Sent_cut how is x = subst (λ (y : Progress). IsAnswered s told clock_told k j c d u seat users before after y) (sym is) x
+
+module _ (s : Contents) (told clock_told : Type 0) (k j : LinkState) (c d : List Moment) (u : Input) (seat : SeatAt) (users : UserSeatAt) (before after : Now) (a : Ask) (rows : List UserRow)
+    (x : IsAsked users (wants s before.attending.user u) (λ y. asks s before.attending.user y u) a rows after.users) where
+  -- the reply to what was asked behind what was heard
+  pub said_of : (sent : Sent) (tag : Option (List ℕ)) (reply : Reply) → tag ≡ tag_of u → IsReplied s told clock_told k j c d sent tag rows reply
+      → ((h : List Entry) → Saw seat.opening before.seen h → Acts seat.opening seat.place h before.attending a reply after.attending after.seen) → IsSaidOf s told clock_told k j c d sent u seat users before after
+  said_of sent tag reply tag_is said acts = record {
+    heard = x.heard;
+    behind = x.behind;
+    reply = reply;
+    said = subst (λ (w : Option (List ℕ) × List UserRow). IsReplied s told clock_told k j c d sent w.0 w.1 reply) (λ i. (tag_is i, x.rows_are i)) said;
+    acts = subst (λ (y : Ask). (h : List Entry) → Saw seat.opening before.seen h → Acts seat.opening seat.place h before.attending y reply after.attending after.seen) x.ask_is acts;
+  }
+
+  -- a stop at the table
+  pub stopped_of : ((h : List Entry) → Saw seat.opening before.seen h → Stops seat.opening seat.place h before.attending a after.attending after.seen) → IsStoppedAt s k k c c u seat users before after
+  stopped_of stops = record {
+    link = refl;
+    clock = refl;
+    stopped = inl (record {
+      heard = x.heard;
+      behind = x.behind;
+      stops = subst (λ (y : Ask). (h : List Entry) → Saw seat.opening before.seen h → Stops seat.opening seat.place h before.attending y after.attending after.seen) x.ask_is stops;
+    });
+  }
+
+-- a stop at the users
+pub unheard_of : (s : Contents) (k : LinkState) (c : List Moment) (u : Input) (seat : SeatAt) (users : UserSeatAt) (before after : Now) → IsUnasked users (wants s before.attending.user u) after.users → after.seen ≡ before.seen → after.attending ≡ before.attending → IsStoppedAt s k k c c u seat users before after
+unheard_of s k c u seat users before after x seen attending = record { link = refl; clock = refl; stopped = inr (record { unasked = x; seen = seen; attending = attending }) }
 
 -- what a call does to a session stands for the language and the seat that the session began with
-module _ {Shelf : Type 0} (value : Shelf → Contents) (told clock_told : Type 0) (j j2 : LinkState) (d d2 : List Moment) (now after : Now) (due : Bool) (r r2 : Reader) (how : Progress) (old new : Shelf) (was is_now : SeatAt) where
-  pub moved_goes : (ahead more : List ℕ) → new ≡ old → IsSameSeat was is_now
-      → ((k : LinkState) (c : List Moment) (b : Beginning) → IsAt b is_now → Stands (language (value new)) told clock_told k j c d b now due More r ahead → Goes (language (value new)) told clock_told k j2 c d2 b after how false r2 more)
-      → (k : LinkState) (c : List Moment) (b : Beginning) → IsAt b was → Stands (language (value old)) told clock_told k j c d b now due More r ahead → Goes (language (value old)) told clock_told k j2 c d2 b after how false r2 more
-  moved_goes ahead more shelf seat goes =
-      let there = subst (λ (s : Shelf). (k : LinkState) (c : List Moment) (b : Beginning) → IsAt b is_now → Stands (language (value s)) told clock_told k j c d b now due More r ahead → Goes (language (value s)) told clock_told k j2 c d2 b after how false r2 more) shelf goes in
-      λ k c b at s. there k c b (seat.0 ∙ at.0, seat.1 ∙ at.1) s
+module _ {Shelf : Type 0} (value : Shelf → Contents) (told clock_told : Type 0) (j j2 : LinkState) (d d2 : List Moment) (now after : Now) (due : Bool) (r r2 : Reader) (how : Progress) (old new : Shelf) (was is_now : SeatAt) (users_was users_now : UserSeatAt) where
+  pub moved_goes : (ahead more : List ℕ) → new ≡ old → IsSameSeat was is_now → IsSameUserSeat users_was users_now
+      → ((k : LinkState) (c : List Moment) (b : Beginning) → IsAt b is_now users_now → Stands (language (value new)) told clock_told k j c d b now due More r ahead → Goes (language (value new)) told clock_told k j2 c d2 b after how false r2 more)
+      → (k : LinkState) (c : List Moment) (b : Beginning) → IsAt b was users_was → Stands (language (value old)) told clock_told k j c d b now due More r ahead → Goes (language (value old)) told clock_told k j2 c d2 b after how false r2 more
+  moved_goes ahead more shelf seat users goes =
+      let there = subst (λ (s : Shelf). (k : LinkState) (c : List Moment) (b : Beginning) → IsAt b is_now users_now → Stands (language (value s)) told clock_told k j c d b now due More r ahead → Goes (language (value s)) told clock_told k j2 c d2 b after how false r2 more) shelf goes in
+      λ k c b at s. there k c b (seat.0 ∙ at.0, seat.1 ∙ at.1, users.0 ∙ at.2, users.1 ∙ at.3) s

@@ -10,11 +10,13 @@ pub mod Acted
 pub mod Walking
 pub mod Seating
 pub mod Reporting
+pub mod Consulted
 pub mod SessionSteps
 pub mod Answering
 pub mod Telling
 pub mod Playing
 pub mod Meanwhiles
 pub mod Once
+pub mod Hearings
 pub mod Completing
 pub mod Scripts

@@ -6,7 +6,7 @@ use Rattle.dxc_model.specs.declared.op.Change.{Change}
 use Rattle.dxc_model.specs.Tables.{Board}
 use Rattle.dxc_model.specs.Verdicts.{verdict}
 use Rattle.craft_session.specs.declared.ask.Ask.{Ask}
-use Rattle.craft_session.specs.declared.ask.Ask.TheVariants.{Refused, LogsIn, LogsOut, Greets, Allows, Inhibits, Lists, Restarts, Changes}
+use Rattle.craft_session.specs.declared.ask.Ask.TheVariants.{Refused, LogsIn, LogsOut, Completes, Allows, Inhibits, Lists, Restarts, Changes}
 use Rattle.craft_session.specs.Asks.{Language, Reply}
 use Rattle.craft_session.specs.Happenings.{Happening, unit, quiet}
 use Rattle.craft_session.specs.Notices.{AreReported, Notice, notices}
@@ -30,7 +30,7 @@ module _ {U M : Type 0} (l : Language U M) (limit : Limit) (F G : Excuse) (weake
   prepared_within (Refused q) a b x = x
   prepared_within (LogsIn u) a b x = x
   prepared_within LogsOut a b x = x
-  prepared_within Greets a b x = x
+  prepared_within Completes a b x = x
   prepared_within Allows a b x = x
   prepared_within Inhibits a b x = x
   prepared_within (Lists which) a b x = x
@@ -41,7 +41,7 @@ module _ {U M : Type 0} (l : Language U M) (limit : Limit) (F G : Excuse) (weake
   replies_within a (Refused q) r did x = x
   replies_within a (LogsIn u) r did x = x
   replies_within a LogsOut r did x = x
-  replies_within a Greets r did x = x
+  replies_within a Completes r did x = x
   replies_within a Allows r did x = x
   replies_within a Inhibits r did x = x
   replies_within a (Lists which) r did x = x
@@ -132,7 +132,7 @@ module _ {U M : Type 0} (l : Language U M) (limit : Limit) (once : (cs : List Ch
   prepared_once (Refused q) a b x = x
   prepared_once (LogsIn u) a b x = x
   prepared_once LogsOut a b x = x
-  prepared_once Greets a b x = x
+  prepared_once Completes a b x = x
   prepared_once Allows a b x = x
   prepared_once Inhibits a b x = x
   prepared_once (Lists which) a b x = x
@@ -143,7 +143,7 @@ module _ {U M : Type 0} (l : Language U M) (limit : Limit) (once : (cs : List Ch
   replied_once a b d (Refused p) r q x y = (x.0 ∙ sym y.0, x.1 ∙ sym y.1)
   replied_once a b d (LogsIn u) r q x y = (x.0 ∙ sym y.0, x.1 ∙ sym y.1)
   replied_once a b d LogsOut r q x y = (x.0 ∙ sym y.0, x.1 ∙ sym y.1)
-  replied_once a b d Greets r q x y = (x.0 ∙ sym y.0, x.1 ∙ sym y.1)
+  replied_once a b d Completes r q x y = (x.0 ∙ sym y.0, x.1 ∙ sym y.1)
   replied_once a b d Allows r q x y = (x.0 ∙ sym y.0, x.1 ∙ sym y.1)
   replied_once a b d Inhibits r q x y = (x.0 ∙ sym y.0, x.1 ∙ sym y.1)
   replied_once a b d (Lists which) r q x y = (x.0 ∙ sym y.0, x.1 ∙ sym y.1)

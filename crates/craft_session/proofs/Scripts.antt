@@ -21,28 +21,39 @@ use Rattle.dxc_model.specs.Steps.{IsFault, IsLimit, StepsTo}
 use Rattle.dxc_model.specs.Histories.{GoesOn, IsCut, IsFailedRestart, IsLegal, IsRestarted, IsRestartDue, KeepsTurns, Rules, table_after}
 use Rattle.dxc_model.proofs.Lasting.{lasts_before, lasts_no_more}
 use Rattle.tl1_text.specs.Units.{Input, IsRest, IsStream}
+use Rattle.user_admin.specs.declared.op.UserEntry.{UserEntry}
+use Rattle.user_admin.specs.declared.state.UserState.{UserState}
+use Rattle.user_admin.specs.Histories.{Opening as UsersOpening}
+use Rattle.user_admin.specs.Openings.{Begins as UsersBegins}
+use Rattle.user_admin.specs.States.{opening_of as users_opening}
+use Rattle.user_admin.specs.Turns.{AreNumbered as AreUsersNumbered, codes as user_codes}
+use Rattle.dxc_model.specs.declared.user.SessionUser.{SessionUser}
 use Rattle.shelf_file.specs.Contents.{Contents}
+use base.Stored.{Gv}
 use Rattle.xc_core.specs.Seeing.{Saw, codes, entry}
+use Rattle.xc_core.proofs.Began.{seen_all}
 use Rattle.xc_core.specs.declared.state.State.{State}
 use Rattle.xc_core.specs.Openings.{Begins, disk_home}
 use Rattle.xc_core.specs.States.{IsPaid, LimitBehind, Opening, cost, fault_in, faults_in, IsNeverAstray, most_room, opening_of, room_in, rules_of}
 use Rattle.xc_core.specs.Turns.{AreNumbered, SawNoneAstray}
 use Rattle.craft_session.specs.declared.ask.Ask.{Ask}
-use Rattle.craft_session.specs.declared.ask.Ask.TheVariants.{Refused, LogsIn, LogsOut, Greets, Allows, Inhibits, Lists, Restarts, Changes}
+use Rattle.craft_session.specs.declared.ask.Ask.TheVariants.{Refused, LogsIn, LogsOut, Completes, Allows, Inhibits, Lists, Restarts, Changes}
 use Rattle.craft_session.specs.declared.end.SessionEnd.{SessionEnd}
 use Rattle.craft_session.specs.declared.end.SessionEnd.TheVariants.{End, ReadFault, WriteFault, Stopped, Spent}
-use Rattle.craft_session.specs.Asks.{Language, Reply}
-use Rattle.craft_session.specs.Happenings.{unit, bytes_in, units_in}
+use Rattle.craft_session.specs.Asks.{Language, Reply, user_after}
+use Rattle.craft_session.specs.Happenings.{Happening, Request, unit, bytes_in, inputs_in, units_in}
 use Rattle.craft_session.specs.Meanings.{language}
+use Rattle.craft_session.specs.PlainUsers.{ConsultsAlone, IsUsersOpeningOf, users_opening_room}
 use Rattle.craft_session.specs.Plain.{Excuse, Plays, alone, said_in, standing}
 use Rattle.craft_session.specs.Runs.{Run, Walk, begins, passes, responds, waits, looks}
-use Rattle.craft_session.specs.Scripts.{Answered, AnsweredInPart, AnsweredToStop, IsEnded, IsOpeningOf, IsOwn, IsOwnHistory, IsScript, IsUnsoundBy, WroteAll, command_room, excused_on, opened, opening_room, room_of}
-use Rattle.craft_session.specs.Seats.{SeatAt}
-use Rattle.craft_session.specs.Sessions.{Beginning, CutPast, IsServed, IsSession, Now, Past, Served, StopPast}
+use Rattle.craft_session.specs.Scripts.{Answered, AnsweredInPart, AnsweredToStop, AnsweredToUsersStop, IsEnded, IsOpeningOf, IsOwn, IsOwnHistory, IsScript, IsUnsoundBy, WroteAll, command_room, excused_on, opened, opening_room, room_of}
+use Rattle.craft_session.specs.Seats.{SeatAt, UserSeatAt}
+use Rattle.craft_session.specs.Sessions.{Beginning, Consulted, CutPast, IsServed, IsSession, IsStoppedAtTable, IsStoppedAtUsers, Now, Past, Served, StopPast}
 use Rattle.craft_session.specs.Walks.{ChangeReply, IsUnused, Mends, RestartReply, Serves}
 use Rattle.craft_session.proofs.Meanwhiles.{alone_keeps, alone_onward, alone_passed, own_doubts, own_excuse, taken_here}
 use Rattle.craft_session.proofs.Playing.{Played, Something, all_played, each_front, each_last, fits_last, played}
-use Rattle.craft_session.proofs.Streams.{rest_none, stream_of, units_in-append, units_in-quiet}
+use Rattle.craft_session.proofs.Hearings.{consults_alone}
+use Rattle.craft_session.proofs.Streams.{inputs_in-append, rest_none, stream_of, units_in-append, units_in-quiet}
 
 each_both : {X : Type 0} (P Q R : X → Type 0) → ((x : X) → P x → Q x → R x) → (xs : List X) → AllByRecursion P xs → AllByRecursion Q xs → AllByRecursion R xs
 each_both P Q R f [] p q = tt
@@ -113,7 +124,7 @@ served_allowed : (own : ℕ) (t : Board) (h : List Entry) (k : Ask) (es : List E
 served_allowed own t h (Refused q) es r x = none_allowed own es x.0
 served_allowed own t h (LogsIn u) es r x = none_allowed own es x.0
 served_allowed own t h LogsOut es r x = none_allowed own es x.0
-served_allowed own t h Greets es r x = none_allowed own es x.0
+served_allowed own t h Completes es r x = none_allowed own es x.0
 served_allowed own t h Allows es r x = one_allowed own es _ outcome.Answered x.0 tt
 served_allowed own t h Inhibits es r x = none_allowed own es x.0
 served_allowed own t h (Lists which) es r x = one_allowed own es _ outcome.Answered x.0 tt
@@ -178,7 +189,7 @@ served_costs : (own : ℕ) (t : Board) (h : List Entry) (k : Ask) (es : List Ent
 served_costs own t h (Refused q) es r x mine = none_costs es x.0
 served_costs own t h (LogsIn u) es r x mine = none_costs es x.0
 served_costs own t h LogsOut es r x mine = none_costs es x.0
-served_costs own t h Greets es r x mine = none_costs es x.0
+served_costs own t h Completes es r x mine = none_costs es x.0
 served_costs own t h Allows es r x mine = one_costs own es _ outcome.Answered x.0
 served_costs own t h Inhibits es r x mine = none_costs es x.0
 served_costs own t h (Lists which) es r x mine = one_costs own es _ outcome.Answered x.0
@@ -192,9 +203,9 @@ served_costs own t h (Changes op) es r x mine =
     let same = ap room_in x.all in
     omega (arith, front, few, more, same)
 
-module _ (l : Language Input Moment) (own : ℕ) (t : Board) where
+module _ (l : Language Request Moment) (own : ℕ) (t : Board) where
   -- the entries are of units that were answered
-  run_allowed : (w : Walk Input Moment) → Run l own t [] w → AllByRecursion (Allows_own own) w.history
+  run_allowed : (w : Walk Request Moment) → Run l own t [] w → AllByRecursion (Allows_own own) w.history
   run_allowed _ begins = tt
   run_allowed _ (passes w e unused run) = each_join (Allows_own own) w.history (e ∷ []) (run_allowed w run) (unused_allowed own e unused, tt)
   run_allowed _ (responds w u m es r none serves run) = each_join (Allows_own own) w.history es (run_allowed w run) (served_allowed own t w.history (l.asks w.attending.user u) es r serves)
@@ -202,7 +213,7 @@ module _ (l : Language Input Moment) (own : ℕ) (t : Board) where
   run_allowed _ (looks w cursor ms bytes due watch said run) = each_join (Allows_own own) w.history (entry own (Look cursor) outcome.Answered ∷ []) (run_allowed w run) ((λ _. tt), tt)
 
   -- and took no more room than so many commands
-  run_costs : (w : Walk Input Moment) → Run l own t [] w → AllByRecursion (λ e. e.place ≡ own) w.history → room_in w.history ≤ command_room * length (units_in w.happenings)
+  run_costs : (w : Walk Request Moment) → Run l own t [] w → AllByRecursion (λ e. e.place ≡ own) w.history → room_in w.history ≤ command_room * length (units_in w.happenings)
   run_costs _ begins mine = omega arith
   run_costs _ (passes w e unused run) mine =
       let so_far = run_costs w run (each_front (λ (x : Entry). x.place ≡ own) w.history (e ∷ []) mine) in
@@ -257,7 +268,7 @@ all_known own disk_told r h legal mine allowed never =
     each_both (λ (e : Entry). ((e.place ≡ own) × IsAllowed e.outcome) × (((q : Cause) → e.outcome ≡ Failed q → IsLimit q ⊎ IsFault q) × (e.outcome ≡ Failed DiskFault → 1 ≤ faults_in h))) (λ e. disk_told → e.outcome ≢ Failed JournalAstray) (IsKnown own disk_told (faults_in h))
     (λ e x y. record { mine = x.0.0; allowed = x.0.1; fails = x.1.0; counted = x.1.1; never = y }) h both (each_under (λ (e : Entry). e.outcome ≢ Failed JournalAstray) h never)
 
-module _ (disk_told : Type 0) (disk : DiskState) (own : ℕ) (o : Opening) (is : IsOpeningOf disk o) where
+module _ (disk_told : Type 0) (disk users_disk : DiskState) (own : ℕ) (o : Opening) (p : UsersOpening) (is : IsOpeningOf disk o) (users_is : IsUsersOpeningOf users_disk p) where
   -- each failed operation lowered the margin
   few : (n : ℕ) (h : List Entry) → IsPaid o h → room_in h ≤ command_room * n → room_of n < disk.room → faults_in h ≤ disk.margin
   few n h paid costs roomy =
@@ -271,10 +282,10 @@ module _ (disk_told : Type 0) (disk : DiskState) (own : ℕ) (o : Opening) (is :
     unsound : 1 ≤ faults_in h → IsUnsoundBy disk.margin disk.room n
     unsound one margin roomy = let fell = few n h paid costs roomy in absurd (omega (arith, fell, one, margin))
 
-    excuse_of : (q : Cause) → (q ≡ DiskFault → 1 ≤ faults_in h) → (disk_told → q ≢ JournalAstray) → IsFault q → excused_on disk_told disk own o n q
+    excuse_of : (q : Cause) → (q ≡ DiskFault → 1 ≤ faults_in h) → (disk_told → q ≢ JournalAstray) → IsFault q → excused_on disk_told disk users_disk own o p n q
     excuse_of q counted never fault = elim fault [ inl d ↦ inl (d, unsound (counted d)) | inr a ↦ inr (a, λ told. never told a) ]
 
-    ended : (x : Outcome) → IsAllowed x → ((q : Cause) → x ≡ Failed q → IsLimit q ⊎ IsFault q) → (x ≡ Failed DiskFault → 1 ≤ faults_in h) → (disk_told → x ≢ Failed JournalAstray) → IsEnded (excused_on disk_told disk own o n) x
+    ended : (x : Outcome) → IsAllowed x → ((q : Cause) → x ≡ Failed q → IsLimit q ⊎ IsFault q) → (x ≡ Failed DiskFault → 1 ≤ faults_in h) → (disk_told → x ≢ Failed JournalAstray) → IsEnded (excused_on disk_told disk users_disk own o p n) x
     ended (Done c) allowed fails counted never = tt
     ended (Denied q) allowed fails counted never = tt
     ended (Failed q) allowed fails counted never = elim (fails q refl) [
@@ -286,21 +297,21 @@ module _ (disk_told : Type 0) (disk : DiskState) (own : ℕ) (o : Opening) (is :
     ended Cut allowed fails counted never = absurd allowed
     ended Taken allowed fails counted never = tt
 
-    known_own : (e : Entry) → IsKnown own disk_told (faults_in h) e → IsOwn own (excused_on disk_told disk own o n) e
+    known_own : (e : Entry) → IsKnown own disk_told (faults_in h) e → IsOwn own (excused_on disk_told disk users_disk own o p n) e
     known_own e k = record { mine = k.mine; ended = ended e.outcome k.allowed k.fails k.counted k.never }
 
-    own_history : IsLegal (rules_of o) h → KeepsTurns None h → AllByRecursion (λ e. e.place ≡ own) h → AllByRecursion (Allows_own own) h → (disk_told → IsNeverAstray h) → IsOwnHistory disk_told disk own o n h
+    own_history : IsLegal (rules_of o) h → KeepsTurns None h → AllByRecursion (λ e. e.place ≡ own) h → AllByRecursion (Allows_own own) h → (disk_told → IsNeverAstray h) → IsOwnHistory disk_told disk users_disk own o p n h
     own_history legal turns mine allowed never = record {
       legal = legal;
       turns = turns;
-      own = each_both (IsKnown own disk_told (faults_in h)) (λ e. Unit {0}) (IsOwn own (excused_on disk_told disk own o n)) (λ e k _. known_own e k) h (all_known own disk_told (rules_of o) h legal mine allowed never) (each_any h);
+      own = each_both (IsKnown own disk_told (faults_in h)) (λ e. Unit {0}) (IsOwn own (excused_on disk_told disk users_disk own o p n)) (λ e k _. known_own e k) h (all_known own disk_told (rules_of o) h legal mine allowed never) (each_any h);
       few = few n h paid costs;
     }
 
   -- a run whose entries are the place's is the plain session's
-  module _ (l : Language Input Moment) (n : ℕ) (w : Walk Input Moment) (run : Run l own o.first.fold.table [] w) (history : IsOwnHistory disk_told disk own o n w.history) where
+  module _ (l : Language Request Moment) (n : ℕ) (w : Walk Request Moment) (run : Run l own o.first.fold.table [] w) (history : IsOwnHistory disk_told disk users_disk own o p n w.history) where
     abbrev excused : Excuse
-    excused = excused_on disk_told disk own o n
+    excused = excused_on disk_told disk users_disk own o p n
 
     played_alone : Played l (rules_of o) own excused alone (IsOwn own excused) (λ a. refl) alone_onward alone_keeps (alone_passed own excused o.first.fold.table) (own_excuse own excused) (own_doubts own excused o.first.fold.table) [] w
     played_alone = played l (rules_of o) own excused alone (IsOwn own excused) (λ a. refl) alone_onward alone_keeps (alone_passed own excused o.first.fold.table) (own_excuse own excused) (own_doubts own excused o.first.fold.table) [] w run history.legal history.own
@@ -311,117 +322,168 @@ module _ (disk_told : Type 0) (disk : DiskState) (own : ℕ) (o : Opening) (is :
     some_alone : w.happenings ≢ [] → Something l (LimitBehind o.first) excused alone (opened o) (standing o.first.fold.table w.history w.attending) w
     some_alone some = elim played_alone [ inl x ↦ absurd (some x.happenings) | inr x ↦ x ]
 
-  module _ (told clock_told : Type 0) (k l : LinkState) (c d : List Moment) (s : Contents) (now : Now) (mine : (h : List Entry) → now.seen ≡ codes h → AllByRecursion (λ e. e.place ≡ own) h) (never : SawNoneAstray disk_told now.seen) where
+  module _ (told clock_told : Type 0) (k l : LinkState) (c d : List Moment) (s : Contents) (now : Now) (mine : (h : List Entry) → now.seen ≡ codes h → AllByRecursion (λ e. e.place ≡ own) h) (never : SawNoneAstray disk_told now.seen)
+      (mine_users : (h : List UserEntry) → now.users ≡ user_codes h → AllByRecursion (λ e. e.place ≡ own) h) where
     abbrev b : Beginning
-    b = record { opening = o; place = own; before = [] }
+    b = record { opening = o; users = p; place = own; before = []; users_before = [] }
 
-    abbrev commands : Walk Input Moment → ℕ
+    saw_all : (seen : List Gv) (h : List Entry) → Saw o seen h → seen ≡ codes h
+    saw_all seen h saw = seen_all o seen h is.ready saw
+
+    abbrev commands : Walk Request Moment → ℕ
     commands w = length (units_in w.happenings)
 
-    history_of : (w : Walk Input Moment) → Run (language s) own o.first.fold.table [] w → Saw o now.seen w.history → IsOwnHistory disk_told disk own o (commands w) w.history
+    history_of : (w : Walk Request Moment) → Run (language s) own o.first.fold.table [] w → Saw o now.seen w.history → IsOwnHistory disk_told disk users_disk own o p (commands w) w.history
     history_of w run saw =
-        let here = mine w.history saw.codes_are in
-        own_history (commands w) w.history saw.history.paid (run_costs (language s) own o.first.fold.table w run here) saw.history.legal saw.history.turns here (run_allowed (language s) own o.first.fold.table w run) (λ t. never t w.history saw.codes_are)
+        let here = mine w.history (saw_all now.seen w.history saw) in
+        own_history (commands w) w.history saw.history.paid (run_costs (language s) own o.first.fold.table w run here) saw.history.legal saw.history.turns here (run_allowed (language s) own o.first.fold.table w run) (λ t. never t w.history (saw_all now.seen w.history saw))
 
-    answered : (items : List Item) (rest out : List ℕ) → IsRest rest → Past (language s) clock_told c d b now false items rest out → Answered disk_told disk own o clock_told c d s items out
-    answered items rest out no_unit p =
-        let history = history_of p.walk p.run p.saw in
+    -- what was heard of the users
+    asked_alone : (hs : List (Happening Request)) (user : SessionUser) → Consulted (language s) b now.users hs user → ConsultsAlone (language s) users_disk own p (length (units_in hs)) hs user
+    asked_alone hs user c = consults_alone (language s) users_disk own p users_is hs c.history user c.heard c.saw.history (mine_users c.history c.saw.codes_are)
+
+    answered : (items : List Item) (rest out : List ℕ) → IsRest rest → Past (language s) clock_told c d b now false items rest out → Answered disk_told disk users_disk own o p clock_told c d s items out
+    answered items rest out no_unit q =
+        let history = history_of q.walk q.run q.saw in
         record {
-          walk = p.walk;
+          walk = q.walk;
           rest = rest;
-          happened = p.happened;
-          read = stream_of items p.walk.happenings rest p.happened no_unit;
-          gave = p.gave;
-          run = p.run;
+          happened = q.happened;
+          read = stream_of items q.walk.happenings rest q.happened no_unit;
+          gave = q.gave;
+          run = q.run;
           history = history;
-          written = p.written;
-          plays = plays_alone (language s) (commands p.walk) p.walk p.run history p.looked;
+          consulted = asked_alone q.walk.happenings q.walk.attending.user q.consulted;
+          written = q.written;
+          plays = plays_alone (language s) (commands q.walk) q.walk q.run history q.looked;
         }
 
-    in_part : (items : List Item) (out : List ℕ) → CutPast (language s) clock_told c d b now items out → AnsweredInPart disk_told disk own o clock_told c d s items out
-    in_part items out p =
-        let history = history_of p.walk p.run p.saw in
-        let x = some_alone (language s) (commands p.walk) p.walk p.run history p.some in
+    in_part : (items : List Item) (out : List ℕ) → CutPast (language s) clock_told c d b now items out → AnsweredInPart disk_told disk users_disk own o p clock_told c d s items out
+    in_part items out q =
+        let history = history_of q.walk q.run q.saw in
+        let x = some_alone (language s) (commands q.walk) q.walk q.run history q.some in
         record {
-          walk = p.walk;
-          rest = p.rest;
+          walk = q.walk;
+          rest = q.rest;
           front = x.front;
           last = x.last;
           all = x.happenings;
-          happened = p.happened;
-          read = stream_of items p.walk.happenings p.rest p.happened p.no_unit;
-          moments = p.moments;
-          untaken = p.untaken;
-          taken = p.taken;
-          gave = p.gave;
-          run = p.run;
+          happened = q.happened;
+          read = stream_of items q.walk.happenings q.rest q.happened q.no_unit;
+          moments = q.moments;
+          untaken = q.untaken;
+          taken = q.taken;
+          gave = q.gave;
+          run = q.run;
           history = history;
+          consulted = asked_alone q.walk.happenings q.walk.attending.user q.consulted;
           earlier = x.earlier;
           latest = x.latest;
           took = x.moments;
           plays = x.plays;
-          part = p.part;
-          missing = p.missing;
-          split = sym x.latest_is ∙ p.split;
-          written = p.written ∙ ap (λ (y : List ℕ). y ++ p.part) x.earlier_is;
+          part = q.part;
+          missing = q.missing;
+          split = sym x.latest_is ∙ q.split;
+          written = q.written ∙ ap (λ (y : List ℕ). y ++ q.part) x.earlier_is;
         }
 
-    to_stop : (items : List Item) (out : List ℕ) → StopPast (language s) clock_told c d b now items out → AnsweredToStop disk_told disk own o clock_told c d s items out
-    to_stop items out p =
-        let w = p.walk in
-        let x = p.stops in
+    read_to_last : {out : List ℕ} (items : List Item) (q : StopPast (language s) clock_told c d b now items out) → IsStream (bytes_in items) (inputs_in q.walk.happenings ++ q.last.input ∷ []) []
+    read_to_last items q = subst (λ (us : List Input). IsStream (bytes_in items) us []) (inputs_in-append q.walk.happenings (unit q.last ∷ [])) (stream_of items (q.walk.happenings ++ unit q.last ∷ []) [] q.happened rest_none)
+
+    -- a stop cut the last unit's command at the table
+    to_stop : (items : List Item) (out : List ℕ) (q : StopPast (language s) clock_told c d b now items out) → IsStoppedAtTable (language s) b now q.walk q.last → AnsweredToStop disk_told disk users_disk own o p clock_told c d s items out
+    to_stop items out q y =
+        let w = q.walk in
+        let x = y.stops in
         let g = w.history ++ x.front in
         let e = entry own x.op Cut in
-        let all = mine (g ++ e ∷ []) x.saw.codes_are in
+        let all_seen = saw_all now.seen (g ++ e ∷ []) x.saw in
+        let all = mine (g ++ e ∷ []) all_seen in
         let here = each_front (λ (y : Entry). y.place ≡ own) w.history x.front (each_front (λ (y : Entry). y.place ≡ own) g (e ∷ []) all) in
-        let never_here : disk_told → IsNeverAstray w.history = λ t. each_front (λ (y : Entry). y.outcome ≢ Failed JournalAstray) w.history x.front (each_front (λ (y : Entry). y.outcome ≢ Failed JournalAstray) g (e ∷ []) (never t (g ++ e ∷ []) x.saw.codes_are)) in
-        let history = own_history (commands w) w.history p.history.paid (run_costs (language s) own o.first.fold.table w p.run here) p.history.legal p.history.turns here (run_allowed (language s) own o.first.fold.table w p.run) never_here in
+        let never_here : disk_told → IsNeverAstray w.history = λ t. each_front (λ (y : Entry). y.outcome ≢ Failed JournalAstray) w.history x.front (each_front (λ (y : Entry). y.outcome ≢ Failed JournalAstray) g (e ∷ []) (never t (g ++ e ∷ []) all_seen)) in
+        let history = own_history (commands w) w.history q.history.paid (run_costs (language s) own o.first.fold.table w q.run here) q.history.legal q.history.turns here (run_allowed (language s) own o.first.fold.table w q.run) never_here in
         record {
           walk = w;
-          last = p.last;
+          last = q.last;
           op = x.op;
           in_front = x.front;
-          happened = p.happened;
-          read = subst (λ (us : List Input). IsStream (bytes_in items) us []) (units_in-append w.happenings (unit p.last ∷ [])) (stream_of items (w.happenings ++ unit p.last ∷ []) [] p.happened rest_none);
-          gave = p.gave;
-          run = p.run;
+          happened = q.happened;
+          read = read_to_last items q;
+          gave = q.gave;
+          run = q.run;
           history = history;
+          consulted = asked_alone (w.happenings ++ unit q.last ∷ []) (user_after w.attending.user ((language s).asks w.attending.user q.last)) y.consulted;
           mends = x.stands;
           cuts = x.cuts;
           legal = x.saw.history.legal;
-          written = p.written;
-          plays = plays_alone (language s) (commands w) w p.run history p.looked;
+          written = q.written;
+          plays = plays_alone (language s) (commands w) w q.run history q.looked;
           under_way = (fits_last (rules_of o) g e x.saw.history.legal).step.0;
         }
 
-    wrote_all : Served (language s) told clock_told k l c d b now → WroteAll disk_told disk own o clock_told c d s told k l
+    -- or at the users
+    to_users_stop : (items : List Item) (out : List ℕ) (q : StopPast (language s) clock_told c d b now items out) → IsStoppedAtUsers (language s) b now q.walk q.last → AnsweredToUsersStop disk_told disk users_disk own o p clock_told c d s items out
+    to_users_stop items out q y =
+        let w = q.walk in
+        let history = history_of w q.run y.saw in
+        record {
+          walk = w;
+          last = q.last;
+          op = y.op;
+          happened = q.happened;
+          read = read_to_last items q;
+          gave = q.gave;
+          run = q.run;
+          history = history;
+          consulted = asked_alone w.happenings w.attending.user y.consulted;
+          wanted = y.wanted;
+          changing = y.changing;
+          written = q.written;
+          plays = plays_alone (language s) (commands w) w q.run history q.looked;
+        }
+
+    stopped : (items : List Item) (out : List ℕ) (q : StopPast (language s) clock_told c d b now items out) → AnsweredToStop disk_told disk users_disk own o p clock_told c d s items out ⊎ AnsweredToUsersStop disk_told disk users_disk own o p clock_told c d s items out
+    stopped items out q = elim q.stopped [ inl y ↦ inl (to_stop items out q y) | inr y ↦ inr (to_users_stop items out q y) ]
+
+    wrote_all : Served (language s) told clock_told k l c d b now → WroteAll disk_told disk users_disk own o p clock_told c d s told k l
     wrote_all x = record { items = x.items; out = x.out; exchanged = x.exchanged; answered = answered x.items x.rest x.out x.no_unit x.past }
 
-    scripted : (end : SessionEnd) → IsSession (language s) told clock_told k l c d b now end → IsScript disk_told disk own o clock_told c d s told k l end
+    scripted : (end : SessionEnd) → IsSession (language s) told clock_told k l c d b now end → IsScript disk_told disk users_disk own o p clock_told c d s told k l end
     scripted End x = wrote_all x
     scripted ReadFault x = wrote_all x
     scripted Spent x = wrote_all x
     scripted WriteFault x = record { items = x.items; ahead = x.ahead; out = x.out; exchanged = x.exchanged; answered = in_part x.items x.out x.past; rose = x.rose }
-    scripted Stopped x = record { items = x.items; ahead = x.ahead; out = x.out; exchanged = x.exchanged; answered = to_stop x.items x.out x.past }
+    scripted Stopped x = record { items = x.items; ahead = x.ahead; out = x.out; exchanged = x.exchanged; answered = stopped x.items x.out x.past }
 
 no_codes : (h : List Entry) → codes h ≡ [] → h ≡ []
 no_codes [] is = refl
 no_codes (e ∷ es) is = cc
 
--- What the one session of a turnstile with one pass wrote, on the opening of a disk.
-pub script_of : (disk_told told clock_told : Type 0) (disk : DiskState) (k l : LinkState) (c d : List Moment) (s : Contents) (old new : SeatAt) (end : SessionEnd) → IsOpeningOf disk old.opening → old.seen ≡ [] → old.place ≡ 0 → new.places ≡ 1 → AreNumbered new.places new.seen
-    → SawNoneAstray disk_told new.seen → IsServed (language s) told clock_told k l c d old new end → IsScript disk_told disk old.place old.opening clock_told c d s told k l end
-script_of disk_told told clock_told disk k l c d s old new end is none zero one numbers never (before, saw, (attending, ran)) =
-    let nothing : before ≡ [] = no_codes before (sym saw.codes_are ∙ none) in
-    let now : Now = record { seen = new.seen; attending = attending } in
+no_user_codes : (h : List UserEntry) → user_codes h ≡ [] → h ≡ []
+no_user_codes [] is = refl
+no_user_codes (e ∷ es) is = cc
+
+users_mine : (own : ℕ) → own ≡ 0 → (h : List UserEntry) → Each (λ e. e.place < 1) h → AllByRecursion (λ e. e.place ≡ own) h
+users_mine own zero [] a = tt
+users_mine own zero (e ∷ es) a = (omega (arith, zero, a.0), users_mine own zero es a.1)
+
+-- What the one session of turnstiles with one pass wrote, on the openings of two disks.
+pub script_of : (disk_told told clock_told : Type 0) (disk users_disk : DiskState) (k l : LinkState) (c d : List Moment) (s : Contents) (old new : SeatAt) (users then_users : UserSeatAt) (end : SessionEnd) → IsOpeningOf disk old.opening → IsUsersOpeningOf users_disk users.opening
+    → old.seen ≡ [] → users.seen ≡ [] → old.place ≡ 0 → users.place ≡ 0 → new.places ≡ 1 → then_users.places ≡ 1 → AreNumbered new.places new.seen → AreUsersNumbered then_users.places then_users.seen
+    → SawNoneAstray disk_told new.seen → IsServed (language s) told clock_told k l c d old new users then_users end → IsScript disk_told disk users_disk old.place old.opening users.opening clock_told c d s told k l end
+script_of disk_told told clock_told disk users_disk k l c d s old new users then_users end is users_is none no_users zero users_zero one users_one numbers users_numbers never x =
+    let nothing : x.before ≡ [] = no_codes x.before (sym (seen_all old.opening old.seen x.before is.ready x.saw) ∙ none) in
+    let no_user : x.users_before ≡ [] = no_user_codes x.users_before (sym x.users_saw.codes_are ∙ no_users) in
+    let now : Now = record { seen = new.seen; users = then_users.seen; attending = x.attending } in
     let mine = λ (h : List Entry) (is_codes : new.seen ≡ codes h). mine_of old.place zero h (subst (λ (n : ℕ). Each (λ e. e.place < n) h) one (numbers h is_codes)) in
-    scripted disk_told disk old.place old.opening is told clock_told k l c d s now mine never end
-    (subst (λ (h : List Entry). IsSession (language s) told clock_told k l c d (record { opening = old.opening; place = old.place; before = h }) now end) nothing ran)
+    let mine_users = λ (h : List UserEntry) (is_codes : then_users.seen ≡ user_codes h). users_mine old.place zero h (subst (λ (n : ℕ). Each (λ e. e.place < n) h) users_one (users_numbers h is_codes)) in
+    scripted disk_told disk users_disk old.place old.opening users.opening is users_is told clock_told k l c d s now mine never mine_users end
+    (subst (λ (h : List Entry × List UserEntry). IsSession (language s) told clock_told k l c d (record { opening = old.opening; users = users.opening; place = old.place; before = h.0; users_before = h.1 }) now end) (λ i. (nothing i, no_user i)) x.session)
 
 -- an opening of a disk is one, by what the call tells of the disk that the state has at home
 pub opening_of_disk : {D : Type 0} (told failed : Type 0) (state : D → DiskState) → ((x : D) → CountsOn (state x)) → (disk : D) (s : State D) → Begins told state s → IfSome (disk_home s.home) (λ d. HasCause (state disk).faults (state d).faults failed) → IfSome (disk_home s.home) (λ d. Spends opening_room (state disk) (state d))
-    → IsOpeningOf (state disk) (opening_of state s)
-opening_of_disk {D} told failed state counts disk s x cause spends =
+    → (opening_of state s).due ≡ false → IsOpeningOf (state disk) (opening_of state s)
+opening_of_disk {D} told failed state counts disk s x cause spends ready =
     let d = x.disk in
     let caused = subst (λ (y : Option D). IfSome y (λ d2. HasCause (state disk).faults (state d2).faults failed)) x.is_home cause in
     let spent = subst (λ (y : Option D). IfSome y (λ d2. Spends opening_room (state disk) (state d2))) x.is_home spends in
@@ -430,5 +492,18 @@ opening_of_disk {D} told failed state counts disk s x cause spends =
       later = omega (arith, caused.later, x.faults);
       room = λ roomy. let left = (spent roomy).room in omega (arith, left, x.room);
       margin = λ roomy. let left = (spent roomy).margin in omega (arith, left, x.faults, x.margin);
+      counts = λ some. let below = on (omega (arith, some, x.room)) in omega (arith, below, x.faults);
+      ready = ready;
+    }
+
+-- and so is one of a users' disk
+pub users_opening_of_disk : {D : Type 0} (told failed : Type 0) (state : D → DiskState) → ((x : D) → CountsOn (state x)) → (disk : D) (s : UserState D) → UsersBegins told state s → HasCause (state disk).faults (state s.journal.0).faults failed → Spends users_opening_room (state disk) (state s.journal.0)
+    → IsUsersOpeningOf (state disk) (users_opening state s)
+users_opening_of_disk {D} told failed state counts disk s x cause spends =
+    let on = counts s.journal.0 in
+    record {
+      later = omega (arith, cause.later, x.faults);
+      room = λ roomy. let left = (spends roomy).room in omega (arith, left, x.room);
+      margin = λ roomy. let left = (spends roomy).margin in omega (arith, left, x.faults, x.margin);
       counts = λ some. let below = on (omega (arith, some, x.room)) in omega (arith, below, x.faults);
     }

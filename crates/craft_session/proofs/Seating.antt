@@ -1,5 +1,6 @@
 -- A seat after one of its turns.
-use Rattle.std.proofs.Common.{◌≡◌, ◌≢◌, ℕ, List, [], ◌∷◌, ◌++◌, refl, sym, ◌∙◌, subst, inl, inr}
+use Rattle.std.proofs.Common.{◌≡◌, ◌≢◌, ℕ, List, [], ◌∷◌, ◌++◌, Option, Result, Ok, Err, refl, sym, ◌∙◌, subst, inl, inr}
+use Rattle.std.specs.Prelude.{MatchResult}
 use base.Stored.{Gv}
 use Rattle.turnstile.specs.Passing.{Gate, Token}
 use Rattle.dxc_disk.specs.Disks.{DiskState}
@@ -18,7 +19,18 @@ use Rattle.xc_core.proofs.Turning.{rests_now}
 use Rattle.craft_session.specs.declared.change.Changed.{Changed}
 use Rattle.craft_session.specs.declared.change.Changed.TheVariants.{Done, Denied, Stopped}
 use Rattle.craft_session.specs.Changing.{ChangedIs, MendedTo, Passed, WarmRestartIs}
-use Rattle.craft_session.specs.Seats.{IsSeated}
+use Rattle.craft_session.specs.Seats.{IsSeated, IsUserSeated}
+use Rattle.user_admin.specs.declared.op.UserEntry.{UserEntry}
+use Rattle.user_admin.specs.declared.op.UserOp.{UserOp}
+use Rattle.user_admin.specs.declared.op.UserOp.TheVariants as user_op
+use Rattle.user_admin.specs.declared.op.UserOutcome.TheVariants as user_outcome
+use Rattle.user_admin.specs.declared.op.UserRow.{UserRow}
+use Rattle.user_admin.specs.declared.state.UserState.{UserState}
+use Rattle.user_admin.specs.declared.turns.UserTook.{UserTook}
+use Rattle.user_admin.specs.declared.turns.UserTook.TheVariants as took
+use Rattle.user_admin.specs.Histories.{Opening as UsersOpening}
+use Rattle.user_admin.specs.States.{entry as user_entry, opening_of as users_opening, refused as user_refused}
+use Rattle.user_admin.specs.Turns.{HasPass as HasUsersPass, RowsAre, RowsDenied, Saw as SawUsers, TookIs, Turned as UsersTurned}
 
 -- what was seen ends with an entry of the place's own, by which it didn't take the Provisioner
 pub record Ended (o : Opening) (own : ℕ) (seen : List Gv) : Type 0 where
@@ -66,3 +78,25 @@ module _ {D : Type 0} (told : Type 0) (state : D → DiskState) where
   seated_on p q t u i is seat pass number end never =
       let there = subst (λ (x : Gate (State D)). IsSeated told state p x i) (sym is) seat in
       subst (λ (x : Gate (State D)). IsSeated told state q x i) is (pass, there.1, (end.before ++ end.last ∷ [], end.saw, rests_now q.number end.before end.last (end.mine ∙ sym number) end.settled), never)
+
+-- a seat at the users after one of its turns
+module _ {U : Type 0} (state : U → DiskState) where
+  pub users_saw_there : (p : Token) (t u : Gate (UserState U)) (h : List UserEntry) → u ≡ t → SawUsers (users_opening state t.first) p.seen h → SawUsers (users_opening state u.first) p.seen h
+  users_saw_there p t u h is saw = subst (λ (x : Gate (UserState U)). SawUsers (users_opening state x.first) p.seen h) (sym is) saw
+
+  -- what was seen then is a history
+  pub user_seated_on : (q : Token) (t u : Gate (UserState U)) → u ≡ t → HasUsersPass u q → ((h : List UserEntry) × SawUsers (users_opening state u.first) q.seen h) → IsUserSeated state q t
+  user_seated_on q t u is pass saw = subst (λ (x : Gate (UserState U)). IsUserSeated state q x) is (pass, saw)
+
+pub turn_seen : (o : UsersOpening) (own : ℕ) (h : List UserEntry) (e : UserEntry) (seen : List Gv) → UsersTurned o own h e seen → (g : List UserEntry) × SawUsers o seen g
+turn_seen o own h e seen t = ((h ++ t.later) ++ e ∷ [], t.saw)
+
+pub took_seen : (o : UsersOpening) (own : ℕ) (h : List UserEntry) (op : UserOp) (seen : List Gv) (how : UserTook) → TookIs o own h op seen how → (g : List UserEntry) × SawUsers o seen g
+took_seen o own h op seen took.Done x = turn_seen o own h (user_entry own op (user_outcome.Done x.0)) seen x.1
+took_seen o own h op seen (took.Denied q) x = turn_seen o own h (user_entry own op (user_refused q)) seen x
+took_seen o own h op seen took.Stopped x = (h ++ x.later, x.saw)
+
+pub rows_seen : {X : Type 0} (o : UsersOpening) (own : ℕ) (h : List UserEntry) (which : Option (List ℕ)) (seen : List Gv) (items : X → List UserRow) (given : Result X Cause)
+    → MatchResult given (λ x. RowsAre o own h which seen (items x)) (RowsDenied o own h which seen) → (g : List UserEntry) × SawUsers o seen g
+rows_seen o own h which seen items (Ok x) r = turn_seen o own h (user_entry own (user_op.Rows which) user_outcome.Answered) seen r.0
+rows_seen o own h which seen items (Err q) r = turn_seen o own h (user_entry own (user_op.Rows which) (user_refused q)) seen r

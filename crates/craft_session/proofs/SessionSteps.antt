@@ -1,6 +1,6 @@
 -- How a session goes on.
 use Rattle.std.specs.Prelude.{is_some, min}
-use Rattle.std.proofs.Common.{◌≡◌, ℕ, ◌+◌, ◌≤◌, Bool, true, false, length, List, [], ◌∷◌, ◌++◌, Option, Some, None, take, drop, refl, sym, ◌∙◌, ap, ap₂, subst, arith, append_assoc, take-append-drop}
+use Rattle.std.proofs.Common.{◌≡◌, ℕ, ◌+◌, ◌≤◌, Bool, true, false, length, List, [], ◌∷◌, ◌++◌, Option, Some, None, take, drop, inl, inr, refl, sym, ◌∙◌, ap, ap₂, subst, arith, append_assoc, take-append-drop}
 use Rattle.std.proofs.lemmas.List.{append-nil, map-append, drop-drop}
 use base.Stored.{Gv}
 use Rattle.dxc_causes.specs.Causes.{Counted}
@@ -20,9 +20,14 @@ use Rattle.dxc_model.specs.Histories.{changes_of}
 use Rattle.tl1_text.specs.declared.reader.UnitKind.{UnitKind}
 use Rattle.tl1_text.specs.declared.reader.UnitKind.TheVariants.{Whole as WholeUnit, TooLong as TooLongUnit, More}
 use Rattle.tl1_text.specs.declared.reader.Fed.{Fed}
-use Rattle.tl1_text.specs.Units.{Input, IsUnit, IsRest, whole, too_long}
+use Rattle.tl1_text.specs.Units.{IsUnit, IsRest, whole, too_long}
 use Rattle.tl1_text.specs.Reading.{Reader, Made, IsFed, hand, Holds}
 use Rattle.tl1_text.proofs.Steps.{holds_none, rest_of}
+use Rattle.user_admin.specs.declared.op.UserEntry.{UserEntry}
+use Rattle.user_admin.specs.declared.op.UserOp.{UserOp}
+use Rattle.user_admin.specs.Turns.{Saw as SawUsers, TurnedBack}
+use Rattle.user_admin.specs.Verdicts.{IsChanging}
+use Rattle.dxc_model.specs.declared.user.SessionUser.{SessionUser}
 use Rattle.xc_core.specs.declared.turns.Looked.{Looked}
 use Rattle.xc_core.specs.Seeing.{Saw}
 use Rattle.xc_core.specs.Turns.{LookIs}
@@ -32,15 +37,18 @@ use Rattle.craft_session.specs.declared.attending.Attending.{Attending}
 use Rattle.craft_session.specs.declared.end.Progress.{Progress}
 use Rattle.craft_session.specs.declared.end.Progress.TheVariants.{On, Cut, Stopped}
 use Rattle.craft_session.specs.Acting.{Acts, Stops}
-use Rattle.craft_session.specs.Asks.{Reply, Language}
-use Rattle.craft_session.specs.Happenings.{unit, nothing_read, bytes_read, quiet_read, unit_ended}
+use Rattle.craft_session.specs.Asks.{Reply, Language, user_after}
+use Rattle.craft_session.specs.Consulting.{consults_none}
+use Rattle.craft_session.specs.Happenings.{Request, unit, nothing_read, bytes_read, quiet_read, unit_ended}
+use Rattle.craft_session.specs.Hearing.{HeardBehind, to_do}
 use Rattle.craft_session.specs.Moments.{Gives, gave_none, gave_next}
 use Rattle.craft_session.specs.Notices.{AreReported, Notice, found_notices, notices}
 use Rattle.craft_session.specs.Progresses.{progress_of}
 use Rattle.craft_session.specs.Runs.{Run, Walk, begins, waits, looks, beginning, with_look, with_quiet, with_response}
-use Rattle.craft_session.specs.Sessions.{AreTold, Beginning, Breaks, CutPast, Goes, Halts, IsSaid, Now, Past, Served, Stands, StopPast, Writes}
+use Rattle.craft_session.specs.Sessions.{AreTold, Beginning, Breaks, Consulted, CutPast, Goes, Halts, IsSaid, Now, Past, Served, Stands, StopPast, Writes}
 use Rattle.craft_session.specs.Walks.{nobody}
 use Rattle.craft_session.proofs.Changing.{others_unused}
+use Rattle.craft_session.proofs.Consulted.{consulted_back, consulted_on, consulted_quiet}
 use Rattle.craft_session.proofs.Reporting.{found_is}
 use Rattle.craft_session.proofs.Walking.{cursor_within, due_some, snoc_some, passes_all, run_answered, with_history}
 
@@ -57,13 +65,13 @@ pub gives_more : (c d e ms ns : List Moment) → Gives c d ms → Gives d e ns �
 gives_more c d _ ms _ first (gave_none _) = subst (λ (x : List Moment). Gives c d x) (sym (append-nil ms)) first
 gives_more c d _ ms _ first (gave_next _ e ns next) = subst (λ (x : List Moment). Gives c (later_moments e) x) (append_assoc ms ns (moment_now e ∷ [])) (gave_next c e (ms ++ ns) (gives_more c d e ms ns first next))
 
-module _ (l : Language Input Moment) (clock_told : Type 0) (c : List Moment) (b : Beginning) where
-  past_none : (now : Now) → Saw b.opening now.seen b.before → now.attending ≡ nobody → Past l clock_told c c b now false [] [] []
-  past_none now saw none = record { walk = beginning b.before; happened = nothing_read; gave = λ _. gave_none c; run = begins; saw = saw; attending = none; looked = refl; written = refl }
+module _ (l : Language Request Moment) (clock_told : Type 0) (c : List Moment) (b : Beginning) where
+  past_none : (now : Now) → Saw b.opening now.seen b.before → SawUsers b.users now.users b.users_before → now.attending ≡ nobody → Past l clock_told c c b now false [] [] []
+  past_none now saw users none = record { walk = beginning b.before; happened = nothing_read; gave = λ _. gave_none c; run = begins; saw = saw; consulted = record { history = b.users_before; heard = consults_none; saw = users }; attending = none; looked = refl; written = refl }
 
   module _ (d : List Moment) (now : Now) (items : List Item) (rest out : List ℕ) where
     past_bytes : (due : Bool) → Past l clock_told c d b now due items rest out → (bs : List ℕ) → Past l clock_told c d b now due (items ++ bytes bs) (rest ++ bs) out
-    past_bytes due p bs = record { walk = p.walk; happened = bytes_read items p.walk.happenings rest bs p.happened; gave = p.gave; run = p.run; saw = p.saw; attending = p.attending; looked = p.looked; written = p.written }
+    past_bytes due p bs = record { walk = p.walk; happened = bytes_read items p.walk.happenings rest bs p.happened; gave = p.gave; run = p.run; saw = p.saw; consulted = p.consulted; attending = p.attending; looked = p.looked; written = p.written }
 
     module _ (p : Past l clock_told c d b now false items rest out) where
       past_quiet : IsRest rest → Past l clock_told c d b now (is_some now.attending.watch) (items ++ quiet_item ∷ []) rest out
@@ -73,13 +81,22 @@ module _ (l : Language Input Moment) (clock_told : Type 0) (c : List Moment) (b 
         gave = p.gave;
         run = waits p.walk p.looked p.run;
         saw = p.saw;
+        consulted = consulted_quiet l b now.users now.users p.walk.happenings p.walk.attending.user p.consulted;
         attending = p.attending;
         looked = ap (λ (s : Attending). is_some s.watch) (sym p.attending);
         written = p.written ∙ sym (append-nil (p.walk.earlier ++ p.walk.latest));
       }
 
-      past_stopped : (u : Input) → IsUnit rest u → (after : Now) → ((h : List Entry) → Saw b.opening now.seen h → Stops b.opening b.place h now.attending (l.asks now.attending.user u) after.attending after.seen) → StopPast l clock_told c d b after items out
-      past_stopped u is after stops = record {
+      -- what a unit hears from where the session stands
+      abbrev Hearing : Request → List Gv → Type 0
+      Hearing u then_seen = (h : List UserEntry) → SawUsers b.users now.users h → HeardBehind b.users b.place h (l.wants now.attending.user u) (l.heard u) then_seen
+
+      consults_on : (u : Request) (then_seen : List Gv) → Hearing u then_seen → Consulted l b then_seen (p.walk.happenings ++ unit u ∷ []) (user_after p.walk.attending.user (l.asks p.walk.attending.user u))
+      consults_on u then_seen hears = consulted_on l b now.users then_seen p.walk.happenings p.walk.attending.user p.consulted u
+          (subst (λ (s : Attending). (h : List UserEntry) → SawUsers b.users now.users h → HeardBehind b.users b.place h (l.wants s.user u) (l.heard u) then_seen) p.attending hears)
+
+      past_stopped : (u : Request) → IsUnit rest u.input → (after : Now) → Hearing u after.users → ((h : List Entry) → Saw b.opening now.seen h → Stops b.opening b.place h now.attending (l.asks now.attending.user u) after.attending after.seen) → StopPast l clock_told c d b after items out
+      past_stopped u is after hears stops = record {
         walk = p.walk;
         last = u;
         happened = unit_ended items p.walk.happenings rest u p.happened is;
@@ -87,19 +104,46 @@ module _ (l : Language Input Moment) (clock_told : Type 0) (c : List Moment) (b 
         run = p.run;
         looked = p.looked;
         history = p.saw.history;
-        stops = subst (λ (s : Attending). Stops b.opening b.place p.walk.history s (l.asks s.user u) after.attending after.seen) p.attending (stops p.walk.history p.saw);
+        stopped = inl (record {
+          consulted = consults_on u after.users hears;
+          stops = subst (λ (s : Attending). Stops b.opening b.place p.walk.history s (l.asks s.user u) after.attending after.seen) p.attending (stops p.walk.history p.saw);
+        });
         written = p.written;
       }
 
-      module _ (u : Input) (is : IsUnit rest u) (e : List Moment) (m : Moment) (m_is : clock_told → m ≡ moment_now d) (e_is : clock_told → e ≡ later_moments d) (r : Reply) (after : Now)
-          (acts : (h : List Entry) → Saw b.opening now.seen h → Acts b.opening b.place h now.attending (l.asks now.attending.user u) r after.attending after.seen) where
+      past_unheard : (u : Request) → IsUnit rest u.input → (after : Now) (op : UserOp) → l.wants now.attending.user u ≡ to_do op → IsChanging op → ((h : List UserEntry) → SawUsers b.users now.users h → TurnedBack b.users b.place h after.users)
+          → after.seen ≡ now.seen → after.attending ≡ now.attending → StopPast l clock_told c d b after items out
+      past_unheard u is after op wanted changing back seen attending = record {
+        walk = p.walk;
+        last = u;
+        happened = unit_ended items p.walk.happenings rest u p.happened is;
+        gave = p.gave;
+        run = p.run;
+        looked = p.looked;
+        history = p.saw.history;
+        stopped = inr (record {
+          consulted = consulted_back l b now.users after.users p.walk.happenings p.walk.attending.user p.consulted back;
+          op = op;
+          wanted = subst (λ (s : Attending). l.wants s.user u ≡ to_do op) p.attending wanted;
+          changing = changing;
+          saw = subst (λ (x : List Gv). Saw b.opening x p.walk.history) (sym seen) p.saw;
+          attending = attending ∙ p.attending;
+        });
+        written = p.written;
+      }
+
+      module _ (u : Request) (is : IsUnit rest u.input) (e : List Moment) (m : Moment) (m_is : clock_told → m ≡ moment_now d) (e_is : clock_told → e ≡ later_moments d) (r : Reply) (after : Now)
+          (hears : Hearing u after.users) (acts : (h : List Entry) → Saw b.opening now.seen h → Acts b.opening b.place h now.attending (l.asks now.attending.user u) r after.attending after.seen) where
         gave_one : clock_told → Gives c e (p.walk.moments ++ m ∷ [])
         gave_one ct = rw (m_is ct, e_is ct) (gave_next c d p.walk.moments (p.gave ct))
 
         did : Acts b.opening b.place p.walk.history p.walk.attending (l.asks p.walk.attending.user u) r after.attending after.seen
         did = subst (λ (s : Attending). Acts b.opening b.place p.walk.history s (l.asks s.user u) r after.attending after.seen) p.attending (acts p.walk.history p.saw)
 
-        abbrev walk_on : List Entry → List Entry → Walk Input Moment
+        consults : Consulted l b after.users (p.walk.happenings ++ unit u ∷ []) after.attending.user
+        consults = subst (λ (s : SessionUser). Consulted l b after.users (p.walk.happenings ++ unit u ∷ []) s) (sym (ap (λ (s : Attending). s.user) did.attending)) (consults_on u after.users hears)
+
+        abbrev walk_on : List Entry → List Entry → Walk Request Moment
         walk_on passed entries = with_response u entries m (l.response m u r) after.attending (with_history (p.walk.history ++ passed) p.walk)
 
         past_answered : Past l clock_told c e b after (is_some after.attending.watch) items [] (out ++ l.response m u r)
@@ -109,6 +153,7 @@ module _ (l : Language Input Moment) (clock_told : Type 0) (c : List Moment) (b 
           gave = gave_one;
           run = run_answered l b.place b.opening.first.fold.table b.before b.opening p.walk u m r after.attending after.seen refl p.looked did p.run;
           saw = did.saw;
+          consulted = consults;
           attending = refl;
           looked = refl;
           written = ap (λ (x : List ℕ). x ++ l.response m u r) p.written;
@@ -127,6 +172,7 @@ module _ (l : Language Input Moment) (clock_told : Type 0) (c : List Moment) (b 
           gave = gave_one;
           run = run_answered l b.place b.opening.first.fold.table b.before b.opening p.walk u m r after.attending after.seen refl p.looked did p.run;
           saw = did.saw;
+          consulted = consults;
           part = part;
           missing = missing;
           split = split;
@@ -136,7 +182,7 @@ module _ (l : Language Input Moment) (clock_told : Type 0) (c : List Moment) (b 
     -- a look that was due
     module _ (p : Past l clock_told c d b now true items rest out) (cursor : ℕ) (watch : now.attending.watch ≡ Some cursor) (looked : Looked) (given : List Change) (seen : List Gv) where
       abbrev after_look : Now
-      after_look = record { seen = seen; attending = record { user = now.attending.user; watch = Some looked.newest } }
+      after_look = record { seen = seen; users = now.users; attending = record { user = now.attending.user; watch = Some looked.newest } }
 
       watched : p.walk.attending.watch ≡ Some cursor
       watched = ap (λ (s : Attending). s.watch) (sym p.attending) ∙ watch
@@ -145,7 +191,7 @@ module _ (l : Language Input Moment) (clock_told : Type 0) (c : List Moment) (b 
       cursor_is_within = cursor_within l b.place b.opening.first.fold.table b.before p.walk p.run cursor watched
 
       module _ (look : LookIs b.opening b.place p.walk.history cursor seen looked given) (ms : List Moment) (said : List ℕ) (reported : AreReported l.report (notices (changes_of (p.walk.history ++ look.0.later)) cursor) ms said) where
-        abbrev looked_on : Walk Input Moment
+        abbrev looked_on : Walk Request Moment
         looked_on = with_look b.place cursor ms said (with_history (p.walk.history ++ look.0.later) p.walk)
 
         look_run : Run l b.place b.opening.first.fold.table b.before looked_on
@@ -162,6 +208,7 @@ module _ (l : Language Input Moment) (clock_told : Type 0) (c : List Moment) (b 
           gave = λ ct. gives_more c d e p.walk.moments ms (p.gave ct) (gave ct);
           run = look_run;
           saw = look.0.saw;
+          consulted = p.consulted;
           attending = attends;
           looked = refl;
           written = ap (λ (x : List ℕ). x ++ said) p.written ∙ append_assoc p.walk.earlier p.walk.latest said;
@@ -180,20 +227,21 @@ module _ (l : Language Input Moment) (clock_told : Type 0) (c : List Moment) (b 
           gave = λ ct. gives_more c d e p.walk.moments taken (p.gave ct) (gave ct);
           run = look_run;
           saw = look.0.saw;
+          consulted = p.consulted;
           part = p.walk.latest ++ part;
           missing = missing;
           split = ap (λ (x : List ℕ). p.walk.latest ++ x) split ∙ sym (append_assoc p.walk.latest part missing);
           written = ap (λ (x : List ℕ). x ++ part) p.written ∙ append_assoc p.walk.earlier p.walk.latest part;
         }
 
-module _ (l : Language Input Moment) (told clock_told : Type 0) (k : LinkState) (c : List Moment) (b : Beginning) where
+module _ (l : Language Request Moment) (told clock_told : Type 0) (k : LinkState) (c : List Moment) (b : Beginning) where
   -- nothing has happened
-  pub stands_none : (now : Now) (r : Reader) → Saw b.opening now.seen b.before → now.attending ≡ nobody → Holds [] (hand r) → Stands l told clock_told k k c c b now false More r []
-  stands_none now r saw none holds = record { items = []; rest = []; out = []; exchanged = exchanged_none told k; made = holds; past = past_none l clock_told c b now saw none }
+  pub stands_none : (now : Now) (r : Reader) → Saw b.opening now.seen b.before → SawUsers b.users now.users b.users_before → now.attending ≡ nobody → Holds [] (hand r) → Stands l told clock_told k k c c b now false More r []
+  stands_none now r saw users none holds = record { items = []; rest = []; out = []; exchanged = exchanged_none told k; made = holds; past = past_none l clock_told c b now saw users none }
 
   module _ (j : LinkState) (d : List Moment) (now : Now) (r : Reader) where
-    module _ (kind : UnitKind) (ahead : List ℕ) (s : Stands l told clock_told k j c d b now false kind r ahead) (u : Input) (j2 : LinkState) (d2 : List Moment) (is : IsUnit s.rest u) (reply : Reply) (after : Now)
-        (acts : (h : List Entry) → Saw b.opening now.seen h → Acts b.opening b.place h now.attending (l.asks now.attending.user u) reply after.attending after.seen) where
+    module _ (kind : UnitKind) (ahead : List ℕ) (s : Stands l told clock_told k j c d b now false kind r ahead) (u : Request) (j2 : LinkState) (d2 : List Moment) (is : IsUnit s.rest u.input) (reply : Reply) (after : Now)
+        (hears : (h : List UserEntry) → SawUsers b.users now.users h → HeardBehind b.users b.place h (l.wants now.attending.user u) (l.heard u) after.users) (acts : (h : List Entry) → Saw b.opening now.seen h → Acts b.opening b.place h now.attending (l.asks now.attending.user u) reply after.attending after.seen) where
       -- a unit was answered
       stands_answered : hand r ≡ [] → IsSaid l told clock_told j j2 d d2 Whole u reply → Stands l told clock_told k j2 c d2 b after (is_some after.attending.watch) More r ahead
       stands_answered none said =
@@ -205,7 +253,7 @@ module _ (l : Language Input Moment) (told clock_told : Type 0) (k : LinkState) 
             out = s.out ++ l.response said.moment u reply;
             exchanged = exchanged_wrote told k j j2 (s.items ++ bytes ahead) s.out (l.response said.moment u reply) s.exchanged wrote;
             made = subst (λ (h : List ℕ). Holds [] h) (sym none) holds_none;
-            past = past_answered l clock_told c b d now s.items s.rest s.out s.past u is d2 said.moment said.now said.later reply after acts;
+            past = past_answered l clock_told c b d now s.items s.rest s.out s.past u is d2 said.moment said.now said.later reply after hears acts;
           }
 
       -- its answer was cut
@@ -216,28 +264,30 @@ module _ (l : Language Input Moment) (told clock_told : Type 0) (k : LinkState) 
         out = s.out ++ said.wrote.part;
         exchanged = exchanged_wrote told k j j2 (s.items ++ bytes ahead) s.out said.wrote.part s.exchanged said.wrote.wrote;
         rose = omega (arith, s.exchanged.write_later, said.wrote.cause.cause refl);
-        past = past_cut l clock_told c b d now s.items s.rest s.out s.past u is d2 said.moment said.now said.later reply after acts said.wrote.part said.wrote.rest said.wrote.split;
+        past = past_cut l clock_told c b d now s.items s.rest s.out s.past u is d2 said.moment said.now said.later reply after hears acts said.wrote.part said.wrote.rest said.wrote.split;
       }
 
     -- a unit that ended, whole or too long
-    module _ (kind : UnitKind) (ahead : List ℕ) (s : Stands l told clock_told k j c d b now false kind r ahead) (u : Input) (ended : IsUnit s.rest u × (hand r ≡ [])) where
+    module _ (kind : UnitKind) (ahead : List ℕ) (s : Stands l told clock_told k j c d b now false kind r ahead) (u : Request) (ended : IsUnit s.rest u.input × (hand r ≡ [])) where
       pub goes_on : (j2 : LinkState) (d2 : List Moment) (reply : Reply) (after : Now) → IsSaid l told clock_told j j2 d d2 Whole u reply
-          → ((h : List Entry) → Saw b.opening now.seen h → Acts b.opening b.place h now.attending (l.asks now.attending.user u) reply after.attending after.seen) → Stands l told clock_told k j2 c d2 b after (is_some after.attending.watch) More r ahead
-      goes_on j2 d2 reply after said acts = stands_answered kind ahead s u j2 d2 ended.0 reply after acts ended.1 said
+          → ((h : List UserEntry) → SawUsers b.users now.users h → HeardBehind b.users b.place h (l.wants now.attending.user u) (l.heard u) after.users) → ((h : List Entry) → Saw b.opening now.seen h → Acts b.opening b.place h now.attending (l.asks now.attending.user u) reply after.attending after.seen) → Stands l told clock_told k j2 c d2 b after (is_some after.attending.watch) More r ahead
+      goes_on j2 d2 reply after said hears acts = stands_answered kind ahead s u j2 d2 ended.0 reply after hears acts ended.1 said
 
       pub goes_cut : (j2 : LinkState) (d2 : List Moment) (reply : Reply) (after : Now) → IsSaid l told clock_told j j2 d d2 Sent_cut u reply
-          → ((h : List Entry) → Saw b.opening now.seen h → Acts b.opening b.place h now.attending (l.asks now.attending.user u) reply after.attending after.seen) → Breaks l told clock_told k j2 c d2 b after
-      goes_cut j2 d2 reply after said acts = breaks_answered kind ahead s u j2 d2 ended.0 reply after acts said
+          → ((h : List UserEntry) → SawUsers b.users now.users h → HeardBehind b.users b.place h (l.wants now.attending.user u) (l.heard u) after.users) → ((h : List Entry) → Saw b.opening now.seen h → Acts b.opening b.place h now.attending (l.asks now.attending.user u) reply after.attending after.seen) → Breaks l told clock_told k j2 c d2 b after
+      goes_cut j2 d2 reply after said hears acts = breaks_answered kind ahead s u j2 d2 ended.0 reply after hears acts said
 
       -- a stop came
-      pub goes_stopped : (j2 : LinkState) (d2 : List Moment) (after : Now) → j2 ≡ j → d2 ≡ d → ((h : List Entry) → Saw b.opening now.seen h → Stops b.opening b.place h now.attending (l.asks now.attending.user u) after.attending after.seen) → Halts l told clock_told k j2 c d2 b after
-      goes_stopped j2 d2 after link clock stops = rw (link, clock) (record {
-        items = s.items;
-        ahead = ahead;
-        out = s.out;
-        exchanged = s.exchanged;
-        past = past_stopped l clock_told c b d now s.items s.rest s.out s.past u ended.0 after stops;
-      })
+      halts_by : (j2 : LinkState) (d2 : List Moment) (after : Now) → j2 ≡ j → d2 ≡ d → StopPast l clock_told c d b after s.items s.out → Halts l told clock_told k j2 c d2 b after
+      halts_by j2 d2 after link clock past = rw (link, clock) (record { items = s.items; ahead = ahead; out = s.out; exchanged = s.exchanged; past = past })
+
+      pub goes_stopped : (j2 : LinkState) (d2 : List Moment) (after : Now) → j2 ≡ j → d2 ≡ d → ((h : List UserEntry) → SawUsers b.users now.users h → HeardBehind b.users b.place h (l.wants now.attending.user u) (l.heard u) after.users)
+          → ((h : List Entry) → Saw b.opening now.seen h → Stops b.opening b.place h now.attending (l.asks now.attending.user u) after.attending after.seen) → Halts l told clock_told k j2 c d2 b after
+      goes_stopped j2 d2 after link clock hears stops = halts_by j2 d2 after link clock (past_stopped l clock_told c b d now s.items s.rest s.out s.past u ended.0 after hears stops)
+
+      pub goes_unheard : (j2 : LinkState) (d2 : List Moment) (after : Now) (op : UserOp) → j2 ≡ j → d2 ≡ d → l.wants now.attending.user u ≡ to_do op → IsChanging op → ((h : List UserEntry) → SawUsers b.users now.users h → TurnedBack b.users b.place h after.users)
+          → after.seen ≡ now.seen → after.attending ≡ now.attending → Halts l told clock_told k j2 c d2 b after
+      goes_unheard j2 d2 after op link clock wanted changing back seen attending = halts_by j2 d2 after link clock (past_unheard l clock_told c b d now s.items s.rest s.out s.past u ended.0 after op wanted changing back seen attending)
 
     pub whole_ended : (kind : UnitKind) (ahead : List ℕ) (s : Stands l told clock_told k j c d b now false kind r ahead) → kind ≡ WholeUnit → IsUnit s.rest (whole r.kept) × (hand r ≡ [])
     whole_ended kind ahead s is = subst (λ (x : UnitKind). Made s.rest x r) is s.made
@@ -355,7 +405,7 @@ module _ (l : Language Input Moment) (told clock_told : Type 0) (k : LinkState) 
           found_is found given cursor looked.newest looked.since (subst (λ (n : ℕ). SinceIs (recent_of found) n looked.since given) same look_now.1) look_now.2
 
       abbrev looked_now : Now
-      looked_now = record { seen = seen; attending = record { user = now.attending.user; watch = Some looked.newest } }
+      looked_now = record { seen = seen; users = now.users; attending = record { user = now.attending.user; watch = Some looked.newest } }
 
       told_here : (sent : Sent) → AreTold l told clock_told j j2 d d2 sent (found_notices looked.since looked.newest given) → AreTold l told clock_told j j2 d d2 sent (notices found cursor)
       told_here sent x = subst (λ (ns : List Notice). AreTold l told clock_told j j2 d d2 sent ns) notices_are x

@@ -7,9 +7,10 @@ use Rattle.dxc_model.specs.declared.user.SessionUser.TheVariants.{Nobody}
 use Rattle.dxc_num.specs.Dimensions.{Dimensions}
 use Rattle.dxc_model.specs.Operations.{IsApt}
 use Rattle.craft_session.specs.declared.ask.Ask.{Ask}
-use Rattle.craft_session.specs.declared.ask.Ask.TheVariants.{Refused, LogsIn, LogsOut, Greets, Allows, Inhibits, Lists, Restarts, Changes}
+use Rattle.craft_session.specs.declared.ask.Ask.TheVariants.{Refused, LogsIn, LogsOut, Completes, Allows, Inhibits, Lists, Restarts, Changes}
 use Rattle.craft_session.specs.declared.ask.Acted.{Acted}
 use Rattle.craft_session.specs.declared.ask.Acted.TheVariants as acted
+use Rattle.craft_session.specs.Hearing.{Heard, Wanted}
 use Rattle.craft_session.specs.Notices.{Notice}
 
 -- what a response says
@@ -31,7 +32,7 @@ abbrev pub IsAptAsk : Dimensions → Ask → Type 0
 IsAptAsk d (Refused q) = Unit {0}
 IsAptAsk d (LogsIn u) = Unit {0}
 IsAptAsk d LogsOut = Unit {0}
-IsAptAsk d Greets = Unit {0}
+IsAptAsk d Completes = Unit {0}
 IsAptAsk d Allows = Unit {0}
 IsAptAsk d Inhibits = Unit {0}
 IsAptAsk d (Lists which) = Unit {0}
@@ -43,7 +44,7 @@ abbrev pub user_after : SessionUser → Ask → SessionUser
 user_after s (Refused q) = s
 user_after s (LogsIn u) = u
 user_after s LogsOut = Nobody
-user_after s Greets = s
+user_after s Completes = s
 user_after s Allows = s
 user_after s Inhibits = s
 user_after s (Lists which) = s
@@ -60,15 +61,17 @@ abbrev pub watch_after : Option ℕ → ℕ → Ask → Option ℕ
 watch_after w newest (Refused q) = w
 watch_after w newest (LogsIn u) = w
 watch_after w newest LogsOut = None
-watch_after w newest Greets = w
+watch_after w newest Completes = w
 watch_after w newest Allows = Some (cursor_from w newest)
 watch_after w newest Inhibits = None
 watch_after w newest (Lists which) = w
 watch_after w newest Restarts = w
 watch_after w newest (Changes op) = w
 
--- what units ask for a user, and the bytes of the response to a unit and of a report, at a moment
+-- What units want of the users and ask for a user, by what they heard of them, and the bytes of the response to a unit and of a report, at a moment.
 pub record Language (U M : Type 0) : Type 0 where
+  pub wants : SessionUser → U → Wanted
+  pub heard : U → Heard
   pub asks : SessionUser → U → Ask
   pub response : M → U → Reply → List ℕ
   pub report : M → Notice → List ℕ

@@ -1,6 +1,8 @@
 pub mod Notices
+pub mod Hearing
 pub mod Asks
 pub mod Happenings
+pub mod Consulting
 pub mod Moments
 pub mod Walks
 pub mod Changing
@@ -14,6 +16,7 @@ pub mod Seats
 pub mod Sessions
 pub mod Desks
 pub mod Plain
+pub mod PlainUsers
 pub mod Scripts
 pub mod Entering
 pub mod Laws

@@ -11,7 +11,7 @@ use Rattle.dxc_model.specs.Operations.{op_of}
 use Rattle.dxc_model.specs.Steps.{with_change}
 use Rattle.dxc_model.specs.Histories.{changes_of, table_after}
 use Rattle.craft_session.specs.declared.ask.Ask.{Ask}
-use Rattle.craft_session.specs.declared.ask.Ask.TheVariants.{Refused, LogsIn, LogsOut, Greets, Allows, Inhibits, Lists, Restarts, Changes}
+use Rattle.craft_session.specs.declared.ask.Ask.TheVariants.{Refused, LogsIn, LogsOut, Completes, Allows, Inhibits, Lists, Restarts, Changes}
 use Rattle.craft_session.specs.declared.attending.Attending.{Attending}
 use Rattle.craft_session.specs.Asks.{Reply, completed, completed_rows, restarted, denied, Language}
 use Rattle.craft_session.specs.Happenings.{Happening, unit, quiet}
@@ -74,7 +74,7 @@ abbrev pub Replies : Limit → Excuse → At → Ask → Reply → Option Change
 Replies limit excused a (Refused q) r did = (r ≡ denied q) × (did ≡ None)
 Replies limit excused a (LogsIn u) r did = (r ≡ completed) × (did ≡ None)
 Replies limit excused a LogsOut r did = (r ≡ completed) × (did ≡ None)
-Replies limit excused a Greets r did = (r ≡ completed) × (did ≡ None)
+Replies limit excused a Completes r did = (r ≡ completed) × (did ≡ None)
 Replies limit excused a Allows r did = (r ≡ completed) × (did ≡ None)
 Replies limit excused a Inhibits r did = (r ≡ completed) × (did ≡ None)
 Replies limit excused a (Lists which) r did = (r ≡ completed_rows (rows a.table which)) × (did ≡ None)
@@ -104,7 +104,7 @@ abbrev pub PreparesFor : Excuse → Meanwhile → Ask → At → At → Type 0
 PreparesFor excused meanwhile (Refused q) a b = b ≡ a
 PreparesFor excused meanwhile (LogsIn u) a b = b ≡ a
 PreparesFor excused meanwhile LogsOut a b = b ≡ a
-PreparesFor excused meanwhile Greets a b = b ≡ a
+PreparesFor excused meanwhile Completes a b = b ≡ a
 PreparesFor excused meanwhile Allows a b = b ≡ a
 PreparesFor excused meanwhile Inhibits a b = b ≡ a
 PreparesFor excused meanwhile (Lists which) a b = b ≡ a

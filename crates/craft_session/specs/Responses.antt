@@ -1,6 +1,8 @@
 -- The bytes of responses, cut into blocks.
 use Rattle.std.specs.Prelude.{◌≡◌, ℕ, List, [], ◌∷◌, ◌++◌, Option, map, codes, decimal}
 use Rattle.dxc_num.specs.Dimensions.{Dimensions}
+use Rattle.dxc_model.specs.declared.user.Class.{Class}
+use Rattle.dxc_model.specs.declared.user.Class.TheVariants.{R, P, S}
 use Rattle.dxc_outside.specs.declared.clock.Moment.{Moment}
 use Rattle.dxc_outside.specs.declared.send.Sent.{Sent}
 use Rattle.dxc_outside.specs.declared.send.Sent.TheVariants.{Whole, Cut}
@@ -11,6 +13,7 @@ use Rattle.tl1_answer.specs.Blocks.{Draft, IsUnended}
 use Rattle.tl1_answer.specs.Responses.{blocks_from, joined, response, denial}
 use Rattle.tl1_answer.specs.Messages.{report}
 use Rattle.tl1_answer.specs.Texts.{change_text, row_text}
+use Rattle.user_admin.specs.declared.op.UserRow.{UserRow}
 use Rattle.craft_session.specs.Notices.{Notice, change, lost}
 use Rattle.craft_session.specs.Asks.{Reply, completed, completed_rows, restarted, denied}
 
@@ -21,16 +24,25 @@ code_of (completed_rows cs) = Compld
 code_of restarted = Compld
 code_of (denied q) = Deny
 
--- its text lines
-abbrev pub lines_of : Dimensions → Reply → List (List ℕ)
-lines_of d completed = []
-lines_of d (completed_rows cs) = map (row_text d) cs
-lines_of d restarted = codes "\"WARM\"" ∷ []
-lines_of d (denied q) = denial q
+abbrev pub class_text : Class → List ℕ
+class_text R = codes "R"
+class_text P = codes "P"
+class_text S = codes "S"
+
+-- a user's name and class
+abbrev pub user_text : UserRow → List ℕ
+user_text u = codes "\"" ++ u.uid ++ codes ":" ++ class_text u.class ++ codes "\""
+
+-- its text lines; a users' command may have rows of users
+abbrev pub lines_of : Dimensions → List UserRow → Reply → List (List ℕ)
+lines_of d users completed = map user_text users
+lines_of d users (completed_rows cs) = map (row_text d) cs
+lines_of d users restarted = codes "\"WARM\"" ∷ []
+lines_of d users (denied q) = denial q
 
 -- the bytes of a reply's response
-abbrev pub reply_bytes : List ℕ → Dimensions → Moment → Option (List ℕ) → Reply → List ℕ
-reply_bytes sid d m tag r = response sid m tag (code_of r) (lines_of d r)
+abbrev pub reply_bytes : List ℕ → Dimensions → Moment → Option (List ℕ) → List UserRow → Reply → List ℕ
+reply_bytes sid d m tag users r = response sid m tag (code_of r) (lines_of d users r)
 
 -- the text of a report of lost changes
 abbrev pub lost_text : ℕ → List ℕ

@@ -1,5 +1,5 @@
 -- What a session wrote that was alone on what a journal came to.
-use Rattle.std.specs.Prelude.{◌≡◌, ◌⊎◌, ◌≤◌, ◌<◌, ◌+◌, ◌*◌, ℕ, length, List, [], ◌∷◌, ◌++◌, None}
+use Rattle.std.specs.Prelude.{false, ◌≡◌, ◌⊎◌, ◌≤◌, ◌<◌, ◌+◌, ◌*◌, ℕ, length, List, [], ◌∷◌, ◌++◌, None}
 use Rattle.std.specs.List.{AllByRecursion}
 use Rattle.dxc_causes.specs.Causes.{Rose, last}
 use Rattle.dxc_disk.specs.Disks.{DiskState}
@@ -9,21 +9,28 @@ use Rattle.dxc_outside.specs.Links.{LinkState, Exchanged}
 use Rattle.dxc_model.specs.declared.cause.Cause.TheVariants.{DiskFault, JournalAstray}
 use Rattle.dxc_model.specs.declared.op.Op.{Op}
 use Rattle.dxc_model.specs.declared.entry.Entry.{Entry}
+use Rattle.dxc_model.specs.declared.user.SessionUser.{SessionUser}
 use Rattle.dxc_model.specs.declared.entry.Outcome.{Outcome}
 use Rattle.dxc_model.specs.declared.entry.Outcome.TheVariants.{Done, Denied, Failed, Restarted, Cut, Taken}
 use Rattle.dxc_model.specs.declared.entry.Outcome.TheVariants as outcome
 use Rattle.dxc_model.specs.Steps.{IsLimit, IsUnderWay}
 use Rattle.dxc_model.specs.Histories.{IsLegal, KeepsTurns, table_after}
-use Rattle.tl1_text.specs.Units.{Input, IsStream}
+use Rattle.tl1_text.specs.Units.{IsStream}
+use Rattle.user_admin.specs.declared.op.UserOp.{UserOp}
+use Rattle.user_admin.specs.Histories.{Opening as UsersOpening}
+use Rattle.user_admin.specs.Verdicts.{IsChanging}
 use Rattle.shelf_file.specs.Contents.{Contents}
 use Rattle.xc_core.specs.Seeing.{entry}
 use Rattle.xc_core.specs.States.{LimitBehind, Opening, faults_in, most_room, rules_of}
 use Rattle.craft_session.specs.declared.end.SessionEnd.{SessionEnd}
 use Rattle.craft_session.specs.declared.end.SessionEnd.TheVariants.{End, ReadFault, WriteFault, Stopped, Spent}
-use Rattle.craft_session.specs.Happenings.{Happening, Happens, bytes_in, unit, units_in}
+use Rattle.craft_session.specs.Asks.{user_after}
+use Rattle.craft_session.specs.Happenings.{Happening, Happens, Request, bytes_in, inputs_in, unit, units_in}
+use Rattle.craft_session.specs.Hearing.{to_do}
 use Rattle.craft_session.specs.Meanings.{language}
 use Rattle.craft_session.specs.Moments.{Gives}
 use Rattle.craft_session.specs.Plain.{At, Excuse, Plays, PlaysTo, Said, alone, said_in, standing}
+use Rattle.craft_session.specs.PlainUsers.{ConsultsAlone}
 use Rattle.craft_session.specs.Runs.{Run, Walk}
 use Rattle.craft_session.specs.Walks.{CutsAt, FrontOf, nobody}
 
@@ -66,14 +73,15 @@ pub record IsOwn (place : ℕ) (excused : Excuse) (e : Entry) : Type 0 where
 abbrev pub opened : Opening → At
 opened o = standing o.first.fold.table [] nobody
 
--- the opening of a disk: it took of the disk's room what an opening may, and each fault in it lowered the margin
+-- the opening of a disk on a new fabric: it took of the disk's room what an opening may, each fault in it lowered the margin, and no restart is due
 pub record IsOpeningOf (d : DiskState) (o : Opening) : Type 0 where
   pub later : d.faults ≤ o.faults
   pub room : opening_room ≤ d.room → d.room ≤ o.room + opening_room
   pub margin : opening_room ≤ d.room → o.faults + o.margin ≤ d.faults + d.margin
   pub counts : 0 < o.room → o.faults < last
+  pub ready : o.due ≡ false
 
-module _ (disk_told : Type 0) (disk : DiskState) (place : ℕ) (o : Opening) where
+module _ (disk_told : Type 0) (disk users_disk : DiskState) (place : ℕ) (o : Opening) (p : UsersOpening) where
   -- the excuses of a session that gave so many commands on the disk that was handed out
   abbrev pub excused_on : ℕ → Excuse
   excused_on commands = excused_by disk_told disk.margin disk.room commands
@@ -87,33 +95,39 @@ module _ (disk_told : Type 0) (disk : DiskState) (place : ℕ) (o : Opening) whe
     pub few : room_of commands < disk.room → faults_in h ≤ disk.margin
 
   module _ (clock_told : Type 0) (c d : List Moment) (s : Contents) where
-    -- A run over such a history; and what happened was served, each message with the next moment, by the plain session on one table.
+    -- what such a session heard of the users while this happened
+    abbrev Asked : List (Happening Request) → SessionUser → Type 0
+    Asked hs user = ConsultsAlone (language s) users_disk place p (length (units_in hs)) hs user
+
+    -- A run over such a history, and one over such a users' history; and what happened was served, each message with the next moment, by the plain session on one table.
     pub record Answered (items : List Item) (out : List ℕ) : Type 0 where
-      pub walk : Walk Input Moment
+      pub walk : Walk Request Moment
       pub rest : List ℕ
       pub happened : Happens items walk.happenings rest
-      pub read : IsStream (bytes_in items) (units_in walk.happenings) rest
+      pub read : IsStream (bytes_in items) (inputs_in walk.happenings) rest
       pub gave : clock_told → Gives c d walk.moments
       pub run : Run (language s) place o.first.fold.table [] walk
       pub history : IsOwnHistory (length (units_in walk.happenings)) walk.history
+      pub consulted : Asked walk.happenings walk.attending.user
       pub written : out ≡ walk.earlier ++ walk.latest
       pub plays : Plays (language s) (LimitBehind o.first) (excused_on (length (units_in walk.happenings))) alone (opened o) walk.happenings (said_in walk) (standing o.first.fold.table walk.history walk.attending)
 
     -- What happened before the last was served, and of the last one's messages a part was written; the look behind a response may be missing.
     pub record AnsweredInPart (items : List Item) (out : List ℕ) : Type 0 where
-      pub walk : Walk Input Moment
+      pub walk : Walk Request Moment
       pub rest : List ℕ
-      pub front : List (Happening Input)
-      pub last : Happening Input
+      pub front : List (Happening Request)
+      pub last : Happening Request
       pub all : walk.happenings ≡ front ++ last ∷ []
       pub happened : Happens items walk.happenings rest
-      pub read : IsStream (bytes_in items) (units_in walk.happenings) rest
+      pub read : IsStream (bytes_in items) (inputs_in walk.happenings) rest
       pub moments : List Moment
       pub untaken : List Moment
       pub taken : walk.moments ≡ moments ++ untaken
       pub gave : clock_told → Gives c d moments
       pub run : Run (language s) place o.first.fold.table [] walk
       pub history : IsOwnHistory (length (units_in walk.happenings)) walk.history
+      pub consulted : Asked walk.happenings walk.attending.user
       pub earlier : Said Moment
       pub latest : Said Moment
       pub took : walk.moments ≡ earlier.moments ++ latest.moments
@@ -126,21 +140,39 @@ module _ (disk_told : Type 0) (disk : DiskState) (place : ℕ) (o : Opening) whe
     -- What happened before the last was served, and a stop cut the last, INIT-SYS or a changing command, which has no response: it cut a restart,
     -- or the operation, behind restarts that were due.
     pub record AnsweredToStop (items : List Item) (out : List ℕ) : Type 0 where
-      pub walk : Walk Input Moment
-      pub last : Input
+      pub walk : Walk Request Moment
+      pub last : Request
       pub op : Op
       pub in_front : List Entry
       pub happened : Happens items (walk.happenings ++ unit last ∷ []) []
-      pub read : IsStream (bytes_in items) (units_in walk.happenings ++ last ∷ []) []
+      pub read : IsStream (bytes_in items) (inputs_in walk.happenings ++ last.input ∷ []) []
       pub gave : clock_told → Gives c d walk.moments
       pub run : Run (language s) place o.first.fold.table [] walk
       pub history : IsOwnHistory (length (units_in walk.happenings)) walk.history
+      pub consulted : Asked (walk.happenings ++ unit last ∷ []) (user_after walk.attending.user ((language s).asks walk.attending.user last))
       pub mends : FrontOf place walk.history ((language s).asks walk.attending.user last) in_front
       pub cuts : CutsAt (walk.history ++ in_front) ((language s).asks walk.attending.user last) op
       pub legal : IsLegal (rules_of o) ((walk.history ++ in_front) ++ entry place op Cut ∷ [])
       pub written : out ≡ walk.earlier ++ walk.latest
       pub plays : Plays (language s) (LimitBehind o.first) (excused_on (length (units_in walk.happenings))) alone (opened o) walk.happenings (said_in walk) (standing o.first.fold.table walk.history walk.attending)
       pub under_way : IsUnderWay (table_after o.first.fold.table (walk.history ++ in_front)) op
+
+    -- What happened before the last was served, and a stop cut the last, a command that changes users, before anything was done: it has no response, and
+    -- no entry.
+    pub record AnsweredToUsersStop (items : List Item) (out : List ℕ) : Type 0 where
+      pub walk : Walk Request Moment
+      pub last : Request
+      pub op : UserOp
+      pub happened : Happens items (walk.happenings ++ unit last ∷ []) []
+      pub read : IsStream (bytes_in items) (inputs_in walk.happenings ++ last.input ∷ []) []
+      pub gave : clock_told → Gives c d walk.moments
+      pub run : Run (language s) place o.first.fold.table [] walk
+      pub history : IsOwnHistory (length (units_in walk.happenings)) walk.history
+      pub consulted : Asked walk.happenings walk.attending.user
+      pub wanted : (language s).wants walk.attending.user last ≡ to_do op
+      pub changing : IsChanging op
+      pub written : out ≡ walk.earlier ++ walk.latest
+      pub plays : Plays (language s) (LimitBehind o.first) (excused_on (length (units_in walk.happenings))) alone (opened o) walk.happenings (said_in walk) (standing o.first.fold.table walk.history walk.attending)
 
     module _ (told : Type 0) (k l : LinkState) where
       -- all that was read was served
@@ -165,7 +197,7 @@ module _ (disk_told : Type 0) (disk : DiskState) (place : ℕ) (o : Opening) whe
         pub ahead : List ℕ
         pub out : List ℕ
         pub exchanged : Exchanged told k l (items ++ bytes ahead) out
-        pub answered : AnsweredToStop items out
+        pub answered : AnsweredToStop items out ⊎ AnsweredToUsersStop items out
 
       -- what was written, by the session's end
       abbrev pub IsScript : SessionEnd → Type 0

@@ -1,4 +1,4 @@
--- What a seat at the state is, and a place.
+-- What a seat at the state is, a seat at the users, and a place.
 use Rattle.std.specs.Prelude.{◌≡◌, ℕ, List, refl}
 use Rattle.std.specs.Coded.{Coded, code_by, coded×, coded_ℕ}
 use base.Stored.{Gv}
@@ -7,6 +7,13 @@ use Rattle.dxc_disk.specs.Disks.{DiskState}
 use Rattle.dxc_model.specs.declared.entry.Entry.{Entry}
 use Rattle.fabric_words.specs.Seats.{FabricId}
 use Rattle.shelf_file.specs.Contents.{Contents}
+use Rattle.shelf_file.specs.contracts.shelf.Shelf as shelf_row
+use Rattle.user_admin.specs.declared.op.UserEntry.{UserEntry}
+use Rattle.user_admin.specs.declared.state.UserState.{UserState}
+use Rattle.user_admin.specs.Coding.{opening_coded as users_coded}
+use Rattle.user_admin.specs.Histories.{Opening as UsersOpening}
+use Rattle.user_admin.specs.States.{opening_of as users_opening}
+use Rattle.user_admin.specs.Turns.{HasPass as HasUsersPass, Saw as SawUsers}
 use Rattle.xc_core.specs.declared.state.State.{State}
 use Rattle.xc_core.specs.Coding.{opening_coded}
 use Rattle.xc_core.specs.Seeing.{Rests, Saw}
@@ -35,7 +42,31 @@ IsSameSeat old new = (new.opening ≡ old.opening) × (new.place ≡ old.place) 
 abbrev pub IsSeated : {D : Type 0} → Type 0 → (D → DiskState) → Token → Gate (State D) → FabricId → Type 0
 IsSeated told state p t i = HasPass t p × ((opening_of state t.first).site.fabric ≡ i) × ((h : List Entry) × Saw (opening_of state t.first) p.seen h × Rests p.number h) × SawNoneAstray told p.seen
 
--- a shelf, and a seat
+-- of the users: where their history began, the number of the place, how many places there are, and the codes of what it has seen of the history
+pub record UserSeatAt : Type 0 where
+  pub opening : UsersOpening
+  pub place : ℕ
+  pub places : ℕ
+  pub seen : List Gv
+
+abbrev pub user_seat_coded : Coded UserSeatAt
+user_seat_coded = code_by (UsersOpening × (ℕ × (ℕ × List Gv))) (coded× users_coded (coded× coded_ℕ (coded× coded_ℕ seen_code))) (λ s. (s.opening, (s.place, (s.places, s.seen)))) (λ p. record { opening = p.0; place = p.1.0; places = p.1.1.0; seen = p.1.1.1 }) (λ _. refl)
+
+abbrev pub user_seat_at : {U : Type 0} → (U → DiskState) → Token → Gate (UserState U) → UserSeatAt
+user_seat_at state p t = record { opening = users_opening state t.first; place = p.number; places = t.passes; seen = p.seen }
+
+abbrev pub IsSameUserSeat : UserSeatAt → UserSeatAt → Type 0
+IsSameUserSeat old new = (new.opening ≡ old.opening) × (new.place ≡ old.place) × (new.places ≡ old.places)
+
+-- the pass is the turnstile's, no turn of it is out, and it has seen a history
+abbrev pub IsUserSeated : {U : Type 0} → (U → DiskState) → Token → Gate (UserState U) → Type 0
+IsUserSeated state p t = HasUsersPass t p × ((h : List UserEntry) × SawUsers (users_opening state t.first) p.seen h)
+
+-- a shelf, and the seats of one place
 pub record PlaceAt : Type 0 where
   pub shelf : Contents
   pub seat : SeatAt
+  pub users : UserSeatAt
+
+abbrev pub place_coded : Coded PlaceAt
+place_coded = code_by (Contents × (SeatAt × UserSeatAt)) (coded× shelf_row.the_row.coded (coded× seat_coded user_seat_coded)) (λ p. (p.shelf, (p.seat, p.users))) (λ w. record { shelf = w.0; seat = w.1.0; users = w.1.1 }) (λ _. refl)

@@ -1,5 +1,5 @@
 -- How a session stands over its link, and how it ends.
-use Rattle.std.specs.Prelude.{◌≡◌, ◌≢◌, ℕ, Bool, false, List, [], ◌∷◌, ◌++◌}
+use Rattle.std.specs.Prelude.{◌≡◌, ◌≢◌, ◌⊎◌, ℕ, Bool, false, List, [], ◌∷◌, ◌++◌}
 use base.Stored.{Gv}
 use Rattle.dxc_causes.specs.Causes.{Rose}
 use Rattle.dxc_outside.specs.declared.send.Sent.{Sent}
@@ -11,8 +11,14 @@ use Rattle.dxc_outside.specs.Moments.{moment_now, later_moments}
 use Rattle.dxc_model.specs.declared.entry.Entry.{Entry}
 use Rattle.tl1_text.specs.declared.reader.UnitKind.{UnitKind}
 use Rattle.tl1_text.specs.declared.reader.UnitKind.TheVariants.{More}
-use Rattle.tl1_text.specs.Units.{Input, IsRest}
+use Rattle.tl1_text.specs.Units.{IsRest}
 use Rattle.tl1_text.specs.Reading.{Reader, Made}
+use Rattle.user_admin.specs.declared.op.UserEntry.{UserEntry}
+use Rattle.user_admin.specs.declared.op.UserOp.{UserOp}
+use Rattle.user_admin.specs.Histories.{Opening as UsersOpening}
+use Rattle.user_admin.specs.Turns.{Saw as SawUsers}
+use Rattle.user_admin.specs.Verdicts.{IsChanging}
+use Rattle.dxc_model.specs.declared.user.SessionUser.{SessionUser}
 use Rattle.xc_core.specs.States.{Opening}
 use Rattle.xc_core.specs.Seeing.{IsHistory, Saw}
 use Rattle.craft_session.specs.declared.attending.Attending.{Attending}
@@ -20,28 +26,33 @@ use Rattle.craft_session.specs.declared.end.SessionEnd.{SessionEnd}
 use Rattle.craft_session.specs.declared.end.SessionEnd.TheVariants.{End, ReadFault, WriteFault, Stopped as Session_stopped, Spent}
 use Rattle.craft_session.specs.declared.end.Progress.{Progress}
 use Rattle.craft_session.specs.declared.end.Progress.TheVariants.{On, Cut, Stopped}
-use Rattle.craft_session.specs.Asks.{Reply, Language}
-use Rattle.craft_session.specs.Happenings.{Happens, unit}
+use Rattle.craft_session.specs.Asks.{Reply, Language, user_after}
+use Rattle.craft_session.specs.Consulting.{Consults}
+use Rattle.craft_session.specs.Happenings.{Happening, Happens, Request, unit}
+use Rattle.craft_session.specs.Hearing.{to_do}
 use Rattle.craft_session.specs.Notices.{AreReported, Notice}
 use Rattle.craft_session.specs.Runs.{Walk, Run}
 use Rattle.craft_session.specs.Moments.{Gives}
 use Rattle.craft_session.specs.Acting.{Stops}
-use Rattle.craft_session.specs.Seats.{SeatAt}
+use Rattle.craft_session.specs.Seats.{SeatAt, UserSeatAt}
 
--- where a session stands: what its seat has seen of the history, and who attends
+-- where a session stands: what its seats have seen of the histories, and who attends
 pub record Now : Type 0 where
   pub seen : List Gv
+  pub users : List Gv
   pub attending : Attending
 
--- where a session begins: the opening, the place's number, and the history that the place has seen
+-- where a session begins: the openings, the place's number, and the histories that the place has seen
 pub record Beginning : Type 0 where
   pub opening : Opening
+  pub users : UsersOpening
   pub place : ℕ
   pub before : List Entry
+  pub users_before : List UserEntry
 
--- a seat begins there
-abbrev pub IsAt : Beginning → SeatAt → Type 0
-IsAt b s = (s.opening ≡ b.opening) × (s.place ≡ b.place)
+-- seats begin there
+abbrev pub IsAt : Beginning → SeatAt → UserSeatAt → Type 0
+IsAt b s u = (s.opening ≡ b.opening) × (s.place ≡ b.place) × (u.opening ≡ b.users) × (u.place ≡ b.place)
 
 -- one message was written, or a part of it, with the next moment
 pub record IsReported (told clock_told : Type 0) (k j : LinkState) (c d : List Moment) (sent : Sent) (message : Moment → List ℕ) : Type 0 where
@@ -50,9 +61,15 @@ pub record IsReported (told clock_told : Type 0) (k j : LinkState) (c d : List M
   pub now : clock_told → moment ≡ moment_now c
   pub later : clock_told → d ≡ later_moments c
 
-module _ (l : Language Input Moment) where
+module _ (l : Language Request Moment) where
+  -- what the session of a place heard of the users while this happened, where its seat has seen these codes, and who is logged in then
+  pub record Consulted (b : Beginning) (seen : List Gv) (hs : List (Happening Request)) (user : SessionUser) : Type 0 where
+    pub history : List UserEntry
+    pub heard : Consults l b.place b.users b.users_before hs history user
+    pub saw : SawUsers b.users seen history
+
   -- one response was written, or a part of it
-  pub record IsSaid (told clock_told : Type 0) (k j : LinkState) (c d : List Moment) (sent : Sent) (u : Input) (r : Reply) : Type 0 where
+  pub record IsSaid (told clock_told : Type 0) (k j : LinkState) (c d : List Moment) (sent : Sent) (u : Request) (r : Reply) : Type 0 where
     pub moment : Moment
     pub wrote : IsSent told k j sent (l.response moment u r)
     pub now : clock_told → moment ≡ moment_now c
@@ -71,11 +88,12 @@ module _ (l : Language Input Moment) where
   -- What was read has happened, but for the rest, and this was written, from the beginning to where the session stands now; a look for changes
   -- is due or not.
   pub record Past (clock_told : Type 0) (c d : List Moment) (b : Beginning) (now : Now) (due : Bool) (items : List Item) (rest out : List ℕ) : Type 0 where
-    pub walk : Walk Input Moment
+    pub walk : Walk Request Moment
     pub happened : Happens items walk.happenings rest
     pub gave : clock_told → Gives c d walk.moments
     pub run : Run l b.place b.opening.first.fold.table b.before walk
     pub saw : Saw b.opening now.seen walk.history
+    pub consulted : Consulted b now.users walk.happenings walk.attending.user
     pub attending : now.attending ≡ walk.attending
     pub looked : walk.due ≡ due
     pub written : out ≡ walk.earlier ++ walk.latest
@@ -83,7 +101,7 @@ module _ (l : Language Input Moment) where
   -- The same where of the last happening's messages a part was written: the moments that were taken are the first of those that they would take,
   -- and the look behind a response may be missing. Something had happened.
   pub record CutPast (clock_told : Type 0) (c d : List Moment) (b : Beginning) (now : Now) (items : List Item) (out : List ℕ) : Type 0 where
-    pub walk : Walk Input Moment
+    pub walk : Walk Request Moment
     pub rest : List ℕ
     pub happened : Happens items walk.happenings rest
     pub some : walk.happenings ≢ []
@@ -94,21 +112,36 @@ module _ (l : Language Input Moment) where
     pub gave : clock_told → Gives c d moments
     pub run : Run l b.place b.opening.first.fold.table b.before walk
     pub saw : Saw b.opening now.seen walk.history
+    pub consulted : Consulted b now.users walk.happenings walk.attending.user
     pub part : List ℕ
     pub missing : List ℕ
     pub split : walk.latest ≡ part ++ missing
     pub written : out ≡ walk.earlier ++ part
 
+  -- a stop cut the last unit's command at the table
+  pub record IsStoppedAtTable (b : Beginning) (now : Now) (w : Walk Request Moment) (last : Request) : Type 0 where
+    pub consulted : Consulted b now.users (w.happenings ++ unit last ∷ []) (user_after w.attending.user (l.asks w.attending.user last))
+    pub stops : Stops b.opening b.place w.history w.attending (l.asks w.attending.user last) now.attending now.seen
+
+  -- or its command at the users, before anything was done: there is no entry of it
+  pub record IsStoppedAtUsers (b : Beginning) (now : Now) (w : Walk Request Moment) (last : Request) : Type 0 where
+    pub consulted : Consulted b now.users w.happenings w.attending.user
+    pub op : UserOp
+    pub wanted : l.wants w.attending.user last ≡ to_do op
+    pub changing : IsChanging op
+    pub saw : Saw b.opening now.seen w.history
+    pub attending : now.attending ≡ w.attending
+
   -- the same up to a changing unit that a stop cut, which has no response
   pub record StopPast (clock_told : Type 0) (c d : List Moment) (b : Beginning) (now : Now) (items : List Item) (out : List ℕ) : Type 0 where
-    pub walk : Walk Input Moment
-    pub last : Input
+    pub walk : Walk Request Moment
+    pub last : Request
     pub happened : Happens items (walk.happenings ++ unit last ∷ []) []
     pub gave : clock_told → Gives c d walk.moments
     pub run : Run l b.place b.opening.first.fold.table b.before walk
     pub looked : walk.due ≡ false
     pub history : IsHistory b.opening walk.history
-    pub stops : Stops b.opening b.place walk.history walk.attending (l.asks walk.attending.user last) now.attending now.seen
+    pub stopped : IsStoppedAtTable b now walk last ⊎ IsStoppedAtUsers b now walk last
     pub written : out ≡ walk.earlier ++ walk.latest
 
   -- a session that goes on: what was read but for the bytes ahead has happened
@@ -160,10 +193,14 @@ module _ (l : Language Input Moment) where
   IsSession told clock_told k j c d b now WriteFault = Breaks told clock_told k j c d b now
   IsSession told clock_told k j c d b now Session_stopped = Halts told clock_told k j c d b now
 
-  -- Between the two histories that a seat had seen at the call and has seen at the return: what the session did, whoever attends at the end.
-  abbrev pub IsServed : (told clock_told : Type 0) (k j : LinkState) (c d : List Moment) (old new : SeatAt) (end : SessionEnd) → Type 0
-  IsServed told clock_told k j c d old new end = (before : List Entry) × Saw old.opening old.seen before
-      × ((attending : Attending) × IsSession told clock_told k j c d (record { opening = old.opening; place = old.place; before = before }) (record { seen = new.seen; attending = attending }) end)
+  -- Between the histories that the seats of a place had seen at the call and have seen at the return: what the session did, whoever attends at the end.
+  pub record IsServed (told clock_told : Type 0) (k j : LinkState) (c d : List Moment) (old new : SeatAt) (users then_users : UserSeatAt) (end : SessionEnd) : Type 0 where
+    pub before : List Entry
+    pub users_before : List UserEntry
+    pub saw : Saw old.opening old.seen before
+    pub users_saw : SawUsers users.opening users.seen users_before
+    pub attending : Attending
+    pub session : IsSession told clock_told k j c d (record { opening = old.opening; users = users.opening; place = old.place; before = before; users_before = users_before }) (record { seen = new.seen; users = then_users.seen; attending = attending }) end
 
 -- calls that only wrote
 pub record Writes (told : Type 0) (k j : LinkState) : Type 0 where

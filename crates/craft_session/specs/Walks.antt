@@ -14,7 +14,7 @@ use Rattle.dxc_model.specs.Steps.{IsFault}
 use Rattle.dxc_model.specs.Histories.{IsRestarted, IsRestartDue, IsStopped, changes_of, table_after}
 use Rattle.xc_core.specs.Seeing.{entry}
 use Rattle.craft_session.specs.declared.ask.Ask.{Ask}
-use Rattle.craft_session.specs.declared.ask.Ask.TheVariants.{Refused, LogsIn, LogsOut, Greets, Allows, Inhibits, Lists, Restarts, Changes}
+use Rattle.craft_session.specs.declared.ask.Ask.TheVariants.{Refused, LogsIn, LogsOut, Completes, Allows, Inhibits, Lists, Restarts, Changes}
 use Rattle.craft_session.specs.declared.attending.Attending.{Attending}
 use Rattle.craft_session.specs.Asks.{Reply, completed, completed_rows, restarted, denied, user_after, watch_after}
 
@@ -82,7 +82,7 @@ abbrev pub Serves : ℕ → Board → List Entry → Ask → List Entry → Repl
 Serves place t h (Refused q) es r = (es ≡ []) × (r ≡ denied q)
 Serves place t h (LogsIn u) es r = (es ≡ []) × (r ≡ completed)
 Serves place t h LogsOut es r = (es ≡ []) × (r ≡ completed)
-Serves place t h Greets es r = (es ≡ []) × (r ≡ completed)
+Serves place t h Completes es r = (es ≡ []) × (r ≡ completed)
 Serves place t h Allows es r = (es ≡ entry place (Look (length (changes_of h))) Answered ∷ []) × (r ≡ completed)
 Serves place t h Inhibits es r = (es ≡ []) × (r ≡ completed)
 Serves place t h (Lists which) es r = (es ≡ entry place (Rows which) Answered ∷ []) × (r ≡ completed_rows (rows (table_after t h) which))
@@ -94,7 +94,7 @@ abbrev pub FrontOf : ℕ → List Entry → Ask → List Entry → Type 0
 FrontOf place h (Refused q) front = ⊥
 FrontOf place h (LogsIn u) front = ⊥
 FrontOf place h LogsOut front = ⊥
-FrontOf place h Greets front = ⊥
+FrontOf place h Completes front = ⊥
 FrontOf place h Allows front = ⊥
 FrontOf place h Inhibits front = ⊥
 FrontOf place h (Lists which) front = ⊥
@@ -106,7 +106,7 @@ abbrev pub CutsAt : List Entry → Ask → Op → Type 0
 CutsAt h (Refused q) x = ⊥
 CutsAt h (LogsIn u) x = ⊥
 CutsAt h LogsOut x = ⊥
-CutsAt h Greets x = ⊥
+CutsAt h Completes x = ⊥
 CutsAt h Allows x = ⊥
 CutsAt h Inhibits x = ⊥
 CutsAt h (Lists which) x = ⊥

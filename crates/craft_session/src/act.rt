@@ -49,7 +49,7 @@ pub fn act<D: Disk + Drop, G: Gate, R: Wait>(
             attending.watch = None;
             Some(Acted::Completed)
         }
-        Ask::Greets => Some(Acted::Completed),
+        Ask::Completes => Some(Acted::Completed),
         Ask::Allows => {
             let newest = seat.mark(rt);
             attending.watch = Some(cursor(attending.watch, newest));

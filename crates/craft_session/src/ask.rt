@@ -8,8 +8,8 @@ pub enum Ask {
     LogsIn(SessionUser),
     /// CANC-USER.
     LogsOut,
-    /// RTRV-HDR.
-    Greets,
+    /// RTRV-HDR, or a command of the users that they did.
+    Completes,
     /// ALW-MSG-ALL.
     Allows,
     /// INH-MSG-ALL.

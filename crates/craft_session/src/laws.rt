@@ -1,5 +1,5 @@
 //! What is true of every session's run, as the contract of a function without parameters.
-ghost use Rattle.craft_session.specs.Laws.{AreUnitsAlone, ArePlayed, ArePlayedAlone, AreResponsesOnce, AreScripts, EntriesAreCompleted, EntriesWantMiddles, OpeningsArePlaced};
+ghost use Rattle.craft_session.specs.Laws.{AreUnitsAlone, AreHearingsOnce, ArePlayed, ArePlayedAlone, AreResponsesOnce, AreScripts, EntriesAreCompleted, EntriesWantMiddles, OpeningsArePlaced};
 
 use dxc_disk::Disk;
 use dxc_outside::{Clock, Link};
@@ -25,10 +25,15 @@ pub fn responses_are_one()
     ensures { AreResponsesOnce }
 {}
 
-/// What the one session of a turnstile with one pass wrote is what the plain session writes on what the journal came to, over a legal history of its
+/// From the same users on the same units hear the same of them, in a session that is alone on a sound disk; so what it writes is one, by the law before.
+pub fn hearings_are_one()
+    ensures { AreHearingsOnce }
+{}
+
+/// What the one session of turnstiles with one pass wrote is what the plain session writes on what the journals came to, over legal histories of its
 /// entries alone.
-pub fn scripts_are_played<K: Link, C: Clock, D: Disk>()
-    ensures { AreScripts K.told C.told D.told D.state }
+pub fn scripts_are_played<K: Link, C: Clock, D: Disk, U: Disk>()
+    ensures { AreScripts K.told C.told D.told D.state U.state }
 {}
 
 /// An entry between two free ports of equipped modules is completed, unless a stop comes first: there is always a middle for it, or circuits that can

@@ -1,4 +1,4 @@
-//! One technician's session, from bytes to bytes: units are read, understood, done on the table and answered.
+//! One technician's session, from bytes to bytes: units are read, understood, done on the table or the users, and answered.
 #![tactic(auto)]
 
 mod act;
@@ -15,6 +15,7 @@ mod reports;
 mod say;
 mod seat;
 mod session;
+mod users;
 
 pub use end::SessionEnd;
 pub use place::Place;

@@ -1,53 +1,107 @@
-ghost use Rattle.std.specs.Prelude.{◌≡◌, ◌≤◌, length};
-ghost use Rattle.tl1_text.specs.Spans.{AreBlocksOf};
+//! What a unit asks of a session, behind what the users answer to it.
+ghost use Rattle.std.specs.Prelude.{◌≡◌, ◌≢◌, ◌≤◌, [], IfSome, None, length, map};
+ghost use Rattle.dxc_causes.specs.Causes.{Rose};
+ghost use Rattle.dxc_num.specs.Dimensions.{Dimensions};
+ghost use Rattle.tl1_text.specs.Spans.{AreBlocksOf, block_at};
 ghost use Rattle.tl1_text.specs.Units.{whole};
 ghost use Rattle.tl1_command.specs.Commands.{asked_by, IsAptCommand};
+ghost use Rattle.user_admin.specs.Spellable.{NamesUid};
+ghost use Rattle.user_admin.specs.Verdicts.{IsChanging};
 ghost use Rattle.craft_session.specs.Asks.{IsAptAsk};
-ghost use Rattle.craft_session.specs.Meanings.{asks, tag_of, table_ask, log_in, is_other_user as other_user, session_ask};
+ghost use Rattle.craft_session.specs.Desks.{ConsultedIs};
+ghost use Rattle.craft_session.specs.Hearing.{AskedIs, IsAsked, to_do};
+ghost use Rattle.tl1_command.specs.Meanings.{meaning};
+ghost use Rattle.user_admin.specs.Commands.{user_meaning};
+ghost use Rattle.craft_session.specs.Meanings.{command_ask, command_wants, heard_ask, is_other_user as other_user, log_in, login_wants, named_by, op_wants, session_ask, session_wants, table_ask, users_ask, users_want};
+ghost use Rattle.craft_session.specs.Seats.{IsSameUserSeat};
 
 use crate::ask::Ask;
-use dxc_model::{Cause, Op, SessionUser};
-use dxc_secu::session_user;
+use crate::users::UserDesk;
+use dxc_disk::Disk;
+use dxc_model::{Cause, Class, Op, SessionUser, Uid};
+use dxc_outside::Gate;
 use shelf_file::Shelf;
+use std::sync::Wait;
 use tl1_command::{Command, command_of};
 use tl1_text::grammar::blocks;
 use tl1_text::{Blocks, Ctag, ctag_in, ctag_of};
+use user_admin::turns::UserTook;
+use user_admin::{UserOp, upper, user_command_of};
 
-/// The tag of a whole unit, and what the unit asks of the session of a user.
-pub fn ask_of(shelf: &Shelf, user: &SessionUser, unit: &[u8]) -> (Option<Ctag>, Ask)
+/// The tag of a whole unit, and what the unit asks of the session of a user; the rows of users that it reads stand in `users` then. None: the
+/// gate stopped before the users were changed.
+pub fn consult<U: Disk + Drop, G: Gate, R: Wait>(
+    shelf: &Shelf,
+    users: &mut UserDesk<U>,
+    user: &SessionUser,
+    unit: &[u8],
+    gate: &mut G,
+    rt: &R,
+) -> Option<(Option<Ctag>, Ask)>
     requires short { length unit.now ≤ 2047 }
-    ensures tag { result.0 ≡ tag_of (whole unit.now) }
-    ensures ask { result.1 ≡ asks shelf.now user.now (whole unit.now) }
-    ensures apt { IsAptAsk shelf.now.shape result.1 }
+    requires no_rows { users.old.rows.items ≡ [] }
+    ensures same { IsSameUserSeat users.old.seat users.new.seat }
+    ensures consulted { ConsultedIs shelf.now user.now (whole unit.now) users.old.seat users.new.rows.items users.new.seat.seen result }
+    ensures apt { IfSome result (λ p. IsAptAsk shelf.now.shape p.1) }
+    ensures unstopped { result ≢ None → G.stops gate.new ≡ G.stops gate.old }
+    ensures stopped { result ≡ None → Rose (G.stops gate.old) (G.stops gate.new) }
+    ensures later { G.stops gate.old ≤ G.stops gate.new }
 {
     let Ok(found) = blocks(unit) else {
-        return (ctag_of(unit), Ask::Refused(Cause::BadText));
+        return Some((ctag_of(unit), Ask::Refused(Cause::BadText)));
     };
-    (ctag_in(unit, &found), ask_in(shelf, user, unit, &found))
+    match ask_in(shelf, users, user, unit, &found, gate, rt) {
+        Some(ask) => Some((ctag_in(unit, &found), ask)),
+        None => None,
+    }
 }
 
-/// What a unit in the grammar asks. The blocks are the unit's.
-fn ask_in(shelf: &Shelf, user: &SessionUser, unit: &[u8], found: &Blocks) -> Ask
+/// What a unit in the grammar asks. The blocks are the unit's. One that is no command may be one of the users'.
+fn ask_in<U: Disk + Drop, G: Gate, R: Wait>(
+    shelf: &Shelf,
+    users: &mut UserDesk<U>,
+    user: &SessionUser,
+    unit: &[u8],
+    found: &Blocks,
+    gate: &mut G,
+    rt: &R,
+) -> Option<Ask>
     requires short { length unit.now ≤ 2047 }
     requires blocks { AreBlocksOf unit.now found.now.block.items }
-    ensures ask { result ≡ asks shelf.now user.now (whole unit.now) }
-    ensures apt { IsAptAsk shelf.now.shape result }
+    requires no_rows { users.old.rows.items ≡ [] }
+    ensures same { IsSameUserSeat users.old.seat users.new.seat }
+    ensures asked { AskedIs users.old.seat (command_wants shelf.now user.now (map (block_at unit.now) found.now.block.items) (meaning shelf.now.shape shelf.now.sid user.now (map (block_at unit.now) found.now.block.items))) (λ x. command_ask shelf.now user.now x (map (block_at unit.now) found.now.block.items) (meaning shelf.now.shape shelf.now.sid user.now (map (block_at unit.now) found.now.block.items))) users.new.rows.items users.new.seat.seen result }
+    ensures apt { IfSome result (IsAptAsk shelf.now.shape) }
+    ensures unstopped { result ≢ None → G.stops gate.new ≡ G.stops gate.old }
+    ensures stopped { result ≡ None → Rose (G.stops gate.old) (G.stops gate.new) }
+    ensures later { G.stops gate.old ≤ G.stops gate.new }
 {
     match command_of(shelf.shape(), shelf.sid(), *user, unit, found) {
-        Ok(command) => served(shelf, user, unit, command),
-        Err(cause) => Ask::Refused(cause),
+        Ok(command) => Some(served(users, user, unit, command, rt)),
+        Err(cause) => match cause {
+            Cause::UnknownCommand => ask_users(shelf, users, user, unit, found, gate, rt),
+            _ => Some(Ask::Refused(cause)),
+        },
     }
 }
 
 /// What a command asks of the session.
-fn served(shelf: &Shelf, user: &SessionUser, unit: &[u8], command: Command) -> Ask
-    requires apt { IsAptCommand shelf.now.shape unit.now command }
-    ensures ask { result ≡ session_ask shelf.now user.now (asked_by unit.now command) }
-    ensures apt { IsAptAsk shelf.now.shape result }
+fn served<U: Disk + Drop, R: Wait>(
+    users: &mut UserDesk<U>,
+    user: &SessionUser,
+    unit: &[u8],
+    command: Command,
+    rt: &R,
+) -> Ask
+    requires within { (d : Dimensions) × IsAptCommand d unit.now command }
+    requires no_rows { users.old.rows.items ≡ [] }
+    ensures same { IsSameUserSeat users.old.seat users.new.seat }
+    ensures asked { IsAsked users.old.seat (session_wants (asked_by unit.now command)) (λ x. session_ask user.now x (asked_by unit.now command)) result users.new.rows.items users.new.seat.seen }
+    ensures apt { (d : Dimensions) → IsAptCommand d unit.now command → IsAptAsk d result }
 {
     match command {
         Command::ActUser { uid, pid } => {
-            log_in_as(user, session_user(shelf, uid.text(unit), pid.text(unit)))
+            act_user(users, user, uid.text(unit), pid.text(unit), rt)
         }
         Command::CancUser { uid } => {
             if is_other_user(user, uid.text(unit)) {
@@ -56,23 +110,43 @@ fn served(shelf: &Shelf, user: &SessionUser, unit: &[u8], command: Command) -> A
                 Ask::LogsOut
             }
         }
-        Command::Header => Ask::Greets,
+        Command::Header => Ask::Completes,
         Command::Allow => Ask::Allows,
         Command::Inhibit => Ask::Inhibits,
         Command::Table(op) => on_table(op),
     }
 }
 
-/// Where nobody is logged in, the user whom name and PID name logs in; Nobody where they name none.
-fn log_in_as(user: &SessionUser, named: SessionUser) -> Ask
-    ensures { result ≡ log_in user.now named }
+/// Looks whom name and PID log in. A name that is too long for a user's is nobody's.
+fn act_user<U: Disk + Drop, R: Wait>(
+    users: &mut UserDesk<U>,
+    user: &SessionUser,
+    uid: &[u8],
+    pid: &[u8],
+    rt: &R,
+) -> Ask
+    requires no_rows { users.old.rows.items ≡ [] }
+    ensures same { IsSameUserSeat users.old.seat users.new.seat }
+    ensures asked { IsAsked users.old.seat (login_wants uid.now pid.now) (λ x. log_in user.now (named_by uid.now x)) result users.new.rows.items users.new.seat.seen }
+    ensures apt { (d : Dimensions) → IsAptAsk d result }
 {
-    match named {
-        SessionUser::Nobody => Ask::Refused(Cause::BadIdentity),
-        SessionUser::User { uid, class } => match user {
-            SessionUser::Nobody => Ask::LogsIn(SessionUser::User { uid, class }),
-            SessionUser::User { .. } => Ask::Refused(Cause::AlreadyLoggedIn),
-        },
+    let Some(uid) = Uid::of(uid) else {
+        return Ask::Refused(Cause::BadIdentity);
+    };
+    match users.seat.login(uid, pid, rt) {
+        Some(class) => log_in_as(user, upper(uid), class),
+        None => Ask::Refused(Cause::BadIdentity),
+    }
+}
+
+/// Where nobody is logged in, the user logs in.
+fn log_in_as(user: &SessionUser, uid: Uid, class: Class) -> Ask
+    ensures ask { result ≡ log_in user.now (SessionUser.User uid class) }
+    ensures apt { (d : Dimensions) → IsAptAsk d result }
+{
+    match user {
+        SessionUser::Nobody => Ask::LogsIn(SessionUser::User { uid, class }),
+        SessionUser::User { .. } => Ask::Refused(Cause::AlreadyLoggedIn),
     }
 }
 
@@ -103,5 +177,98 @@ fn on_table(op: Op) -> Ask
         Op::Rows(selection) => Ask::Lists(selection),
         Op::Restart => Ask::Restarts,
         Op::Look(_) => Ask::Refused(Cause::UnknownCommand),
+    }
+}
+
+/// What a unit asks that may be a command of the users. The blocks are the unit's.
+fn ask_users<U: Disk + Drop, G: Gate, R: Wait>(
+    shelf: &Shelf,
+    users: &mut UserDesk<U>,
+    user: &SessionUser,
+    unit: &[u8],
+    found: &Blocks,
+    gate: &mut G,
+    rt: &R,
+) -> Option<Ask>
+    requires short { length unit.now ≤ 2047 }
+    requires blocks { AreBlocksOf unit.now found.now.block.items }
+    requires no_rows { users.old.rows.items ≡ [] }
+    ensures same { IsSameUserSeat users.old.seat users.new.seat }
+    ensures asked { AskedIs users.old.seat (users_want (user_meaning shelf.now.sid user.now (map (block_at unit.now) found.now.block.items))) (λ x. users_ask x (user_meaning shelf.now.sid user.now (map (block_at unit.now) found.now.block.items))) users.new.rows.items users.new.seat.seen result }
+    ensures apt { (d : Dimensions) → IfSome result (IsAptAsk d) }
+    ensures unstopped { result ≢ None → G.stops gate.new ≡ G.stops gate.old }
+    ensures stopped { result ≡ None → Rose (G.stops gate.old) (G.stops gate.new) }
+    ensures later { G.stops gate.old ≤ G.stops gate.new }
+{
+    match user_command_of(shelf.sid(), *user, unit, found) {
+        Ok(op) => on_users(users, op, gate, rt),
+        Err(cause) => Some(Ask::Refused(cause)),
+    }
+}
+
+/// Does an operation on the users. A command never asks for a look.
+fn on_users<U: Disk + Drop, G: Gate, R: Wait>(
+    users: &mut UserDesk<U>,
+    op: UserOp,
+    gate: &mut G,
+    rt: &R,
+) -> Option<Ask>
+    requires named { NamesUid op }
+    requires no_rows { users.old.rows.items ≡ [] }
+    ensures same { IsSameUserSeat users.old.seat users.new.seat }
+    ensures asked { AskedIs users.old.seat (op_wants op) heard_ask users.new.rows.items users.new.seat.seen result }
+    ensures apt { (d : Dimensions) → IfSome result (IsAptAsk d) }
+    ensures unstopped { result ≢ None → G.stops gate.new ≡ G.stops gate.old }
+    ensures stopped { result ≡ None → Rose (G.stops gate.old) (G.stops gate.new) }
+    ensures later { G.stops gate.old ≤ G.stops gate.new }
+{
+    match op {
+        UserOp::Rows(which) => Some(list_users(users, which, rt)),
+        UserOp::Look(_) => Some(Ask::Refused(Cause::UnknownCommand)),
+        op => change_users(users, op, gate, rt),
+    }
+}
+
+/// Reads the rows of one user, or of all.
+fn list_users<U: Disk + Drop, R: Wait>(
+    users: &mut UserDesk<U>,
+    which: Option<Uid>,
+    rt: &R,
+) -> Ask
+    requires no_rows { users.old.rows.items ≡ [] }
+    ensures same { IsSameUserSeat users.old.seat users.new.seat }
+    ensures asked { IsAsked users.old.seat (to_do (UserOp.Rows which)) heard_ask result users.new.rows.items users.new.seat.seen }
+    ensures apt { (d : Dimensions) → IsAptAsk d result }
+{
+    match users.seat.rows(which, rt) {
+        Ok(rows) => {
+            users.rows = rows;
+            Ask::Completes
+        }
+        Err(cause) => Ask::Refused(cause),
+    }
+}
+
+/// Makes a change of the users.
+fn change_users<U: Disk + Drop, G: Gate, R: Wait>(
+    users: &mut UserDesk<U>,
+    op: UserOp,
+    gate: &mut G,
+    rt: &R,
+) -> Option<Ask>
+    requires changing { IsChanging op }
+    requires named { NamesUid op }
+    requires no_rows { users.old.rows.items ≡ [] }
+    ensures same { IsSameUserSeat users.old.seat users.new.seat }
+    ensures asked { AskedIs users.old.seat (to_do op) heard_ask users.new.rows.items users.new.seat.seen result }
+    ensures apt { (d : Dimensions) → IfSome result (IsAptAsk d) }
+    ensures unstopped { result ≢ None → G.stops gate.new ≡ G.stops gate.old }
+    ensures stopped { result ≡ None → Rose (G.stops gate.old) (G.stops gate.new) }
+    ensures later { G.stops gate.old ≤ G.stops gate.new }
+{
+    match users.seat.change(op, gate, rt) {
+        UserTook::Done => Some(Ask::Completes),
+        UserTook::Denied(cause) => Some(Ask::Refused(cause)),
+        UserTook::Stopped => None,
     }
 }

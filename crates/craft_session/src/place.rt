@@ -1,11 +1,12 @@
 ghost use Rattle.std.specs.Prelude.{◌≡◌, IfOk};
 ghost use Rattle.std.specs.Arc.{arc_value};
 ghost use Rattle.xc_core.specs.States.{opening_of};
-ghost use Rattle.craft_session.specs.Seats.{IsSeated, seat_at};
+ghost use Rattle.craft_session.specs.Seats.{IsSeated, IsUserSeated, seat_at, user_seat_at};
 
 use crate::attending::Attending;
 use crate::desk::Desk;
 use crate::seat::Seat;
+use crate::users::{UserDesk, UserSeat};
 use arrayvec::ArrayVec;
 use dxc_causes::NoMemory;
 use dxc_disk::Disk;
@@ -18,6 +19,7 @@ use std::sync::Arc;
 use tl1_answer::Answer;
 use tl1_text::UnitReader;
 use turnstile::{Pass, Turnstile};
+use user_admin::UserState;
 use xc_core::State;
 
 /// The most bytes of one read.
@@ -26,46 +28,57 @@ const PIECE: usize = 4096;
 /// The most changes that reports are made of.
 const KEPT: usize = 1024;
 
-/// What the sessions of one place need: the shelf, its seat at the state, and all buffers. Contracts see shelf and seat.
+/// What the sessions of one place need: the shelf, its seats at the state and at the users, and all buffers. Contracts see
+/// shelf and seats.
 #[derive(Drop)]
-pub struct Place<D: Disk> {
-    pub(crate) desk: Desk<D>,
+pub struct Place<D: Disk, U: Disk> {
+    pub(crate) desk: Desk<D, U>,
     pub(crate) piece: Vec<u8>,
 }
 
-impl<D: Disk> Model for Place<D> {
+impl<D: Disk, U: Disk> Model for Place<D, U> {
     ghost use Rattle.std.specs.Prelude.{◌<◌, vec_len};
     ghost use Rattle.std.specs.Arc.{arc_value};
-    ghost use Rattle.craft_session.specs.Seats.{PlaceAt};
+    ghost use Rattle.craft_session.specs.Seats.{PlaceAt, place_coded};
 
     ghost Value = { PlaceAt };
 
-    ghost view = { λ p. record { shelf = arc_value p.desk.shelf; seat = p.desk.seat } };
+    ghost coded = { place_coded };
+
+    ghost view = { λ p. record { shelf = arc_value p.desk.shelf; seat = p.desk.seat; users = p.desk.users.seat } };
 
     ghost invariant = { λ p. 0 < vec_len p.piece };
 }
 
-impl<D: Disk + Drop> Place<D> {
-    /// A place of the turnstile, whose Provisioner writes the fabric's registers, on the shelf, which is of the same shape. It takes all memory
-    /// that its sessions need.
+impl<D: Disk + Drop, U: Disk + Drop> Place<D, U> {
+    /// A place of the turnstiles of the state, whose Provisioner writes the fabric's registers, and of the users, on the shelf, which is of the
+    /// same shape. Its passes have one number. It takes all memory that its sessions need.
     pub fn new(
         alloc: Global,
         pass: Pass,
+        users_pass: Pass,
         number: u16,
         shelf: Arc<Shelf>,
         fabric: Arc<Fabric>,
         turns: Arc<Turnstile<State<D>>>,
-    ) -> Result<Place<D>, NoMemory>
+        users: Arc<Turnstile<UserState<U>>>,
+    ) -> Result<Place<D, U>, NoMemory>
         requires number { number ≡ pass.number }
+        requires users_number { number ≡ users_pass.number }
         requires seated { IsSeated D.told D.state pass (arc_value turns) (arc_value fabric) }
+        requires users_seated { IsUserSeated U.state users_pass (arc_value users) }
         requires shape { (opening_of D.state (arc_value turns).first).first.fold.table.shape ≡ (arc_value shelf).shape }
-        ensures { IfOk result (λ p. p ≡ record { shelf = arc_value shelf; seat = seat_at D.state pass (arc_value turns) }) }
+        ensures { IfOk result (λ p. p ≡ record { shelf = arc_value shelf; seat = seat_at D.state pass (arc_value turns); users = user_seat_at U.state users_pass (arc_value users) }) }
     {
         let _ = number;
         let rows = Vec::with_capacity(alloc, shelf.shape().ports() as usize)?;
         let changes = Vec::with_capacity(alloc, KEPT)?;
         let piece = Vec::from_elem(alloc, 0, PIECE)?;
         let seat = Seat::new(pass, turns, fabric);
+        let users = UserDesk {
+            seat: UserSeat::new(users_pass, users),
+            rows: ArrayVec::new(),
+        };
         let attending = Attending {
             user: SessionUser::Nobody,
             watch: None,
@@ -73,6 +86,7 @@ impl<D: Disk + Drop> Place<D> {
         let desk = Desk {
             shelf,
             seat,
+            users,
             attending,
             reader: UnitReader::new(),
             answer: Answer::new(),

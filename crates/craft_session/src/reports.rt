@@ -27,17 +27,18 @@ use tl1_answer::change_text;
 use xc_core::turns::Looked;
 
 /// Looks for changes where reports are allowed, and writes a report of each, with the next moments.
-pub fn report<K: Link, C: Clock, D: Disk + Drop, R: Wait>(
-    desk: &mut Desk<D>,
+pub fn report<K: Link, C: Clock, D: Disk + Drop, U: Disk + Drop, R: Wait>(
+    desk: &mut Desk<D, U>,
     link: &mut K,
     clock: &mut C,
     rt: &R,
 ) -> Progress
     ensures shelf { desk.new.shelf ≡ desk.old.shelf }
     ensures seat { IsSameSeat desk.old.seat desk.new.seat }
+    ensures users { desk.new.users ≡ desk.old.users }
     ensures reader { desk.new.reader ≡ desk.old.reader }
     ensures link { Writes K.told (K.state link.old) (K.state link.new) }
-    ensures goes { (k : LinkState) → (c : List Moment) → (b : Beginning) → (r : Reader) → (ahead : List ℕ) → IsAt b desk.old.seat → Stands (language (arc_value desk.old.shelf)) K.told C.told k (K.state link.old) c (C.coming clock.old) b (now desk.old) (is_some desk.old.attending.watch) More r ahead
+    ensures goes { (k : LinkState) → (c : List Moment) → (b : Beginning) → (r : Reader) → (ahead : List ℕ) → IsAt b desk.old.seat desk.old.users.seat → Stands (language (arc_value desk.old.shelf)) K.told C.told k (K.state link.old) c (C.coming clock.old) b (now desk.old) (is_some desk.old.attending.watch) More r ahead
         → Goes (language (arc_value desk.old.shelf)) K.told C.told k (K.state link.new) c (C.coming clock.new) b (now desk.new) result false r ahead }
     ensures unstopped { result ≢ Progress.Stopped }
 {
@@ -50,8 +51,8 @@ pub fn report<K: Link, C: Clock, D: Disk + Drop, R: Wait>(
 }
 
 /// Writes the reports of what a look found, each with the next moment.
-fn tell<K: Link, C: Clock, D: Disk + Drop>(
-    desk: &mut Desk<D>,
+fn tell<K: Link, C: Clock, D: Disk + Drop, U: Disk + Drop>(
+    desk: &mut Desk<D, U>,
     link: &mut K,
     clock: &mut C,
     looked: Looked,
@@ -60,6 +61,7 @@ fn tell<K: Link, C: Clock, D: Disk + Drop>(
     requires of_shape { AllByRecursion (IsChangeOf desk.old.seat.opening.first.fold.table.shape) desk.old.changes.items }
     ensures shelf { desk.new.shelf ≡ desk.old.shelf }
     ensures seat { desk.new.seat ≡ desk.old.seat }
+    ensures users { desk.new.users ≡ desk.old.users }
     ensures attending { desk.new.attending ≡ desk.old.attending }
     ensures reader { desk.new.reader ≡ desk.old.reader }
     ensures told { AreTold (language (arc_value desk.old.shelf)) K.told C.told (K.state link.old) (K.state link.new) (C.coming clock.old) (C.coming clock.new) result (found_notices looked.since looked.newest desk.old.changes.items) }
@@ -72,8 +74,8 @@ fn tell<K: Link, C: Clock, D: Disk + Drop>(
 }
 
 /// Writes the report of changes that were lost, if some were.
-fn tell_lost<K: Link, C: Clock, D: Disk + Drop>(
-    desk: &mut Desk<D>,
+fn tell_lost<K: Link, C: Clock, D: Disk + Drop, U: Disk + Drop>(
+    desk: &mut Desk<D, U>,
     link: &mut K,
     clock: &mut C,
     since: Since,
@@ -81,6 +83,7 @@ fn tell_lost<K: Link, C: Clock, D: Disk + Drop>(
 ) -> Sent
     ensures shelf { desk.new.shelf ≡ desk.old.shelf }
     ensures seat { desk.new.seat ≡ desk.old.seat }
+    ensures users { desk.new.users ≡ desk.old.users }
     ensures attending { desk.new.attending ≡ desk.old.attending }
     ensures reader { desk.new.reader ≡ desk.old.reader }
     ensures changes { desk.new.changes ≡ desk.old.changes }
@@ -96,8 +99,8 @@ fn tell_lost<K: Link, C: Clock, D: Disk + Drop>(
 }
 
 /// Writes a report of each change, numbered from the one behind `before`.
-fn tell_changes<K: Link, C: Clock, D: Disk + Drop>(
-    desk: &mut Desk<D>,
+fn tell_changes<K: Link, C: Clock, D: Disk + Drop, U: Disk + Drop>(
+    desk: &mut Desk<D, U>,
     link: &mut K,
     clock: &mut C,
     before: u64,
@@ -106,6 +109,7 @@ fn tell_changes<K: Link, C: Clock, D: Disk + Drop>(
     requires of_shape { AllByRecursion (IsChangeOf desk.old.seat.opening.first.fold.table.shape) desk.old.changes.items }
     ensures shelf { desk.new.shelf ≡ desk.old.shelf }
     ensures seat { desk.new.seat ≡ desk.old.seat }
+    ensures users { desk.new.users ≡ desk.old.users }
     ensures attending { desk.new.attending ≡ desk.old.attending }
     ensures reader { desk.new.reader ≡ desk.old.reader }
     ensures told { AreTold (language (arc_value desk.old.shelf)) K.told C.told (K.state link.old) (K.state link.new) (C.coming clock.old) (C.coming clock.new) result (numbered before desk.old.changes.items) }
@@ -120,8 +124,8 @@ fn tell_changes<K: Link, C: Clock, D: Disk + Drop>(
 }
 
 /// Writes the report of the change at a place of the list.
-fn tell_change<K: Link, C: Clock, D: Disk + Drop>(
-    desk: &mut Desk<D>,
+fn tell_change<K: Link, C: Clock, D: Disk + Drop, U: Disk + Drop>(
+    desk: &mut Desk<D, U>,
     link: &mut K,
     clock: &mut C,
     before: u64,
@@ -132,6 +136,7 @@ fn tell_change<K: Link, C: Clock, D: Disk + Drop>(
     requires of_shape { AllByRecursion (IsChangeOf desk.old.seat.opening.first.fold.table.shape) desk.old.changes.items }
     ensures shelf { desk.new.shelf ≡ desk.old.shelf }
     ensures seat { desk.new.seat ≡ desk.old.seat }
+    ensures users { desk.new.users ≡ desk.old.users }
     ensures attending { desk.new.attending ≡ desk.old.attending }
     ensures reader { desk.new.reader ≡ desk.old.reader }
     ensures changes { desk.new.changes ≡ desk.old.changes }
@@ -142,14 +147,15 @@ fn tell_change<K: Link, C: Clock, D: Disk + Drop>(
 }
 
 /// Writes one report of the text with the next moment.
-fn tell_one<K: Link, C: Clock, D: Disk + Drop>(
-    desk: &mut Desk<D>,
+fn tell_one<K: Link, C: Clock, D: Disk + Drop, U: Disk + Drop>(
+    desk: &mut Desk<D, U>,
     link: &mut K,
     clock: &mut C,
     number: u64,
 ) -> Sent
     ensures shelf { desk.new.shelf ≡ desk.old.shelf }
     ensures seat { desk.new.seat ≡ desk.old.seat }
+    ensures users { desk.new.users ≡ desk.old.users }
     ensures attending { desk.new.attending ≡ desk.old.attending }
     ensures reader { desk.new.reader ≡ desk.old.reader }
     ensures changes { desk.new.changes ≡ desk.old.changes }

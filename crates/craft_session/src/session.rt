@@ -1,27 +1,26 @@
-ghost use Rattle.std.specs.Prelude.{◌≡◌, ◌≢◌, ◌≤◌, ◌<◌, ◌^◌, ◌↔◌, false, ℕ, List, [], length, IsTrue};
+ghost use Rattle.std.specs.Prelude.{◌≡◌, ◌≢◌, ◌≤◌, ◌<◌, ◌^◌, ◌↔◌, false, ℕ, List, [], length, IsTrue, IfSome, None};
 ghost use Rattle.dxc_causes.specs.Causes.{Rose, Counted};
 ghost use Rattle.dxc_outside.specs.declared.clock.Moment.{Moment};
 ghost use Rattle.dxc_outside.specs.Links.{LinkState};
 ghost use Rattle.tl1_text.specs.declared.reader.UnitKind.TheVariants.{More};
-ghost use Rattle.tl1_text.specs.Reading.{Holds, Reader, hand};
-ghost use Rattle.tl1_text.specs.Units.{Input, IsUnit};
-ghost use Rattle.tl1_text.specs.declared.reader.UnitKind.{UnitKind};
+ghost use Rattle.tl1_text.specs.Reading.{Holds, hand};
 ghost use Rattle.std.specs.Arc.{arc_value};
 ghost use Rattle.std.specs.List.{AllByRecursion};
 ghost use Rattle.tl1_answer.specs.Texts.{IsOfShape};
 ghost use Rattle.craft_session.specs.Asks.{reply_of, IsAptAsk};
-ghost use Rattle.craft_session.specs.Meanings.{asks, language, tag_of};
-ghost use Rattle.craft_session.specs.Desks.{now, IsReplied, IsAnswered};
-ghost use Rattle.craft_session.specs.Seats.{IsSameSeat};
+ghost use Rattle.craft_session.specs.Meanings.{language};
+ghost use Rattle.craft_session.specs.Desks.{now, input_of, ConsultedIs, IsReplied, IsAnswered};
+ghost use Rattle.craft_session.specs.Seats.{IsSameSeat, IsSameUserSeat};
 ghost use Rattle.craft_session.specs.Sessions.{Beginning, IsAt, Writes, Stands, Goes, IsServed};
 ghost use Rattle.craft_session.specs.Walks.{nobody};
+ghost use Rattle.user_admin.specs.Turns.{AreNumbered as AreUsersNumbered};
 ghost use Rattle.xc_core.specs.Turns.{AreNumbered, SawNoneAstray};
 
 use crate::act::act;
 use crate::ask::{Acted, Ask};
 use crate::desk::Desk;
 use crate::end::{Progress, SessionEnd};
-use crate::meaning::ask_of;
+use crate::meaning::consult;
 use crate::place::Place;
 use crate::reports::report;
 use crate::say::{add_lines, code_of};
@@ -34,8 +33,8 @@ use tl1_text::{Ctag, UnitKind};
 const READS: u64 = 1 << 32;
 
 /// Answers the units that end in the piece.
-fn serve_piece<K: Link, C: Clock, G: Gate, D: Disk + Drop, R: Wait>(
-    desk: &mut Desk<D>,
+fn serve_piece<K: Link, C: Clock, G: Gate, D: Disk + Drop, U: Disk + Drop, R: Wait>(
+    desk: &mut Desk<D, U>,
     link: &mut K,
     clock: &mut C,
     gate: &mut G,
@@ -44,8 +43,9 @@ fn serve_piece<K: Link, C: Clock, G: Gate, D: Disk + Drop, R: Wait>(
 ) -> Progress
     ensures shelf { desk.new.shelf ≡ desk.old.shelf }
     ensures seat { IsSameSeat desk.old.seat desk.new.seat }
+    ensures users { IsSameUserSeat desk.old.users.seat desk.new.users.seat }
     ensures link { Writes K.told (K.state link.old) (K.state link.new) }
-    ensures goes { (k : LinkState) → (c : List Moment) → (b : Beginning) → IsAt b desk.old.seat → Stands (language (arc_value desk.old.shelf)) K.told C.told k (K.state link.old) c (C.coming clock.old) b (now desk.old) false More desk.old.reader piece.now
+    ensures goes { (k : LinkState) → (c : List Moment) → (b : Beginning) → IsAt b desk.old.seat desk.old.users.seat → Stands (language (arc_value desk.old.shelf)) K.told C.told k (K.state link.old) c (C.coming clock.old) b (now desk.old) false More desk.old.reader piece.now
         → Goes (language (arc_value desk.old.shelf)) K.told C.told k (K.state link.new) c (C.coming clock.new) b (now desk.new) result false desk.new.reader [] }
     ensures stopped { result ≡ Progress.Stopped → Rose (G.stops gate.old) (G.stops gate.new) }
     ensures unstopped { result ≢ Progress.Stopped → G.stops gate.new ≡ G.stops gate.old }
@@ -64,8 +64,8 @@ fn serve_piece<K: Link, C: Clock, G: Gate, D: Disk + Drop, R: Wait>(
 }
 
 /// Answers the unit that ended, if one did, and reports what changed.
-fn serve_unit<K: Link, C: Clock, G: Gate, D: Disk + Drop, R: Wait>(
-    desk: &mut Desk<D>,
+fn serve_unit<K: Link, C: Clock, G: Gate, D: Disk + Drop, U: Disk + Drop, R: Wait>(
+    desk: &mut Desk<D, U>,
     link: &mut K,
     clock: &mut C,
     gate: &mut G,
@@ -75,9 +75,10 @@ fn serve_unit<K: Link, C: Clock, G: Gate, D: Disk + Drop, R: Wait>(
     requires short { kind ≡ UnitKind.Whole → length desk.old.reader.kept ≤ 2047 }
     ensures shelf { desk.new.shelf ≡ desk.old.shelf }
     ensures seat { IsSameSeat desk.old.seat desk.new.seat }
+    ensures users { IsSameUserSeat desk.old.users.seat desk.new.users.seat }
     ensures reader { desk.new.reader ≡ desk.old.reader }
     ensures link { Writes K.told (K.state link.old) (K.state link.new) }
-    ensures goes { (k : LinkState) → (c : List Moment) → (b : Beginning) → (ahead : List ℕ) → IsAt b desk.old.seat → Stands (language (arc_value desk.old.shelf)) K.told C.told k (K.state link.old) c (C.coming clock.old) b (now desk.old) false kind desk.old.reader ahead
+    ensures goes { (k : LinkState) → (c : List Moment) → (b : Beginning) → (ahead : List ℕ) → IsAt b desk.old.seat desk.old.users.seat → Stands (language (arc_value desk.old.shelf)) K.told C.told k (K.state link.old) c (C.coming clock.old) b (now desk.old) false kind desk.old.reader ahead
         → Goes (language (arc_value desk.old.shelf)) K.told C.told k (K.state link.new) c (C.coming clock.new) b (now desk.new) result false desk.old.reader ahead }
     ensures stopped { result ≡ Progress.Stopped → Rose (G.stops gate.old) (G.stops gate.new) }
     ensures unstopped { result ≢ Progress.Stopped → G.stops gate.new ≡ G.stops gate.old }
@@ -85,66 +86,62 @@ fn serve_unit<K: Link, C: Clock, G: Gate, D: Disk + Drop, R: Wait>(
 {
     match kind {
         UnitKind::More => Progress::On,
-        UnitKind::Whole => {
-            let (tag, ask) = ask_of(&desk.shelf, &desk.attending.user, desk.reader.unit());
-            attend(desk, link, clock, gate, rt, tag, ask)
-        }
-        UnitKind::TooLong => {
-            let ask = Ask::Refused(Cause::TooLong);
-            attend(desk, link, clock, gate, rt, None, ask)
-        }
+        UnitKind::Whole | UnitKind::TooLong => attend(desk, link, clock, gate, rt, kind),
     }
 }
 
-/// Does what a unit asks, answers it, and reports what changed.
-fn attend<K: Link, C: Clock, G: Gate, D: Disk + Drop, R: Wait>(
-    desk: &mut Desk<D>,
+/// Does what the unit that ended asks, answers it, and reports what changed.
+fn attend<K: Link, C: Clock, G: Gate, D: Disk + Drop, U: Disk + Drop, R: Wait>(
+    desk: &mut Desk<D, U>,
     link: &mut K,
     clock: &mut C,
     gate: &mut G,
     rt: &R,
-    tag: Option<Ctag>,
-    ask: Ask,
+    kind: UnitKind,
 ) -> Progress
-    requires apt { IsAptAsk desk.old.seat.opening.first.fold.table.shape ask }
+    requires ended { kind ≢ UnitKind.More }
+    requires short { kind ≡ UnitKind.Whole → length desk.old.reader.kept ≤ 2047 }
     ensures shelf { desk.new.shelf ≡ desk.old.shelf }
     ensures seat { IsSameSeat desk.old.seat desk.new.seat }
+    ensures users { IsSameUserSeat desk.old.users.seat desk.new.users.seat }
     ensures reader { desk.new.reader ≡ desk.old.reader }
     ensures link { Writes K.told (K.state link.old) (K.state link.new) }
-    ensures goes { (k : LinkState) → (c : List Moment) → (b : Beginning) → (kind : UnitKind) → (r : Reader) → (ahead : List ℕ) → (u : Input) → IsAt b desk.old.seat → (s : Stands (language (arc_value desk.old.shelf)) K.told C.told k (K.state link.old) c (C.coming clock.old) b (now desk.old) false kind r ahead)
-        → IsUnit s.rest u × (hand r ≡ []) → tag ≡ tag_of u → ask ≡ asks (arc_value desk.old.shelf) desk.old.attending.user u
-        → Goes (language (arc_value desk.old.shelf)) K.told C.told k (K.state link.new) c (C.coming clock.new) b (now desk.new) result false r ahead }
+    ensures goes { (k : LinkState) → (c : List Moment) → (b : Beginning) → (ahead : List ℕ) → IsAt b desk.old.seat desk.old.users.seat → Stands (language (arc_value desk.old.shelf)) K.told C.told k (K.state link.old) c (C.coming clock.old) b (now desk.old) false kind desk.old.reader ahead
+        → Goes (language (arc_value desk.old.shelf)) K.told C.told k (K.state link.new) c (C.coming clock.new) b (now desk.new) result false desk.old.reader ahead }
     ensures stopped { result ≡ Progress.Stopped → Rose (G.stops gate.old) (G.stops gate.new) }
     ensures unstopped { result ≢ Progress.Stopped → G.stops gate.new ≡ G.stops gate.old }
     ensures later { G.stops gate.old ≤ G.stops gate.new }
 {
-    match answer(desk, link, clock, gate, rt, tag, ask) {
+    match answer(desk, link, clock, gate, rt, kind) {
         Progress::On => report(desk, link, clock, rt),
         Progress::Cut => Progress::Cut,
         Progress::Stopped => Progress::Stopped,
     }
 }
 
-/// Does what was asked, and writes the response with the next moment. Where the gate stops there is no response.
-fn answer<K: Link, C: Clock, G: Gate, D: Disk + Drop, R: Wait>(
-    desk: &mut Desk<D>,
+/// Does what the unit that ended asks, and writes the response with the next moment. Where the gate stops there is no response.
+fn answer<K: Link, C: Clock, G: Gate, D: Disk + Drop, U: Disk + Drop, R: Wait>(
+    desk: &mut Desk<D, U>,
     link: &mut K,
     clock: &mut C,
     gate: &mut G,
     rt: &R,
-    tag: Option<Ctag>,
-    ask: Ask,
+    kind: UnitKind,
 ) -> Progress
-    requires apt { IsAptAsk desk.old.seat.opening.first.fold.table.shape ask }
+    requires short { kind ≡ UnitKind.Whole → length desk.old.reader.kept ≤ 2047 }
     ensures shelf { desk.new.shelf ≡ desk.old.shelf }
     ensures seat { IsSameSeat desk.old.seat desk.new.seat }
+    ensures users { IsSameUserSeat desk.old.users.seat desk.new.users.seat }
     ensures reader { desk.new.reader ≡ desk.old.reader }
     ensures link { Writes K.told (K.state link.old) (K.state link.new) }
-    ensures answered { IsAnswered (arc_value desk.old.shelf) K.told C.told (K.state link.old) (K.state link.new) (C.coming clock.old) (C.coming clock.new) tag ask desk.old.seat (now desk.old) (now desk.new) result }
+    ensures answered { IsAnswered (arc_value desk.old.shelf) K.told C.told (K.state link.old) (K.state link.new) (C.coming clock.old) (C.coming clock.new) (input_of kind desk.old.reader) desk.old.seat desk.old.users.seat (now desk.old) (now desk.new) result }
     ensures stopped { result ≡ Progress.Stopped → Rose (G.stops gate.old) (G.stops gate.new) }
     ensures unstopped { result ≢ Progress.Stopped → G.stops gate.new ≡ G.stops gate.old }
     ensures later { G.stops gate.old ≤ G.stops gate.new }
 {
+    let Some((tag, ask)) = ask_of(desk, gate, rt, kind) else {
+        return Progress::Stopped;
+    };
     let acted = act(
         &mut desk.seat,
         &mut desk.attending,
@@ -159,9 +156,42 @@ fn answer<K: Link, C: Clock, G: Gate, D: Disk + Drop, R: Wait>(
     }
 }
 
+/// The tag of the unit that ended, and what it asks behind what the users answer to it. None: the gate stopped before they were changed.
+fn ask_of<G: Gate, D: Disk + Drop, U: Disk + Drop, R: Wait>(
+    desk: &mut Desk<D, U>,
+    gate: &mut G,
+    rt: &R,
+    kind: UnitKind,
+) -> Option<(Option<Ctag>, Ask)>
+    requires short { kind ≡ UnitKind.Whole → length desk.old.reader.kept ≤ 2047 }
+    ensures shelf { desk.new.shelf ≡ desk.old.shelf }
+    ensures seat { desk.new.seat ≡ desk.old.seat }
+    ensures users { IsSameUserSeat desk.old.users.seat desk.new.users.seat }
+    ensures attending { desk.new.attending ≡ desk.old.attending }
+    ensures reader { desk.new.reader ≡ desk.old.reader }
+    ensures consulted { ConsultedIs (arc_value desk.old.shelf) desk.old.attending.user (input_of kind desk.old.reader) desk.old.users.seat desk.new.users.rows.items desk.new.users.seat.seen result }
+    ensures apt { IfSome result (λ p. IsAptAsk (arc_value desk.old.shelf).shape p.1) }
+    ensures unstopped { result ≢ None → G.stops gate.new ≡ G.stops gate.old }
+    ensures stopped { result ≡ None → Rose (G.stops gate.old) (G.stops gate.new) }
+    ensures later { G.stops gate.old ≤ G.stops gate.new }
+{
+    desk.users.rows.clear();
+    match kind {
+        UnitKind::Whole => consult(
+            &desk.shelf,
+            &mut desk.users,
+            &desk.attending.user,
+            desk.reader.unit(),
+            gate,
+            rt,
+        ),
+        UnitKind::TooLong | UnitKind::More => Some((None, Ask::Refused(Cause::TooLong))),
+    }
+}
+
 /// Writes the response of what was done with the next moment.
-fn say<K: Link, C: Clock, D: Disk + Drop>(
-    desk: &mut Desk<D>,
+fn say<K: Link, C: Clock, D: Disk + Drop, U: Disk + Drop>(
+    desk: &mut Desk<D, U>,
     link: &mut K,
     clock: &mut C,
     tag: Option<Ctag>,
@@ -170,9 +200,10 @@ fn say<K: Link, C: Clock, D: Disk + Drop>(
     requires { acted ≡ Acted.Listed → AllByRecursion (IsOfShape desk.old.seat.opening.first.fold.table.shape) desk.old.rows.items }
     ensures shelf { desk.new.shelf ≡ desk.old.shelf }
     ensures seat { desk.new.seat ≡ desk.old.seat }
+    ensures users { desk.new.users ≡ desk.old.users }
     ensures attending { desk.new.attending ≡ desk.old.attending }
     ensures reader { desk.new.reader ≡ desk.old.reader }
-    ensures said { IsReplied (arc_value desk.old.shelf) K.told C.told (K.state link.old) (K.state link.new) (C.coming clock.old) (C.coming clock.new) result tag (reply_of acted desk.old.rows.items) }
+    ensures said { IsReplied (arc_value desk.old.shelf) K.told C.told (K.state link.old) (K.state link.new) (C.coming clock.old) (C.coming clock.new) result tag desk.old.users.rows.items (reply_of acted desk.old.rows.items) }
 {
     let moment = clock.now();
     desk.answer
@@ -184,6 +215,7 @@ fn say<K: Link, C: Clock, D: Disk + Drop>(
         desk.shelf.shape(),
         acted,
         &desk.rows,
+        desk.users.rows.as_slice(),
     ) {
         Sent::Whole => {}
         Sent::Cut => return Sent::Cut,
@@ -194,8 +226,8 @@ fn say<K: Link, C: Clock, D: Disk + Drop>(
 
 /// Serves the link, until it ends or fails, the gate stops, or 2^32 reads were made. It waits for its turn at the state, for the Provisioner, and for
 /// frames that stand in the way of a circuit's move. It takes no memory.
-pub fn serve_session<K: Link, C: Clock, G: Gate, D: Disk + Drop, R: Wait>(
-    place: &mut Place<D>,
+pub fn serve_session<K: Link, C: Clock, G: Gate, D: Disk + Drop, U: Disk + Drop, R: Wait>(
+    place: &mut Place<D, U>,
     link: &mut K,
     clock: &mut C,
     gate: &mut G,
@@ -203,9 +235,11 @@ pub fn serve_session<K: Link, C: Clock, G: Gate, D: Disk + Drop, R: Wait>(
 ) -> SessionEnd
     ensures shelf { place.new.shelf ≡ place.old.shelf }
     ensures seat { IsSameSeat place.old.seat place.new.seat }
+    ensures users { IsSameUserSeat place.old.users place.new.users }
     ensures numbers { AreNumbered place.new.seat.places place.new.seat.seen }
+    ensures users_numbers { AreUsersNumbered place.new.users.places place.new.users.seen }
     ensures astray { SawNoneAstray D.told place.new.seat.seen }
-    ensures session { IsServed (language place.old.shelf) K.told C.told (K.state link.old) (K.state link.new) (C.coming clock.old) (C.coming clock.new) place.old.seat place.new.seat result }
+    ensures session { IsServed (language place.old.shelf) K.told C.told (K.state link.old) (K.state link.new) (C.coming clock.old) (C.coming clock.new) place.old.seat place.new.seat place.old.users place.new.users result }
     ensures end { (result ≡ SessionEnd.End) ↔ IsTrue (K.state link.new).ended }
     ensures all_read { K.told → result ≡ SessionEnd.End → (K.state link.new).left ≡ [] }
     ensures read_fault { result ≡ SessionEnd.ReadFault → Rose (K.state link.old).read_faults (K.state link.new).read_faults }
@@ -217,13 +251,14 @@ pub fn serve_session<K: Link, C: Clock, G: Gate, D: Disk + Drop, R: Wait>(
 {
     place.desk.begin();
     let end = serve(&mut place.desk, &mut place.piece, link, clock, gate, rt);
-    // Its clause tells whose entries the seat has seen.
+    // Their clauses tell whose entries the seats have seen.
     place.desk.seat.seen();
+    place.desk.users.seat.seen();
     end
 }
 
-fn serve<K: Link, C: Clock, G: Gate, D: Disk + Drop, R: Wait>(
-    desk: &mut Desk<D>,
+fn serve<K: Link, C: Clock, G: Gate, D: Disk + Drop, U: Disk + Drop, R: Wait>(
+    desk: &mut Desk<D, U>,
     piece: &mut [u8],
     link: &mut K,
     clock: &mut C,
@@ -235,7 +270,8 @@ fn serve<K: Link, C: Clock, G: Gate, D: Disk + Drop, R: Wait>(
     requires nobody { desk.old.attending ≡ nobody }
     ensures shelf { desk.new.shelf ≡ desk.old.shelf }
     ensures seat { IsSameSeat desk.old.seat desk.new.seat }
-    ensures session { IsServed (language (arc_value desk.old.shelf)) K.told C.told (K.state link.old) (K.state link.new) (C.coming clock.old) (C.coming clock.new) desk.old.seat desk.new.seat result }
+    ensures users { IsSameUserSeat desk.old.users.seat desk.new.users.seat }
+    ensures session { IsServed (language (arc_value desk.old.shelf)) K.told C.told (K.state link.old) (K.state link.new) (C.coming clock.old) (C.coming clock.new) desk.old.seat desk.new.seat desk.old.users.seat desk.new.users.seat result }
     ensures end { (result ≡ SessionEnd.End) ↔ IsTrue (K.state link.new).ended }
     ensures all_read { K.told → result ≡ SessionEnd.End → (K.state link.new).left ≡ [] }
     ensures read_fault { result ≡ SessionEnd.ReadFault → Rose (K.state link.old).read_faults (K.state link.new).read_faults }
@@ -245,8 +281,9 @@ fn serve<K: Link, C: Clock, G: Gate, D: Disk + Drop, R: Wait>(
     ensures later { G.stops gate.old ≤ G.stops gate.new }
     ensures spent { result ≡ SessionEnd.Spent → Counted (K.state link.old).reads (K.state link.new).reads (2 ^ 32) }
 {
-    // Its clause tells that the seat has seen a history.
+    // Their clauses tell that the seats have seen histories.
     desk.seat.seen();
+    desk.users.seat.seen();
     for _ in 0..READS {
         match link.read(piece) {
             Got::Bytes(count) => match serve_piece(desk, link, clock, gate, rt, &piece[..count]) {

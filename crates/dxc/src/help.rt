@@ -6,19 +6,26 @@ const HELP: &str = "dxc: the controller of a digital cross-connect
   dxc check SHELF JOURNAL     the connections that the journal comes to, and how many records it has
   dxc serve SHELF JOURNAL ADDRESS LINES WORKERS
                               sessions over TCP, 16 at a time, and 1 to 8 workers that carry frames
+  dxc serve SHELF JOURNAL ADDRESS LINES WORKERS PEER
+                              the same, with a copy of the journal at the standby that PEER is the address of
+  dxc standby JOURNAL ADDRESS the copy: waits at the address for a serve that has it as PEER, and ends as that ends
   dxc load NUMBER             10,000 commands drawn from the number, on a journal in memory, and what they came to
   dxc --help                  this text
   dxc --version               the version
 
 JOURNAL is the name of the journal, which is made where there is none. Every change is in it before it is answered, and a
-start takes it up again. One program at a time has it.
+start takes it up again; changes of users are in JOURNAL.users beside it. One program at a time has them. That of a standby is
+to be new: no file, or an empty one; it gets no copy of JOURNAL.users.
 
 ADDRESS is where TCP callers come in, such as 127.0.0.1:3083 or [::1]:3083. Each gets a session of its own, in plain bytes.
 LINES names files: worker W reads the frames of LINES.in, a byte for each port, and writes those of LINES.W.out, from 0 on.
+PEER is an address too. A change is answered once the standby there has it; where the standby is lost, serve goes on alone.
 
   printf 'ACT-USER::ANNA:1::bc;ENT-CRS-T0::DS0-1-1,DS0-2-1:2;' | dxc script office.toml office.journal
   dxc check office.toml office.journal
   dxc serve office.toml office.journal 127.0.0.1:3083 office 2
+  dxc standby copy.journal 127.0.0.1:3084
+  dxc serve office.toml office.journal 127.0.0.1:3083 office 2 127.0.0.1:3084
   dxc load 0
 
 NUMBER is from 0 to 18446744073709551615. Equal numbers give equal lines: how many commands were completed and denied, how many
@@ -39,8 +46,8 @@ SHELF is the name of a shelf file, which tells the element's name, its shape and
   digest = \"ba7816bf8f01cfea414140de5dae2223b00361a396177a9cb410ff61f20015ad\"
 
 Status: 0 done, 2 words not understood, 3 shelf file refused, 4 journal refused, 5 journal disk failed, 6 cannot open,
-7 cannot start a thread, 8 no memory, 9 terminal failed, 10 stopped, 11 read limit reached. On a terminal a second line on
-standard error tells more.
+7 cannot start a thread, 8 no memory, 9 terminal failed, 10 stopped, 11 read limit reached, 12 standby stream refused,
+13 standby journal not empty. On a terminal a second line on standard error tells more.
 ";
 
 const VERSION: &str = "dxc 0.1.0\n";

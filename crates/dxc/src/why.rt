@@ -17,6 +17,8 @@ pub fn fault_text(status: Status) -> &'static str {
         Status::Link => "dxc: terminal failed\n",
         Status::Stopped => "dxc: stopped\n",
         Status::Spent => "dxc: read limit reached\n",
+        Status::BadMessage => "dxc: standby stream refused\n",
+        Status::NotEmpty => "dxc: standby journal not empty\n",
     }
 }
 
@@ -38,21 +40,35 @@ impl Display for Why<'_> {
         match self.status {
             Status::BadWords => write_word(f, self.words),
             Status::BadShelf(fault) => write_shelf_fault(f, fault),
-            Status::BadJournal(JournalBad::Header(bytes)) => write_header(f, &bytes),
+            Status::BadJournal(JournalBad::Header(bytes)) => write_header(f, "journal", &bytes),
             Status::BadJournal(JournalBad::Record(number)) => {
                 writeln!(f, "dxc: record {number}, counted from 0, makes no change")
             }
+            Status::BadJournal(JournalBad::UsersHeader(bytes)) => write_header(f, "users' journal", &bytes),
+            Status::BadJournal(JournalBad::UsersRecord(number)) => writeln!(
+                f,
+                "dxc: record {number} of the users' journal, counted from 0, makes no change"
+            ),
             _ => Ok(()),
         }
     }
 }
 
-/// How many words a mode has behind it; None: there is no such mode.
-fn words_behind(mode: &str) -> Option<usize> {
+/// How many words a mode has behind it, at least and at most; None: there is no such mode.
+fn words_behind(mode: &str) -> Option<(usize, usize)> {
     match mode {
-        "script" | "check" => Some(2),
-        "serve" => Some(5),
-        "load" => Some(1),
+        "script" | "check" | "standby" => Some((2, 2)),
+        "serve" => Some((5, 6)),
+        "load" => Some((1, 1)),
+        _ => None,
+    }
+}
+
+/// The word of a mode that stands for a number; None: it has none.
+fn number_of_mode<'a>(mode: &str, words: &'a [Name]) -> Option<&'a Name> {
+    match mode {
+        "serve" => words.get(5),
+        "load" => words.get(1),
         _ => None,
     }
 }
@@ -60,17 +76,17 @@ fn words_behind(mode: &str) -> Option<usize> {
 /// The first word that stands in no line of the program.
 fn word_at_fault(words: &[Name]) -> Option<&Name> {
     let mode = words.first()?;
-    let Some(behind) = words_behind(mode.text()) else {
+    let Some((least, most)) = words_behind(mode.text()) else {
         return Some(mode);
     };
     if let Some(dashed) = words.iter().find(|word| word.text().starts_with('-')) {
         return Some(dashed);
     }
-    if words.len() <= behind {
+    if words.len() <= least {
         return None;
     }
     // One too many, or else a number: of workers, or of the load.
-    words.get(behind + 1).or(words.last())
+    words.get(most + 1).or(number_of_mode(mode.text(), words))
 }
 
 fn write_word<W: Write>(f: &mut Formatter<W>, words: &[Name]) -> fmt::Result {
@@ -123,8 +139,8 @@ fn write_key<W: Write>(f: &mut Formatter<W>, key: ShelfKey, user: u16, what: &st
     }
 }
 
-fn write_header<W: Write>(f: &mut Formatter<W>, bytes: &[u8; 32]) -> fmt::Result {
-    f.write_str("dxc: the journal begins")?;
+fn write_header<W: Write>(f: &mut Formatter<W>, file: &str, bytes: &[u8; 32]) -> fmt::Result {
+    write!(f, "dxc: the {file} begins")?;
     for byte in bytes {
         write!(f, " {byte:02x}")?;
     }

@@ -3,7 +3,7 @@ ghost use Rattle.dxc_causes.specs.Causes.{HasCause};
 ghost use Rattle.dxc_outside.specs.Openings.{IsClosed, most_shelf_bytes};
 
 use crate::opener::most_shelf_bytes;
-use crate::{AlwaysGo, FileLines, HostClock, Opened, Opener, TcpDoor};
+use crate::{AlwaysGo, FileLines, HostClock, Opened, Opener, TcpDoor, TcpLink};
 use dxc_disk::FileDisk;
 use std::alloc::Global;
 use std::fs::File;
@@ -11,7 +11,7 @@ use std::io::{self, ErrorKind, Read};
 use std::net::{Net, TcpListener, TcpStream};
 use std::rt::{Clock as SystemClock, Files};
 
-/// Opens files of the operating system by their paths, and TCP listeners by their addresses. It tells nothing of what they hold.
+/// Opens files of the operating system by their paths, and TCP listeners and connections by their addresses. It tells nothing of what they hold.
 #[derive(Drop)]
 pub struct HostOpener<T> {
     system: T,
@@ -74,6 +74,14 @@ fn bind<T: Net<Listener = TcpListener, Stream = TcpStream>>(
     Ok(listener)
 }
 
+// A link to whoever listens at the address.
+fn call<T: Net<Listener = TcpListener, Stream = TcpStream>>(
+    net: &T,
+    address: &str,
+) -> io::Result<TcpLink> {
+    TcpLink::new(TcpStream::connect(net, address)?)
+}
+
 impl<
     T: Files<File = File>
         + Net<Listener = TcpListener, Stream = TcpStream>
@@ -95,11 +103,15 @@ impl<
 
     type Gate = AlwaysGo;
 
+    type Peer = TcpLink;
+
     ghost told = { ⊥ };
 
     ghost state = { λ o. record { shelf_at = λ _. None; faults = o.faults } };
 
     ghost journal_at = { λ _ _. None };
+
+    ghost listener_at = { λ _ _. None };
 
     fn shelf(&mut self, _alloc: Global, name: &str, into: &mut Vec<u8>) -> Opened<()> {
         match append_file(&self.system, name, into) {
@@ -131,6 +143,13 @@ impl<
     fn listener(&mut self, alloc: Global, address: &str) -> Opened<TcpDoor<T>> {
         match bind(alloc, &self.system, &mut self.bound, address) {
             Ok(listener) => Opened::Open(TcpDoor::new(listener, self.system)),
+            Err(error) => self.not_opened(&error),
+        }
+    }
+
+    fn peer(&mut self, _alloc: Global, address: &str) -> Opened<TcpLink> {
+        match call(&self.system, address) {
+            Ok(link) => Opened::Open(link),
             Err(error) => self.not_opened(&error),
         }
     }

@@ -40,7 +40,7 @@ impl<T: SystemClock + Drop> Listener for TcpDoor<T> {
 
     ghost told = { ⊥ };
 
-    ghost state = { λ d. record { coming = []; ended = false; faults = d.faults } };
+    ghost state = { λ d. record { coming = []; ended = false; faults = d.faults; sound = false } };
 
     fn accept<R: Wait>(&mut self, _rt: &R) -> Came<TcpLink> {
         match self.answer() {

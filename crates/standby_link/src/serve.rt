@@ -1,6 +1,6 @@
 ghost use Rattle.std.specs.Prelude.{◌≡◌, ◌≢◌, ◌⊎◌, ◌↔◌, ◌+◌, ◌-◌, ◌^◌, ◌≤◌, ℕ, min, false, [], length, take, IfOk, IfErr, IsTrue};
 ghost use Rattle.dxc_causes.specs.Causes.{HasCause, Rose, Counted};
-ghost use Rattle.dxc_outside.specs.Links.{LinkState};
+ghost use Rattle.dxc_outside.specs.Links.{LinkState, IsSoundLink};
 ghost use Rattle.standby_link.specs.Readings.{size};
 ghost use Rattle.standby_link.specs.Serves.{Goes, Ran, Served, IsSpentBy, Unbegun, SendsHave, IsUnfinished, IsOfItem, IsOfTurn, OnlyWrites};
 
@@ -25,6 +25,7 @@ pub fn serve_standby<K: Link, D: Disk>(link: &mut K, disk: &mut D) -> StandbyEnd
     ensures disk_fault { result ≡ StandbyEnd.DiskFault → Rose (D.state disk.old).faults (D.state disk.new).faults }
     ensures few { (K.state link.new).reads ≤ (K.state link.old).reads + 2 ^ 32 }
     ensures spent { result ≡ StandbyEnd.Spent → Counted (K.state link.old).reads (K.state link.new).reads (2 ^ 32) }
+    ensures sound_link { IsSoundLink (K.state link.old) → (result ≢ StandbyEnd.ReadFault) × (result ≢ StandbyEnd.WriteFault) }
 {
     match disk.length() {
         Ok(0) => serve(link, disk),
@@ -43,6 +44,7 @@ fn serve<K: Link, D: Disk>(link: &mut K, disk: &mut D) -> StandbyEnd
     ensures few { (K.state link.new).reads ≤ (K.state link.old).reads + 2 ^ 32 }
     ensures spent { result ≡ StandbyEnd.Spent → Counted (K.state link.old).reads (K.state link.new).reads (2 ^ 32) }
     ensures not_empty { result ≡ StandbyEnd.NotEmpty → ⊥ }
+    ensures sound { IsSoundLink (K.state link.old) → (result ≢ StandbyEnd.ReadFault) × (result ≢ StandbyEnd.WriteFault) }
 {
     let mut inbox = [0; 4115];
     let mut held = 0;
@@ -79,6 +81,7 @@ fn turn<K: Link, D: Disk>(
     ensures read_fault { HasCause (K.state link.old).read_faults (K.state link.new).read_faults (result ≡ Err StandbyEnd.ReadFault) }
     ensures write_fault { HasCause (K.state link.old).write_faults (K.state link.new).write_faults (result ≡ Err StandbyEnd.WriteFault) }
     ensures disk_fault { HasCause (D.state disk.old).faults (D.state disk.new).faults (result ≡ Err StandbyEnd.DiskFault) }
+    ensures sound { IsSoundLink (K.state link.old) → IsSoundLink (K.state link.new) × (result ≢ Err StandbyEnd.ReadFault) × (result ≢ Err StandbyEnd.WriteFault) }
 {
     let wanted = size_of_item(&inbox[..held]);
     match link.read(&mut inbox[held..wanted]) {
@@ -105,6 +108,7 @@ fn take_in<K: Link, D: Disk>(
     ensures link { OnlyWrites (K.state link.old) (K.state link.new) }
     ensures write_fault { HasCause (K.state link.old).write_faults (K.state link.new).write_faults (result ≡ Err StandbyEnd.WriteFault) }
     ensures disk_fault { HasCause (D.state disk.old).faults (D.state disk.new).faults (result ≡ Err StandbyEnd.DiskFault) }
+    ensures sound { IsSoundLink (K.state link.old) → IsSoundLink (K.state link.new) × (result ≢ Err StandbyEnd.WriteFault) }
 {
     match judge(held) {
         InHand::Unfinished => return Ok(held.len()),
@@ -123,6 +127,7 @@ fn send_have<K: Link>(link: &mut K, number: u64) -> Result<(), StandbyEnd>
     ensures link { OnlyWrites (K.state link.old) (K.state link.new) }
     ensures ends { IfErr result IsOfItem }
     ensures cause { HasCause (K.state link.old).write_faults (K.state link.new).write_faults (result ≡ Err StandbyEnd.WriteFault) }
+    ensures sound { IsSoundLink (K.state link.old) → IsSoundLink (K.state link.new) × (result ≢ Err StandbyEnd.WriteFault) }
 {
     let mut message = [3; 9];
     BigEndian::write_u64(&mut message[1..], number);

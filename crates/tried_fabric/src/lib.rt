@@ -1,10 +1,8 @@
-//! Schedules, words, frames and rollings on real seats.
+//! A schedule of the core's events, words and frames on real seats.
 #![tactic(auto)]
 
 #[cfg(test)]
 mod frames;
-#[cfg(test)]
-mod rollings;
 #[cfg(test)]
 mod schedules;
 #[cfg(test)]

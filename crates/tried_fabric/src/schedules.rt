@@ -1,7 +1,4 @@
-//! Rows of events with their words, and random schedules on which what is proved is computed again.
-mod points;
-mod walk;
-
+//! A row of events with their words.
 use dxc_num::{Leg, Middle, Port, Reg, Shape};
 use fabric_core::{CoreEvent, CoreState, Note};
 use std::alloc::Global;
@@ -25,7 +22,6 @@ fn new_state(
 fn take(rt: &impl Abort, state: &mut CoreState, event: CoreEvent) -> Result<(), Fail> {
     assert!(rt; state.allows(event), "{event:?}");
     fabric_core::core_step(state, event)?;
-    assert!(rt; points::hold(state), "{event:?}");
     Ok(())
 }
 
@@ -44,7 +40,8 @@ fn word(rt: &impl Abort, state: &CoreState, reg: Reg) -> u64 {
         ),
         Reg::Out(output) => (&registers.outs, output.0 as usize),
     };
-    points::word_at(row, cell).expect(rt, "a register of the shape")
+    assert!(rt; cell < row.len());
+    row.get(cell)
 }
 
 // The last note of a worker.

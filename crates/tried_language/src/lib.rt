@@ -1,10 +1,12 @@
-//! Units, names, commands and answers, by their bytes.
+//! Units, names, commands, answers and the load's commands, by their bytes.
 #![tactic(auto)]
 
 #[cfg(test)]
 mod answers;
 #[cfg(test)]
 mod commands;
+#[cfg(test)]
+mod load;
 #[cfg(test)]
 mod names;
 #[cfg(test)]

@@ -1,15 +1,11 @@
 //! Helpers of the tests: changes of a matrix whose conditions are tested first.
 
-use dxc_num::{Leg, Middle, Port};
+use dxc_num::{Leg, Port};
 use paull_chain::{apply, may_join, plan_join};
 use paull_matrix::Matrix;
 use roll_plan::LegOp;
 
-mod fills;
-mod plain;
-mod plain_plans;
 mod rows;
-mod walks;
 
 fn leg(input: u16, output: u16) -> Leg {
     Leg {
@@ -40,12 +36,4 @@ fn part(matrix: &mut Matrix, leg: Leg) -> bool {
         }
         None => false,
     }
-}
-
-fn put(matrix: &mut Matrix, leg: Leg, middle: Middle) -> bool {
-    if !matrix.may_place(leg, middle) {
-        return false;
-    }
-    matrix.place(leg, middle);
-    true
 }

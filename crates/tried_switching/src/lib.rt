@@ -1,4 +1,4 @@
-//! Works, matrices and chains, beside a plain program.
+//! Works, matrices and chains, by worked examples.
 #![tactic(auto)]
 
 #[cfg(test)]

@@ -1,4 +1,4 @@
-//! The table beside a plain program, shelf files right and wrong, and who logs in.
+//! The table by worked examples, shelf files right and wrong, and who logs in.
 #![tactic(auto)]
 
 #[cfg(test)]

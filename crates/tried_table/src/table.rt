@@ -1,7 +1,4 @@
-mod draws;
 mod examples;
-mod plain;
-mod random;
 mod words;
 
 use dxc_causes::NoMemory;

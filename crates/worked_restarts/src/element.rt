@@ -1,31 +1,33 @@
 //! The opening of an element on a disk, with a place for each session of a row.
-ghost use Rattle.std.specs.Prelude.{◌≡◌, ◌≤◌, ◌<◌, ◌+◌, IfOk, ℕ, [], length, true};
+ghost use Rattle.std.specs.Prelude.{◌≡◌, ◌≤◌, ◌<◌, ◌+◌, IfOk, IfSome, ℕ, [], length, true};
 ghost use Rattle.std.specs.Arc.{arc_value};
 ghost use Rattle.fabric_core.specs.State.{new_worker};
 ghost use Rattle.fabric_words.specs.New.{AreNew};
 ghost use Rattle.fabric_words.specs.Seats.{FabricId};
 ghost use Rattle.turnstile.specs.Passing.{Ident};
+ghost use Rattle.user_admin.specs.Openings.{Begins as UsersBegin};
 ghost use Rattle.xc_core.specs.Openings.{Begins};
 ghost use Rattle.xc_core.specs.States.{opening_of};
 ghost use Rattle.craft_server.specs.Places.{AreFresh, IsAtOpening};
 
-use crate::audit::Audit;
+use crate::audit::{Audit, Released};
 use crate::carriage::Carriage;
 use crate::carrier::Carrier;
 use crate::crew::Crew;
 use crate::disk::RowDisk;
 use crate::levers::Levers;
 use crate::row::Row;
+use crate::users::{Users, users_disk, users_of};
 use anyhow::{Context, Result, bail, ensure};
 use craft_session::Place;
 use dxc_disk::{Disk, MemDisk};
 use dxc_outside::AlwaysGo;
-use fabric_words::{Fabric, WorkerSeat};
+use fabric_words::{Fabric, MoverSeat, WorkerSeat};
 use shelf_file::{Shelf, shelf_of};
 use std::alloc::Global;
 use std::sync::Arc;
-use turnstile::{Pass, Turnstile};
-use xc_core::{Core, State};
+use turnstile::{Pass, Sequential, Turnstile};
+use xc_core::{Adopted, Core, State};
 
 /// The turnstile of an element.
 pub type Turns<D> = Arc<Turnstile<State<D>>>;
@@ -34,10 +36,19 @@ pub type Turns<D> = Arc<Turnstile<State<D>>>;
 #[derive(Drop)]
 pub struct Element {
     /// A place for each session, in their order.
-    pub places: Vec<Place<RowDisk>>,
+    pub places: Vec<Place<RowDisk, MemDisk>>,
     pub audit: Audit<RowDisk>,
     pub gate: Carrier,
     pub levers: Arc<Levers>,
+    shelf: Arc<Shelf>,
+}
+
+/// What came of handing an element's registers to another controller.
+#[derive(Drop)]
+pub enum Heir {
+    Element(Element),
+    /// The journal's last record has no stage at which they are.
+    Strange,
 }
 
 impl Element {
@@ -54,13 +65,59 @@ impl Element {
         let crew = crew_of(alloc, &fabric, seats)?;
         let sessions = row.sessions.len();
         ensure!(sessions < 100, "{sessions} sessions");
-        let (audit, places) = seat_all(alloc, &shelf, &fabric, state, sessions as u16)?;
+        let (audit, places) = seat_all(alloc, &shelf, &fabric, state, users_disk(alloc)?, sessions as u16)?;
         Ok(Element {
             places,
             audit,
             gate: Carrier::new(alloc, crew),
             levers,
+            shelf,
         })
+    }
+
+    /// Ends the controller, and another one goes on with its disk and its registers, with as many places and with the shelf's users.
+    pub fn handed_on<R: Wait>(self, alloc: Global, rt: &R) -> Result<Heir> {
+        let Element {
+            places,
+            audit,
+            gate,
+            levers,
+            shelf,
+        } = self;
+        let sessions = places.len();
+        ensure!(sessions < 100, "{sessions} sessions");
+        let Released { disk, seat, fabric } = audit.release(rt)?;
+        let Some(state) = adopt(alloc, &shelf, &fabric, disk, seat)? else {
+            return Ok(Heir::Strange);
+        };
+        let (audit, places) = seat_all(alloc, &shelf, &fabric, state, users_disk(alloc)?, sessions as u16)?;
+        Ok(Heir::Element(Element {
+            places,
+            audit,
+            gate,
+            levers,
+            shelf,
+        }))
+    }
+}
+
+// The controller that goes on with disk and registers; None where these are strange to the journal.
+fn adopt<D: Disk + Drop>(
+    alloc: Global,
+    shelf: &Arc<Shelf>,
+    fabric: &Arc<Fabric>,
+    disk: D,
+    seat: MoverSeat,
+) -> Result<Option<State<D>>>
+    requires own { seat.fabric ≡ arc_value fabric.now }
+    ensures begins { IfOk result (λ x. IfSome x (Begins D.told D.state)) }
+    ensures opening { IfOk result (λ x. IfSome x (λ s. IsAtOpening (opening_of D.state s) (arc_value shelf.now) (arc_value fabric.now))) }
+{
+    ensure!(fabric.shape() == shelf.shape(), "the registers have another shape");
+    match Core::adopt(alloc, shelf, disk, seat, fabric) {
+        Adopted::State(state) => Ok(Some(state)),
+        Adopted::Strange(_, _) => Ok(None),
+        Adopted::Open(_) => bail!("not opened"),
     }
 }
 
@@ -157,35 +214,38 @@ pub fn next_seat(seats: &mut Vec<WorkerSeat>) -> WorkerSeat
 }
 
 // One who looks at the registers, and so many places.
-fn seat_all<D: Disk + Drop>(
+fn seat_all<D: Disk + Drop, U: Disk + Drop>(
     alloc: Global,
     shelf: &Arc<Shelf>,
     fabric: &Arc<Fabric>,
     state: State<D>,
+    disk: U,
     count: u16,
-) -> Result<(Audit<D>, Vec<Place<D>>)>
+) -> Result<(Audit<D>, Vec<Place<D, U>>)>
     requires few { count < 100 }
     requires begins { Begins D.told D.state state }
     requires opening { IsAtOpening (opening_of D.state state) (arc_value shelf.now) (arc_value fabric.now) }
 {
     let (turns, mut passes) = turns_of(alloc, state, count + 1)?;
+    let mut users = users_of(alloc, shelf, disk, count + 1)?;
     let pass = next_pass(&mut passes);
+    let _ = next_pass(&mut users.passes);
     let audit = Audit::new(pass, Arc::try_clone(&turns)?, Arc::try_clone(fabric)?);
     let mut places = Vec::new(alloc);
     for number in 1..count + 1 {
-        places.push(next_place(alloc, number, &mut passes, shelf, fabric, &turns)?)?;
+        places.push(next_place(alloc, number, &mut passes, &mut users, shelf, fabric, &turns)?)?;
     }
     Ok((audit, places))
 }
 
-/// The turnstile of the state, and its passes.
-pub fn turns_of<D: Disk + Drop>(
+/// A turnstile of the state, and its passes.
+pub fn turns_of<S: Sequential + Drop>(
     alloc: Global,
-    state: State<D>,
+    state: S,
     count: u16,
-) -> Result<(Turns<D>, Vec<Pass>)>
+) -> Result<(Arc<Turnstile<S>>, Vec<Pass>)>
     requires some { 0 < count }
-    requires begins { Begins D.told D.state state }
+    requires stands { S.stands state [] }
     ensures turns { IfOk result (λ r. ((arc_value r.0).first ≡ state) × ((arc_value r.0).passes ≡ count)) }
     ensures each { IfOk result (λ r. length r.1.items ≡ count) }
     ensures fresh { IfOk result (λ r. AreFresh (arc_value r.0).id 0 r.1.items) }
@@ -208,16 +268,24 @@ pub fn next_pass(passes: &mut Vec<Pass>) -> Pass
     passes.remove(0)
 }
 
-/// A place for the pass of that number.
-pub fn next_place<D: Disk + Drop>(
+/// A place for the passes of that number.
+pub fn next_place<D: Disk + Drop, U: Disk + Drop>(
     alloc: Global,
     number: u16,
     passes: &mut Vec<Pass>,
+    users: &mut Users<U>,
     shelf: &Arc<Shelf>,
     fabric: &Arc<Fabric>,
     turns: &Turns<D>,
-) -> Result<Place<D>>
+) -> Result<Place<D, U>>
     requires some { 0 < length passes.old.items }
+    requires users_some { 0 < length users.old.passes.items }
+    requires users_within { number < (arc_value users.old.turns).passes }
+    requires users_fresh { AreFresh (arc_value users.old.turns).id number users.old.passes.items }
+    requires users_begin { UsersBegin U.told U.state (arc_value users.old.turns).first }
+    ensures users { users.new.turns ≡ users.old.turns }
+    ensures users_fresh { AreFresh (arc_value users.old.turns).id (number + 1) users.new.passes.items }
+    ensures users_fewer { length users.new.passes.items + 1 ≡ length users.old.passes.items }
     requires within { number < (arc_value turns.now).passes }
     requires fresh { AreFresh (arc_value turns.now).id number passes.old.items }
     requires begins { Begins D.told D.state (arc_value turns.now).first }
@@ -226,10 +294,14 @@ pub fn next_place<D: Disk + Drop>(
     ensures fewer { length passes.new.items + 1 ≡ length passes.old.items }
 {
     let pass = next_pass(passes);
+    let users_pass = next_pass(&mut users.passes);
     let shelf = Arc::try_clone(shelf)?;
     let fabric = Arc::try_clone(fabric)?;
     let turns = Arc::try_clone(turns)?;
-    Place::new(alloc, pass, number, shelf, fabric, turns)
+    let users = Arc::try_clone(&users.turns)?;
+    Place::new(
+        alloc, pass, users_pass, number, shelf, fabric, turns, users,
+    )
         .ok()
         .context("no memory")
 }

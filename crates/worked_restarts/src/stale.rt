@@ -18,6 +18,7 @@ use crate::element::{
 use crate::levers::Levers;
 use crate::row::{Row, Session};
 use crate::run::{serve_at, words_otherwise};
+use crate::users::{users_disk, users_of};
 use anyhow::{Context, Result, bail, ensure};
 use craft_session::Place;
 use dxc_disk::Disk;
@@ -59,7 +60,7 @@ pub fn run_stale<R: Wait>(alloc: Global, rt: &R, row: &Row) -> Result<Option<Str
         state,
     } = start(alloc, row, disk_of(alloc, row, &levers)?)?;
     let late = second_seat(alloc, &fabric, seats)?;
-    let Seated { turns, place, pass } = seat_two(alloc, &shelf, &fabric, state)?;
+    let Seated { turns, place, pass } = seat_two(alloc, &shelf, &fabric, state, users_disk(alloc)?)?;
     between(
         alloc, rt, &turns, &fabric, place, pass, late, before, behind,
     )
@@ -83,18 +84,19 @@ fn second_seat(
 
 /// A place of a turnstile, and one more pass.
 #[derive(Drop)]
-struct Seated<D: Disk> {
+struct Seated<D: Disk, U: Disk> {
     turns: Turns<D>,
-    place: Place<D>,
+    place: Place<D, U>,
     pass: Pass,
 }
 
-fn seat_two<D: Disk + Drop>(
+fn seat_two<D: Disk + Drop, U: Disk + Drop>(
     alloc: Global,
     shelf: &Arc<Shelf>,
     fabric: &Arc<Fabric>,
     state: State<D>,
-) -> Result<Seated<D>>
+    disk: U,
+) -> Result<Seated<D, U>>
     requires begins { Begins D.told D.state state }
     requires opening { IsAtOpening (opening_of D.state state) (arc_value shelf.now) (arc_value fabric.now) }
     ensures seated { IfOk result (λ s. IsSeated D.told D.state s.pass (arc_value s.turns) (arc_value fabric.now)) }
@@ -102,7 +104,8 @@ fn seat_two<D: Disk + Drop>(
 {
     ensure!(shelf.shape().ports() > 1, "two ports are wanted");
     let (turns, mut passes) = turns_of(alloc, state, 2)?;
-    let place = next_place(alloc, 0, &mut passes, shelf, fabric, &turns)?;
+    let mut users = users_of(alloc, shelf, disk, 1)?;
+    let place = next_place(alloc, 0, &mut passes, &mut users, shelf, fabric, &turns)?;
     let pass = next_pass(&mut passes);
     Ok(Seated { turns, place, pass })
 }
@@ -120,12 +123,12 @@ fn entry() -> Op
 }
 
 // The sessions, and the entry between them.
-fn between<D: Disk + Drop, R: Wait>(
+fn between<D: Disk + Drop, U: Disk + Drop, R: Wait>(
     alloc: Global,
     rt: &R,
     turns: &Turnstile<State<D>>,
     fabric: &Fabric,
-    mut place: Place<D>,
+    mut place: Place<D, U>,
     mut pass: Pass,
     mut late: WorkerSeat,
     before: &Session,

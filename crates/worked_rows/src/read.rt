@@ -27,6 +27,7 @@ fn take_line(alloc: Global, row: &mut Row, word: &str, rest: &str) -> Result<()>
         "shelf" => row.shelf = rest.to_string(alloc)?,
         "sid" => row.sid = rest.to_string(alloc)?,
         "old" => row.journal = bytes_of(alloc, rest)?,
+        "people" => row.users = bytes_of(alloc, rest)?,
         "words" => row.runs.push(Run::new(alloc, rest)?)?,
         "script" | "check" => {
             let line = format!(in alloc; "{word} {} row.journal", row.shelf)?;

@@ -14,6 +14,8 @@ pub struct Run {
     pub status: u8,
     /// What the journal's file then is, where the row says it.
     pub journal: Option<Vec<u8>>,
+    /// The same of the users' journal.
+    pub users: Option<Vec<u8>>,
 }
 
 /// Runs on one journal, one behind the other.
@@ -25,6 +27,8 @@ pub struct Row {
     pub sid: String,
     /// What the journal's file is before the first run; empty is new.
     pub journal: Vec<u8>,
+    /// The same of the users' journal.
+    pub users: Vec<u8>,
     pub runs: Vec<Run>,
 }
 
@@ -35,6 +39,7 @@ impl Row {
             shelf: "".to_string(alloc)?,
             sid: "DXC1".to_string(alloc)?,
             journal: Vec::new(alloc),
+            users: Vec::new(alloc),
             runs: Vec::new(alloc),
         })
     }
@@ -55,6 +60,7 @@ impl Run {
             output: Vec::new(alloc),
             status: 0,
             journal: None,
+            users: None,
         })
     }
 
@@ -74,6 +80,7 @@ impl Run {
             }
             "status" => self.status = rest.parse::<u8>()?,
             "after" => self.journal = Some(bytes_of(alloc, rest)?),
+            "users" => self.users = Some(bytes_of(alloc, rest)?),
             _ => None.context("the word isn't known")?,
         }
         Ok(())

@@ -15,13 +15,18 @@ const NOON: Moment = Moment {
     second: 0,
 };
 
-/// Runs the row's runs on a journal of its own. None where they did what they must, else what didn't hold.
+/// The journals of a row.
+const JOURNAL: &str = "row.journal";
+const USERS: &str = "row.journal.users";
+
+/// Runs the row's runs on journals of its own. None where they did what they must, else what didn't hold.
 pub fn run_row<R: Threads + Wait + Copy + Send + 'static>(
     rt: &HostRuntime,
     waits: &R,
     row: &Row,
 ) -> Result<Option<String>> {
-    fs::write(rt, "row.journal", row.journal.as_slice())?;
+    fs::write(rt, JOURNAL, row.journal.as_slice())?;
+    fs::write(rt, USERS, row.users.as_slice())?;
     for run in &row.runs {
         if let Some(why) = fault_of(rt, waits, run)? {
             return Ok(Some(why));
@@ -68,18 +73,25 @@ fn fault_of<R: Threads + Wait + Copy + Send + 'static>(
         let written = String::from_utf8_lossy(alloc, terminal.output())?;
         return Ok(Some(format!(in alloc; "written was {written}")?));
     }
-    journal_fault(rt, run)
+    if let Some(why) = journal_fault(rt, JOURNAL, &run.journal)? {
+        return Ok(Some(why));
+    }
+    journal_fault(rt, USERS, &run.users)
 }
 
-// What is wrong with the journal behind the run, where the row says what it must be.
-fn journal_fault(rt: &HostRuntime, run: &Run) -> Result<Option<String>> {
+// What is wrong with a journal behind the run, where the row says what it must be.
+fn journal_fault(
+    rt: &HostRuntime,
+    name: &str,
+    wanted: &Option<Vec<u8>>,
+) -> Result<Option<String>> {
     let alloc = rt.alloc();
-    let Some(wanted) = &run.journal else {
+    let Some(wanted) = wanted else {
         return Ok(None);
     };
-    let journal = fs::read(rt, "row.journal")?;
+    let journal = fs::read(rt, name)?;
     if journal.as_slice() == wanted.as_slice() {
         return Ok(None);
     }
-    Ok(Some(format!(in alloc; "the journal was {}", hex::encode(alloc, &journal)?)?))
+    Ok(Some(format!(in alloc; "{name} was {}", hex::encode(alloc, &journal)?)?))
 }

@@ -1,4 +1,4 @@
-ghost use Rattle.std.specs.Prelude.{[]};
+ghost use Rattle.std.specs.Prelude.{[], false};
 
 use crate::cue::Script;
 use dxc_outside::{Got, Link, Put};
@@ -44,6 +44,7 @@ impl Link for CueLink {
       reads = c.reads;
       read_faults = c.read_faults;
       write_faults = c.write_faults;
+      sound = false;
     } };
 
     fn read(&mut self, into: &mut [u8]) -> Got {

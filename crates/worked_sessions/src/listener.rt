@@ -1,4 +1,4 @@
-ghost use Rattle.std.specs.Prelude.{[]};
+ghost use Rattle.std.specs.Prelude.{[], false};
 
 use crate::link::CueLink;
 use dxc_outside::{Came, Listener};
@@ -26,7 +26,7 @@ impl Listener for OneCaller {
 
     ghost told = { ⊥ };
 
-    ghost state = { λ l. record { coming = []; ended = l.ended; faults = 0 } };
+    ghost state = { λ l. record { coming = []; ended = l.ended; faults = 0; sound = false } };
 
     fn accept<R: Wait>(&mut self, _rt: &R) -> Came<CueLink> {
         match self.caller.take() {

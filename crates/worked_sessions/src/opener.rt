@@ -1,4 +1,5 @@
-ghost use Rattle.dxc_outside.specs.Holdings.{disk_held, opener_state};
+ghost use Rattle.std.specs.Prelude.{None};
+ghost use Rattle.dxc_outside.specs.Holdings.{opener_state};
 
 use crate::gate::{Cued, CuedGate};
 use crate::lines::{WatchedLines, Worker};
@@ -7,7 +8,7 @@ use crate::listener::OneCaller;
 use crate::meeting::Meeting;
 use crate::row::Carried;
 use dxc_disk::MemDisk;
-use dxc_outside::{MemClock, MemOpener, Opened, Opener};
+use dxc_outside::{MemClock, MemLink, MemOpener, Opened, Opener};
 use std::alloc::Global;
 use std::collections::VecDeque;
 use std::sync::Arc;
@@ -69,11 +70,15 @@ impl Opener for RowOpener {
 
     type Gate = CuedGate;
 
-    ghost told = { Unit {0} };
+    type Peer = MemLink;
+
+    ghost told = { ⊥ };
 
     ghost state = { λ o. opener_state o.files };
 
-    ghost journal_at = { λ o name. disk_held o.files name };
+    ghost journal_at = { λ _ _. None };
+
+    ghost listener_at = { λ _ _. None };
 
     fn shelf(&mut self, alloc: Global, name: &str, into: &mut Vec<u8>) -> Opened<()> {
         self.files.shelf(alloc, name, into)
@@ -107,6 +112,10 @@ impl Opener for RowOpener {
             }
             None => Opened::Open(OneCaller::new(None)),
         }
+    }
+
+    fn peer(&mut self, alloc: Global, address: &str) -> Opened<MemLink> {
+        self.files.peer(alloc, address)
     }
 
     fn clock(&mut self) -> MemClock {

@@ -93,15 +93,21 @@ fn serve<R: Threads + Wait + Copy + Send + Drop + 'static>(
     Ok(status.number())
 }
 
-// The row's shelf file, a new journal, and a clock for each session, which stands at noon.
+fn new_disk(alloc: Global) -> Result<MemDisk> {
+    MemDisk::new(alloc, Vec::new(alloc), Vec::new(alloc))
+        .ok()
+        .context("no memory for a disk")
+}
+
+// The row's shelf file, new journals, and a clock for each session, which stands at noon.
 fn files_of(rt: &HostRuntime, row: &Row) -> Result<MemOpener> {
     let alloc = rt.alloc();
     let shelf = fs::read(rt, row.shelf.as_str())?;
-    let disk = MemDisk::new(alloc, Vec::new(alloc), Vec::new(alloc))
-        .ok()
-        .context("no memory for a disk")?;
     let shelf_name = Name::of(row.shelf.clone()?);
-    let journal_name = Name::of("row.journal".to_string(alloc)?);
+    let mut journals = Vec::new(alloc);
+    for name in ["row.journal", "row.journal.users"] {
+        journals.push((Name::of(name.to_string(alloc)?), new_disk(alloc)?))?;
+    }
     let mut clocks = VecDeque::new(alloc);
     for _ in 0..PLACES {
         clocks.push_back(MemClock::new(vec![in alloc; NOON]?))?;
@@ -109,7 +115,7 @@ fn files_of(rt: &HostRuntime, row: &Row) -> Result<MemOpener> {
     Ok(
         MemOpener::new(alloc, Vec::new(alloc))
             .with_shelves(vec![in alloc; (shelf_name, shelf)]?)
-            .with_journals(vec![in alloc; (journal_name, disk)]?)
+            .with_journals(journals)
             .with_clocks(clocks),
     )
 }

@@ -1,5 +1,5 @@
 -- The Provisioner behind a stop, and its recovery on the way.
-use Rattle.std.proofs.Common.{append-nil, ◌≡◌, ℕ, ◌+◌, ◌<◌, ◌≤◌, ◌^◌, true, false, List, [], ◌∷◌, ◌++◌, length, Option, Some, None, sym, refl, ap, ◌∙◌, subst, arith}
+use Rattle.std.proofs.Common.{append-nil, ◌≡◌, inl, inr, ℕ, ◌+◌, ◌<◌, ◌≤◌, ◌^◌, true, false, List, [], ◌∷◌, ◌++◌, length, Option, Some, None, sym, refl, ap, ◌∙◌, subst, arith}
 use Rattle.std.specs.List.{AllByRecursion}
 use Rattle.dxc_num.specs.Dimensions.{Dimensions}
 use Rattle.dxc_disk.specs.Disks.{DiskState}
@@ -41,7 +41,7 @@ use Rattle.xc_core.specs.declared.provisioner.Provisioner.{Provisioner}
 use Rattle.xc_core.specs.Journals.{IsJournalled, IsOneMore, IsSoFar}
 use Rattle.xc_core.specs.Reckonings.{IsPlannedFor, Past, changed}
 use Rattle.xc_core.specs.Provisioners.{IsHome, KeepsPast, MayBeHeld, Rolls, with_halt}
-use Rattle.xc_core.specs.Restarts.{HasWay, IsFound, IsHalted, IsListOf, IsOnWay, IsOwnWay, Lists, Rejoins, Resumes, TakesUp, number_with, writes_left}
+use Rattle.xc_core.specs.Restarts.{HasWay, IsFound, IsHalted, IsListOf, IsOnWay, IsOwnWay, LastIs, Lists, Rejoins, Resumes, TakesUp, number_with, writes_left}
 use Rattle.dxc_model.specs.Steps.{with_change}
 use Rattle.dxc_model.specs.Verdicts.{MayTake, effect}
 use Rattle.std.specs.Prelude.{IfSome}
@@ -128,7 +128,7 @@ module _ {D : Type 0} (told : Type 0) (state : D → DiskState) (b : Past) where
   halted_home p halted h =
       let past = past_marked b (with_halt false p) h.past p.halted in
       let way = has_home p past h.registers h.switches in
-      record { halted = halted; past = past; way = way; known = λ t. record { way = way; own = refl; journal = h.journal } }
+      record { halted = halted; past = past; way = way; known = λ t. record { way = way; own = inl refl; journal = h.journal } }
 
   -- or while one was
   module _ (op : Op) (c : Change) (p : Provisioner D) (r : RollingAt) (halted : p.halted ≡ true) (h : Rolls told state b op c (with_halt false p) r) where
@@ -182,8 +182,11 @@ module _ {D : Type 0} (told : Type 0) (state : D → DiskState) (b : Past) where
     none_of [] vs e = sym e
     none_of (u ∷ us) vs e = absurd (cc)
 
-    own_on : (l : Option Change) (s : RollingAt) (z : Size) (m : MoverAt) → GoesOn z r s p.mover.mover m.mover → IsOwnWay b l h.before g r → IsOwnWay b l h.before g s
-    own_on None s z m goes own = none_of goes.advances.writes (rest_of s) (sym own ∙ goes.advances.split)
+    own_on : (l : Option Change) (s : RollingAt) (z : Size) (m : MoverAt) → GoesOn z r s p.mover.mover m.mover → IsOwnWay (state p.journal.0) p.journal.1 b l h.before g r → IsOwnWay (state p.journal.0) p.journal.1 b l h.before g s
+    own_on None s z m goes own = elim own [
+      | inl done ↦ inl (none_of goes.advances.writes (rest_of s) (sym done ∙ goes.advances.split))
+      | inr last ↦ inr (subst (λ (w : Work). LastIs (state p.journal.0) p.journal.1 b w.ops.items) (sym goes.work) last)
+    ]
     own_on (Some c) s z m goes own = (ap (λ (w : Work). w.ops.items) goes.work ∙ own.0, own.1)
 
     -- the engine took it on

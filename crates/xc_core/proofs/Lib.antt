@@ -18,10 +18,14 @@ pub mod Meeting
 pub mod Restarting
 pub mod Restored
 pub mod Giving
+pub mod Staging
 pub mod Recovering
 pub mod Rooms
 pub mod Rereading
 pub mod Settling
 pub mod Staged
+pub mod Began
 pub mod Opened
+pub mod Adoption
+pub mod Succeeding
 pub mod Asked

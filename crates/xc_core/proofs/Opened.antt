@@ -1,14 +1,13 @@
 -- A start of the controller: the disk's journal, its replay, and the joins of all legs.
-use Rattle.std.proofs.Common.{◌≡◌, ◌≢◌, ◌⊎◌, inl, inr, ⊎_elim, ℕ, ◌-◌, ◌<◌, ◌≤◌, ◌^◌, append-nil, length-append, false, List, [], ◌++◌, length, None, Some, Result, Ok, Err, refl, sym, ◌∙◌, ap, subst, arith}
+use Rattle.std.proofs.Common.{◌≡◌, ◌≢◌, ◌⊎◌, inl, inr, ⊎_elim, ℕ, ◌-◌, ◌<◌, ◌≤◌, ◌^◌, append-nil, Bool, true,  length-append, false, List, [], ◌++◌, length, None, Some, Result, Ok, Err, refl, sym, ◌∙◌, ap, subst, arith}
 use Rattle.std.specs.Prelude.{replicate, slice_index}
 use Rattle.std.proofs.lemmas.List.{length-replicate, length-take}
 use Rattle.std.proofs.lemmas.Bool.Decides.{leb_tells}
 use Rattle.dxc_num.specs.Dimensions.{Dimensions, IsInLimits, ports}
 use Rattle.dxc_disk.specs.Disks.{DiskState, IsDisk, IsSettled, Looks}
 use Rattle.dxc_disk.proofs.LookSteps.{looks_settled}
+use Rattle.dxc_model.specs.declared.op.Change.{Change}
 use Rattle.dxc_model.specs.Tables.{Board}
-use Rattle.dxc_model.specs.Histories.{IsCut, IsRestarted}
-use Rattle.dxc_model.proofs.Lasting.{never_lasts}
 use Rattle.fabric_core.specs.declared.mover.Mover.{Mover}
 use Rattle.fabric_core.specs.declared.size.Size.{Size}
 use Rattle.fabric_core.specs.State.{IsSize, new_mover}
@@ -29,7 +28,7 @@ use Rattle.journal_core.proofs.StandSteps.{head_once, stands_once}
 use Rattle.paull_matrix.specs.Colourings.{Colouring, IsProperColouring, no_legs}
 use Rattle.roll_plan.specs.declared.op.LegOp.{LegOp}
 use Rattle.roll_plan.specs.declared.work.Work.{Work}
-use Rattle.dbchg_reports.specs.Recent.{Recent, no_changes}
+use Rattle.dbchg_reports.specs.Recent.{recent_of}
 use Rattle.roll_plan.specs.Works.{switches_in}
 use Rattle.roll_engine.specs.Rollings.{RollingAt}
 use Rattle.roll_engine.specs.Stages.{IsAtRestOn}
@@ -42,22 +41,27 @@ use Rattle.shelf_file.specs.Contents.{Contents}
 use Rattle.xc_recovery.specs.declared.fault.ReplayFault.TheVariants.{BadRecord}
 use Rattle.xc_recovery.specs.Folds.{none_folded}
 use Rattle.xc_recovery.specs.Replays.{ComesTo, Replays}
+use Rattle.xc_recovery.specs.Stages.{IsLastWork}
 use Rattle.xc_recovery.proofs.Folding.{IsSeated, folds_seated, none_seated}
+use Rattle.xc_recovery.proofs.LastWorks.{last_made}
 use Rattle.xc_recovery.proofs.Replaying.{folded}
 use Rattle.xc_core.specs.declared.provisioner.Provisioner.{Provisioner}
 use Rattle.xc_core.specs.declared.state.Home.TheVariants.{In}
 use Rattle.xc_core.specs.declared.origin.Origin.{Origin}
 use Rattle.xc_core.specs.declared.state.State.{State}
-use Rattle.xc_core.specs.Reckonings.{Past}
+use Rattle.xc_core.specs.declared.start.Start.{Start}
+use Rattle.xc_core.specs.Reckonings.{Past, ReckonsTo}
 use Rattle.xc_core.specs.Journals.{IsAtHome}
-use Rattle.xc_core.specs.declared.second.Second.{Second}
-use Rattle.xc_core.specs.Provisioners.{Boxed, HasRoom, ground_of}
+use Rattle.xc_core.specs.Provisioners.{Boxed, HasRoom, IsHome, KeepsPast, ground_of}
+use Rattle.xc_core.specs.Restarts.{LastIs}
+use Rattle.xc_core.specs.Starts.{IsStart}
 use Rattle.roll_engine.proofs.Joining.{few_switches}
 use Rattle.xc_core.proofs.Pasts.{none_held}
-use Rattle.xc_core.specs.States.{IsHomeAfter, Opening, StandsFor, opening_at, opening_of, recorded}
-use Rattle.xc_core.specs.Openings.{Begins, HasBadRecord, IsFoldOf, IsOpening, LeavesOpened}
+use Rattle.xc_core.specs.States.{IsHomeAfter, IsReadyOrHalted, Opening, StandsFor, began, opening_at, opening_of, recorded, rules_of}
+use Rattle.xc_core.specs.Openings.{Begins, HasBadRecord, IsFoldOf, IsOpening, LeavesOpened, Opens}
+use Rattle.xc_core.proofs.Began.{began_astray, began_changes, began_faults, began_holder, began_legal, began_paid, began_turns, began_unstopped}
 use Rattle.xc_core.proofs.Journalling.{looked_on, untried}
-use Rattle.xc_core.proofs.Recovering.{comes_once}
+use Rattle.xc_core.proofs.Staging.{comes_once}
 use Rattle.xc_core.proofs.Granting.{few_ports}
 
 -- a cold rolling begins on a new fabric
@@ -169,165 +173,196 @@ recorded_is : (book : Book) (file : List ℕ) → book.count ≡ length (listed 
 recorded_is book file counts =
     ap (λ (n : ℕ). listed book file ++ replicate n []) (let e : book.count - length (listed book file) ≡ 0 = omega (arith, counts) in e) ∙ append-nil (listed book file)
 
--- The state that stands for no entry. The disk was a at the start, b when the journal was opened, and the journal is j after its replay.
-module _ {D : Type 0} (told : Type 0) (state : D → DiskState) (shelf : Contents) (fabric : FabricId) (a b : DiskState) (book : Book) (j : D × Book) (t : Board) (c : Colouring) (last : Work) (v : MoverAt) (origin : Origin D) (reports : Recent) (spent : ℕ) (second : Second) (d : Boxed D) where
-  abbrev at_home : Provisioner D
-  at_home = record { matrix = c; journal = j; mover = v; doubt = None; changes = 0; halted = false; spent = spent; second = second }
+-- What a start has read of its journal, and the state that begins with it. The disk was a at the start.
+module _ {D : Type 0} (told : Type 0) (state : D → DiskState) (shelf : Contents) (a : DiskState) (seat : MoverAt) (x : Start D) (r : IsStart told state shelf a seat x) (disk : told → IsDisk (state r.journal.0)) where
+  abbrev b : DiskState
+  b = state r.journal.0
 
-  abbrev begun : State D
-  begun = record { table = t; reports = reports; home = In d; origin = origin }
+  abbrev book : Book
+  book = r.journal.1
 
-  module _
-      (fresh : reports ≡ no_changes)
-      (table_kept : origin.table.value ≡ t)
-      (behind : d.value.p ≡ at_home)
-      (provisioner_kept : origin.provisioner.value ≡ d.value.p)
-      (last_kept : origin.last.value ≡ last)
-      (old : told → (IsNew a.reads_as → ⊥) → OpensOld shelf.shape a b (Ok book))
-      (new : told → IsNew a.reads_as → OpensNew shelf.shape (made_head shelf.equipped) a b (Ok book))
-      (disk : told → IsDisk b)
-      (whole_book : IsWhole book)
-      (shape : book.shape ≡ shelf.shape)
-      (whole : book.to_mend ≡ false)
-      (still : book.turning ≡ false)
-      (same : j.1 ≡ book)
-      (looks : told → Looks b (state j.0))
-      (kept : told → IsKept b book → IsKept (state j.0) j.1)
-      (records : List (List ℕ))
-      (number : length records ≡ book.count)
-      (read : told → records ≡ listed book b.reads_as)
-      (comes : ComesTo book.shape book.head records t c last.ops.items)
-      (own : v.fabric ≡ fabric)
-      (fits : fabric.size.shape ≡ shelf.shape)
-      (rest : IsAtRestOn fabric.size c v.mover)
-      (joins : length v.mover.log ≡ switches_in (joins_of c))
-      (spent_is : spent ≡ length v.mover.log)
-      (room : HasRoom shelf.shape second) where
-    abbrev first : Past
-    first = record { fold = folded t c last.ops.items (length v.mover.log); changes = 0 }
+  abbrev j : D × Book
+  j = x.p.journal
 
-    abbrev opening : Opening
-    opening = record { site = ground_of at_home; records = recorded j.1 (state j.0).reads_as; first = first; faults = (state j.0).faults; margin = (state j.0).margin; room = (state j.0).room }
+  abbrev t : Board
+  t = x.table
 
-    opening_is : opening_of state begun ≡ opening
-    opening_is = λ k. opening_at state (table_kept k) ((provisioner_kept ∙ behind) k) (last_kept k)
+  abbrev c : Colouring
+  c = x.p.matrix
 
-    -- the journal was well kept when it was opened
-    was_kept : told → IsKept b book
-    was_kept x = ⊎_elim (λ n. (new x n).founds.0.kept) (λ not. (old x not).finds.0.kept) (new_or_old a.reads_as)
+  abbrev ops : List LegOp
+  ops = x.last.ops.items
 
-    -- what was read is what the journal lists
-    records_are : told → records ≡ opening.records
-    records_are x = read x ∙ sym (λ k. listed (same k) ((looks x).same k)) ∙ sym (recorded_is j.1 (state j.0).reads_as (kept x (was_kept x)).counts)
+  -- the journal was well kept when it was opened
+  was_kept : told → IsKept b book
+  was_kept k = ⊎_elim (λ n. (r.new k n).founds.0.kept) (λ not. (r.old k not).finds.0.kept) (new_or_old a.reads_as)
 
-    -- they come to table and legs, whatever its shape is called
-    comes_at : (d : Dimensions) → book.shape ≡ d → ComesTo d j.1.head records t c last.ops.items
-    comes_at d is = subst (λ (w : Dimensions × Head). ComesTo w.0 w.1 records t c last.ops.items) (λ k. (is k, (ap (λ (x : Book). x.head) (sym same)) k)) comes
+  was_settled : told → IsSettled b
+  was_settled k = ⊎_elim (λ n. (r.new k n).founds.0.settled) (λ not. (r.old k not).finds.0.settled) (new_or_old a.reads_as)
 
-    table_shape : book.shape ≡ t.shape
-    table_shape = sym (seated book.shape book.head records t c last.ops.items comes).shape
+  now_kept : told → IsKept (state j.0) j.1
+  now_kept k = r.kept k (was_kept k)
 
-    listed_is : told → records ≡ listed j.1 (state j.0).reads_as
-    listed_is x = records_are x ∙ recorded_is j.1 (state j.0).reads_as (kept x (was_kept x)).counts
+  -- what was read is what the journal lists
+  listed_is : told → r.records ≡ listed j.1 (state j.0).reads_as
+  listed_is k = r.read k ∙ sym (λ i. listed (r.same i) ((r.looks k).same i))
 
-    journal_home : IsAtHome told (state j.0) j.1 first None
+  records_are : told → r.records ≡ recorded j.1 (state j.0).reads_as
+  records_are k = listed_is k ∙ sym (recorded_is j.1 (state j.0).reads_as (now_kept k).counts)
+
+  -- records come to table and legs, whatever their shape is called
+  comes_at : (d : Dimensions) → book.shape ≡ d → ComesTo d j.1.head r.records t c ops
+  comes_at d is = subst (λ (w : Dimensions × Head). ComesTo w.0 w.1 r.records t c ops) (λ k. (is k, (ap (λ (y : Book). y.head) (sym r.same)) k)) r.comes
+
+  table_shape : book.shape ≡ t.shape
+  table_shape = sym (seated book.shape book.head r.records t c ops r.comes).shape
+
+  pub matrix_shape : c.shape ≡ shelf.shape
+  matrix_shape = replayed_shape book.shape book.head r.records t c ops r.comes ∙ r.shape
+
+  pub matrix_proper : IsProperColouring c
+  matrix_proper = (seated book.shape book.head r.records t c ops r.comes).placed.colouring
+
+  pub last_start : (before : Colouring) × IsLastWork before ops c
+  last_start = last_made book.shape book.head r.records t c ops r.comes
+
+  listed_comes : told → ComesTo t.shape j.1.head (listed j.1 (state j.0).reads_as) t c ops
+  listed_comes k = subst (λ (rs : List (List ℕ)). ComesTo t.shape j.1.head rs t c ops) (listed_is k) (comes_at t.shape table_shape)
+
+  now_whole : j.1.to_mend ≡ false
+  now_whole = ap (λ (y : Book). y.to_mend) r.same ∙ r.whole
+
+  now_still : j.1.turning ≡ false
+  now_still = ap (λ (y : Book). y.turning) r.same ∙ r.still
+
+  -- what is made of it, with so many switches
+  module _ (n : ℕ) where
+    abbrev pub first : Past
+    first = record { fold = folded t c ops n; changes = 0 }
+
+    pub journal_home : IsAtHome told (state j.0) j.1 first None
     journal_home = record {
-      keeps = record {
-        kept = λ x. kept x (was_kept x);
-        lists = λ x. (last.ops.items, subst (λ (rs : List (List ℕ)). ComesTo t.shape j.1.head rs t c last.ops.items) (listed_is x) (comes_at t.shape table_shape));
-      };
-      doubts = λ marked. absurd (never (ap (λ (x : Book). x.to_mend) same ∙ whole) marked);
-      tried = λ x tried. absurd (never (ap (λ (x : Book). is_tried x.spare) same ∙ untried book whole_book still) tried);
+      keeps = record { kept = now_kept; lists = λ k. (ops, listed_comes k) };
+      doubts = λ marked. absurd (never now_whole marked);
+      tried = λ k tried. absurd (never (ap (λ (y : Book). is_tried y.spare) r.same ∙ untried book r.whole_book r.still) tried);
     }
 
-    fold_home : IsFoldOf told shelf.shape opening.records first
+    pub last_is : told → LastIs (state j.0) j.1 first ops
+    last_is k = record { whole = now_whole; still = now_still; comes = listed_comes k }
+
+    fold_home : IsFoldOf told shelf.shape (recorded j.1 (state j.0).reads_as) first
     fold_home = record {
       head = j.1.head;
-      read = records;
-      number = number ∙ ap (λ (x : Book). x.count) (sym same) ∙ sym (recorded_number j.1 (state j.0).reads_as);
+      read = r.records;
+      number = r.number ∙ ap (λ (y : Book). y.count) (sym r.same) ∙ sym (recorded_number j.1 (state j.0).reads_as);
       same = records_are;
-      comes = comes_at shelf.shape shape;
+      comes = comes_at shelf.shape r.shape;
     }
 
-    is_opening : IsOpening told a.reads_as shelf fabric opening
-    unfolding fold_home
-    is_opening = record {
-      limits = subst IsInLimits fits rest.sized.shape;
-      fabric_is = own;
-      shape = ap (λ (x : Book). x.shape) same ∙ shape;
-      folded = fold_home;
-      made = λ x n. let f = (new x n).founds in (ap (λ (y : Book). y.head) same ∙ f.1, sym (records_are x) ∙ (read x ∙ listed_once shelf.shape (made_head shelf.equipped) [] b book (disk x) whole_book whole still f.0 f.2));
-      found = λ x not. let f = (old x not).finds in subst (λ (w : Head × List (List ℕ)). Stands shelf.shape w.0 w.1 a.reads_as) (λ k. (ap (λ (y : Book). y.head) (sym same) k, (sym (read x) ∙ records_are x) k)) f.1;
-      switches = joins;
-      changes = refl;
-    }
+    -- a Provisioner that has read it, with this seat, halted or not
+    module _ (due : Bool) (v : MoverAt) where
+      abbrev pub at_home : Provisioner D
+      at_home = record { matrix = c; journal = j; mover = v; doubt = None; changes = 0; halted = due; spent = n; second = x.p.second }
 
+      abbrev pub opening : Opening
+      opening = record { site = ground_of at_home; records = recorded j.1 (state j.0).reads_as; first = first; due = due; faults = (state j.0).faults; margin = (state j.0).margin; room = (state j.0).room }
+
+      pub opens : IsInLimits shelf.shape → Opens told a.reads_as shelf v.fabric due n opening
+      unfolding fold_home
+      opens limits = record {
+        limits = limits;
+        fabric_is = refl;
+        shape = ap (λ (y : Book). y.shape) r.same ∙ r.shape;
+        folded = fold_home;
+        made = λ k new. let f = (r.new k new).founds in (ap (λ (y : Book). y.head) r.same ∙ f.1, sym (records_are k) ∙ (r.read k ∙ listed_once shelf.shape (made_head shelf.equipped) [] b book (disk k) r.whole_book r.whole r.still f.0 f.2));
+        found = λ k not. let f = (r.old k not).finds in subst (λ (w : Head × List (List ℕ)). Stands shelf.shape w.0 w.1 a.reads_as) (λ i. (ap (λ (y : Book). y.head) (sym r.same) i, (sym (r.read k) ∙ records_are k) i)) f.1;
+        switches = refl;
+        changes = refl;
+        due_is = refl;
+      }
+
+      pub past_read : n ≤ 2 ^ 48 → KeepsPast first at_home
+      past_read few = record {
+        matrix = refl;
+        placed = (seated book.shape book.head r.records t c ops r.comes).placed;
+        spent = refl;
+        few = few;
+        changes = refl;
+        doubts = none_held first;
+        spelled = (seated book.shape book.head r.records t c ops r.comes).fits;
+        book = subst IsWhole (sym r.same) r.whole_book;
+        shape = (seated book.shape book.head r.records t c ops r.comes).shape ∙ sym (ap (λ (y : Book). y.shape) r.same);
+        room = subst (λ (d : Dimensions). HasRoom d x.p.second) (sym (ap (λ (y : Book). y.shape) r.same ∙ r.shape)) r.room;
+      }
+
+      -- the state that it is home in, which keeps it as its origin
+      module _ (origin : Origin D) (d : Boxed D) (behind : d.value.p ≡ at_home) (table_kept : origin.table.value ≡ t) (provisioner_kept : origin.provisioner.value ≡ d.value.p) (last_kept : origin.last.value ≡ x.last)
+          (stage : IsReadyOrHalted told state first (began due ++ []) at_home) where
+        abbrev begun : State D
+        begun = record { table = t; reports = x.reports; home = In d; origin = origin }
+
+        pub opening_is : opening_of state begun ≡ opening
+        opening_is = λ i. opening_at state (table_kept i) ((provisioner_kept ∙ behind) i) (last_kept i)
+
+        stands_begun : StandsFor told state opening begun (began due ++ [])
+        stands_begun = record {
+          now = first;
+          reckoned = subst (λ (cs : List Change). ReckonsTo first cs first) (sym (began_changes due)) refl;
+          table = refl;
+          reports = r.fresh ∙ ap recent_of (sym (began_changes due));
+          legal = began_legal (rules_of opening) due;
+          turns = began_turns due;
+          paid = began_paid opening due;
+          astray = λ k. began_astray due;
+          home = (
+            began_holder due,
+            subst (λ (p : Provisioner D). IsHomeAfter told state opening first (began due ++ []) p) (sym behind) (record {
+              ground = refl;
+              stage = stage;
+              doubt = λ op asked. absurd cc;
+              faults = let none = began_faults due in omega (arith, none);
+              spends = λ enough. record { room = omega arith; margin = omega arith };
+            }),
+          );
+        }
+
+        pub begins : Begins told state begun
+        begins = record {
+          stands = subst (λ (o : Opening). StandsFor told state o begun (began o.due ++ [])) (sym opening_is) stands_begun;
+          disk = j.0;
+          is_home = ap (λ (p : Provisioner D). Some p.journal.0) behind;
+          counts = ap (λ (p : Provisioner D). Some p.journal.1.count) behind ∙ ap Some (sym (recorded_number j.1 (state j.0).reads_as) ∙ ap (λ (o : Opening). length o.records) (sym opening_is));
+          faults = ap (λ (o : Opening). o.faults) opening_is;
+          margin = ap (λ (o : Opening). o.margin) opening_is;
+          room = ap (λ (o : Opening). o.room) opening_is;
+          settled = λ k. looks_settled b (state j.0) (r.looks k) (was_settled k);
+        }
+
+  -- on a new fabric, once each leg was joined
+  module _ (v : MoverAt) (rest : IsAtRestOn v.fabric.size c v.mover) (joins : length v.mover.log ≡ switches_in (joins_of c)) where
     few_joined : length v.mover.log ≤ 2 ^ 48
     few_joined =
         let few = few_switches 0 c.routes in
-        let size = (seated book.shape book.head records t c last.ops.items comes).placed.colouring.size in
+        let size = (seated book.shape book.head r.records t c ops r.comes).placed.colouring.size in
         let ports_few = few_ports c.shape (subst IsInLimits (sym rest.shape) rest.sized.shape) in
         omega (arith, few, size, ports_few, joins)
 
-    stands_opened : StandsFor told state opening begun []
-    stands_opened = record {
-      now = first;
-      reckoned = refl;
-      table = refl;
-      reports = fresh;
-      legal = tt;
-      turns = tt;
-      paid = λ enough. omega arith;
-      astray = λ t. tt;
-      home = (
-        refl,
-        subst (λ (x : Provisioner D). IsHomeAfter told state opening first [] x) (sym behind) (record {
-          ground = refl;
-          stage = inl (
-            record {
-              ready = refl;
-              past = record {
-                matrix = refl;
-                placed = (seated book.shape book.head records t c last.ops.items comes).placed;
-                spent = spent_is;
-                few = few_joined;
-                changes = refl;
-                doubts = none_held first;
-                spelled = (seated book.shape book.head records t c last.ops.items comes).fits;
-                book = subst IsWhole (sym same) whole_book;
-                shape = (seated book.shape book.head records t c last.ops.items comes).shape ∙ sym (ap (λ (x : Book). x.shape) same);
-                room = subst (λ (d : Dimensions). HasRoom d second) (sym (ap (λ (x : Book). x.shape) same ∙ shape)) room;
-              };
-              registers = subst (λ (i : FabricId). IsAtRestOn i.size c v.mover) (sym own) rest;
-              switches = refl;
-              journal = journal_home;
-            },
-            never_lasts IsCut IsRestarted [] tt,
-          );
-          doubt = λ op asked. absurd cc;
-          faults = omega arith;
-          spends = λ enough. record { room = omega arith; margin = omega arith };
-        }),
-      );
-    }
+    home_joined : IsHome told state (first (length v.mover.log)) (at_home (length v.mover.log) false v)
+    home_joined = record { ready = refl; past = past_read (length v.mover.log) false v few_joined; registers = rest; switches = refl; journal = journal_home (length v.mover.log) }
 
-    was_settled : told → IsSettled b
-    was_settled x = ⊎_elim (λ n. (new x n).founds.0.settled) (λ not. (old x not).finds.0.settled) (new_or_old a.reads_as)
-
-    pub opened : IsOpening told a.reads_as shelf fabric (opening_of state begun) × Begins told state begun
-    opened = (
-      subst (λ (o : Opening). IsOpening told a.reads_as shelf fabric o) (sym opening_is) is_opening,
-      record {
-        stands = subst (λ (o : Opening). StandsFor told state o begun []) (sym opening_is) stands_opened;
-        disk = j.0;
-        is_home = ap (λ (x : Provisioner D). Some x.journal.0) behind;
-        counts = ap (λ (x : Provisioner D). Some x.journal.1.count) behind ∙ ap Some (sym (recorded_number j.1 (state j.0).reads_as) ∙ ap (λ (o : Opening). length o.records) (sym opening_is));
-        faults = ap (λ (o : Opening). o.faults) opening_is;
-        margin = ap (λ (o : Opening). o.margin) opening_is;
-        room = ap (λ (o : Opening). o.room) opening_is;
-        settled = λ x. looks_settled b (state j.0) (looks x) (was_settled x);
-      },
-    )
+    pub opened : (fabric : FabricId) (n : ℕ) (origin : Origin D) (d : Boxed D) → v.fabric ≡ fabric → n ≡ length v.mover.log → d.value.p ≡ at_home n false v → origin.table.value ≡ t → origin.provisioner.value ≡ d.value.p → origin.last.value ≡ x.last
+        → IsOpening told a.reads_as shelf fabric (opening_of state (record { table = t; reports = x.reports; home = In d; origin = origin })) × Begins told state (record { table = t; reports = x.reports; home = In d; origin = origin })
+    opened fabric n origin d own spent behind table_kept provisioner_kept last_kept =
+        let m = length v.mover.log in
+        let as_made : d.value.p ≡ at_home m false v = behind ∙ ap (λ (k : ℕ). at_home k false v) spent in
+        let limits : IsInLimits shelf.shape = subst IsInLimits (sym rest.shape ∙ matrix_shape) rest.sized.shape in
+        let stage : IsReadyOrHalted told state (first m) (began false ++ []) (at_home m false v) = inl (home_joined, began_unstopped) in
+        let s : State D = record { table = t; reports = x.reports; home = In d; origin = origin } in
+        let is : opening_of state s ≡ opening m false v = opening_is m false v origin d as_made table_kept provisioner_kept last_kept stage in
+        let o : IsOpening told a.reads_as shelf v.fabric (opening m false v) = subst (λ (k : ℕ). Opens told a.reads_as shelf v.fabric false k (opening m false v)) joins (opens m false v limits) in (
+          subst (λ (w : FabricId × Opening). IsOpening told a.reads_as shelf w.0 w.1) (λ i. (own i, sym is i)) o,
+          begins m false v origin d as_made table_kept provisioner_kept last_kept stage,
+        )
 
 -- a file, a shelf and a fabric have one opening
 pub openings_once : (told : Type 0) → told → (file : List ℕ) (shelf : Contents) (fabric other : FabricId) (o p : Opening) → IsOpening told file shelf fabric o → IsOpening told file shelf other p → (o.records ≡ p.records) × (o.first ≡ p.first)

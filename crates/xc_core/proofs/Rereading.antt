@@ -1,11 +1,10 @@
 -- The journal of a halted Provisioner before and after it is read anew.
-use Rattle.std.proofs.Common.{◌≡◌, ◌≢◌, ◌⊎◌, ◌≤◌, inl, inr, ⊎_elim, ℕ, ◌+◌, ◌<◌, true, false, List, [], ◌∷◌, ◌++◌, length, take, drop, get_or, Option, Some, None, Ok, Err, sym, refl, ap, ◌∙◌, subst, arith}
+use Rattle.std.proofs.Common.{◌≡◌, ◌≢◌, ◌⊎◌, ◌≤◌, inl, inr, ⊎_elim, ℕ, ◌+◌, ◌<◌, true, false, List, [], ◌∷◌, ◌++◌, length, take, drop, get_or, Option, Some, None, Ok, Err, sym, refl, ap, ◌∙◌, subst}
 use Rattle.std.specs.Prelude.{Result}
 use Rattle.dxc_disk.specs.Disks.{DiskState, IsDisk, IsSettled, Leaves, LeavesOnly, Looks}
 use Rattle.dxc_num.specs.Dimensions.{Dimensions}
 use Rattle.dxc_model.specs.declared.op.Change.{Change}
 use Rattle.dxc_model.specs.Tables.{Board}
-use Rattle.dxc_model.proofs.Verdicts.{own_verdict}
 use Rattle.dxc_model.specs.declared.op.Op.{Op}
 use Rattle.journal_core.specs.declared.book.Book.{Book}
 use Rattle.journal_core.specs.declared.head.Head.{Head}
@@ -21,13 +20,8 @@ use Rattle.journal_core.proofs.StandSteps.{head_once, stands_once}
 use Rattle.paull_matrix.specs.Colourings.{Colouring}
 use Rattle.roll_plan.specs.declared.op.LegOp.{LegOp}
 use Rattle.roll_plan.specs.declared.work.Work.{Work}
-use Rattle.roll_plan.specs.Works.{ops_writes, switches_in, writes_of}
 use Rattle.roll_engine.specs.Rollings.{RollingAt, rest_of}
-use Rattle.roll_engine.specs.Stages.{IsAtRestOn}
 use Rattle.roll_engine.specs.UnderWay.{unmade}
-use Rattle.roll_engine.proofs.Running.{drop_none}
-use Rattle.roll_engine.proofs.UnderWay.{under_way_begun, under_way_done}
-use Rattle.xc_recovery.specs.ChangeWorks.{choices_in}
 use Rattle.std.specs.Prelude.{IfOk}
 use Rattle.std.proofs.Common.{append_assoc}
 use Rattle.std.proofs.lemmas.List.{take-append-drop, take_more}
@@ -37,19 +31,16 @@ use Rattle.xc_recovery.specs.Folds.{Folded, FoldsTo, IsBad, Makes, as_read, none
 use Rattle.xc_recovery.proofs.Folding.{folds_begin, folds_once, none_seated}
 use Rattle.xc_recovery.proofs.LastWorks.{comes_shape}
 use Rattle.xc_recovery.specs.Replays.{ComesTo, Reaches, Replays}
-use Rattle.xc_recovery.proofs.Placing.{change_leaves}
-use Rattle.xc_recovery.proofs.Spelled.{changes_made}
 use Rattle.xc_core.specs.declared.provisioner.Provisioner.{Provisioner}
 use Rattle.xc_core.specs.declared.second.Second.{Second}
 use Rattle.xc_core.specs.Journals.{IsJournalled, IsOldOrDoubted, IsOneMore, IsSoFar, StandsAs}
 use Rattle.xc_core.specs.Reckonings.{Past, changed}
 use Rattle.xc_core.specs.Provisioners.{HasRoom, KeepsPast}
-use Rattle.xc_core.specs.Restarts.{HasWay, IsHalted, IsKnown, IsListOf, IsOnWay, IsOwnWay, Lists, TakesUp}
+use Rattle.xc_core.specs.Restarts.{HasWay, IsHalted, IsKnown, IsListOf, IsOnWay, IsOwnWay, LastIs, Lists, TakesUp}
 use Rattle.xc_core.specs.Recoveries.{IsAstray, IsListed, ReadIs}
 use Rattle.xc_core.proofs.Halting.{taken_placed, taken_so_far}
 use Rattle.xc_core.proofs.Journalling.{doubts_on, home_on, journalled_home, looked_on, may_doubt, more_by, tried_on, untried}
-use Rattle.xc_core.proofs.Recovering.{way_limits}
-use Rattle.xc_core.proofs.Rolling.{within}
+use Rattle.xc_core.proofs.Staging.{way_begins, way_limits}
 
 abbrev pub with_read : {D : Type 0} → Provisioner D → D × Book → Second → Provisioner D
 with_read p j second = record p { journal = j; second = second }
@@ -78,18 +69,18 @@ module _ {D : Type 0} (told : Type 0) (state : D → DiskState) (b : Past) (p : 
   limits : b.fold.table.shape.modules ≤ 64
   limits = (way_limits b p h.past h.way).most_modules
 
-  -- what a crash may leave of a list that has the change in doubt
-  may_more : (x : Change) → Lists told state b p (Some x) → told → (file : List ℕ) → MayStand book (listed book s.reads_as) (doubted book s.reads_as) (rows book s.reads_as) file → Stands book.shape book.head (listed book s.reads_as) file
-  may_more x lists t file may = ⊎_elim
+  -- what a crash may leave of a list where no record is in doubt
+  may_whole : book.to_mend ≡ false → book.turning ≡ false → (file : List ℕ) → MayStand book (listed book s.reads_as) (doubted book s.reads_as) (rows book s.reads_as) file → Stands book.shape book.head (listed book s.reads_as) file
+  may_whole whole still file may = ⊎_elim
       (λ old. old)
-      (λ other. ⊎_elim (λ more. absurd (never lists.1 more.0)) (λ turn. absurd (never (untried book h.past.book lists.2) turn.0)) other)
+      (λ other. ⊎_elim (λ more. absurd (never whole more.0)) (λ turn. absurd (never (untried book h.past.book still) turn.0)) other)
       may
 
   may_by : (l : Option Change) → Lists told state b p l → told → (file : List ℕ) → MayStand book (listed book s.reads_as) (doubted book s.reads_as) (rows book s.reads_as) file → IsOldOrDoubted b p.doubt file
   may_by None home t file may = may_doubt told s book b p.doubt shape_is home t file may
   may_by (Some x) lists t file may =
       let l = lists.0.lists t in
-      inr (l.0, l.1, more_by b l.0 book.shape book.head (listed book s.reads_as) file shape_is (may_more x lists t file may) l.2)
+      inr (l.0, l.1, more_by b l.0 book.shape book.head (listed book s.reads_as) file shape_is (may_whole lists.1 lists.2 file may) l.2)
 
   kept_by : (l : Option Change) → Lists told state b p l → told → IsKept s book
   kept_by None home t = home.keeps.kept t
@@ -97,6 +88,10 @@ module _ {D : Type 0} (told : Type 0) (state : D → DiskState) (b : Past) (p : 
 
   pub halted_kept : told → IsKept s book
   halted_kept t = let k = h.known t in kept_by k.way.lacking k.journal t
+
+  -- so does what may stand beside the list
+  pub halted_file : told → (file : List ℕ) → MayStand book (listed book s.reads_as) (doubted book s.reads_as) (rows book s.reads_as) file → IsOldOrDoubted b p.doubt file
+  halted_file t = let k = h.known t in may_by k.way.lacking k.journal t
 
   -- each image stands for the changes so far, or for these and the one in doubt
   pub halted_images : told → Leaves s (IsOldOrDoubted b p.doubt)
@@ -151,8 +146,19 @@ module _ {D : Type 0} (told : Type 0) (state : D → DiskState) (b : Past) (p : 
         ap (λ (y : Book). y.turning) same_book ∙ lists.2,
       )
 
+      own_failed : told → (l : Option Change) (before : Colouring) (g : Past) (r : RollingAt) → IsOwnWay s book b l before g r → IsOwnWay (state j.0) j.1 b l before g r
+      own_failed t None before g r own = elim own [
+        | inl done ↦ inl done
+        | inr last ↦ inr (record {
+            whole = ap (λ (y : Book). y.to_mend) same_book ∙ last.whole;
+            still = ap (λ (y : Book). y.turning) same_book ∙ last.still;
+            comes = subst (λ (w : Head × List (List ℕ)). ComesTo b.fold.table.shape w.0 w.1 b.fold.table b.fold.colours r.work.ops.items) (λ i. (sym head_same i, sym (same t) i)) last.comes;
+          })
+      ]
+      own_failed t (Some x) before g r own = own
+
       pub halted_failed : IsHalted told state b (with_read p j second)
-      halted_failed = halted_with (λ t. let k = h.known t in record { way = way_read k.way; own = k.own; journal = lists_failed k.way.lacking k.journal })
+      halted_failed = halted_with (λ t. let k = h.known t in record { way = way_read k.way; own = own_failed t k.way.lacking k.way.before k.way.past k.way.rolling k.own; journal = lists_failed k.way.lacking k.journal })
 
     -- it succeeded: the list is what the file stood for
     module _ (whole : j.1.to_mend ≡ false) (still : j.1.turning ≡ false) (kept : told → IsKept (state j.0) j.1) (settled : told → IsSettled (state j.0)) (stands : told → Stands book.shape j.1.head (listed j.1 (state j.0).reads_as) s.reads_as)
@@ -168,7 +174,7 @@ module _ {D : Type 0} (told : Type 0) (state : D → DiskState) (b : Past) (p : 
       journalled_as l is = record { keeps = record { kept = kept; lists = λ _. is }; whole = whole; still = still; settled = settled }
 
       -- nothing was in doubt, or it isn't held
-      as_was : (g : Past) (before : Colouring) (r : RollingAt) → g ≡ b → IsOnWay p before g r → rest_of r ≡ [] → IsSoFar b j.1.head list → IsListed told state b (with_read p j second)
+      as_was : (g : Past) (before : Colouring) (r : RollingAt) → g ≡ b → IsOnWay p before g r → IsOwnWay (state j.0) j.1 b None before g r → IsSoFar b j.1.head list → IsListed told state b (with_read p j second)
       as_was g before r taken way own is =
           let all = journalled_as None is in
           record {
@@ -184,30 +190,18 @@ module _ {D : Type 0} (told : Type 0) (state : D → DiskState) (b : Past) (p : 
       as_held : (g : Past) (before : Colouring) (r : RollingAt) → g ≡ b → IsOnWay p before g r → rest_of r ≡ [] → (x : Op) → p.doubt ≡ Some x → IsOneMore b x j.1.head list → IsListed told state b (with_read p j second)
       as_held g before r taken way own x asked more =
           let d = more.is in
-          let met = d.within in
-          let ops : List LegOp = met.ops in
-          let f : Past = changed b d.change ops in
-          let placed = h.past.placed in
-          let rest : IsAtRestOn p.mover.fabric.size b.fold.colours p.mover.mover = subst (λ (c : Colouring). IsAtRestOn p.mover.fabric.size c p.mover.mover) (way.leads ∙ ap (λ (y : Past). y.fold.colours) taken) (under_way_done p.mover.fabric.size before r p.mover.mover way.under_way own) in
-          let fits = within (b.fold.switches + switches_in (ops_writes ops)) b.changes (sym met.limit) in
-          let number : length p.mover.mover.log ≡ b.fold.switches = (let e = ap switches_in own in let n = way.switches in let u = ap (λ (y : Past). y.fold.switches) taken in omega (arith, e, n, u)) in
-          let w : Work = record { ops = record { items = ops } } in
+          let ops : List LegOp = d.within.ops in
+          let way_on = way_begins b p h.past g before r taken way own x more.bytes d in
           let all = journalled_as (Some d.change) (x, asked, more) in
-          let valid = change_leaves b.fold.table b.fold.colours d.change (choices_in ops) ops placed (own_verdict b.fold.table x d.change d.granted) (changes_made b.fold.table b.fold.colours d.change ops met.planned) in
           record {
             known = record {
               way = record {
                 lacking = Some d.change;
-                past = f;
+                past = changed b d.change ops;
                 before = b.fold.colours;
-                rolling = unmade w;
-                taken = (x, asked, d.granted, met, refl);
-                on_way = record {
-                  under_way = under_way_begun p.mover.fabric.size b.fold.colours w p.mover.mover placed.colouring valid.steps rest (let few = fits.0 in omega (arith, few, number));
-                  leads = refl;
-                  switches = let e = ap switches_in (drop_none (writes_of w)) in omega (arith, e, number);
-                  alone = refl;
-                };
+                rolling = unmade (record { ops = record { items = ops } });
+                taken = (x, asked, d.granted, d.within, refl);
+                on_way = record { under_way = way_on.under_way; leads = way_on.leads; switches = way_on.switches; alone = way_on.alone };
               };
               own = (refl, refl);
               journal = (all.keeps, whole, still);
@@ -215,13 +209,28 @@ module _ {D : Type 0} (told : Type 0) (state : D → DiskState) (b : Past) (p : 
             journalled = all;
           }
 
-      relisted : told → (l : Option Change) (g : Past) (before : Colouring) (r : RollingAt) → TakesUp b p.doubt l g → IsOnWay p before g r → IsOwnWay b l before g r → Lists told state b p l → IsListed told state b (with_read p j second)
-      relisted t None g before r taken way own home = ⊎_elim
-          (λ old. as_was g before r taken way own (list_has (IsSoFar b) t old))
-          (λ more. as_held g before r taken way own more.0 more.1 (list_has (IsOneMore b more.0) t more.2))
-          (may_doubt told s book b p.doubt shape_is home t s.reads_as (found t))
+      -- what the journal lists, where no record is in doubt
+      stands_whole : (P : Head → List (List ℕ) → Type 0) → told → book.to_mend ≡ false → book.turning ≡ false → P book.head (listed book s.reads_as) → StandsAs b.fold.table.shape P s.reads_as
+      stands_whole P t was_whole was_still has = record { head = book.head; records = listed book s.reads_as; stands = subst (λ (d : Dimensions). Stands d book.head (listed book s.reads_as) s.reads_as) shape_is (may_whole was_whole was_still s.reads_as (found t)); has = has }
+
+      -- the last work is under way still
+      as_begun : told → (g : Past) (before : Colouring) (r : RollingAt) → g ≡ b → IsOnWay p before g r → LastIs s book b r.work.ops.items → IsListed told state b (with_read p j second)
+      as_begun t g before r taken way last =
+          let ops : List LegOp = r.work.ops.items in
+          let Comes : Head → List (List ℕ) → Type 0 = λ head records. ComesTo b.fold.table.shape head records b.fold.table b.fold.colours ops in
+          let comes : ComesTo b.fold.table.shape j.1.head list b.fold.table b.fold.colours ops = list_has Comes t (stands_whole Comes t last.whole last.still last.comes) in
+          as_was g before r taken way (inr (record { whole = whole; still = still; comes = comes })) (ops, comes)
+
+      relisted : told → (l : Option Change) (g : Past) (before : Colouring) (r : RollingAt) → TakesUp b p.doubt l g → IsOnWay p before g r → IsOwnWay s book b l before g r → Lists told state b p l → IsListed told state b (with_read p j second)
+      relisted t None g before r taken way own home = elim own [
+        | inl done ↦ ⊎_elim
+            (λ old. as_was g before r taken way (inl done) (list_has (IsSoFar b) t old))
+            (λ more. as_held g before r taken way done more.0 more.1 (list_has (IsOneMore b more.0) t more.2))
+            (may_doubt told s book b p.doubt shape_is home t s.reads_as (found t))
+        | inr last ↦ as_begun t g before r taken way last
+      ]
       relisted t (Some x) g before r taken way own lists =
-          let old : StandsAs b.fold.table.shape (IsListOf b p.doubt (Some x)) s.reads_as = record { head = book.head; records = listed book s.reads_as; stands = subst (λ (d : Dimensions). Stands d book.head (listed book s.reads_as) s.reads_as) shape_is (may_more x lists t s.reads_as (found t)); has = lists.0.lists t } in
+          let old = stands_whole (IsListOf b p.doubt (Some x)) t lists.1 lists.2 (lists.0.lists t) in
           let all = journalled_as (Some x) (list_has (IsListOf b p.doubt (Some x)) t old) in
           record {
             known = record { way = record { lacking = Some x; past = g; before = before; rolling = r; taken = taken; on_way = record { under_way = way.under_way; leads = way.leads; switches = way.switches; alone = way.alone } }; own = own; journal = (all.keeps, whole, still) };

@@ -23,7 +23,7 @@ use Rattle.xc_core.specs.declared.turns.Took.{Took}
 use Rattle.xc_core.specs.declared.turns.Took.TheVariants as took
 use Rattle.xc_core.specs.declared.restarts.Restarting.{Restarting}
 use Rattle.xc_core.specs.declared.restarts.Restarting.TheVariants as restarting
-use Rattle.xc_core.specs.States.{IsNeverAstray, Opening, Stands, StandsFor, opening_in, opening_of}
+use Rattle.xc_core.specs.States.{IsNeverAstray, Opening, Stands, StandsFor, began, opening_in, opening_of}
 use Rattle.xc_core.specs.Seeing.{IsHistory, Rests, Saw, Turned, TurnedBack, codes, entry, entry_coded, place_of, refused}
 use Rattle.xc_core.specs.Turns.{AreNumbered, HasPass, RestartIs, RestartingIs, SawNoneAstray, TakenIs, TookIs, outcome_of, restart_entry_of}
 use Rattle.xc_core.proofs.Standing.{stands_read, table_is}
@@ -80,14 +80,19 @@ pub rests_now : (own : ℕ) (g : List Entry) (e : Entry) → e.place ≡ own →
 rests_now own g e mine not = λ t is. rests_own own (holder None g) e mine not t (sym (holder_more None g e) ∙ is)
 
 -- what was seen is one history
-pub saw_once : (o p : Opening) (seen : List Gv) (h g : List Entry) → Saw o seen h → Saw p seen g → h ≡ g
-saw_once o p seen h g a b = map_once entry_coded.code entry_coded.inj h g (sym a.codes_are ∙ b.codes_are)
+pub saw_once : (o : Opening) (seen : List Gv) (h g : List Entry) → Saw o seen h → Saw o seen g → h ≡ g
+saw_once o seen h g a b = map_once entry_coded.code entry_coded.inj h g (sym a.codes_are ∙ b.codes_are)
 
 pub changes_longer : (h later : List Entry) → length (changes_of h) ≤ length (changes_of (h ++ later))
 changes_longer h later =
     let joined = ap length (changes_append h later) in
     let number = length-append (changes_of h) (changes_of later) in
     omega (arith, joined, number)
+
+-- what holds of all entries holds of those behind some
+never_behind : (h l : List Entry) → IsNeverAstray (h ++ l) → IsNeverAstray l
+never_behind [] l never = never
+never_behind (e ∷ es) l never = never_behind es l never.1
 
 -- a pass that comes back from a turn
 pub pass_back : {X : Type 0} (t : Gate X) (p q : Token) → HasPass t p → q.free ≡ true → q.id ≡ t.id → q.number ≡ p.number → AreNumbered t.passes q.seen → HasPass t q × (q.number ≡ p.number)
@@ -121,19 +126,26 @@ module _ {D : Type 0} (told : Type 0) (state : D → DiskState) where
   pub record FoundAt (o : Opening) (own : ℕ) (h : List Entry) (x : State D) (in_turn : List Gv) : Type 0 where
     pub later : List Entry
     pub others : Each (λ e. e.place ≢ own) later
-    pub codes_are : in_turn ≡ codes (h ++ later)
     pub opening_is : opening_of state x ≡ o
     pub stands : StandsFor told state o x (h ++ later)
+    -- those that the turnstile has had
+    pub entries : List Entry
+    pub in_turn_is : in_turn ≡ codes entries
+    pub whole : began o.due ++ entries ≡ h ++ later
 
-  pub found_at : (o : Opening) (own by passes : ℕ) (h : List Entry) (seen in_turn : List Gv) (x : State D) → by ≡ own → Found entry_coded.code (opening_of state) place_of (Stands told state) by passes o seen x in_turn → seen ≡ codes h → FoundAt o own h x in_turn
+  pub found_at : (o : Opening) (own by passes : ℕ) (h : List Entry) (seen in_turn : List Gv) (x : State D) → by ≡ own → Found entry_coded.code (opening_of state) place_of (Stands told state) by passes o seen x in_turn → codes (began o.due) ++ seen ≡ codes h → FoundAt o own h x in_turn
   found_at o own by passes h seen in_turn x is f saw =
-      let same : f.begun ≡ h = map_once entry_coded.code entry_coded.inj f.begun h (sym f.before ∙ saw) in
+      let d = began o.due in
+      let same : d ++ f.begun ≡ h = map_once entry_coded.code entry_coded.inj (d ++ f.begun) h (map-append entry_coded.code d f.begun ∙ ap (λ (s : List Gv). codes d ++ s) (sym f.before) ∙ saw) in
+      let whole : d ++ (f.begun ++ f.later) ≡ h ++ f.later = sym (append_assoc d f.begun f.later) ∙ ap (λ (l : List Entry). l ++ f.later) same in
       record {
         later = f.later;
         others = subst (λ (n : ℕ). Each (λ e. e.place ≢ n) f.later) is f.others;
-        codes_are = f.after ∙ ap (λ (l : List Entry). codes (l ++ f.later)) same;
         opening_is = f.opening_is;
-        stands = subst (λ (l : List Entry). StandsFor told state o x (l ++ f.later)) same (subst (λ (y : Opening). StandsFor told state y x (f.begun ++ f.later)) f.opening_is f.stands_for);
+        stands = subst (λ (l : List Entry). StandsFor told state o x l) whole (subst (λ (y : Opening). StandsFor told state y x (began y.due ++ (f.begun ++ f.later))) f.opening_is f.stands_for);
+        entries = f.begun ++ f.later;
+        in_turn_is = f.after;
+        whole = whole;
       }
 
   module _ (o : Opening) (own : ℕ) (h : List Entry) (x : State D) (in_turn : List Gv) (f : FoundAt o own h x in_turn) where
@@ -141,40 +153,57 @@ module _ {D : Type 0} (told : Type 0) (state : D → DiskState) where
     pub same_opening : (y : State D) → y.origin ≡ x.origin → opening_of state y ≡ o
     same_opening y is = ap (opening_in state) is ∙ f.opening_is
 
-    pub leaves : (y : State D) (l : List Entry) → y.origin ≡ x.origin → StandsFor told state o y l → Stands told state y l
-    leaves y l is st = subst (λ (z : Opening). StandsFor told state z y l) (sym (same_opening y is)) st
+    leaves : (y : State D) (l : List Entry) → y.origin ≡ x.origin → StandsFor told state o y (began o.due ++ l) → Stands told state y l
+    leaves y l is st = subst (λ (z : Opening). StandsFor told state z y (began z.due ++ l)) (sym (same_opening y is)) st
+
+    pub codes_are : codes (began o.due) ++ in_turn ≡ codes (h ++ f.later)
+    codes_are = ap (λ (s : List Gv). codes (began o.due) ++ s) f.in_turn_is ∙ sym (map-append entry_coded.code (began o.due) f.entries) ∙ ap codes f.whole
+
+    whole_more : (e : Entry) → began o.due ++ (f.entries ++ e ∷ []) ≡ (h ++ f.later) ++ e ∷ []
+    whole_more e = sym (append_assoc (began o.due) f.entries (e ∷ [])) ∙ ap (λ (l : List Entry). l ++ e ∷ []) f.whole
 
     -- what a turn that ends with an entry owes
     pub leave_stands : (y : State D) (n : ℕ) (op : Op) (out : Outcome) → n ≡ own → y.origin ≡ x.origin → StandsFor told state o y ((h ++ f.later) ++ entry own op out ∷ []) → (l : List Entry) × (in_turn ≡ codes l) × Stands told state y (l ++ entry n op out ∷ [])
-    leave_stands y n op out is origin st = (h ++ f.later, f.codes_are, subst (λ (k : ℕ). Stands told state y ((h ++ f.later) ++ entry k op out ∷ [])) (sym is) (leaves y ((h ++ f.later) ++ entry own op out ∷ []) origin st))
+    leave_stands y n op out is origin st =
+        let e = entry own op out in
+        let behind = leaves y (f.entries ++ e ∷ []) origin (subst (λ (l : List Entry). StandsFor told state o y l) (sym (whole_more e)) st) in
+        (f.entries, f.in_turn_is, subst (λ (k : ℕ). Stands told state y (f.entries ++ entry k op out ∷ [])) (sym is) behind)
 
     -- and one that is given back
     pub back_stands : (y : State D) → y.origin ≡ x.origin → StandsFor told state o y (h ++ f.later) → (l : List Entry) × (in_turn ≡ codes l) × Stands told state y l
-    back_stands y origin st = (h ++ f.later, f.codes_are, leaves y (h ++ f.later) origin st)
+    back_stands y origin st = (f.entries, f.in_turn_is, leaves y f.entries origin (subst (λ (l : List Entry). StandsFor told state o y l) (sym f.whole) st))
 
     pub seen_own : (n : ℕ) (op : Op) (out : Outcome) (then_seen : List Gv) → n ≡ own → then_seen ≡ in_turn ++ entry_coded.code (entry n op out) ∷ [] → then_seen ≡ in_turn ++ entry_coded.code (entry own op out) ∷ []
     seen_own n op out then_seen is seen = subst (λ (k : ℕ). then_seen ≡ in_turn ++ entry_coded.code (entry k op out) ∷ []) is seen
+
+    pub codes_more : (e : Entry) (then_seen : List Gv) → then_seen ≡ in_turn ++ entry_coded.code e ∷ [] → codes (began o.due) ++ then_seen ≡ codes ((h ++ f.later) ++ e ∷ [])
+    codes_more e then_seen is =
+        let d = codes (began o.due) in
+        let c = entry_coded.code e ∷ [] in
+        ap (λ (s : List Gv). d ++ s) is ∙ sym (append_assoc d in_turn c) ∙ ap (λ (l : List Gv). l ++ c) codes_are ∙ sym (map-append entry_coded.code (h ++ f.later) (e ∷ []))
 
     abbrev pub turned : (y : State D) (e : Entry) (then_seen : List Gv) → StandsFor told state o y ((h ++ f.later) ++ e ∷ []) → then_seen ≡ in_turn ++ entry_coded.code e ∷ [] → Turned o own h e then_seen
     turned y e then_seen st is = record {
       later = f.later;
       others = f.others;
-      saw = record { codes_are = is ∙ ap (λ (l : List Gv). l ++ entry_coded.code e ∷ []) f.codes_are ∙ sym (map-append entry_coded.code (h ++ f.later) (e ∷ [])); history = history_of o y ((h ++ f.later) ++ e ∷ []) st };
+      saw = record { codes_are = codes_more e then_seen is; history = history_of o y ((h ++ f.later) ++ e ∷ []) st };
     }
 
     abbrev pub turned_back : (y : State D) (then_seen : List Gv) → StandsFor told state o y (h ++ f.later) → then_seen ≡ in_turn → TurnedBack o own h then_seen
-    turned_back y then_seen st is = record { later = f.later; others = f.others; saw = record { codes_are = is ∙ f.codes_are; history = history_of o y (h ++ f.later) st } }
+    turned_back y then_seen st is = record { later = f.later; others = f.others; saw = record { codes_are = ap (λ (s : List Gv). codes (began o.due) ++ s) is ∙ codes_are; history = history_of o y (h ++ f.later) st } }
 
     -- of a disk that tells its content no entry is astray
+    never_astray : (all l : List Entry) (g : List Entry) → began o.due ++ l ≡ all → IsNeverAstray all → codes l ≡ codes g → IsNeverAstray g
+    never_astray all l g whole never same = subst (λ (x : List Entry). IsNeverAstray x) (map_once entry_coded.code entry_coded.inj l g same) (never_behind (began o.due) l (subst (λ (x : List Entry). IsNeverAstray x) (sym whole) never))
+
     pub astray_own : (y : State D) (n : ℕ) (op : Op) (out : Outcome) (then_seen : List Gv) → n ≡ own → StandsFor told state o y ((h ++ f.later) ++ entry own op out ∷ []) → then_seen ≡ in_turn ++ entry_coded.code (entry n op out) ∷ [] → SawNoneAstray told then_seen
-    astray_own y n op out then_seen is st seen = λ t g codes_are.
+    astray_own y n op out then_seen is st seen = λ t g seen_is.
         let e = entry own op out in
-        let l = (h ++ f.later) ++ e ∷ [] in
-        let all = seen_own n op out then_seen is seen ∙ ap (λ (x : List Gv). x ++ entry_coded.code e ∷ []) f.codes_are ∙ sym (map-append entry_coded.code (h ++ f.later) (e ∷ [])) in
-        subst (λ (x : List Entry). IsNeverAstray x) (map_once entry_coded.code entry_coded.inj l g (sym all ∙ codes_are)) (st.astray t)
+        let here : then_seen ≡ codes (f.entries ++ e ∷ []) = seen_own n op out then_seen is seen ∙ ap (λ (s : List Gv). s ++ entry_coded.code e ∷ []) f.in_turn_is ∙ sym (map-append entry_coded.code f.entries (e ∷ [])) in
+        never_astray ((h ++ f.later) ++ e ∷ []) (f.entries ++ e ∷ []) g (whole_more e) (st.astray t) (sym here ∙ seen_is)
 
     pub astray_back : (y : State D) (then_seen : List Gv) → StandsFor told state o y (h ++ f.later) → then_seen ≡ in_turn → SawNoneAstray told then_seen
-    astray_back y then_seen st seen = λ t g codes_are. subst (λ (x : List Entry). IsNeverAstray x) (map_once entry_coded.code entry_coded.inj (h ++ f.later) g (sym (seen ∙ f.codes_are) ∙ codes_are)) (st.astray t)
+    astray_back y then_seen st seen = λ t g seen_is. never_astray (h ++ f.later) f.entries g f.whole (st.astray t) (sym (seen ∙ f.in_turn_is) ∙ seen_is)
 
     entered : (y : State D) (op z : Op) (out w : Outcome) → Some (ends z w) ≡ Some (ends op out) → StandsFor told state o y ((h ++ f.later) ++ entry own z w ∷ []) → StandsFor told state o y ((h ++ f.later) ++ entry own op out ∷ [])
     entered y op z out w is at = subst (λ (x : Op × Outcome). StandsFor told state o y ((h ++ f.later) ++ entry own x.0 x.1 ∷ [])) (let e : ends z w ≡ ends op out = cc in e) at

@@ -14,4 +14,6 @@ pub mod Coding
 pub mod Turns
 pub mod Askings
 pub mod Openings
+pub mod Starts
+pub mod Adoptions
 pub mod Laws

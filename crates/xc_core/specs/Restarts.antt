@@ -1,19 +1,23 @@
 -- The Provisioner behind a stop, and on its way home.
-use Rattle.std.specs.Prelude.{◌≡◌, ◌≤◌, ◌^◌, ℕ, ◌+◌, List, [], length, true, false, Option, Some, None}
+use Rattle.std.specs.Prelude.{◌≡◌, ◌⊎◌, ◌≤◌, ◌^◌, ℕ, ◌+◌, List, [], length, true, false, Option, Some, None}
 use Rattle.dxc_disk.specs.Disks.{DiskState}
 use Rattle.dxc_num.specs.declared.register.RegWrite.{RegWrite}
 use Rattle.dxc_model.specs.declared.op.Op.{Op}
 use Rattle.dxc_model.specs.declared.op.Change.{Change}
 use Rattle.dxc_model.specs.Verdicts.{Grants}
+use Rattle.journal_core.specs.declared.book.Book.{Book}
 use Rattle.journal_core.specs.declared.head.Head.{Head}
+use Rattle.journal_core.specs.Books.{listed}
 use Rattle.paull_matrix.specs.Colourings.{Colouring}
 use Rattle.paull_chain.specs.Works.{after_ops}
+use Rattle.roll_plan.specs.declared.op.LegOp.{LegOp}
 use Rattle.roll_plan.specs.Works.{switches_in}
 use Rattle.roll_engine.specs.declared.rolling.Behind.TheVariants.{Nothing}
 use Rattle.roll_engine.specs.Rollings.{RollingAt, rest_of}
 use Rattle.roll_engine.specs.UnderWay.{IsUnderWay}
 use Rattle.roll_engine.specs.Cold.{IsCold, left_of}
 use Rattle.roll_engine.specs.Leading.{IsLeading}
+use Rattle.xc_recovery.specs.Replays.{ComesTo}
 use Rattle.xc_core.specs.declared.provisioner.Provisioner.{Provisioner}
 use Rattle.xc_core.specs.Journals.{IsAtHome, IsJournalled, IsOneMore, IsSoFar, KeepsList}
 use Rattle.xc_core.specs.Reckonings.{HasWork, Past, changed}
@@ -50,10 +54,16 @@ pub record HasWay {D : Type 0} (b : Past) (p : Provisioner D) : Type 0 where
   pub taken : TakesUp b p.doubt lacking past
   pub on_way : IsOnWay p before past rolling
 
--- nothing is to be made; or it is the planned work of the change in doubt
-abbrev pub IsOwnWay : Past → Option Change → Colouring → Past → RollingAt → Type 0
-IsOwnWay b None before g r = rest_of r ≡ []
-IsOwnWay b (Some c) before g r = (r.work.ops.items ≡ g.fold.work) × (before ≡ b.fold.colours)
+-- a journal's list comes to the changes so far by this last work, and no record of it is in doubt
+pub record LastIs (s : DiskState) (book : Book) (b : Past) (ops : List LegOp) : Type 0 where
+  pub whole : book.to_mend ≡ false
+  pub still : book.turning ≡ false
+  pub comes : ComesTo b.fold.table.shape book.head (listed book s.reads_as) b.fold.table b.fold.colours ops
+
+-- nothing is to be made, or it is the last work of what the journal lists; or it is the planned work of the change in doubt
+abbrev pub IsOwnWay : DiskState → Book → Past → Option Change → Colouring → Past → RollingAt → Type 0
+IsOwnWay s book b None before g r = (rest_of r ≡ []) ⊎ LastIs s book b r.work.ops.items
+IsOwnWay s book b (Some c) before g r = (r.work.ops.items ≡ g.fold.work) × (before ≡ b.fold.colours)
 
 module _ {D : Type 0} (told : Type 0) (state : D → DiskState) where
   -- the journal stands for the changes so far, and maybe for the one in doubt besides; or it stands for that one too
@@ -64,7 +74,7 @@ module _ {D : Type 0} (told : Type 0) (state : D → DiskState) where
   -- of a disk that tells its content: the work is that of the records which the journal lists
   pub record IsKnown (b : Past) (p : Provisioner D) : Type 0 where
     pub way : HasWay b p
-    pub own : IsOwnWay b way.lacking way.before way.past way.rolling
+    pub own : IsOwnWay (state p.journal.0) p.journal.1 b way.lacking way.before way.past way.rolling
     pub journal : Lists b p way.lacking
 
   -- home and halted: it keeps what stands behind the changes so far, and the registers are at a stage of the last work of what the journal lists
@@ -81,7 +91,7 @@ module _ {D : Type 0} (told : Type 0) (state : D → DiskState) where
     pub taken : TakesUp b p.doubt lacking g
     pub before : Colouring
     pub on_way : IsOnWay p before g r
-    pub own : told → IsOwnWay b lacking before g r
+    pub own : told → IsOwnWay (state p.journal.0) p.journal.1 b lacking before g r
     pub journalled : IsJournalled told (state p.journal.0) p.journal.1 (IsListOf b p.doubt lacking)
     pub matrix : p.second.matrix ≡ g.fold.colours
     pub lacks : p.second.lacking ≡ lacking

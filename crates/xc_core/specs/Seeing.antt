@@ -20,7 +20,7 @@ use Rattle.xc_core.specs.declared.provisioner.Provisioner.{Provisioner}
 use Rattle.xc_core.specs.Reckonings.{HasWork, Past, ReckonsTo}
 use Rattle.xc_core.specs.Provisioners.{Rolls, ground_of}
 use Rattle.xc_core.specs.Restarts.{Resumes}
-use Rattle.xc_core.specs.States.{Opening, IsPaid, IsUnsettled, SpendsOf, faults_in, most_room, room_in, rules_of}
+use Rattle.xc_core.specs.States.{Opening, began, IsPaid, IsUnsettled, SpendsOf, faults_in, most_room, room_in, rules_of}
 
 abbrev pub entry_coded : Coded Entry
 entry_coded = entry_row.the_row.coded
@@ -40,9 +40,9 @@ pub record IsHistory (o : Opening) (h : List Entry) : Type 0 where
   pub turns : KeepsTurns None h
   pub paid : IsPaid o h
 
--- the history that was seen is h
+-- the history that was seen is h, in front of which stands what the opening counts as
 pub record Saw (o : Opening) (seen : List Gv) (h : List Entry) : Type 0 where
-  pub codes_are : seen ≡ codes h
+  pub codes_are : codes (began o.due) ++ seen ≡ codes h
   pub history : IsHistory o h
 
 -- the place hasn't got the Provisioner out

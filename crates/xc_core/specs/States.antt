@@ -1,11 +1,12 @@
 -- When a state stands for a history.
-use Rattle.std.specs.Prelude.{◌≡◌, ◌⊎◌, ℕ, ◌+◌, ◌-◌, ◌≢◌, ◌≤◌, ◌<◌, min, List, [], ◌∷◌, ◌++◌, length, replicate, Option, Some, None}
+use Rattle.std.specs.Prelude.{◌≡◌, ◌⊎◌, ℕ, Bool, true, false, ◌+◌, ◌-◌, ◌≢◌, ◌≤◌, ◌<◌, min, List, [], ◌∷◌, ◌++◌, length, replicate, Option, Some, None}
 use Rattle.std.specs.List.{AllByRecursion}
 use Rattle.dxc_causes.specs.Causes.{last}
 use Rattle.dxc_disk.specs.Disks.{DiskState}
 use Rattle.dxc_model.specs.declared.cause.Cause.{Cause}
 use Rattle.dxc_model.specs.declared.cause.Cause.TheVariants.{DiskFault, JournalAstray}
 use Rattle.dxc_model.specs.declared.op.Op.{Op}
+use Rattle.dxc_model.specs.declared.op.Op.TheVariants.{Restart}
 use Rattle.dxc_model.specs.declared.op.Change.{Change}
 use Rattle.dxc_model.specs.declared.entry.Outcome.{Outcome}
 use Rattle.dxc_model.specs.declared.entry.Outcome.TheVariants.{Done, Denied, Failed, Answered, Restarted, Cut, Taken}
@@ -25,12 +26,13 @@ use Rattle.xc_core.specs.Reckonings.{Past, Meets, ReckonsTo}
 use Rattle.xc_core.specs.Provisioners.{Ground, IsHome, ground_of}
 use Rattle.xc_core.specs.Restarts.{IsHalted}
 
--- where a history begins: fabric and journal, the records that the journal listed then, what stood behind it, and of the journal's disk the
--- count of faults, the margin and the room
+-- where a history begins: fabric and journal, the records that the journal listed then, what stood behind it, whether a restart was due, and
+-- of the journal's disk the count of faults, the margin and the room
 pub record Opening : Type 0 where
   pub site : Ground
   pub records : List (List ℕ)
   pub first : Past
+  pub due : Bool
   pub faults : ℕ
   pub margin : ℕ
   pub room : ℕ
@@ -45,9 +47,10 @@ opening_at state t p w = record {
   site = ground_of p;
   records = recorded p.journal.1 (state p.journal.0).reads_as;
   first = record {
-    fold = record { table = t; colours = p.matrix; work = w.ops.items; switches = length p.mover.mover.log };
+    fold = record { table = t; colours = p.matrix; work = w.ops.items; switches = p.spent };
     changes = 0;
   };
+  due = p.halted;
   faults = (state p.journal.0).faults;
   margin = (state p.journal.0).margin;
   room = (state p.journal.0).room;
@@ -59,6 +62,11 @@ opening_in state o = opening_at state o.table.value o.provisioner.value o.last.v
 -- the opening that a state keeps
 abbrev pub opening_of : {D : Type 0} → (D → DiskState) → State D → Opening
 opening_of state s = opening_in state s.origin
+
+-- an opening at which a restart was due counts as an entry that a stop cut, in front of all others
+abbrev pub began : Bool → List Entry
+began true = record { place = 0; op = Restart; outcome = Cut } ∷ []
+began false = []
 
 abbrev pub with_home : {D : Type 0} → Home D → State D → State D
 with_home x s = record s { home = x }
@@ -149,6 +157,6 @@ module _ {D : Type 0} (told : Type 0) (state : D → DiskState) where
     pub astray : told → IsNeverAstray h
     pub home : HomeIs o now h s.home
 
-  -- it stands for the history from its own opening on
+  -- it stands for what its opening counts as, and the entries behind that
   abbrev pub Stands : State D → List Entry → Type 0
-  Stands s h = StandsFor (opening_of state s) s h
+  Stands s h = StandsFor (opening_of state s) s (began (opening_of state s).due ++ h)

@@ -2,6 +2,7 @@
 //! register writes.
 #![tactic(auto)]
 
+mod adopting;
 mod beginning;
 mod checkpoint;
 mod fault;
@@ -16,13 +17,15 @@ mod recovery;
 pub mod restarts;
 mod resuming;
 mod second;
+mod start;
 mod state;
 pub mod turns;
 
+pub use adopting::Adopted;
 pub use beginning::{Begun, begin};
 pub use fault::OpenFault;
 pub use opening::Core;
 pub use origin::Origin;
-pub use provisioner::{Driver, Provisioner, drive, halt, settle};
+pub use provisioner::{Driver, Provisioner, drive, halt, release, settle};
 pub use recovery::{Recovered, end_recovery, recover};
 pub use state::{Home, State, finish};

@@ -17,21 +17,15 @@ ghost use Rattle.xc_core.specs.States.{opening_of};
 use crate::fault::OpenFault;
 use crate::origin::Origin;
 use crate::provisioner::{Driver, Provisioner};
-use crate::second::Second;
+use crate::start::{Start, read_journal};
 use crate::state::{Home, State};
-use dbchg_reports::Reports;
-use dxc_causes::NoMemory;
 use dxc_disk::Disk;
-use dxc_model::Table;
 use dxc_outside::{Gate, Pass1};
 use fabric_words::{Fabric, MoverSeat};
-use journal_core::Journal;
-use paull_matrix::Matrix;
 use roll_engine::cold::advance_cold;
 use roll_engine::{Advance, Rolling};
 use shelf_file::Shelf;
 use std::alloc::Global;
-use xc_recovery::{ReplayFault, replay};
 
 /// The controller's core.
 pub struct Core;
@@ -64,38 +58,16 @@ impl Core {
         ensures later { G.stops gate.old ≤ G.stops gate.new }
         ensures asked { OpenAsked D.state (G.asked gate.old gate.new) result }
     {
-        let shape = shelf.shape();
-        let Ok(mut table) = Table::new(alloc, shape, shelf.equipped()) else {
-            return Err(OpenFault::NoMemory);
+        let read = match read_journal(alloc, shelf, disk, mover) {
+            Ok(read) => read,
+            Err(fault) => return Err(fault),
         };
-        let Ok(mut matrix) = Matrix::new(alloc, shape) else {
-            return Err(OpenFault::NoMemory);
-        };
-        let Ok(reports) = Reports::new(alloc) else {
-            return Err(OpenFault::NoMemory);
-        };
-        let Ok(second) = Second::new(alloc, shape, shelf.equipped()) else {
-            return Err(OpenFault::NoMemory);
-        };
-        let mut journal = match Journal::open(disk, shape, shelf.equipped()) {
-            Ok(journal) => journal,
-            Err(fault) => return Err(OpenFault::Journal(fault)),
-        };
-        let last = match replay(&mut journal, &mut matrix, &mut table) {
-            Ok(last) => last,
-            Err(ReplayFault::BadRecord(i)) => return Err(OpenFault::BadRecord(i)),
-            Err(ReplayFault::Disk) => return Err(OpenFault::Disk(journal.close())),
-        };
-        let p = Provisioner {
-            matrix,
-            journal,
-            mover,
-            doubt: None,
-            changes: 0,
-            halted: false,
-            spent: 0,
-            second,
-        };
+        let Start {
+            table,
+            reports,
+            p,
+            last,
+        } = read;
         let rolling = Rolling::cold();
         let Ok(mut driver) = Box::new(alloc, Driver { p, rolling }) else {
             return Err(OpenFault::NoMemory);

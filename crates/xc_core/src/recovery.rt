@@ -9,7 +9,8 @@ ghost use Rattle.dxc_outside.specs.declared.gate.GatePlace.TheVariants.{Journal}
 ghost use Rattle.paull_matrix.specs.Colourings.{Colouring};
 ghost use Rattle.paull_chain.specs.Works.{OpsMade};
 ghost use Rattle.roll_engine.specs.Rollings.{RollingAt};
-ghost use Rattle.xc_recovery.specs.Stages.{IsLastWork};
+ghost use Rattle.xc_recovery.specs.Stages.{IsLastWork, IsStage};
+ghost use Rattle.roll_plan.specs.Works.{writes_of};
 ghost use Rattle.xc_core.specs.Reckonings.{Past};
 ghost use Rattle.xc_core.specs.Provisioners.{ground_of};
 ghost use Rattle.xc_core.specs.Restarts.{IsHalted, Rejoins, Resumes, number_with, writes_left};
@@ -63,6 +64,26 @@ fn rest(work: Work, made: usize, phase: Phase, now: u64, switches: u64) -> Recov
     }
 }
 
+/// The stage of the last record's work at which the registers are. It led to the matrix.
+pub(crate) fn stage_on(
+    matrix: &mut Matrix,
+    mover: &mut MoverSeat,
+    fabric: &Fabric,
+    last: &Work,
+) -> Stage
+    requires own { mover.old.fabric ≡ fabric.now }
+    requires shape { matrix.old.shape ≡ fabric.now.size.shape }
+    requires made { (before : Colouring) × IsLastWork before last.now.ops.items matrix.old }
+    ensures matrix { matrix.new ≡ matrix.old }
+    ensures mover { mover.new ≡ mover.old }
+    ensures stage { (before : Colouring) → IsLastWork before last.now.ops.items matrix.old → IsStage fabric.now.size before (writes_of last.now) mover.old.mover result }
+{
+    undo_work(matrix, last);
+    let stage = stage_of(fabric, mover, matrix, last);
+    apply_work(matrix, last);
+    stage
+}
+
 // Where the registers are on the last record's work, which led to the matrix, if so many switches will then have been made.
 fn resume(
     matrix: &mut Matrix,
@@ -79,10 +100,7 @@ fn resume(
     ensures mover { mover.new ≡ mover.old }
     ensures resumed { ResumedIs fabric.now.size mover.old.mover work.ops.items matrix.old switches result }
 {
-    undo_work(matrix, &work);
-    let stage = stage_of(fabric, mover, matrix, &work);
-    apply_work(matrix, &work);
-    match stage {
+    match stage_on(matrix, mover, fabric, &work) {
         Stage::At(made) => rest(work, made, mover.phase(), mover.switches(), switches),
         Stage::Strange => Recovered::Cold(Rolling::cold_from(mover.phase())),
     }

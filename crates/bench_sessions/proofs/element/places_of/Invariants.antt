@@ -7,7 +7,9 @@ use Rattle.bench_sessions.proofs.element.places_of.Given as goal
 abbrev pub invariant-loop-number : goal.invariant-loop-number
 invariant-loop-number g l = record {
   fresh : AreFresh (arc_value l.turns).id l.number l.passes.items;
+  users_fresh : AreFresh (arc_value l.users).id l.number l.users_passes.items;
   left : length l.passes.items + l.number ≡ l.fn.count;
+  users_left : length l.users_passes.items + l.number ≡ l.fn.count;
   made : length l.places.items ≡ l.number;
   room : vec_capacity l.places ≡ l.fn.count;
 }

@@ -4,15 +4,15 @@ use Rattle.std.specs.Arc.{arc_value}
 use Rattle.dxc_num.specs.Dimensions.{ports}
 use Rattle.shelf_file.specs.Contents.{Contents}
 use Rattle.xc_core.specs.States.{opening_of}
-use Rattle.craft_server.proofs.Starting.{at_opening, begun}
+use Rattle.craft_server.proofs.Starting.{at_opening, begun, users_began}
 use Rattle.craft_server.proofs.Audits.{listed_first, of_shape}
 use Rattle.craft_server.proofs.check.run_check.Goals as goal
 
 pub check-requires-clause-room : goal.check-requires-clause-room
 check-requires-clause-room g c =
-    let f = c.in-Ok.ensures.opened.0 in
-    let x = c.in-Ok.controller in
-    let st = c.in-Ok.ensures.opened.1 in
+    let f = c.in-Ok.ensures.opened.0.0 in
+    let x = c.in-Ok.element.controller in
+    let st = c.in-Ok.ensures.opened.0.1 in
     let told = g.O.Journal.Disk.told in
     let state = g.O.Journal.Disk.state in
     let at = at_opening told state _ f.shelf _ (opening_of state x.state) st.opening in
@@ -24,9 +24,9 @@ returns-in-Err g c = inl (c.in-Err.ensures.opened, refl)
 
 pub returns : goal.returns
 returns g c =
-    let f = c.in-Ok.ensures.opened.0 in
-    let x = c.in-Ok.controller in
-    let st = c.in-Ok.ensures.opened.1 in
+    let f = c.in-Ok.ensures.opened.0.0 in
+    let x = c.in-Ok.element.controller in
+    let st = c.in-Ok.ensures.opened.0.1 in
     let told = g.O.Journal.Disk.told in
     let state = g.O.Journal.Disk.state in
     let at = at_opening told state _ f.shelf _ (opening_of state x.state) st.opening in
@@ -34,6 +34,7 @@ returns g c =
       f,
       opening_of state x.state,
       begun told state f.disk f.shelf _ x st,
+      users_began told state g.O.Opener.told _ _ f.shelf c.in-Ok.element.users c.in-Ok.ensures.opened.1,
       (
         c.in-Ok.ensures.unstopped,
         record {

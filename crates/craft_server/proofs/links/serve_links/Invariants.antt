@@ -1,5 +1,5 @@
 use Rattle.std.proofs.Common.{◌≡◌, ◌≤◌, ◌<◌}
-use Rattle.craft_session.specs.Seats.{IsSameSeat}
+use Rattle.craft_session.specs.Seats.{IsSameSeat, IsSameUserSeat}
 use Rattle.craft_server.specs.Serving.{RoseBy}
 use Rattle.craft_server.proofs.links.serve_links.Given as goal
 
@@ -7,6 +7,7 @@ abbrev pub invariant-loop : goal.invariant-loop
 invariant-loop g l = record {
   shelf : l.place.shelf ≡ l.fn.place.shelf;
   seat : IsSameSeat l.fn.place.seat l.place.seat;
+  users : IsSameUserSeat l.fn.place.users l.place.users;
   risen : RoseBy l.failures (g.L.Listener.state l.fn.listener).faults (g.L.Listener.state l.listener).faults;
   later : (g.L.Listener.state l.fn.listener).faults ≤ (g.L.Listener.state l.listener).faults;
   few : l.failures < 16;

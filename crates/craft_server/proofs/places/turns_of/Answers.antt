@@ -1,6 +1,5 @@
 use Rattle.std.proofs.Common.{sym, subst}
 use Rattle.turnstile.specs.Passing.{Gate}
-use Rattle.xc_core.specs.declared.state.State.{State}
 use Rattle.craft_server.specs.Places.{AreFresh}
 use Rattle.craft_server.proofs.Seating.{all_fresh}
 use Rattle.craft_server.proofs.places.turns_of.Goals as goal
@@ -8,4 +7,4 @@ use Rattle.craft_server.proofs.places.turns_of.Goals as goal
 pub returns-clause-fresh : goal.returns-clause-fresh
 returns-clause-fresh g c =
     let ps = c.in_ok-turns.passes.items in
-    subst (λ (t : Gate (State g.row.D.Denot)). AreFresh t.id 0 ps) (sym c.in-Ok.ensures.ok) (all_fresh _ _ ps c.in_ok-turns.ensures.2)
+    subst (λ (t : Gate g.row.S.Denot). AreFresh t.id 0 ps) (sym c.in-Ok.ensures.ok) (all_fresh _ _ ps c.in_ok-turns.ensures.2)

@@ -1,46 +1,40 @@
-use Rattle.std.proofs.Common.{◌≡◌, ◌+◌, ◌∙◌, ℕ, inl, inr, refl, sym, ap, ap₂, subst}
-use Rattle.std.specs.Prelude.{vec_len}
+use Rattle.std.proofs.Common.{◌≡◌, ◌+◌, ◌∙◌, ℕ, refl, sym, ap, ap₂, subst}
+use Rattle.std.specs.Prelude.{IsSome}
 use Rattle.shelf_file.specs.Contents.{Contents}
-use Rattle.xc_core.specs.States.{Opening, opening_of}
-use Rattle.craft_server.specs.declared.line.Line.{Line}
-use Rattle.craft_server.specs.Openings.{Named, NotOpened, named, sources}
-use Rattle.craft_server.specs.Serving.{IsServing, named_in, workers_in}
-use Rattle.craft_server.proofs.Counting.{rose_behind}
-use Rattle.craft_server.proofs.Starting.{begun, opened_at, opens_for}
+use Rattle.user_admin.specs.Histories.{Opening as UsersOpening}
+use Rattle.xc_core.specs.States.{Opening}
+use Rattle.craft_server.specs.Openings.{named, sources}
+use Rattle.craft_server.specs.Serving.{IsServing, named_in, peer_of, workers_in}
+use Rattle.craft_server.proofs.Mirroring.{mirrors_for}
+use Rattle.craft_server.proofs.Starting.{opens_for}
 use Rattle.craft_server.proofs.serve.serve_all.Goals as goal
 
-pub returns-in-Err : goal.returns-in-Err
-returns-in-Err g c =
-    let same : named c.text.result.now c.text-2.result.now ≡ named_in c.args.line.now = ap₂ named c.text.ensures c.text-2.ensures ∙ sym (ap named_in c.in-Serve.is) in
+pub returns-in-None-clause-alone : goal.returns-in-None-clause-alone
+returns-in-None-clause-alone g c = λ none.
+    let line = c.args.line.now in
+    let same : named c.text.result.now c.text-2.result.now ≡ named_in line = ap₂ named c.text.ensures c.text-2.ensures ∙ sym (ap named_in c.in-Serve.is) in
     let before = sources (g.O.Opener.state c.args.opener.now) (g.O.Opener.journal_at c.args.opener.now) (g.G.Gate.stops c.args.gate.now) in
-    let after = sources (g.O.Opener.state c.open.new.opener) (g.O.Opener.journal_at c.open.new.opener) (g.G.Gate.stops c.open.new.gate) in
-    inl (subst (λ (n : Named). NotOpened g.O.Opener.told g.O.Journal.Disk.told g.O.Journal.Disk.state n before after c.in-Err.status) same c.in-Err.ensures.opened, refl)
-
-pub open_places-requires-clause-opening : goal.open_places-requires-clause-opening
-open_places-requires-clause-opening g c = let f = c.in-Ok.ensures.opened.0 in opened_at g.O.Journal.Disk.told g.O.Journal.Disk.state f.disk f.shelf _ c.in-Ok.controller c.in-Ok.ensures.opened.1
-
-pub returns : goal.returns
-returns g c =
-    let same : named c.text.result.now c.text-2.result.now ≡ named_in c.args.line.now = ap₂ named c.text.ensures c.text-2.ensures ∙ sym (ap named_in c.in-Serve.is) in
-    let f = c.in-Ok.ensures.opened.0 in
-    let x = c.in-Ok.controller in
-    let told = g.O.Journal.Disk.told in
-    let state = g.O.Journal.Disk.state in
-    let before = sources (g.O.Opener.state c.args.opener.now) (g.O.Opener.journal_at c.args.opener.now) (g.G.Gate.stops c.args.gate.now) in
-    let after = sources (g.O.Opener.state c.serve_on.new.opener) (g.O.Opener.journal_at c.serve_on.new.opener) (g.G.Gate.stops c.open.new.gate) in
+    let after = sources (g.O.Opener.state c.serve_alone.new.opener) (g.O.Opener.journal_at c.serve_alone.new.opener) (g.G.Gate.stops c.serve_alone.new.gate) in
     let p = g.P.Spawner.state c.args.spawner.now in
-    let q = g.P.Spawner.state c.serve_on.new.spawner in
-    let e = c.serve_on.ensures in
-    let jobs : c.in-Serve.workers + vec_len c.in-Ok-open_places.places ≡ workers_in c.args.line.now + 16 = ap (λ (n : ℕ). c.in-Serve.workers + n) c.in-Ok-open_places.ensures.each ∙ sym (ap (λ (l : Line). workers_in l + 16) c.in-Serve.is) in
-    let serving : IsServing (c.in-Serve.workers + vec_len c.in-Ok-open_places.places) before.opener.faults after.opener.faults p q c.serve_on.result = record {
-      done = e.done;
-      no_more = e.no_more;
-      waited = e.waited;
-      no_thread = e.no_thread;
-      cannot_open = λ is. rose_behind _ _ _ c.in-Ok.ensures.later (e.cannot_open is);
-      not_started = e.not_started;
-      only = e.only;
-    } in
-    let P : Contents → g.row.O-Journal.Denot → Opening → Type 0 = λ s d o. (after.stops ≡ before.stops) × IsServing (workers_in c.args.line.now + 16) before.opener.faults after.opener.faults p q c.serve_on.result in
-    opens_for told state g.O.Opener.told _ _ same before after (q ≡ p) (q ≡ p) P P c.serve_on.result (λ u. u) (λ s d o ran. ran)
-    (inr (f, opening_of state x.state, begun told state f.disk f.shelf _ x c.in-Ok.ensures.opened.1, (c.in-Ok.ensures.unstopped, subst (λ (n : ℕ). IsServing n before.opener.faults after.opener.faults p q c.serve_on.result) jobs serving)))
+    let q = g.P.Spawner.state c.serve_alone.new.spawner in
+    let Serving : ℕ → Type 0 = λ n. (after.stops ≡ before.stops) × IsServing (n + 16) before.opener.faults after.opener.faults p q c.serve_alone.result in
+    let P : Contents → g.row.O-Journal.Denot → Opening → g.row.O-Journal.Denot → UsersOpening → Type 0 = λ s d o e p2. Serving c.in-Serve.workers in
+    let Q : Contents → g.row.O-Journal.Denot → Opening → g.row.O-Journal.Denot → UsersOpening → Type 0 = λ s d o e p2. Serving (workers_in line) in
+    opens_for g.O.Journal.Disk.told g.O.Journal.Disk.state g.O.Opener.told _ _ same before after (q ≡ p) (q ≡ p) P Q c.serve_alone.result (λ u. u) (λ s d o e p2 ran. subst Serving (sym (ap workers_in c.in-Serve.is)) ran) c.serve_alone.ensures
+
+pub returns-in-None-clause-mirrored : goal.returns-in-None-clause-mirrored
+returns-in-None-clause-mirrored g c = λ some. absurd (subst IsSome (ap peer_of c.in-Serve.is ∙ c.in-None.is) some)
+
+pub returns-in-Some-clause-alone : goal.returns-in-Some-clause-alone
+returns-in-Some-clause-alone g c = λ none. let no = sym (ap peer_of c.in-Serve.is ∙ c.in-Some.is) ∙ none in cc
+
+pub returns-in-Some-clause-mirrored : goal.returns-in-Some-clause-mirrored
+returns-in-Some-clause-mirrored g c = λ some.
+    let line = c.args.line.now in
+    let same : named c.text.result.now c.text-2.result.now ≡ named_in line = ap₂ named c.text.ensures c.text-2.ensures ∙ sym (ap named_in c.in-Serve.is) in
+    let before = sources (g.O.Opener.state c.args.opener.now) (g.O.Opener.journal_at c.args.opener.now) (g.G.Gate.stops c.args.gate.now) in
+    let after = sources (g.O.Opener.state c.serve_mirrored.new.opener) (g.O.Opener.journal_at c.serve_mirrored.new.opener) (g.G.Gate.stops c.serve_mirrored.new.gate) in
+    let p = g.P.Spawner.state c.args.spawner.now in
+    let q = g.P.Spawner.state c.serve_mirrored.new.spawner in
+    let Serving : ℕ → Type 0 = λ n. (after.stops ≡ before.stops) × IsServing (n + 16) before.opener.faults after.opener.faults p q c.serve_mirrored.result in
+    mirrors_for g.O.Journal.Disk.told g.O.Peer.Link.told g.O.Journal.Disk.state g.O.Peer.Link.state g.O.Opener.told _ _ same before after (q ≡ p) (q ≡ p) (Serving c.in-Serve.workers) (Serving (workers_in line)) c.serve_mirrored.result (λ u. u) (λ ran. subst Serving (sym (ap workers_in c.in-Serve.is)) ran) c.serve_mirrored.ensures

@@ -14,8 +14,8 @@ returns-in-LogsIn-clause-acts g c = λ h saw. rw c.in-LogsIn.is (acts_nothing _ 
 pub returns-in-LogsOut-clause-acts : goal.returns-in-LogsOut-clause-acts
 returns-in-LogsOut-clause-acts g c = λ h saw. rw c.in-LogsOut.is (acts_nothing _ _ h _ _ _ _ _ saw (refl, refl) refl)
 
-pub returns-in-Greets-clause-acts : goal.returns-in-Greets-clause-acts
-returns-in-Greets-clause-acts g c = λ h saw. rw c.in-Greets.is (acts_nothing _ _ h _ _ _ _ _ saw (refl, refl) refl)
+pub returns-in-Completes-clause-acts : goal.returns-in-Completes-clause-acts
+returns-in-Completes-clause-acts g c = λ h saw. rw c.in-Completes.is (acts_nothing _ _ h _ _ _ _ _ saw (refl, refl) refl)
 
 pub returns-in-Allows-clause-acts : goal.returns-in-Allows-clause-acts
 returns-in-Allows-clause-acts g c = λ h saw.

@@ -16,7 +16,7 @@ use Rattle.craft_session.proofs.Telling.{numbered_more, numbered_rest, told_miss
 use Rattle.craft_session.proofs.reports.tell_changes.Goals as goal
 
 pub loop-at-init : goal.loop-at-init
-loop-at-init g c = record { shelf = refl; seat = refl; attending = refl; reader = refl; changes = refl; told = told_none (language (arc_value c.args.desk.now.shelf)) g.K.Link.told g.C.Clock.told (g.K.Link.state c.args.link.now) (g.C.Clock.coming c.args.clock.now) }
+loop-at-init g c = record { shelf = refl; seat = refl; users = refl; attending = refl; reader = refl; changes = refl; told = told_none (language (arc_value c.args.desk.now.shelf)) g.K.Link.told g.C.Clock.told (g.K.Link.state c.args.link.now) (g.C.Clock.coming c.args.clock.now) }
 
 pub tell_change-requires-clause-of_shape : goal.tell_change-requires-clause-of_shape
 tell_change-requires-clause-of_shape g c = subst (λ (w : SeatAt × List Change). AllByRecursion (IsChangeOf w.0.opening.first.fold.table.shape) w.1) (λ i. (sym c.loop-at.invariant.seat i, (sym c.loop-at.invariant.changes i).items)) c.requires.of_shape
@@ -30,6 +30,7 @@ loop-at-preserved g c =
     record {
       shelf = c.tell_change.ensures.shelf ∙ c.loop-at.invariant.shelf;
       seat = c.tell_change.ensures.seat ∙ c.loop-at.invariant.seat;
+      users = c.tell_change.ensures.users ∙ c.loop-at.invariant.users;
       attending = c.tell_change.ensures.attending ∙ c.loop-at.invariant.attending;
       reader = c.tell_change.ensures.reader ∙ c.loop-at.invariant.reader;
       changes = c.tell_change.ensures.changes ∙ c.loop-at.invariant.changes;

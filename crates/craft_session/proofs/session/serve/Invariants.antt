@@ -2,10 +2,11 @@ use Rattle.std.proofs.Common.{◌≡◌, ◌<◌, [], false, length}
 use Rattle.std.specs.Arc.{arc_value}
 use Rattle.dxc_causes.specs.Causes.{Counted}
 use Rattle.tl1_text.specs.declared.reader.UnitKind.TheVariants.{More}
+use Rattle.user_admin.specs.Turns.{Saw as SawUsers}
 use Rattle.xc_core.specs.Seeing.{Saw}
 use Rattle.craft_session.specs.Desks.{now}
 use Rattle.craft_session.specs.Meanings.{language}
-use Rattle.craft_session.specs.Seats.{IsSameSeat}
+use Rattle.craft_session.specs.Seats.{IsSameSeat, IsSameUserSeat}
 use Rattle.craft_session.specs.Sessions.{Beginning, IsAt, Stands}
 use Rattle.craft_session.proofs.session.serve.Given as goal
 
@@ -16,7 +17,8 @@ invariant-loop g l =
     record {
       shelf : l.desk.shelf ≡ l.fn.desk.shelf;
       seat : IsSameSeat l.fn.desk.seat l.desk.seat;
-      stands : (b : Beginning) → IsAt b l.fn.desk.seat → Saw b.opening l.fn.desk.seat.seen b.before → Stands (language (arc_value l.fn.desk.shelf)) g.K.Link.told g.C.Clock.told (state l.fn.link) (state l.link) (coming l.fn.clock) (coming l.clock) b (now l.desk) false More l.desk.reader [];
+      users : IsSameUserSeat l.fn.desk.users.seat l.desk.users.seat;
+      stands : (b : Beginning) → IsAt b l.fn.desk.seat l.fn.desk.users.seat → Saw b.opening l.fn.desk.seat.seen b.before → SawUsers b.users l.fn.desk.users.seat.seen b.users_before → Stands (language (arc_value l.fn.desk.shelf)) g.K.Link.told g.C.Clock.told (state l.fn.link) (state l.link) (coming l.fn.clock) (coming l.clock) b (now l.desk) false More l.desk.reader [];
       gate : g.G.Gate.stops l.gate ≡ g.G.Gate.stops l.fn.gate;
       counted : Counted (state l.fn.link).reads (state l.link).reads l.counter;
       not_ended : 0 < l.counter → (state l.link).ended ≡ false;

@@ -11,22 +11,23 @@ use Rattle.craft_session.proofs.SessionSteps.{stands_on, goes_on_is, goes_ended_
 use Rattle.craft_session.proofs.session.serve_piece.Goals as goal
 
 pub loop-at-init : goal.loop-at-init
-loop-at-init g c = record { shelf = refl; seat = (refl, refl, refl); link = writes_none _ _; gate = refl; within = omega arith; stands = λ k c1 b at s. s }
+loop-at-init g c = record { shelf = refl; seat = (refl, refl, refl); users = (refl, refl, refl); link = writes_none _ _; gate = refl; within = omega arith; stands = λ k c1 b at s. s }
 
 pub loop-at-preserved : goal.loop-at-preserved
 loop-at-preserved g c =
     let piece : List ℕ = c.args.piece.now in
     let offer = take_rest piece c.loop-at.at in
-    let goes = subst (λ (y : Contents). (k : LinkState) (c2 : List Moment) (b : Beginning) (ahead : List ℕ) → IsAt b c.loop-at.desk.seat → Stands (language y) g.K.Link.told g.C.Clock.told k (g.K.Link.state c.loop-at.link) c2 (g.C.Clock.coming c.loop-at.clock) b (record { seen = c.loop-at.desk.seat.seen; attending = c.loop-at.desk.attending }) false c.feed-fed.result.unit c.feed-fed.new.self ahead
+    let goes = subst (λ (y : Contents). (k : LinkState) (c2 : List Moment) (b : Beginning) (ahead : List ℕ) → IsAt b c.loop-at.desk.seat c.loop-at.desk.users.seat → Stands (language y) g.K.Link.told g.C.Clock.told k (g.K.Link.state c.loop-at.link) c2 (g.C.Clock.coming c.loop-at.clock) b (record { seen = c.loop-at.desk.seat.seen; users = c.loop-at.desk.users.seat.seen; attending = c.loop-at.desk.attending }) false c.feed-fed.result.unit c.feed-fed.new.self ahead
     → Goes (language y) g.K.Link.told g.C.Clock.told k (g.K.Link.state c.serve_unit.new.link) c2 (g.C.Clock.coming c.serve_unit.new.clock) b (now c.serve_unit.new.desk) c.serve_unit.result false c.feed-fed.new.self ahead) (ap arc_value c.loop-at.invariant.shelf) c.serve_unit.ensures.goes in
     record {
       shelf = c.serve_unit.ensures.shelf ∙ c.loop-at.invariant.shelf;
       seat = (c.serve_unit.ensures.seat.0 ∙ c.loop-at.invariant.seat.0, c.serve_unit.ensures.seat.1 ∙ c.loop-at.invariant.seat.1, c.serve_unit.ensures.seat.2 ∙ c.loop-at.invariant.seat.2);
+      users = (c.serve_unit.ensures.users.0 ∙ c.loop-at.invariant.users.0, c.serve_unit.ensures.users.1 ∙ c.loop-at.invariant.users.1, c.serve_unit.ensures.users.2 ∙ c.loop-at.invariant.users.2);
       link = writes_more _ _ _ _ c.loop-at.invariant.link c.serve_unit.ensures.link;
       gate = c.serve_unit.ensures.unstopped (λ is. let no_stop = sym c.in-On.is ∙ is in cc) ∙ c.loop-at.invariant.gate;
       within = omega (arith, c.feed-fed.ensures.within, ap length offer, length-drop c.loop-at.at piece, c.loop-at.invariant.within);
-      stands = λ k c1 b at s. rw c.serve_unit.ensures.reader (goes_on_is (language (arc_value c.args.desk.now.shelf)) g.K.Link.told g.C.Clock.told k c1 b (g.K.Link.state c.serve_unit.new.link) (g.C.Clock.coming c.serve_unit.new.clock) (now c.serve_unit.new.desk) c.feed-fed.new.self c.serve_unit.result _ c.in-On.is (goes k c1 b (drop (c.loop-at.at + c.feed-fed.result.taken) c.args.piece.now) (c.loop-at.invariant.seat.0 ∙ at.0, c.loop-at.invariant.seat.1 ∙ at.1)
-          (stands_on (language (arc_value c.args.desk.now.shelf)) g.K.Link.told g.C.Clock.told k c1 b (g.K.Link.state c.loop-at.link) (g.C.Clock.coming c.loop-at.clock) (record { seen = c.loop-at.desk.seat.seen; attending = c.loop-at.desk.attending }) c.loop-at.desk.reader c.args.piece.now _ c.loop-at.at c.feed-fed.result c.feed-fed.new.self (c.loop-at.invariant.stands k c1 b at s) (take_rest c.args.piece.now c.loop-at.at) c.feed-fed.ensures.fed)));
+      stands = λ k c1 b at s. rw c.serve_unit.ensures.reader (goes_on_is (language (arc_value c.args.desk.now.shelf)) g.K.Link.told g.C.Clock.told k c1 b (g.K.Link.state c.serve_unit.new.link) (g.C.Clock.coming c.serve_unit.new.clock) (now c.serve_unit.new.desk) c.feed-fed.new.self c.serve_unit.result _ c.in-On.is (goes k c1 b (drop (c.loop-at.at + c.feed-fed.result.taken) c.args.piece.now) (c.loop-at.invariant.seat.0 ∙ at.0, c.loop-at.invariant.seat.1 ∙ at.1, c.loop-at.invariant.users.0 ∙ at.2, c.loop-at.invariant.users.1 ∙ at.3)
+          (stands_on (language (arc_value c.args.desk.now.shelf)) g.K.Link.told g.C.Clock.told k c1 b (g.K.Link.state c.loop-at.link) (g.C.Clock.coming c.loop-at.clock) (record { seen = c.loop-at.desk.seat.seen; users = c.loop-at.desk.users.seat.seen; attending = c.loop-at.desk.attending }) c.loop-at.desk.reader c.args.piece.now _ c.loop-at.at c.feed-fed.result c.feed-fed.new.self (c.loop-at.invariant.stands k c1 b at s) (take_rest c.args.piece.now c.loop-at.at) c.feed-fed.ensures.fed)));
     }
 
 pub returns-in_default-clause-link : goal.returns-in_default-clause-link
@@ -34,7 +35,7 @@ returns-in_default-clause-link g c = writes_more _ _ _ _ c.loop-at.invariant.lin
 
 pub returns-in_default-clause-goes : goal.returns-in_default-clause-goes
 returns-in_default-clause-goes g c = λ k c1 b at s.
-    let goes = subst (λ (y : Contents). (k : LinkState) (c2 : List Moment) (b : Beginning) (ahead : List ℕ) → IsAt b c.loop-at.desk.seat → Stands (language y) g.K.Link.told g.C.Clock.told k (g.K.Link.state c.loop-at.link) c2 (g.C.Clock.coming c.loop-at.clock) b (record { seen = c.loop-at.desk.seat.seen; attending = c.loop-at.desk.attending }) false c.feed-fed.result.unit c.feed-fed.new.self ahead
+    let goes = subst (λ (y : Contents). (k : LinkState) (c2 : List Moment) (b : Beginning) (ahead : List ℕ) → IsAt b c.loop-at.desk.seat c.loop-at.desk.users.seat → Stands (language y) g.K.Link.told g.C.Clock.told k (g.K.Link.state c.loop-at.link) c2 (g.C.Clock.coming c.loop-at.clock) b (record { seen = c.loop-at.desk.seat.seen; users = c.loop-at.desk.users.seat.seen; attending = c.loop-at.desk.attending }) false c.feed-fed.result.unit c.feed-fed.new.self ahead
     → Goes (language y) g.K.Link.told g.C.Clock.told k (g.K.Link.state c.serve_unit.new.link) c2 (g.C.Clock.coming c.serve_unit.new.clock) b (now c.serve_unit.new.desk) c.serve_unit.result false c.feed-fed.new.self ahead) (ap arc_value c.loop-at.invariant.shelf) c.serve_unit.ensures.goes in
-    goes_ended_is (language (arc_value c.args.desk.now.shelf)) g.K.Link.told g.C.Clock.told k c1 b (g.K.Link.state c.serve_unit.new.link) (g.C.Clock.coming c.serve_unit.new.clock) (now c.serve_unit.new.desk) c.feed-fed.new.self c.serve_unit.result false false c.serve_unit.new.desk.reader _ [] (λ is. c.in_default.not-On is) (goes k c1 b (drop (c.loop-at.at + c.feed-fed.result.taken) c.args.piece.now) (c.loop-at.invariant.seat.0 ∙ at.0, c.loop-at.invariant.seat.1 ∙ at.1)
-    (stands_on (language (arc_value c.args.desk.now.shelf)) g.K.Link.told g.C.Clock.told k c1 b (g.K.Link.state c.loop-at.link) (g.C.Clock.coming c.loop-at.clock) (record { seen = c.loop-at.desk.seat.seen; attending = c.loop-at.desk.attending }) c.loop-at.desk.reader c.args.piece.now _ c.loop-at.at c.feed-fed.result c.feed-fed.new.self (c.loop-at.invariant.stands k c1 b at s) (take_rest c.args.piece.now c.loop-at.at) c.feed-fed.ensures.fed))
+    goes_ended_is (language (arc_value c.args.desk.now.shelf)) g.K.Link.told g.C.Clock.told k c1 b (g.K.Link.state c.serve_unit.new.link) (g.C.Clock.coming c.serve_unit.new.clock) (now c.serve_unit.new.desk) c.feed-fed.new.self c.serve_unit.result false false c.serve_unit.new.desk.reader _ [] (λ is. c.in_default.not-On is) (goes k c1 b (drop (c.loop-at.at + c.feed-fed.result.taken) c.args.piece.now) (c.loop-at.invariant.seat.0 ∙ at.0, c.loop-at.invariant.seat.1 ∙ at.1, c.loop-at.invariant.users.0 ∙ at.2, c.loop-at.invariant.users.1 ∙ at.3)
+    (stands_on (language (arc_value c.args.desk.now.shelf)) g.K.Link.told g.C.Clock.told k c1 b (g.K.Link.state c.loop-at.link) (g.C.Clock.coming c.loop-at.clock) (record { seen = c.loop-at.desk.seat.seen; users = c.loop-at.desk.users.seat.seen; attending = c.loop-at.desk.attending }) c.loop-at.desk.reader c.args.piece.now _ c.loop-at.at c.feed-fed.result c.feed-fed.new.self (c.loop-at.invariant.stands k c1 b at s) (take_rest c.args.piece.now c.loop-at.at) c.feed-fed.ensures.fed))

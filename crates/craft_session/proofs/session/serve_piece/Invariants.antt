@@ -5,7 +5,7 @@ use Rattle.dxc_outside.specs.Links.{LinkState}
 use Rattle.tl1_text.specs.declared.reader.UnitKind.TheVariants.{More}
 use Rattle.craft_session.specs.Desks.{now}
 use Rattle.craft_session.specs.Meanings.{language}
-use Rattle.craft_session.specs.Seats.{IsSameSeat}
+use Rattle.craft_session.specs.Seats.{IsSameSeat, IsSameUserSeat}
 use Rattle.craft_session.specs.Sessions.{Beginning, IsAt, Stands, Writes}
 use Rattle.craft_session.proofs.session.serve_piece.Given as goal
 
@@ -17,10 +17,11 @@ invariant-loop-at g l =
     record {
       shelf : l.desk.shelf ≡ l.fn.desk.shelf;
       seat : IsSameSeat l.fn.desk.seat l.desk.seat;
+      users : IsSameUserSeat l.fn.desk.users.seat l.desk.users.seat;
       link : Writes g.K.Link.told (state l.fn.link) (state l.link);
       gate : g.G.Gate.stops l.gate ≡ g.G.Gate.stops l.fn.gate;
       within : l.at ≤ length l.piece;
-      stands : (k : LinkState) (c : List Moment) (b : Beginning) → IsAt b l.fn.desk.seat → Stands tongue g.K.Link.told g.C.Clock.told k (state l.fn.link) c (coming l.fn.clock) b (now l.fn.desk) false More l.fn.desk.reader l.piece
+      stands : (k : LinkState) (c : List Moment) (b : Beginning) → IsAt b l.fn.desk.seat l.fn.desk.users.seat → Stands tongue g.K.Link.told g.C.Clock.told k (state l.fn.link) c (coming l.fn.clock) b (now l.fn.desk) false More l.fn.desk.reader l.piece
           → Stands tongue g.K.Link.told g.C.Clock.told k (state l.link) c (coming l.clock) b (now l.desk) false More l.desk.reader (drop l.at l.piece);
     }
 

@@ -1,7 +1,5 @@
 use Rattle.std.proofs.Common.{sym, subst}
-use Rattle.std.specs.Arc.{arc_value}
 use Rattle.turnstile.specs.Passing.{Gate}
-use Rattle.xc_core.specs.declared.state.State.{State}
 use Rattle.craft_server.specs.Places.{AreFresh}
 use Rattle.craft_server.proofs.Seating.{all_fresh}
 use Rattle.worked_restarts.proofs.element.turns_of.Goals as goal
@@ -9,4 +7,4 @@ use Rattle.worked_restarts.proofs.element.turns_of.Goals as goal
 pub returns-clause-fresh : goal.returns-clause-fresh
 returns-clause-fresh g c =
     let ps = c.in-Ok.passes.items in
-    subst (λ (t : Gate (State g.row.D.Denot)). AreFresh t.id 0 ps) (sym c.in-Ok-new.ensures.ok) (all_fresh _ _ ps c.in-Ok.ensures.2)
+    subst (λ (t : Gate g.row.S.Denot). AreFresh t.id 0 ps) (sym c.in-Ok-new.ensures.ok) (all_fresh _ _ ps c.in-Ok.ensures.2)

@@ -26,7 +26,7 @@ returns-clause-cut g c = λ h saw.
     let st = subst (λ (s : State g.row.D.Denot). StandsFor g.D.Disk.told g.D.Disk.state (opening_of g.D.Disk.state c.args.turns.now.first) s (w.0 ++ f.later)) (sym c.state_mut.ensures.value) f.stands in
     let t = restart_since g.D.Disk.told g.D.Disk.state (opening_of g.D.Disk.state c.args.turns.now.first) c.args.pass.now.number c.args.asked.now w.0 f.later c.args.driver.value.p f.others f.stands.turns c.args.driver.value.rolling w.2 in
     let e = entry c.args.pass.now.number Restart Cut in
-    subst (λ (l : List Entry). RestartCutIs (opening_of g.D.Disk.state c.args.turns.now.first) c.args.pass.now.number l c.args.asked.now c.leave.new.pass.seen) (saw_once (opening_of g.D.Disk.state c.args.turns.now.first) (opening_of g.D.Disk.state c.args.turns.now.first) c.args.pass.now.seen w.0 h w.1 saw) (
+    subst (λ (l : List Entry). RestartCutIs (opening_of g.D.Disk.state c.args.turns.now.first) c.args.pass.now.number l c.args.asked.now c.leave.new.pass.seen) (saw_once (opening_of g.D.Disk.state c.args.turns.now.first) c.args.pass.now.seen w.0 h w.1 saw) (
       turned g.D.Disk.told g.D.Disk.state (opening_of g.D.Disk.state c.args.turns.now.first) c.args.pass.now.number w.0 c.enter-turn.result.state c.enter-turn.result.seen f c.cut.new.state e c.leave.new.pass.seen (c.cut.ensures.cut (opening_of g.D.Disk.state c.args.turns.now.first) c.args.pass.now.number (w.0 ++ f.later) c.args.asked.now c.args.driver.value.rolling st t) (seen_own g.D.Disk.told g.D.Disk.state (opening_of g.D.Disk.state c.args.turns.now.first) c.args.pass.now.number w.0 c.enter-turn.result.state c.enter-turn.result.seen f c.number-place.result Restart Cut c.leave.new.pass.seen (c.number-place.ensures ∙ c.enter-turn.ensures.out.0) c.leave.ensures.seen),
       t.due,
     )

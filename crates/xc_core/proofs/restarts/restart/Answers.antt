@@ -40,7 +40,7 @@ returns-in-Some-clause-restart g c = λ h saw.
     let st = subst (λ (s : State g.row.D.Denot). StandsFor g.D.Disk.told g.D.Disk.state (opening_of g.D.Disk.state c.args.turns.now.first) s (w.0 ++ f.later)) (sym c.state_mut.ensures.value) f.stands in
     let at = c.restart-restarting.ensures.restarting (opening_of g.D.Disk.state c.args.turns.now.first) c.args.pass.now.number (w.0 ++ f.later) st in
     let is = sym c.entry_of.ensures ∙ c.in-Some.is in
-    subst (λ (l : List Entry). RestartIs g.D.Disk.told g.D.Disk.state (opening_of g.D.Disk.state c.args.turns.now.first) c.args.pass.now.number l c.args.asked.now c.leave.new.pass.seen c.restart-restarting.result) (saw_once (opening_of g.D.Disk.state c.args.turns.now.first) (opening_of g.D.Disk.state c.args.turns.now.first) c.args.pass.now.seen w.0 h w.1 saw)
+    subst (λ (l : List Entry). RestartIs g.D.Disk.told g.D.Disk.state (opening_of g.D.Disk.state c.args.turns.now.first) c.args.pass.now.number l c.args.asked.now c.leave.new.pass.seen c.restart-restarting.result) (saw_once (opening_of g.D.Disk.state c.args.turns.now.first) c.args.pass.now.seen w.0 h w.1 saw)
     (restart_entry g.D.Disk.told g.D.Disk.state (opening_of g.D.Disk.state c.args.turns.now.first) c.args.pass.now.number w.0 c.enter-turn.result.state c.enter-turn.result.seen f c.args.asked.now c.restart-restarting.new.state c.restart-restarting.result c.in-Some.op c.in-Some.outcome c.leave.new.pass.seen is at (seen_own g.D.Disk.told g.D.Disk.state (opening_of g.D.Disk.state c.args.turns.now.first) c.args.pass.now.number w.0 c.enter-turn.result.state c.enter-turn.result.seen f c.number-place.result c.in-Some.op c.in-Some.outcome c.leave.new.pass.seen (c.number-place.ensures ∙ c.enter-turn.ensures.out.0) c.leave.ensures.seen))
 
 pub returns-in-None-clause-restart : goal.returns-in-None-clause-restart
@@ -50,7 +50,7 @@ returns-in-None-clause-restart g c = λ h saw.
     let st = subst (λ (s : State g.row.D.Denot). StandsFor g.D.Disk.told g.D.Disk.state (opening_of g.D.Disk.state c.args.turns.now.first) s (w.0 ++ f.later)) (sym c.state_mut.ensures.value) f.stands in
     let at = c.restart-restarting.ensures.restarting (opening_of g.D.Disk.state c.args.turns.now.first) c.args.pass.now.number (w.0 ++ f.later) st in
     let is = sym c.entry_of.ensures ∙ c.in-None.is in
-    subst (λ (l : List Entry). RestartIs g.D.Disk.told g.D.Disk.state (opening_of g.D.Disk.state c.args.turns.now.first) c.args.pass.now.number l c.args.asked.now c.back.new.pass.seen c.restart-restarting.result) (saw_once (opening_of g.D.Disk.state c.args.turns.now.first) (opening_of g.D.Disk.state c.args.turns.now.first) c.args.pass.now.seen w.0 h w.1 saw)
+    subst (λ (l : List Entry). RestartIs g.D.Disk.told g.D.Disk.state (opening_of g.D.Disk.state c.args.turns.now.first) c.args.pass.now.number l c.args.asked.now c.back.new.pass.seen c.restart-restarting.result) (saw_once (opening_of g.D.Disk.state c.args.turns.now.first) c.args.pass.now.seen w.0 h w.1 saw)
     (restart_back g.D.Disk.told g.D.Disk.state (opening_of g.D.Disk.state c.args.turns.now.first) c.args.pass.now.number w.0 c.enter-turn.result.state c.enter-turn.result.seen f c.args.asked.now c.restart-restarting.new.state c.restart-restarting.result c.back.new.pass.seen is at c.back.ensures.seen)
 
 pub returns-in-Some-clause-pass : goal.returns-in-Some-clause-pass

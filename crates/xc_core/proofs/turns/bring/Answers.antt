@@ -38,7 +38,7 @@ returns-clause-done g c = λ h saw.
     let st = subst (λ (s : State g.row.D.Denot). StandsFor g.D.Disk.told g.D.Disk.state (opening_of g.D.Disk.state c.args.turns.now.first) s (w.0 ++ f.later)) (sym c.state_mut.ensures.value) f.stands in
     let t = taken_since g.D.Disk.told g.D.Disk.state (opening_of g.D.Disk.state c.args.turns.now.first) c.args.pass.now.number c.args.op.now w.0 f.later c.args.driver.value.p f.others f.stands.turns c.args.driver.value.rolling w.2 in
     let e = entry c.args.pass.now.number c.args.op.now (Done c.bring-change.result) in
-    subst (λ (l : List Entry). DoneIs (opening_of g.D.Disk.state c.args.turns.now.first) c.args.pass.now.number l c.args.op.now c.leave.new.pass.seen) (saw_once (opening_of g.D.Disk.state c.args.turns.now.first) (opening_of g.D.Disk.state c.args.turns.now.first) c.args.pass.now.seen w.0 h w.1 saw) (
+    subst (λ (l : List Entry). DoneIs (opening_of g.D.Disk.state c.args.turns.now.first) c.args.pass.now.number l c.args.op.now c.leave.new.pass.seen) (saw_once (opening_of g.D.Disk.state c.args.turns.now.first) c.args.pass.now.seen w.0 h w.1 saw) (
       c.bring-change.result,
       turned g.D.Disk.told g.D.Disk.state (opening_of g.D.Disk.state c.args.turns.now.first) c.args.pass.now.number w.0 c.enter-turn.result.state c.enter-turn.result.seen f c.bring-change.new.state e c.leave.new.pass.seen (c.bring-change.ensures.done (opening_of g.D.Disk.state c.args.turns.now.first) c.args.pass.now.number (w.0 ++ f.later) c.args.op.now st t)
           (seen_own g.D.Disk.told g.D.Disk.state (opening_of g.D.Disk.state c.args.turns.now.first) c.args.pass.now.number w.0 c.enter-turn.result.state c.enter-turn.result.seen f c.number-place.result c.args.op.now (Done c.bring-change.result) c.leave.new.pass.seen (c.number-place.ensures ∙ c.enter-turn.ensures.out.0) c.leave.ensures.seen),

@@ -24,7 +24,7 @@ returns-clause-look g c = λ h saw.
     let f = found_at g.D.Disk.told g.D.Disk.state (opening_of g.D.Disk.state c.args.turns.now.first) c.args.pass.now.number c.enter-turn.result.own c.args.turns.now.passes w.0 c.args.pass.now.seen c.enter-turn.result.seen c.enter-turn.result.state c.enter-turn.ensures.turn.1 c.enter-turn.ensures.found w.1.codes_are in
     let e = entry c.args.pass.now.number (Look c.args.cursor) Answered in
     let st = turned_read g.D.Disk.told g.D.Disk.state (opening_of g.D.Disk.state c.args.turns.now.first) c.args.pass.now.number w.0 c.enter-turn.result.state c.enter-turn.result.seen f w.2 (Look c.args.cursor) (inr (c.args.cursor, refl)) in
-    subst (λ (l : List Entry). LookIs (opening_of g.D.Disk.state c.args.turns.now.first) c.args.pass.now.number l c.args.cursor c.leave.new.pass.seen (record { since = c.since-since.result; newest = c.newest-newest.result }) c.since-since.new.into.items) (saw_once (opening_of g.D.Disk.state c.args.turns.now.first) (opening_of g.D.Disk.state c.args.turns.now.first) c.args.pass.now.seen w.0 h w.1 saw) (
+    subst (λ (l : List Entry). LookIs (opening_of g.D.Disk.state c.args.turns.now.first) c.args.pass.now.number l c.args.cursor c.leave.new.pass.seen (record { since = c.since-since.result; newest = c.newest-newest.result }) c.since-since.new.into.items) (saw_once (opening_of g.D.Disk.state c.args.turns.now.first) c.args.pass.now.seen w.0 h w.1 saw) (
       turned g.D.Disk.told g.D.Disk.state (opening_of g.D.Disk.state c.args.turns.now.first) c.args.pass.now.number w.0 c.enter-turn.result.state c.enter-turn.result.seen f c.enter-turn.result.state e c.leave.new.pass.seen st (seen_own g.D.Disk.told g.D.Disk.state (opening_of g.D.Disk.state c.args.turns.now.first) c.args.pass.now.number w.0 c.enter-turn.result.state c.enter-turn.result.seen f c.number-place.result (Look c.args.cursor) Answered c.leave.new.pass.seen (c.number-place.ensures ∙ c.enter-turn.ensures.out.0) c.leave.ensures.seen),
       subst (λ (r : Recent). SinceIs r (min c.args.cursor r.newest) c.since-since.result c.since-since.new.into.items) (ap (λ (s : State g.row.D.Denot). s.reports) c.state.ensures ∙ f.stands.reports) (subst (λ (n : ℕ). SinceIs c.state.result.now.reports n c.since-since.result c.since-since.new.into.items) (c.min.ensures ∙ ap (λ (n : ℕ). min c.args.cursor n) c.newest-newest.ensures) c.since-since.ensures.since),
       c.newest-newest.ensures ∙ ap (λ (s : State g.row.D.Denot). s.reports.newest) c.state.ensures ∙ ap (λ (r : Recent). r.newest) f.stands.reports,

@@ -32,7 +32,7 @@ returns-clause-rows g c = λ h saw.
     let f = found_at g.D.Disk.told g.D.Disk.state (opening_of g.D.Disk.state c.args.turns.now.first) c.args.pass.now.number c.enter-turn.result.own c.args.turns.now.passes w.0 c.args.pass.now.seen c.enter-turn.result.seen c.enter-turn.result.state c.enter-turn.ensures.turn.1 c.enter-turn.ensures.found w.1.codes_are in
     let e = entry c.args.pass.now.number (Rows c.args.selection) Answered in
     let st = turned_read g.D.Disk.told g.D.Disk.state (opening_of g.D.Disk.state c.args.turns.now.first) c.args.pass.now.number w.0 c.enter-turn.result.state c.enter-turn.result.seen f w.2 (Rows c.args.selection) (inl (c.args.selection, refl)) in
-    subst (λ (l : List Entry). RowsAre (opening_of g.D.Disk.state c.args.turns.now.first) c.args.pass.now.number l c.args.selection c.leave.new.pass.seen c.rows.new.into.items) (saw_once (opening_of g.D.Disk.state c.args.turns.now.first) (opening_of g.D.Disk.state c.args.turns.now.first) c.args.pass.now.seen w.0 h w.1 saw) (
+    subst (λ (l : List Entry). RowsAre (opening_of g.D.Disk.state c.args.turns.now.first) c.args.pass.now.number l c.args.selection c.leave.new.pass.seen c.rows.new.into.items) (saw_once (opening_of g.D.Disk.state c.args.turns.now.first) c.args.pass.now.seen w.0 h w.1 saw) (
       turned g.D.Disk.told g.D.Disk.state (opening_of g.D.Disk.state c.args.turns.now.first) c.args.pass.now.number w.0 c.enter-turn.result.state c.enter-turn.result.seen f c.enter-turn.result.state e c.leave.new.pass.seen st (seen_own g.D.Disk.told g.D.Disk.state (opening_of g.D.Disk.state c.args.turns.now.first) c.args.pass.now.number w.0 c.enter-turn.result.state c.enter-turn.result.seen f c.number-place.result (Rows c.args.selection) Answered c.leave.new.pass.seen (c.number-place.ensures ∙ c.enter-turn.ensures.out.0) c.leave.ensures.seen),
       c.rows.ensures.rows ∙ ap (λ (b : Board). rows_of b c.args.selection) (ap (λ (s : State g.row.D.Denot). s.table) c.state.ensures ∙ table_is g.D.Disk.told g.D.Disk.state (opening_of g.D.Disk.state c.args.turns.now.first) c.enter-turn.result.state (w.0 ++ f.later) f.stands),
     )

@@ -42,7 +42,7 @@ returns-in-Some-clause-took g c = λ h saw.
     let at = c.take-took.ensures.took (opening_of g.D.Disk.state c.args.turns.now.first) c.args.pass.now.number (w.0 ++ f.later) st in
     let origin = c.take-took.ensures.origin ∙ ap (λ (s : State g.row.D.Denot). s.origin) c.state_mut.ensures.value in
     let is = sym c.outcome_of.ensures ∙ c.in-Some.is in
-    subst (λ (l : List Entry). TookIs g.D.Disk.told g.D.Disk.state (opening_of g.D.Disk.state c.args.turns.now.first) c.args.pass.now.number l c.args.op.now c.leave.new.pass.seen c.take-took.result) (saw_once (opening_of g.D.Disk.state c.args.turns.now.first) (opening_of g.D.Disk.state c.args.turns.now.first) c.args.pass.now.seen w.0 h w.1 saw)
+    subst (λ (l : List Entry). TookIs g.D.Disk.told g.D.Disk.state (opening_of g.D.Disk.state c.args.turns.now.first) c.args.pass.now.number l c.args.op.now c.leave.new.pass.seen c.take-took.result) (saw_once (opening_of g.D.Disk.state c.args.turns.now.first) c.args.pass.now.seen w.0 h w.1 saw)
     (took_entry g.D.Disk.told g.D.Disk.state (opening_of g.D.Disk.state c.args.turns.now.first) c.args.pass.now.number w.0 c.enter-turn.result.state c.enter-turn.result.seen f c.args.op.now c.take-took.new.state c.take-took.result c.in-Some.outcome c.leave.new.pass.seen is at (seen_own g.D.Disk.told g.D.Disk.state (opening_of g.D.Disk.state c.args.turns.now.first) c.args.pass.now.number w.0 c.enter-turn.result.state c.enter-turn.result.seen f c.number-place.result c.args.op.now c.in-Some.outcome c.leave.new.pass.seen (c.number-place.ensures ∙ c.enter-turn.ensures.out.0) c.leave.ensures.seen))
 
 pub returns-in-None-clause-took : goal.returns-in-None-clause-took
@@ -53,7 +53,7 @@ returns-in-None-clause-took g c = λ h saw.
     let at = c.take-took.ensures.took (opening_of g.D.Disk.state c.args.turns.now.first) c.args.pass.now.number (w.0 ++ f.later) st in
     let origin = c.take-took.ensures.origin ∙ ap (λ (s : State g.row.D.Denot). s.origin) c.state_mut.ensures.value in
     let is = sym c.outcome_of.ensures ∙ c.in-None.is in
-    subst (λ (l : List Entry). TookIs g.D.Disk.told g.D.Disk.state (opening_of g.D.Disk.state c.args.turns.now.first) c.args.pass.now.number l c.args.op.now c.back.new.pass.seen c.take-took.result) (saw_once (opening_of g.D.Disk.state c.args.turns.now.first) (opening_of g.D.Disk.state c.args.turns.now.first) c.args.pass.now.seen w.0 h w.1 saw)
+    subst (λ (l : List Entry). TookIs g.D.Disk.told g.D.Disk.state (opening_of g.D.Disk.state c.args.turns.now.first) c.args.pass.now.number l c.args.op.now c.back.new.pass.seen c.take-took.result) (saw_once (opening_of g.D.Disk.state c.args.turns.now.first) c.args.pass.now.seen w.0 h w.1 saw)
     (took_back g.D.Disk.told g.D.Disk.state (opening_of g.D.Disk.state c.args.turns.now.first) c.args.pass.now.number w.0 c.enter-turn.result.state c.enter-turn.result.seen f c.args.op.now c.take-took.new.state c.take-took.result c.back.new.pass.seen is at c.back.ensures.seen)
 
 pub returns-in-Some-clause-pass : goal.returns-in-Some-clause-pass

@@ -1,168 +1,83 @@
-use Rattle.std.proofs.Common.{◌≡◌, ℕ, Bool, List, length, replicate, Err, Ok, ap, subst, sym, ◌∙◌}
+use Rattle.std.proofs.Common.{◌≡◌, ◌≤◌, false, length, None, Some, ap, subst, sym, ◌∙◌}
+use Rattle.std.specs.Prelude.{replicate}
 use Rattle.std.specs.Box.{with_value}
-use Rattle.dxc_disk.proofs.LookSteps.{looks_same}
-use Rattle.dxc_num.specs.Dimensions.{Dimensions}
 use Rattle.dxc_outside.specs.declared.gate.GatePlace.TheVariants.{Register}
-use Rattle.fabric_words.specs.Seats.{MoverAt}
+use Rattle.dxc_causes.specs.Causes.{HasCause}
+use Rattle.dxc_disk.specs.Disks.{LeavesOnly, Spends}
+use Rattle.fabric_words.specs.Seats.{FabricId, MoverAt}
 use Rattle.journal_core.specs.declared.book.Book.{Book}
-use Rattle.paull_matrix.specs.Colourings.{Colouring}
+use Rattle.journal_core.specs.Turns.{Passing}
+use Rattle.paull_matrix.specs.Colourings.{Colouring, IsProperColouring}
 use Rattle.roll_engine.specs.Cold.{joins_of}
 use Rattle.roll_engine.specs.Stages.{IsAtRestOn}
 use Rattle.roll_plan.specs.Works.{switches_in}
-use Rattle.dxc_disk.specs.Disks.{DiskState, Leaves, LeavesOnly, Spends}
-use Rattle.journal_core.specs.declared.head.Head.{Head}
-use Rattle.journal_core.specs.Books.{listed}
-use Rattle.journal_core.specs.Opens.{IsRefused, OpensNew, OpensOld, made_head}
-use Rattle.journal_core.specs.Turns.{Passing}
-use Rattle.xc_recovery.specs.declared.fault.ReplayFault.{ReplayFault}
-use Rattle.xc_recovery.specs.Replays.{Replays}
 use Rattle.xc_core.specs.declared.provisioner.Driver.{Driver}
 use Rattle.xc_core.specs.declared.provisioner.Provisioner.{Provisioner}
-use Rattle.xc_core.specs.Provisioners.{Boxed, HasRoom}
-use Rattle.xc_core.specs.Openings.{HasBadRecord, LeavesOpened}
-use Rattle.xc_core.proofs.Journalling.{looked_on}
-use Rattle.xc_core.proofs.Opened.{bad_header, bad_record, leaves_opened, opened, replayed_shape}
-use Rattle.xc_core.proofs.Rooms.{replay_room, replay_sound}
+use Rattle.xc_core.specs.Openings.{LeavesOpened}
+use Rattle.xc_core.specs.Provisioners.{Boxed}
+use Rattle.xc_core.proofs.Asked.{none_asked}
+use Rattle.xc_core.proofs.Opened.{matrix_proper, matrix_shape, opened}
+use Rattle.xc_core.proofs.opening.Core.open.Given as given
 use Rattle.xc_core.proofs.opening.Core.open.Goals as goal
-
-pub returns-in-Err-clause-fails : goal.returns-in-Err-clause-fails
-returns-in-Err-clause-fails g c told bytes is =
-    let a = g.D.Disk.state c.args.disk in
-    let b = g.D.Disk.state c.in-Err.fault.disk in
-    let refused = bad_header c.shape-shape.result (made_head c.equipped-3.result) a b c.in-Err.fault.why bytes is (c.in-Err.ensures.old told) (c.in-Err.ensures.is_new told) in
-    (refused.0, subst (λ (d : Dimensions). IsRefused d a b bytes) c.shape-shape.ensures refused.1)
-
-pub returns-in-Err-BadRecord-clause-fails : goal.returns-in-Err-BadRecord-clause-fails
-returns-in-Err-BadRecord-clause-fails g c told =
-    let a = g.D.Disk.state c.args.disk in
-    let j = c.in-Ok-open.journal in
-    let b = g.D.Disk.state j.0 in
-    let bad = subst (λ (e : ReplayFault). Replays j.1.shape j.1.head (listed j.1 b.reads_as) (Err e) c.replay.new.table c.replay.new.matrix) c.in-Err-BadRecord.field-0-is (c.in-Err-BadRecord.ensures.told told) in
-    let refused = bad_record c.shape-shape.result (made_head c.equipped-3.result) a b j.1 c.in-Err-BadRecord.i c.replay.new.table c.replay.new.matrix (g.met.D.Disk.is_disk j.0 told) c.in-Ok-open.ensures.whole.0 c.in-Ok-open.ensures.whole.2 c.in-Ok-open.ensures.whole.3 (c.in-Ok-open.ensures.old told) (c.in-Ok-open.ensures.is_new told) bad in
-    (refused.0, subst (λ (w : Dimensions × ℕ). HasBadRecord a.reads_as w.0 w.1) (λ k. (c.shape-shape.ensures k, sym c.in-Err-BadRecord.i-is k)) refused.1)
-
--- what a test of the header and the records accepts, for the shelf's shape
-passing_as : (d e : Dimensions) (test : Head → List (List ℕ) → Bool) (a b : DiskState) → d ≡ e → (Leaves a (Passing d test) → LeavesOnly a b (Passing d test)) → Leaves a (Passing e test) → LeavesOnly a b (Passing e test)
-passing_as d e test a b same passes = subst (λ (x : Dimensions). Leaves a (Passing x test) → LeavesOnly a b (Passing x test)) same passes
-
-pub returns-in-Err-clause-passing : goal.returns-in-Err-clause-passing
-returns-in-Err-clause-passing g c told test = passing_as c.shape-shape.result c.args.shelf.now.shape test (g.D.Disk.state c.args.disk) (g.D.Disk.state c.in-Err.fault.disk) c.shape-shape.ensures (c.in-Err.ensures.passing told test)
-
-pub returns-in-Err-Disk-clause-passing : goal.returns-in-Err-Disk-clause-passing
-returns-in-Err-Disk-clause-passing g c told test begin =
-    let a = g.D.Disk.state c.args.disk in
-    let j = c.in-Ok-open.journal in
-    subst (λ (d : g.row.D.Denot). LeavesOnly a (g.D.Disk.state d) (Passing c.args.shelf.now.shape test)) (sym c.close.ensures)
-    (looked_on a (g.D.Disk.state j.0) (g.D.Disk.state c.replay.new.journal.0) (Passing c.args.shelf.now.shape test) (g.met.D.Disk.is_disk j.0 told)
-    (passing_as c.shape-shape.result c.args.shelf.now.shape test a (g.D.Disk.state j.0) c.shape-shape.ensures (c.in-Ok-open.ensures.passing told test) begin) (c.replay.ensures.looks told))
-
-pub returns-clause-passing : goal.returns-clause-passing
-returns-clause-passing g c told test begin =
-    let e = c.deref_mut.ensures.value ∙ c.in-Ok-new-4.ensures.ok in
-    let journal = ap (λ (x : Provisioner g.row.D.Denot). x.journal) c.join_all.ensures.others ∙ ap (λ (x : Driver g.row.D.Denot). x.p.journal) e in
-    let a = g.D.Disk.state c.args.disk in
-    let j = c.in-Ok-open.journal in
-    subst (λ (x : g.row.D.Denot × Book). LeavesOnly a (g.D.Disk.state x.0) (Passing c.args.shelf.now.shape test)) (sym journal)
-    (looked_on a (g.D.Disk.state j.0) (g.D.Disk.state c.replay.new.journal.0) (Passing c.args.shelf.now.shape test) (g.met.D.Disk.is_disk j.0 told)
-    (passing_as c.shape-shape.result c.args.shelf.now.shape test a (g.D.Disk.state j.0) c.shape-shape.ensures (c.in-Ok-open.ensures.passing told test) begin) (c.replay.ensures.looks told))
 
 pub join_all-requires-clause-own : goal.join_all-requires-clause-own
 join_all-requires-clause-own g c =
-    let e = c.deref_mut.ensures.value ∙ c.in-Ok-new-4.ensures.ok in
-    ap (λ (x : Driver g.row.D.Denot). x.p.mover.fabric) e ∙ ap (λ (m : MoverAt). m.fabric) c.requires.new
+    let e = c.deref_mut.ensures.value ∙ c.in-Ok-new.ensures.ok in
+    ap (λ (x : Driver g.row.D.Denot). x.p.mover.fabric) e ∙ ap (λ (p : Provisioner g.row.D.Denot). p.mover.fabric) c.in-Ok.ensures.ok.held ∙ ap (λ (m : MoverAt). m.fabric) c.requires.new
 
 pub join_all-requires-clause-new : goal.join_all-requires-clause-new
 join_all-requires-clause-new g c =
-    let e = c.deref_mut.ensures.value ∙ c.in-Ok-new-4.ensures.ok in
-    ap (λ (x : Driver g.row.D.Denot). x.p.mover.mover) e ∙ ap (λ (m : MoverAt). m.mover) c.requires.new
+    let e = c.deref_mut.ensures.value ∙ c.in-Ok-new.ensures.ok in
+    ap (λ (x : Driver g.row.D.Denot). x.p.mover.mover) e ∙ ap (λ (p : Provisioner g.row.D.Denot). p.mover.mover) c.in-Ok.ensures.ok.held ∙ ap (λ (m : MoverAt). m.mover) c.requires.new
 
 pub join_all-requires-clause-shape : goal.join_all-requires-clause-shape
 join_all-requires-clause-shape g c =
-    let e = c.deref_mut.ensures.value ∙ c.in-Ok-new-4.ensures.ok in
-    let j = c.in-Ok-open.journal in
-    let read = c.in-Ok-replay.ensures.read in
-    ap (λ (x : Driver g.row.D.Denot). x.p.matrix.shape) e ∙ replayed_shape j.1.shape j.1.head read.0 c.replay.new.table c.replay.new.matrix _ read.3 ∙ c.in-Ok-open.ensures.whole.1 ∙ c.shape-shape.ensures ∙ sym c.requires.shape
+    let e = c.deref_mut.ensures.value ∙ c.in-Ok-new.ensures.ok in
+    let r = c.in-Ok.ensures.ok in
+    ap (λ (x : Driver g.row.D.Denot). x.p.matrix.shape) e ∙ matrix_shape g.D.Disk.told g.D.Disk.state c.args.shelf.now (g.D.Disk.state c.args.disk) c.args.mover c.in-Ok.read r (λ told. g.met.D.Disk.is_disk r.journal.0 told) ∙ sym c.requires.shape
+
+pub join_all-requires-clause-proper : goal.join_all-requires-clause-proper
+join_all-requires-clause-proper g c =
+    let e = c.deref_mut.ensures.value ∙ c.in-Ok-new.ensures.ok in
+    let r = c.in-Ok.ensures.ok in
+    subst IsProperColouring (sym (ap (λ (x : Driver g.row.D.Denot). x.p.matrix) e)) (matrix_proper g.D.Disk.told g.D.Disk.state c.args.shelf.now (g.D.Disk.state c.args.disk) c.args.mover c.in-Ok.read r (λ told. g.met.D.Disk.is_disk r.journal.0 told))
 
 pub returns-clause-ok : goal.returns-clause-ok
 returns-clause-ok g c =
-    let shelf = c.args.shelf.now in
-    let a = g.D.Disk.state c.args.disk in
-    let j = c.in-Ok-open.journal in
-    let b = g.D.Disk.state j.0 in
-    let read = c.in-Ok-replay.ensures.read in
-    let e = c.deref_mut.ensures.value ∙ c.in-Ok-new-4.ensures.ok in
+    let x = c.in-Ok.read in
+    let r = c.in-Ok.ensures.ok in
+    let e = c.deref_mut.ensures.value ∙ c.in-Ok-new.ensures.ok in
     let joined = c.join_all.ensures.joined c.in-Go.is in
     let q = c.join_all.new.p in
-    let left : Boxed g.row.D.Denot = with_value c.in-Ok-new-4.driver (record { p = q; rolling = c.deref_mut.result.now.rolling }) in
-    let behind = c.join_all.ensures.others ∙ ap (λ (x : Driver g.row.D.Denot). record (x.p) { mover = q.mover; spent = q.spent }) e in
-    let rests = subst (λ (m : Colouring). IsAtRestOn c.args.fabric.now.size m q.mover.mover) (ap (λ (x : Driver g.row.D.Denot). x.p.matrix) e) joined.1 in
-    let counted = joined.2 ∙ ap (λ (x : Driver g.row.D.Denot). switches_in (joins_of x.p.matrix)) e in
-    opened g.D.Disk.told g.D.Disk.state shelf c.args.fabric.now a b j.1 c.replay.new.journal c.replay.new.table c.replay.new.matrix _ q.mover c.of-origin.result c.in-Ok-new-2.reports q.spent c.in-Ok-new-3.second left c.in-Ok-new-2.ensures c.of-origin.ensures.table behind (c.of-origin.ensures.provisioner ∙ ap (λ (x : Driver g.row.D.Denot). x.p) c.deref.ensures) c.of-origin.ensures.last
-    (λ told old. subst (λ (d : Dimensions). OpensOld d a b (Ok j.1)) c.shape-shape.ensures (c.in-Ok-open.ensures.old told old))
-    (λ told new. subst (λ (w : Dimensions × ℕ). OpensNew w.0 (made_head w.1) a b (Ok j.1)) (λ k. (c.shape-shape.ensures k, c.equipped-3.ensures.value k)) (c.in-Ok-open.ensures.is_new told new))
-    (λ told. g.met.D.Disk.is_disk j.0 told) c.in-Ok-open.ensures.whole.0 (c.in-Ok-open.ensures.whole.1 ∙ c.shape-shape.ensures)
-    c.in-Ok-open.ensures.whole.2 c.in-Ok-open.ensures.whole.3 c.replay.ensures.same c.replay.ensures.looks c.replay.ensures.kept read.0 read.1 read.2 read.3 joined.0 c.requires.shape rests counted c.join_all.ensures.spent (subst (λ (d : Dimensions). HasRoom d c.in-Ok-new-3.second) c.shape-shape.ensures c.in-Ok-new-3.ensures)
+    let d : Boxed g.row.D.Denot = with_value c.in-Ok-new.driver (record { p = q; rolling = c.deref_mut.result.now.rolling }) in
+    let rest = subst (λ (w : Colouring × FabricId). IsAtRestOn w.1.size w.0 q.mover.mover) (λ i. (ap (λ (y : Driver g.row.D.Denot). y.p.matrix) e i, sym joined.0 i)) joined.1 in
+    let joins = joined.2 ∙ ap (λ (y : Driver g.row.D.Denot). switches_in (joins_of y.p.matrix)) e in
+    let behind = c.join_all.ensures.others ∙ ap (λ (y : Driver g.row.D.Denot). record (y.p) { mover = q.mover; spent = q.spent }) e ∙ ap (λ (p : Provisioner g.row.D.Denot). record p { mover = q.mover; spent = q.spent }) r.held in
+    opened g.D.Disk.told g.D.Disk.state c.args.shelf.now (g.D.Disk.state c.args.disk) c.args.mover x r (λ told. g.met.D.Disk.is_disk r.journal.0 told)
+        q.mover rest joins c.args.fabric.now q.spent c.of-origin.result d joined.0 c.join_all.ensures.spent behind c.of-origin.ensures.table (c.of-origin.ensures.provisioner ∙ ap (λ (y : Driver g.row.D.Denot). y.p) c.deref.ensures) c.of-origin.ensures.last
 
-pub returns-in-Err-clause-any_moment : goal.returns-in-Err-clause-any_moment
-returns-in-Err-clause-any_moment g c told =
-    let a = g.D.Disk.state c.args.disk in
-    let b = g.D.Disk.state c.in-Err.fault.disk in
-    leaves_opened c.args.shelf.now a b b (Err c.in-Err.fault.why) (g.met.D.Disk.is_disk c.in-Err.fault.disk told)
-    (λ old. subst (λ (d : Dimensions). OpensOld d a b (Err c.in-Err.fault.why)) c.shape-shape.ensures (c.in-Err.ensures.old told old))
-    (λ new. subst (λ (w : Dimensions × ℕ). OpensNew w.0 (made_head w.1) a b (Err c.in-Err.fault.why)) (λ k. (c.shape-shape.ensures k, c.equipped-3.ensures.value k)) (c.in-Err.ensures.is_new told new))
-    (looks_same b)
+-- the journal is the one that was read
+journal_is : (g : given.Over) (c : goal.After-of-origin g) → c.join_all.new.p.journal ≡ c.in-Ok.read.p.journal
+journal_is g c = ap (λ (p : Provisioner g.row.D.Denot). p.journal) c.join_all.ensures.others ∙ ap (λ (x : Driver g.row.D.Denot). x.p.journal) (c.deref_mut.ensures.value ∙ c.in-Ok-new.ensures.ok)
 
-pub returns-in-Err-Disk-clause-any_moment : goal.returns-in-Err-Disk-clause-any_moment
-returns-in-Err-Disk-clause-any_moment g c told =
-    let a = g.D.Disk.state c.args.disk in
-    let j = c.in-Ok-open.journal in
-    let b = g.D.Disk.state j.0 in
-    subst (λ (d : g.row.D.Denot). LeavesOpened c.args.shelf.now a (g.D.Disk.state d)) (sym c.close.ensures)
-    (leaves_opened c.args.shelf.now a b (g.D.Disk.state c.replay.new.journal.0) (Ok j.1) (g.met.D.Disk.is_disk j.0 told)
-    (λ old. subst (λ (d : Dimensions). OpensOld d a b (Ok j.1)) c.shape-shape.ensures (c.in-Ok-open.ensures.old told old))
-    (λ new. subst (λ (w : Dimensions × ℕ). OpensNew w.0 (made_head w.1) a b (Ok j.1)) (λ k. (c.shape-shape.ensures k, c.equipped-3.ensures.value k)) (c.in-Ok-open.ensures.is_new told new))
-    (c.replay.ensures.looks told))
+pub returns-clause-passing : goal.returns-clause-passing
+returns-clause-passing g c told test begin = subst (λ (j : g.row.D.Denot × Book). LeavesOnly (g.D.Disk.state c.args.disk) (g.D.Disk.state j.0) (Passing c.args.shelf.now.shape test)) (sym (journal_is g c)) (c.in-Ok.ensures.passing told test begin)
 
 pub returns-clause-any_moment : goal.returns-clause-any_moment
-returns-clause-any_moment g c told =
-    let e = c.deref_mut.ensures.value ∙ c.in-Ok-new-4.ensures.ok in
-    let journal = ap (λ (x : Provisioner g.row.D.Denot). x.journal) c.join_all.ensures.others ∙ ap (λ (x : Driver g.row.D.Denot). x.p.journal) e in
-    let a = g.D.Disk.state c.args.disk in
-    let j = c.in-Ok-open.journal in
-    let b = g.D.Disk.state j.0 in
-    subst (λ (x : g.row.D.Denot × Book). LeavesOpened c.args.shelf.now a (g.D.Disk.state x.0)) (sym journal)
-    (leaves_opened c.args.shelf.now a b (g.D.Disk.state c.replay.new.journal.0) (Ok j.1) (g.met.D.Disk.is_disk j.0 told)
-    (λ old. subst (λ (d : Dimensions). OpensOld d a b (Ok j.1)) c.shape-shape.ensures (c.in-Ok-open.ensures.old told old))
-    (λ new. subst (λ (w : Dimensions × ℕ). OpensNew w.0 (made_head w.1) a b (Ok j.1)) (λ k. (c.shape-shape.ensures k, c.equipped-3.ensures.value k)) (c.in-Ok-open.ensures.is_new told new))
-    (c.replay.ensures.looks told))
-
-pub returns-in-Err-Disk-clause-asked : goal.returns-in-Err-Disk-clause-asked
-returns-in-Err-Disk-clause-asked g c = g.G.Gate.unasked c.args.gate.now
-
-pub returns-in_default-new-4-clause-asked : goal.returns-in_default-new-4-clause-asked
-returns-in_default-new-4-clause-asked g c = g.G.Gate.unasked c.args.gate.now
+returns-clause-any_moment g c told = subst (λ (j : g.row.D.Denot × Book). LeavesOpened c.args.shelf.now (g.D.Disk.state c.args.disk) (g.D.Disk.state j.0)) (sym (journal_is g c)) (c.in-Ok.ensures.any_moment told)
 
 pub returns-clause-asked : goal.returns-clause-asked
 returns-clause-asked g c = subst (λ (m : Colouring). g.G.Gate.asked c.args.gate.now c.join_all.new.gate (replicate (length (joins_of m)) Register))
     (sym (ap (λ (x : Provisioner g.row.D.Denot). x.matrix) (c.of-origin.ensures.provisioner ∙ (ap (λ (x : Driver g.row.D.Denot). x.p) c.deref.ensures ∙ c.join_all.ensures.others)))) (c.join_all.ensures.asked c.in-Go.is)
 
-pub returns-in-Err-Disk-clause-room : goal.returns-in-Err-Disk-clause-room
-returns-in-Err-Disk-clause-room g c =
-    let a = g.D.Disk.state c.args.disk in
-    let j = c.in-Ok-open.journal in
-    subst (λ (d : g.row.D.Denot). Spends 131_081 a (g.D.Disk.state d)) (sym c.close.ensures)
-    (replay_room 65_545 a (g.D.Disk.state j.0) (g.D.Disk.state c.replay.new.journal.0) j.1 c.in-Ok-open.ensures.whole.0 c.in-Ok-open.ensures.room c.replay.ensures.room)
-
-pub returns-in-Err-Disk-clause-sound : goal.returns-in-Err-Disk-clause-sound
-returns-in-Err-Disk-clause-sound g c = λ sound _.
-    let j = c.in-Ok-open.journal in
-    c.in-Err-Disk.ensures.sound (replay_sound 65_545 (g.D.Disk.state c.args.disk) (g.D.Disk.state j.0) j.1 c.in-Ok-open.ensures.whole.0 c.in-Ok-open.ensures.cause.later c.in-Ok-open.ensures.room sound) (ap (λ (e : ReplayFault). Err e) c.in-Err-Disk.field-0-is)
-
 pub returns-clause-room : goal.returns-clause-room
-returns-clause-room g c =
-    let e = c.deref_mut.ensures.value ∙ c.in-Ok-new-4.ensures.ok in
-    let journal = ap (λ (x : Provisioner g.row.D.Denot). x.journal) c.join_all.ensures.others ∙ ap (λ (x : Driver g.row.D.Denot). x.p.journal) e in
-    let a = g.D.Disk.state c.args.disk in
-    let j = c.in-Ok-open.journal in
-    subst (λ (x : g.row.D.Denot × Book). Spends 131_081 a (g.D.Disk.state x.0)) (sym journal)
-    (replay_room 65_545 a (g.D.Disk.state j.0) (g.D.Disk.state c.replay.new.journal.0) j.1 c.in-Ok-open.ensures.whole.0 c.in-Ok-open.ensures.room c.replay.ensures.room)
+returns-clause-room g c = subst (λ (j : g.row.D.Denot × Book). Spends 131_081 (g.D.Disk.state c.args.disk) (g.D.Disk.state j.0)) (sym (journal_is g c)) c.in-Ok.ensures.room
+
+pub returns-clause-cause : goal.returns-clause-cause
+returns-clause-cause g c = subst (λ (j : g.row.D.Denot × Book). HasCause (g.D.Disk.state c.args.disk).faults (g.D.Disk.state j.0).faults ⊥) (sym (journal_is g c)) c.in-Ok.ensures.cause
+
+pub returns-in-Err-clause-asked : goal.returns-in-Err-clause-asked
+returns-in-Err-clause-asked g c = none_asked g.D.Disk.state (g.G.Gate.asked c.args.gate.now c.args.gate.now) c.in-Err.fault c.in-Err.ensures.unstopped (g.G.Gate.unasked c.args.gate.now)
+
+pub returns-in_default-clause-asked : goal.returns-in_default-clause-asked
+returns-in_default-clause-asked g c = g.G.Gate.unasked c.args.gate.now

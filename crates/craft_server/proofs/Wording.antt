@@ -1,0 +1,98 @@
+-- No mode ends with the status of words that are no line.
+use Rattle.std.proofs.Common.{◌≡◌, ℕ, List, Option, Some, None, inl, inr, refl, sym, ◌∙◌, subst}
+use Rattle.std.specs.Prelude.{IsSome}
+use Rattle.dxc_disk.specs.Disks.{DiskState}
+use Rattle.dxc_outside.specs.Callers.{ListenerState}
+use Rattle.dxc_outside.specs.Links.{LinkState}
+use Rattle.dxc_outside.specs.Threads.{SpawnerState}
+use Rattle.journal_core.specs.declared.fault.JournalWhy.{JournalWhy}
+use Rattle.journal_core.specs.declared.fault.JournalWhy.TheVariants as why
+use Rattle.shelf_file.specs.Contents.{Contents}
+use Rattle.standby_link.specs.declared.end.StandbyEnd.{StandbyEnd}
+use Rattle.standby_link.specs.declared.end.StandbyEnd.TheVariants as standby
+use Rattle.xc_core.specs.States.{Opening}
+use Rattle.xc_core.specs.declared.fault.OpenFault.{OpenFault}
+use Rattle.xc_core.specs.declared.fault.OpenFault.TheVariants as fault
+use Rattle.craft_server.specs.declared.status.Status.{Status}
+use Rattle.craft_server.specs.declared.status.Status.TheVariants.{BadWords}
+use Rattle.craft_server.specs.Openings.{Named, NoShelf, NotStarted, Opens, Sources}
+use Rattle.craft_server.specs.Peers.{Mirrors, mirror_state}
+use Rattle.craft_server.specs.Serving.{IsServing}
+use Rattle.craft_server.specs.Standbys.{StandsBy}
+use Rattle.craft_server.specs.Statuses.{status_of_fault, status_of_standby, status_of_why}
+
+why_words : (w : JournalWhy) → status_of_why w ≡ BadWords → ⊥
+why_words (why.BadHeader bytes) is = cc
+why_words why.Disk is = cc
+
+fault_words : {D : Type 0} (f : OpenFault D) → status_of_fault f ≡ BadWords → ⊥
+fault_words (fault.Journal f) is = why_words f.why is
+fault_words (fault.BadRecord i) is = cc
+fault_words (fault.Disk d) is = cc
+fault_words fault.NoMemory is = cc
+fault_words fault.Stopped is = cc
+
+standby_words : (end : StandbyEnd) → status_of_standby end ≡ BadWords → ⊥
+standby_words standby.End is = cc
+standby_words standby.ReadFault is = cc
+standby_words standby.WriteFault is = cc
+standby_words standby.DiskFault is = cc
+standby_words standby.BadMessage is = cc
+standby_words standby.NotEmpty is = cc
+standby_words standby.Spent is = cc
+
+not_started_words : {D : Type 0} (told : Type 0) (state : D → DiskState) (d : D) (s : Contents) (stops later : ℕ) → NotStarted told state d s stops later BadWords → ⊥
+not_started_words told state d s stops later not = fault_words not.fault (sym not.is)
+
+serving_words : (jobs faults later : ℕ) (old new : SpawnerState) → IsServing jobs faults later old new BadWords → ⊥
+serving_words jobs faults later old new is = let e = is.only (λ no. cc) (λ no. cc) (λ no. cc) in cc
+
+-- serving on a journal alone
+pub opens_words : (opener_told : Type 0) {D : Type 0} (told : Type 0) (state : D → DiskState) (names : Named) (before after : Sources D) (untouched P : Type 0) (jobs faults later : ℕ) (old new : SpawnerState) (status : Status) → (P → IsServing jobs faults later old new status)
+    → Opens opener_told told state names before after untouched (λ f o. P) status → status ≡ BadWords → ⊥
+opens_words opener_told told state names before after untouched P jobs faults later old new status serving opens is = elim opens [
+  | inl not ↦ (elim not.0 [
+    | inl no_shelf ↦ subst (λ (s : Status). NoShelf opener_told before.opener after.opener names.shelf s) is no_shelf.1
+    | inr further ↦ (elim further [
+      | inl no_disk ↦ (elim no_disk.2.1 [ inl e ↦ (let no = sym e ∙ is in cc) | inr e ↦ (let no = sym e.0 ∙ is in cc) ])
+      | inr not_on ↦ not_started_words told state not_on.0.disk not_on.0.shelf before.stops after.stops (subst (λ (s : Status). NotStarted told state not_on.0.disk not_on.0.shelf before.stops after.stops s) is not_on.1)
+    ])
+  ])
+  | inr ran ↦ serving_words jobs faults later old new (subst (λ (s : Status). IsServing jobs faults later old new s) is (serving ran.3))
+]
+
+-- and on a mirrored one
+pub mirrors_words : {D K : Type 0} (told link_told : Type 0) (state : D → DiskState) (link : K → LinkState) (opener_told : Type 0) (names : Named) (before after : Sources D) (untouched P : Type 0) (jobs faults later : ℕ) (old new : SpawnerState) (status : Status) → (P → IsServing jobs faults later old new status)
+    → Mirrors told link_told state link opener_told names before after untouched (λ f o. P) status → status ≡ BadWords → ⊥
+mirrors_words told link_told state link opener_told names before after untouched P jobs faults later old new status serving mirrors is = elim mirrors [
+  | inl not ↦ (elim not.0 [
+    | inl no_shelf ↦ subst (λ (s : Status). NoShelf opener_told before.opener after.opener names.shelf s) is no_shelf.1
+    | inr further ↦ (elim further [
+      | inl no_disk ↦ (elim no_disk.2.1 [ inl e ↦ (let no = sym e ∙ is in cc) | inr e ↦ (let no = sym e.0 ∙ is in cc) ])
+      | inr not_on ↦ not_started_words told (mirror_state state) not_on.0.mirror not_on.0.shelf before.stops after.stops (subst (λ (s : Status). NotStarted told (mirror_state state) not_on.0.mirror not_on.0.shelf before.stops after.stops s) is not_on.1)
+    ])
+  ])
+  | inr ran ↦ serving_words jobs faults later old new (subst (λ (s : Status). IsServing jobs faults later old new s) is (serving ran.3))
+]
+
+-- a standby
+pub stands_words : (opener_told told listener_told link_told : Type 0) {D L K : Type 0} (state : D → DiskState) (listener : L → ListenerState K) (link : K → LinkState) (journal_at : List ℕ → Option D) (listener_at : List ℕ → Option L) (faults later : ℕ) (journal address : List ℕ) (status : Status)
+    → StandsBy opener_told told listener_told link_told state listener link journal_at listener_at faults later journal address status → status ≡ BadWords → ⊥
+stands_words opener_told told listener_told link_told state listener link journal_at listener_at faults later journal address status stands is = elim stands [
+  | inl memory ↦ (let no = sym memory ∙ is in cc)
+  | inr further ↦ (elim further [
+    | inl closed ↦ (let no = sym closed.0 ∙ is in cc)
+    | inr both ↦ (elim both.1 [
+      | inl nobody ↦ (let no = sym nobody.status_is ∙ is in cc)
+      | inr came ↦ (elim came [
+        | inl none ↦ (let no = sym none.status_is ∙ is in cc)
+        | inr one ↦ standby_words one.end (sym one.status_is ∙ is)
+      ])
+    ])
+  ])
+]
+
+-- serving, without a peer and with one
+pub serve_words : {P : Type 0} (peer : Option (List ℕ)) → (peer ≡ None → P) → (IsSome peer → P) → P
+serve_words None alone with_peer = alone refl
+serve_words (Some name) alone with_peer = with_peer refl

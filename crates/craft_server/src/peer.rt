@@ -1,0 +1,116 @@
+//! A controller whose journal a standby has a copy of.
+ghost use Rattle.std.specs.Prelude.{◌≡◌, ◌≢◌, ◌⊎◌, ◌≤◌, ◌<◌, ◌+◌, ℕ, List, MatchResult};
+ghost use Rattle.dxc_causes.specs.Causes.{Rose};
+ghost use Rattle.craft_server.specs.Openings.{named, sources};
+ghost use Rattle.craft_server.specs.Peers.{HasMirrored, IsMirrorOf, IsOpenedOn, Mirrors, NoMirrored, NotMirrored};
+ghost use Rattle.craft_server.specs.Serving.{IsServing};
+
+use crate::Status;
+use crate::opening::{Controller, Element, Names, open_users, shelf_of_file, start};
+use crate::places::open_places;
+use crate::serve::{SESSIONS, Site, serve_on};
+use dxc_outside::{Gate, Listener, Opened, Opener, Spawner};
+use standby_link::MirrorDisk;
+use std::alloc::Global;
+use std::sync::Wait;
+
+/// The disk of an opener's journals, mirrored to a peer.
+pub(crate) type Mirror<O> = MirrorDisk<<O as Opener>::Journal, <O as Opener>::Peer>;
+
+/// Opens the shelf file and the journal of these names, joins the standby at the peer, and starts the controller with so many
+/// workers on what the journal came to; then the users' journal beside it, which isn't mirrored. Where the joining is lost the
+/// journal is served alone.
+pub(crate) fn open_mirrored<O: Opener, G: Gate>(
+    alloc: Global,
+    opener: &mut O,
+    names: Names<'_>,
+    peer: &str,
+    workers: u16,
+    gate: &mut G,
+) -> Result<Element<Mirror<O>, O::Journal>, Status>
+    requires workers { (0 < workers) × (workers ≤ 8) }
+    ensures opened { MatchResult result (IsOpenedOn O.Journal.told O.Peer.told O.Journal.state O.Peer.state O.told (named names.entry.shelf.now names.entry.journal.now) workers (sources (O.state opener.old) (O.journal_at opener.old) (G.stops gate.old))) (NotMirrored O.Journal.told O.Peer.told O.Journal.state O.Peer.state O.told (named names.entry.shelf.now names.entry.journal.now) (sources (O.state opener.old) (O.journal_at opener.old) (G.stops gate.old)) (sources (O.state opener.new) (O.journal_at opener.new) (G.stops gate.new))) }
+    ensures unstopped { MatchResult result (λ x. G.stops gate.new ≡ G.stops gate.old) (λ s. G.stops gate.old ≤ G.stops gate.new) }
+    ensures later { (O.state opener.old).faults ≤ (O.state opener.new).faults }
+{
+    let controller = mirrored_controller(alloc, opener, names, peer, workers, gate)?;
+    match open_users(alloc, opener, names.journal, &controller.shelf) {
+        Ok(users) => Ok(Element { controller, users }),
+        Err(status) => Err(status),
+    }
+}
+
+// The shelf file, the journal and the peer of these names, and the controller on what the mirrored journal came to.
+fn mirrored_controller<O: Opener, G: Gate>(
+    alloc: Global,
+    opener: &mut O,
+    names: Names<'_>,
+    peer: &str,
+    workers: u16,
+    gate: &mut G,
+) -> Result<Controller<Mirror<O>>, Status>
+    requires workers { (0 < workers) × (workers ≤ 8) }
+    ensures opened { MatchResult result (HasMirrored O.Journal.told O.Peer.told O.Journal.state O.Peer.state O.told (named names.entry.shelf.now names.entry.journal.now) workers (sources (O.state opener.old) (O.journal_at opener.old) (G.stops gate.old))) (NoMirrored O.Journal.told O.Peer.told O.Journal.state O.Peer.state O.told (named names.entry.shelf.now names.entry.journal.now) (sources (O.state opener.old) (O.journal_at opener.old) (G.stops gate.old)) (sources (O.state opener.new) (O.journal_at opener.new) (G.stops gate.new))) }
+    ensures others { O.told → (n : List ℕ) → n ≢ names.entry.journal.now → O.journal_at opener.new n ≡ O.journal_at opener.old n }
+    ensures unstopped { MatchResult result (λ x. G.stops gate.new ≡ G.stops gate.old) (λ s. G.stops gate.old ≤ G.stops gate.new) }
+    ensures later { (O.state opener.old).faults ≤ (O.state opener.new).faults }
+{
+    let shelf = shelf_of_file(alloc, opener, names.shelf)?;
+    let mirror = mirror_of(alloc, opener, names.journal, peer)?;
+    start(alloc, shelf, mirror, workers, gate)
+}
+
+// The disk of the journal of that name, mirrored to the standby at the peer.
+fn mirror_of<O: Opener>(
+    alloc: Global,
+    opener: &mut O,
+    journal: &str,
+    peer: &str,
+) -> Result<Mirror<O>, Status>
+    ensures mirror { MatchResult result (IsMirrorOf O.Journal.told O.Peer.told O.Journal.state O.Peer.state O.told (O.journal_at opener.old) journal.now) (λ s. (s ≡ Status.NoMemory) ⊎ ((s ≡ Status.CannotOpen) × Rose (O.state opener.old).faults (O.state opener.new).faults)) }
+    ensures others { O.told → (n : List ℕ) → n ≢ journal.now → O.journal_at opener.new n ≡ O.journal_at opener.old n }
+    ensures later { (O.state opener.old).faults ≤ (O.state opener.new).faults }
+{
+    let disk = match opener.journal(alloc, journal) {
+        Opened::Open(disk) => disk,
+        Opened::Failed => return Err(Status::CannotOpen),
+        Opened::NoMemory => return Err(Status::NoMemory),
+    };
+    match opener.peer(alloc, peer) {
+        Opened::Open(link) => Ok(MirrorDisk::join(disk, link)),
+        Opened::Failed => Err(Status::CannotOpen),
+        Opened::NoMemory => Err(Status::NoMemory),
+    }
+}
+
+/// Serves the site with the controller that is opened on these names, its journal mirrored to the standby at the peer, and with its users.
+pub(crate) fn serve_mirrored<O: Opener, G: Gate, P: Spawner, R: Wait>(
+    alloc: Global,
+    opener: &mut O,
+    names: Names<'_>,
+    peer: &str,
+    site: Site<'_>,
+    gate: &mut G,
+    spawner: &mut P,
+    rt: &R,
+) -> Status
+where
+    <O::Listener as Listener>::Link: Send + 'static,
+    requires { (1 ≤ site.workers) × (site.workers ≤ 8) }
+    ensures { Mirrors O.Journal.told O.Peer.told O.Journal.state O.Peer.state O.told (named names.entry.shelf.now names.entry.journal.now) (sources (O.state opener.old) (O.journal_at opener.old) (G.stops gate.old)) (sources (O.state opener.new) (O.journal_at opener.new) (G.stops gate.new)) (P.state spawner.new ≡ P.state spawner.old) (λ f o u. (G.stops gate.new ≡ G.stops gate.old) × IsServing (site.entry.workers + 16) (O.state opener.old).faults (O.state opener.new).faults (P.state spawner.old) (P.state spawner.new) result) result }
+{
+    let Element { controller, users } = match open_mirrored(alloc, opener, names, peer, site.workers, gate) {
+        Ok(element) => element,
+        Err(status) => return status,
+    };
+    let Controller {
+        shelf,
+        fabric,
+        seats,
+        state,
+    } = controller;
+    let Ok(places) = open_places(alloc, &shelf, &fabric, state, users, SESSIONS) else {
+        return Status::NoMemory;
+    };
+    serve_on(alloc, opener, site, &fabric, seats, places, spawner, rt)
+}

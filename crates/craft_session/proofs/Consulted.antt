@@ -1,0 +1,57 @@
+-- What a session heard of the users, one case longer.
+use Rattle.std.proofs.Common.{◌≡◌, ◌≢◌, ℕ, List, [], ◌∷◌, ◌++◌, append-nil, append_assoc, refl, sym, ◌∙◌, subst}
+use base.Stored.{Gv}
+use Rattle.turnstile.specs.Turning.{Each}
+use Rattle.dxc_outside.specs.declared.clock.Moment.{Moment}
+use Rattle.dxc_model.specs.declared.user.SessionUser.{SessionUser}
+use Rattle.user_admin.specs.declared.op.UserEntry.{UserEntry}
+use Rattle.user_admin.specs.declared.op.UserRow.{UserRow}
+use Rattle.user_admin.specs.Histories.{Opening}
+use Rattle.user_admin.specs.Turns.{Saw, TurnedBack}
+use Rattle.craft_session.specs.declared.ask.Ask.{Ask}
+use Rattle.craft_session.specs.Asks.{Language, user_after}
+use Rattle.craft_session.specs.Consulting.{Consults, others_pass, unit_hears, quiet_passes}
+use Rattle.craft_session.specs.Happenings.{Happening, Request, unit, quiet}
+use Rattle.craft_session.specs.Hearing.{Heard, HeardBehind, IsAsked, Wanted, nothing, unasked}
+use Rattle.craft_session.specs.Seats.{UserSeatAt}
+use Rattle.craft_session.specs.Sessions.{Beginning, Consulted}
+
+-- others' entries
+pub consults_past : {U M : Type 0} (l : Language U M) (place : ℕ) (o : Opening) (h : List UserEntry) (hs : List (Happening U)) (g : List UserEntry) (s : SessionUser) (es : List UserEntry) → Each (λ e. e.place ≢ place) es → Consults l place o h hs g s → Consults l place o h hs (g ++ es) s
+consults_past l place o h hs g s [] others c = subst (λ (x : List UserEntry). Consults l place o h hs x s) (sym (append-nil g)) c
+consults_past l place o h hs g s (e ∷ es) others c = subst (λ (x : List UserEntry). Consults l place o h hs x s) (append_assoc g (e ∷ []) es) (consults_past l place o h hs (g ++ e ∷ []) s es others.1 (others_pass hs g s e others.0 c))
+
+module _ (l : Language Request Moment) (b : Beginning) (seen then_seen : List Gv) (hs : List (Happening Request)) (s : SessionUser) (c : Consulted l b seen hs s) where
+  pub consulted_quiet : Consulted l b seen (hs ++ quiet ∷ []) s
+  consulted_quiet = record { history = c.history; heard = quiet_passes hs c.history s c.heard; saw = c.saw }
+
+  -- a unit heard what it wanted
+  pub consulted_on : (u : Request) → ((h : List UserEntry) → Saw b.users seen h → HeardBehind b.users b.place h (l.wants s u) (l.heard u) then_seen) → Consulted l b then_seen (hs ++ unit u ∷ []) (user_after s (l.asks s u))
+  consulted_on u hears =
+      let x = hears c.history c.saw in
+      record {
+        history = (c.history ++ x.passed) ++ x.entries;
+        heard = unit_hears hs (c.history ++ x.passed) s u x.entries x.hears (consults_past l b.place b.users b.users_before hs c.history s x.passed x.others c.heard);
+        saw = x.saw;
+      }
+
+  -- a turn was given back
+  pub consulted_back : ((h : List UserEntry) → Saw b.users seen h → TurnedBack b.users b.place h then_seen) → Consulted l b then_seen hs s
+  consulted_back back =
+      let x = back c.history c.saw in
+      record { history = c.history ++ x.later; heard = consults_past l b.place b.users b.users_before hs c.history s x.later x.others c.heard; saw = x.saw }
+
+-- nothing was wanted
+pub asked_nothing : (seat : UserSeatAt) (w : Wanted) (by : Heard → Ask) (a : Ask) (rows : List UserRow) → w ≡ nothing → a ≡ by unasked → rows ≡ [] → IsAsked seat w by a rows seat.seen
+asked_nothing seat w by a rows none is no_rows = record {
+  heard = unasked;
+  behind = λ h saw. record {
+    passed = [];
+    others = tt;
+    entries = [];
+    hears = rw none (refl, refl);
+    saw = subst (λ (x : List UserEntry). Saw seat.opening seat.seen x) (sym (append-nil h) ∙ sym (append-nil (h ++ []))) saw;
+  };
+  ask_is = is;
+  rows_are = no_rows;
+}

@@ -1,0 +1,97 @@
+//! The turns of one place with the users.
+ghost use Rattle.std.specs.Prelude.{◌≡◌, ◌≢◌, ◌≤◌, List, MatchResult};
+ghost use Rattle.std.specs.Arc.{arc_value};
+ghost use Rattle.dxc_causes.specs.Causes.{Rose};
+ghost use Rattle.user_admin.specs.declared.op.UserEntry.{UserEntry as Entry};
+ghost use Rattle.user_admin.specs.Openings.{asked_at_turn};
+ghost use Rattle.user_admin.specs.Spellable.{NamesUid};
+ghost use Rattle.user_admin.specs.Turns.{AreNumbered, LoggedIn, RowsAre, RowsDenied, Saw, TookIs};
+ghost use Rattle.user_admin.specs.Verdicts.{IsChanging};
+ghost use Rattle.craft_session.specs.Seats.{IsSameUserSeat, IsUserSeated, user_seat_at};
+
+use dxc_disk::Disk;
+use dxc_model::{Cause, Class, Uid};
+use dxc_outside::Gate;
+use std::marker::Model;
+use std::sync::{Arc, Wait};
+use turnstile::{Pass, Turnstile};
+use user_admin::turns::{self, UserTook};
+use user_admin::{UserOp, UserRows, UserState};
+
+/// The right of one place to take turns at the users. Contracts see where their history began, the number of the place, and what it has seen of
+/// the history.
+#[derive(Drop)]
+pub struct UserSeat<U: Disk> {
+    pass: Pass,
+    turns: Arc<Turnstile<UserState<U>>>,
+}
+
+impl<U: Disk> Model for UserSeat<U> {
+    ghost use Rattle.craft_session.specs.Seats.{UserSeatAt, user_seat_coded};
+
+    ghost Value = { UserSeatAt };
+
+    ghost coded = { user_seat_coded };
+
+    ghost use Rattle.std.specs.Arc.{arc_value};
+    ghost use Rattle.craft_session.specs.Seats.{IsUserSeated, user_seat_at};
+
+    ghost view = { λ s. user_seat_at U.state s.pass (arc_value s.turns) };
+
+    ghost invariant = { λ s. IsUserSeated U.state s.pass (arc_value s.turns) };
+}
+
+impl<U: Disk + Drop> UserSeat<U> {
+    pub fn new(pass: Pass, turns: Arc<Turnstile<UserState<U>>>) -> UserSeat<U>
+        requires { IsUserSeated U.state pass (arc_value turns) }
+        ensures { result ≡ user_seat_at U.state pass (arc_value turns) }
+    {
+        UserSeat { pass, turns }
+    }
+
+    /// What it has seen is a history of the places' entries.
+    pub fn seen(&self)
+        ensures history { (h : List Entry) × Saw self.now.opening self.now.seen h }
+        ensures numbers { AreNumbered self.now.places self.now.seen }
+    {
+        // What the pass has seen is told by the type.
+        let _ = &self.pass;
+    }
+
+    /// The class of the user of a name, case aside, who has the PID, as the users stand.
+    pub fn login<R: Wait>(&mut self, uid: Uid, pid: &[u8], rt: &R) -> Option<Class>
+        ensures same { IsSameUserSeat self.old self.new }
+        ensures logged { (h : List Entry) → Saw self.old.opening self.old.seen h → LoggedIn self.old.opening self.old.place h uid pid.now self.new.seen result }
+    {
+        turns::login(&mut self.pass, &self.turns, uid, pid, rt)
+    }
+
+    /// The names of all users with their classes, in order of names, or of one; UnknownUser is the only cause against it.
+    pub fn rows<R: Wait>(&mut self, which: Option<Uid>, rt: &R) -> Result<UserRows, Cause>
+        ensures same { IsSameUserSeat self.old self.new }
+        ensures rows { (h : List Entry) → Saw self.old.opening self.old.seen h → MatchResult result (λ given. RowsAre self.old.opening self.old.place h which self.new.seen given.items) (RowsDenied self.old.opening self.old.place h which self.new.seen) }
+    {
+        turns::rows(&mut self.pass, &self.turns, which, rt)
+    }
+
+    /// Makes the change of a changing operation.
+    pub fn change<G: Gate, R: Wait>(&mut self, op: UserOp, gate: &mut G, rt: &R) -> UserTook
+        requires changing { IsChanging op }
+        requires named { NamesUid op }
+        ensures same { IsSameUserSeat self.old self.new }
+        ensures took { (h : List Entry) → Saw self.old.opening self.old.seen h → TookIs self.old.opening self.old.place h op self.new.seen result }
+        ensures stopped { result ≡ UserTook.Stopped → Rose (G.stops gate.old) (G.stops gate.new) }
+        ensures unstopped { result ≢ UserTook.Stopped → G.stops gate.new ≡ G.stops gate.old }
+        ensures later { G.stops gate.old ≤ G.stops gate.new }
+        ensures asked { G.asked gate.old gate.new (asked_at_turn result) }
+    {
+        turns::change(&mut self.pass, &self.turns, op, gate, rt)
+    }
+}
+
+/// A seat at the users, and the rows that it read last.
+#[derive(Drop)]
+pub struct UserDesk<U: Disk> {
+    pub seat: UserSeat<U>,
+    pub rows: UserRows,
+}

@@ -1,0 +1,42 @@
+-- What a start has read of its journal.
+use Rattle.std.specs.Prelude.{◌≡◌, ℕ, false, List, length, Option, Some, None, Result, Ok, Err}
+use Rattle.dbchg_reports.specs.Recent.{no_changes}
+use Rattle.dxc_disk.specs.Disks.{DiskState, Looks}
+use Rattle.fabric_words.specs.Seats.{MoverAt}
+use Rattle.journal_core.specs.declared.book.Book.{Book}
+use Rattle.journal_core.specs.Headers.{IsNew}
+use Rattle.journal_core.specs.Books.{IsKept, IsWhole, listed}
+use Rattle.journal_core.specs.Opens.{OpensNew, OpensOld, made_head}
+use Rattle.shelf_file.specs.Contents.{Contents}
+use Rattle.xc_recovery.specs.Replays.{ComesTo}
+use Rattle.xc_core.specs.declared.fault.OpenFault.{OpenFault}
+use Rattle.xc_core.specs.declared.start.Start.{Start}
+use Rattle.xc_core.specs.Openings.{disk_of_fault}
+use Rattle.xc_core.specs.Provisioners.{HasRoom}
+
+-- the disk, where it is handed back
+abbrev pub disk_started : {D : Type 0} → Result (Start D) (OpenFault D) → Option D
+disk_started (Ok x) = Some x.p.journal.0
+disk_started (Err e) = disk_of_fault e
+
+-- As many records were read as the journal counts that was opened, where the disk tells its content these; table and matrix are what they
+-- come to. The Provisioner is otherwise as nothing made it.
+pub record IsStart {D : Type 0} (told : Type 0) (state : D → DiskState) (shelf : Contents) (a : DiskState) (seat : MoverAt) (x : Start D) : Type 0 where
+  -- as it was opened
+  pub journal : D × Book
+  pub fresh : x.reports ≡ no_changes
+  pub held : x.p ≡ record { matrix = x.p.matrix; journal = x.p.journal; mover = seat; doubt = None; changes = 0; halted = false; spent = 0; second = x.p.second }
+  pub old : told → (IsNew a.reads_as → ⊥) → OpensOld shelf.shape a (state journal.0) (Ok journal.1)
+  pub new : told → IsNew a.reads_as → OpensNew shelf.shape (made_head shelf.equipped) a (state journal.0) (Ok journal.1)
+  pub whole_book : IsWhole journal.1
+  pub shape : journal.1.shape ≡ shelf.shape
+  pub whole : journal.1.to_mend ≡ false
+  pub still : journal.1.turning ≡ false
+  pub same : x.p.journal.1 ≡ journal.1
+  pub looks : told → Looks (state journal.0) (state x.p.journal.0)
+  pub kept : told → IsKept (state journal.0) journal.1 → IsKept (state x.p.journal.0) x.p.journal.1
+  pub records : List (List ℕ)
+  pub number : length records ≡ journal.1.count
+  pub read : told → records ≡ listed journal.1 (state journal.0).reads_as
+  pub comes : ComesTo journal.1.shape journal.1.head records x.table x.p.matrix x.last.ops.items
+  pub room : HasRoom shelf.shape x.p.second
