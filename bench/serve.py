@@ -212,6 +212,9 @@ def times(units):
                     rate = timed(server, callers, units, b"RTRV-CRS-T0::DS0-1-1:2;", at_once)
                     print(f"times: {callers} callers, {'in one go' if at_once else 'one by one'}, beside {beside}: {rate} answers a second")
             print(f"memory: {server.resident()} KiB resident at most")
+    with Server(64, 96, workers=4) as server:
+        links = [Caller(server).log_in() for _ in range(CALLERS)]
+        print(f"memory: {server.resident()} KiB resident at most at 64 by 96, with {len(links)} sessions and four workers")
     for modules, slots in ((8, 24), (32, 32), (64, 96)):
         for workers in (1, 2, 4):
             count = 20_000_000 // (modules * slots)
