@@ -55,21 +55,21 @@ pub fn selection_of(shape: Shape, text: &[u8]) -> Option<Selection>
 fn behind<'a>(front: &[u8; 4], text: &'a [u8]) -> Option<&'a [u8]>
     ensures { option_map (λ t. t.now) result ≡ text_behind front.now text.now }
 {
-    if text.len() < 4 {
+    let Some((first, rest)) = text.split_first_chunk::<4>() else {
         return None;
-    }
-    if is_same(&text[..4], front) {
-        Some(&text[4..])
+    };
+    if is_same(first, front) {
+        Some(rest)
     } else {
         None
     }
 }
 
-/// Whether two texts are the same but for ASCII case. Most are the same as they stand.
-fn is_same(text: &[u8], front: &[u8]) -> bool
+/// Whether four bytes are the same but for ASCII case. Most are the same as they stand.
+fn is_same(text: &[u8; 4], front: &[u8; 4]) -> bool
     ensures { result ≡ is_same_text text.now front.now }
 {
-    text == front || text.eq_ignore_ascii_case(front)
+    text == front || text[..].eq_ignore_ascii_case(front)
 }
 
 /// The number from 1 to 99 that a text writes in decimal.

@@ -8,7 +8,6 @@ use arrayvec::ArrayVec;
 use dxc_num::{Middle, Port, Shape};
 
 /// Appends the port's name, in upper case.
-#[tactic(auto, using(crate::proofs::Writes::one_digit, crate::proofs::Writes::two_digits))]
 pub fn write_port<const N: usize>(shape: Shape, port: Port, out: &mut ArrayVec<u8, N>)
     requires inside { IsPort shape port }
     requires room { array_vec_len out.old + 16 ≤ N }
@@ -16,20 +15,20 @@ pub fn write_port<const N: usize>(shape: Shape, port: Port, out: &mut ArrayVec<u
     ensures short { array_vec_len out.new ≤ array_vec_len out.old + 16 }
 {
     let (number, slot) = (module_number(shape, port), slot_number(shape, port));
+    append(out, b"DS0-");
     if number < 10 {
         if slot < 10 {
-            let name = [b'D', b'S', b'0', b'-', ones(number), b'-', ones(slot)];
-            append(out, &name);
+            append(out, &[ones(number), b'-', ones(slot)]);
         } else {
-            let name = [b'D', b'S', b'0', b'-', ones(number), b'-', tens(slot), ones(slot)];
-            append(out, &name);
+            append(out, &[ones(number), b'-', tens(slot), ones(slot)]);
         }
     } else if slot < 10 {
-        let name = [b'D', b'S', b'0', b'-', tens(number), ones(number), b'-', ones(slot)];
-        append(out, &name);
+        append(out, &[tens(number), ones(number), b'-', ones(slot)]);
     } else {
-        let name = [b'D', b'S', b'0', b'-', tens(number), ones(number), b'-', tens(slot), ones(slot)];
-        append(out, &name);
+        append(
+            out,
+            &[tens(number), ones(number), b'-', tens(slot), ones(slot)],
+        );
     }
 }
 
