@@ -1,8 +1,6 @@
-//! Journals, records and replays, by worked examples.
+//! Records and replays, by worked examples.
 #![tactic(auto)]
 
-#[cfg(test)]
-mod journals;
 #[cfg(test)]
 mod records;
 #[cfg(test)]
