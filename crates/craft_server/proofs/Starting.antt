@@ -121,7 +121,7 @@ module _ {D : Type 0} (disk_told : Type 0) (state : D → DiskState) where
   ]
 
   -- where the history of the users begins
-  pub users_began : (opener_told : Type 0) (names : Named) (before : Sources D) (s : Contents) (x : UserState D) → HasUsers opener_told disk_told state names before s x → Began opener_told disk_told state names before s
+  abbrev pub users_began : (opener_told : Type 0) (names : Named) (before : Sources D) (s : Contents) (x : UserState D) → HasUsers opener_told disk_told state names before s x → Began opener_told disk_told state names before s
   users_began opener_told names before s x has = record { found = has.0; opening = users_opening state x; is = has.1.opening }
 
   -- where the history of a controller begins
