@@ -10,7 +10,6 @@ use Rattle.journal_core.specs.declared.fault.JournalWhy.TheVariants as why
 use Rattle.shelf_file.specs.Contents.{Contents}
 use Rattle.standby_link.specs.declared.end.StandbyEnd.{StandbyEnd}
 use Rattle.standby_link.specs.declared.end.StandbyEnd.TheVariants as standby
-use Rattle.xc_core.specs.States.{Opening}
 use Rattle.xc_core.specs.declared.fault.OpenFault.{OpenFault}
 use Rattle.xc_core.specs.declared.fault.OpenFault.TheVariants as fault
 use Rattle.craft_server.specs.declared.status.Status.{Status}

@@ -50,7 +50,11 @@ pub(crate) fn open<O: Opener, G: Gate>(
 }
 
 /// The shelf that the file of that name describes.
-pub(crate) fn shelf_of_file<O: Opener>(alloc: Global, opener: &mut O, name: &str) -> Result<Shelf, Status>
+pub(crate) fn shelf_of_file<O: Opener>(
+    alloc: Global,
+    opener: &mut O,
+    name: &str,
+) -> Result<Shelf, Status>
     ensures shelf { MatchResult result (HasShelf O.told (O.state opener.old) name.now) (NoShelf O.told (O.state opener.old) (O.state opener.new) name.now) }
     ensures journals { O.told → (n : List ℕ) → O.journal_at opener.new n ≡ O.journal_at opener.old n }
     ensures later { (O.state opener.old).faults ≤ (O.state opener.new).faults }
