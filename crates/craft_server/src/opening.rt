@@ -4,8 +4,8 @@ ghost use Rattle.dxc_causes.specs.Causes.{Rose};
 ghost use Rattle.craft_server.specs.Openings.{AreUsersNotStarted, AreUsersStarted, FoundUsers, HasController, HasShelf, IsOpened, IsStarted, NoController, NoShelf, NotOpened, NotStarted, named, sources, users_name as name_of_users};
 
 use crate::Status;
-use dxc_disk::Disk;
 use dxc_causes::NoMemory;
+use dxc_disk::Disk;
 use dxc_outside::{Gate, Name, Opened, Opener};
 use fabric_words::{Fabric, WorkerSeat};
 use shelf_file::{Shelf, ShelfFault, shelf_of};
