@@ -4,9 +4,8 @@ use Rattle.std.specs.Prelude.{IsSome, MatchResult}
 use Rattle.dxc_disk.specs.Disks.{DiskState}
 use Rattle.dxc_outside.specs.Callers.{ListenerState}
 use Rattle.dxc_outside.specs.Links.{LinkState}
-use Rattle.shelf_file.specs.Contents.{Contents}
 use Rattle.standby_link.specs.declared.mirror_disk.MirrorDisk.{MirrorDisk}
-use Rattle.xc_core.specs.States.{Opening, opening_of}
+use Rattle.xc_core.specs.States.{opening_of}
 use Rattle.craft_server.specs.declared.line.Line.TheVariants.{Serve}
 use Rattle.craft_server.specs.declared.opening.Controller.{Controller}
 use Rattle.craft_server.specs.declared.opening.Element.{Element}

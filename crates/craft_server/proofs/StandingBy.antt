@@ -31,16 +31,19 @@ module _ (opener_told disk_told listener_told link_told : Type 0) {D L K : Type 
       → StandsBy opener_told disk_told listener_told link_told disk listener link journal_at listener_at faults later journal address status
   served_one first caller served copy end status is status_is came ran =
       let one = subst (λ (f : Came K). IsFirst listener_told link (listener b.door) (listener door) f) is came in
-      inr (inr (b, inr (inr (record {
-        caller = caller;
-        first = λ t. ((listener door).coming, one.coming t);
-        is_sound = one.sound;
-        new_caller = served;
-        new_disk = copy;
-        end = end;
-        ran = ran;
-        status_is = status_is;
-      }))))
+      inr (inr (
+        b,
+        inr (inr (record {
+          caller = caller;
+          first = λ t. ((listener door).coming, one.coming t);
+          is_sound = one.sound;
+          new_caller = served;
+          new_disk = copy;
+          end = end;
+          ran = ran;
+          status_is = status_is;
+        })),
+      ))
 
   -- the listener said End
   pub nobody_came : (first : Came K) → first ≡ End → IsFirst listener_told link (listener b.door) (listener door) first → StandsBy opener_told disk_told listener_told link_told disk listener link journal_at listener_at faults later journal address Done

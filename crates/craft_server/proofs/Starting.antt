@@ -111,7 +111,7 @@ module _ {D : Type 0} (disk_told : Type 0) (state : D → DiskState) where
   -- the users beside a controller, by what a later call tells
   pub with_users : (opener_told : Type 0) (names : Named) (before mid after : Sources D) (s lent : Contents) (r : Result (UserState D) Status) → lent ≡ s → (opener_told → (n : List ℕ) → n ≢ names.journal → mid.journal_at n ≡ before.journal_at n) → before.opener.faults ≤ mid.opener.faults
       → MatchResult r (λ u. (d : D) × (opener_told → mid.journal_at (users_name names.journal) ≡ Some d) × AreUsersStarted disk_told state d lent u)
-          (λ status. ((status ≡ NoMemory) ⊎ ((status ≡ CannotOpen) × Rose mid.opener.faults after.opener.faults)) ⊎ ((d : D) × (opener_told → mid.journal_at (users_name names.journal) ≡ Some d) × AreUsersNotStarted disk_told state d lent status))
+      (λ status. ((status ≡ NoMemory) ⊎ ((status ≡ CannotOpen) × Rose mid.opener.faults after.opener.faults)) ⊎ ((d : D) × (opener_told → mid.journal_at (users_name names.journal) ≡ Some d) × AreUsersNotStarted disk_told state d lent status))
       → MatchResult r (HasUsers opener_told disk_told state names before s) (NoUsers opener_told disk_told state names before after s)
   with_users opener_told names before mid after s lent (Ok u) is others later given =
       (record { disk = given.0; handed = λ t. sym (others t (users_name names.journal) (users_apart names.journal)) ∙ given.1 t }, subst (λ (y : Contents). AreUsersStarted disk_told state given.0 y u) is given.2)
@@ -121,7 +121,7 @@ module _ {D : Type 0} (disk_told : Type 0) (state : D → DiskState) where
   ]
 
   -- where the history of the users begins
-  pub users_began : (opener_told : Type 0) (names : Named) (before : Sources D) (s : Contents) (x : UserState D) → HasUsers opener_told disk_told state names before s x → Began opener_told disk_told state names before s
+  abbrev pub users_began : (opener_told : Type 0) (names : Named) (before : Sources D) (s : Contents) (x : UserState D) → HasUsers opener_told disk_told state names before s x → Began opener_told disk_told state names before s
   users_began opener_told names before s x has = record { found = has.0; opening = users_opening state x; is = has.1.opening }
 
   -- where the history of a controller begins

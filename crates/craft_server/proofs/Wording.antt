@@ -12,7 +12,6 @@ use Rattle.standby_link.specs.declared.end.StandbyEnd.{StandbyEnd}
 use Rattle.standby_link.specs.declared.end.StandbyEnd.TheVariants as standby
 use Rattle.user_admin.specs.declared.fault.UserOpenFault.{UserOpenFault}
 use Rattle.user_admin.specs.declared.fault.UserOpenFault.TheVariants as users_fault
-use Rattle.xc_core.specs.States.{Opening}
 use Rattle.xc_core.specs.declared.fault.OpenFault.{OpenFault}
 use Rattle.xc_core.specs.declared.fault.OpenFault.TheVariants as fault
 use Rattle.craft_server.specs.declared.status.Status.{Status}

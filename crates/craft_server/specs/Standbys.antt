@@ -1,6 +1,6 @@
 -- What a standby did.
 use mathlib.Core.Logic.{inl, inr}
-use Rattle.std.specs.Prelude.{◌≡◌, ◌≢◌, ◌⊎◌, ◌↔◌, ◌+◌, ◌^◌, ◌≤◌, ℕ, false, true, List, [], ◌∷◌, ◌++◌, length, Option, Some, IsTrue}
+use Rattle.std.specs.Prelude.{◌≡◌, ◌≢◌, ◌⊎◌, ◌↔◌, ◌+◌, ◌^◌, ℕ, false, true, List, [], ◌∷◌, ◌++◌, length, Option, Some, IsTrue}
 use Rattle.dxc_causes.specs.Causes.{Rose, Counted}
 use Rattle.dxc_disk.specs.Disks.{DiskState, IsSound}
 use Rattle.dxc_outside.specs.Callers.{ListenerState, IsSoundCame, came}

@@ -4,8 +4,8 @@ ghost use Rattle.dxc_causes.specs.Causes.{Rose};
 ghost use Rattle.craft_server.specs.Openings.{AreUsersNotStarted, AreUsersStarted, FoundUsers, HasController, HasShelf, IsOpened, IsStarted, NoController, NoShelf, NotOpened, NotStarted, named, sources, users_name as name_of_users};
 
 use crate::Status;
-use dxc_disk::Disk;
 use dxc_causes::NoMemory;
+use dxc_disk::Disk;
 use dxc_outside::{Gate, Name, Opened, Opener};
 use fabric_words::{Fabric, WorkerSeat};
 use shelf_file::{Shelf, ShelfFault, shelf_of};
@@ -81,7 +81,11 @@ fn open_controller<O: Opener, G: Gate>(
 }
 
 /// The shelf that the file of that name describes.
-pub(crate) fn shelf_of_file<O: Opener>(alloc: Global, opener: &mut O, name: &str) -> Result<Shelf, Status>
+pub(crate) fn shelf_of_file<O: Opener>(
+    alloc: Global,
+    opener: &mut O,
+    name: &str,
+) -> Result<Shelf, Status>
     ensures shelf { MatchResult result (HasShelf O.told (O.state opener.old) name.now) (NoShelf O.told (O.state opener.old) (O.state opener.new) name.now) }
     ensures journals { O.told → (n : List ℕ) → O.journal_at opener.new n ≡ O.journal_at opener.old n }
     ensures later { (O.state opener.old).faults ≤ (O.state opener.new).faults }

@@ -99,7 +99,14 @@ where
     requires { (1 ≤ site.workers) × (site.workers ≤ 8) }
     ensures { Mirrors O.Journal.told O.Peer.told O.Journal.state O.Peer.state O.told (named names.entry.shelf.now names.entry.journal.now) (sources (O.state opener.old) (O.journal_at opener.old) (G.stops gate.old)) (sources (O.state opener.new) (O.journal_at opener.new) (G.stops gate.new)) (P.state spawner.new ≡ P.state spawner.old) (λ f o u. (G.stops gate.new ≡ G.stops gate.old) × IsServing (site.entry.workers + 16) (O.state opener.old).faults (O.state opener.new).faults (P.state spawner.old) (P.state spawner.new) result) result }
 {
-    let Element { controller, users } = match open_mirrored(alloc, opener, names, peer, site.workers, gate) {
+    let Element { controller, users } = match open_mirrored(
+        alloc,
+        opener,
+        names,
+        peer,
+        site.workers,
+        gate,
+    ) {
         Ok(element) => element,
         Err(status) => return status,
     };

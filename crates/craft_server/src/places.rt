@@ -45,7 +45,9 @@ pub(crate) fn open_places<D: Disk + Drop, U: Disk + Drop>(
     for number in 0..count {
         let pass = next_pass(&mut passes);
         let users_pass = next_pass(&mut users_passes);
-        let place = place_of(alloc, number, pass, users_pass, shelf, fabric, &turns, &users)?;
+        let place = place_of(
+            alloc, number, pass, users_pass, shelf, fabric, &turns, &users,
+        )?;
         places.push_reserved(place);
     }
     Ok(places)

@@ -175,15 +175,6 @@ where
     };
     match peer {
         None => serve_alone(alloc, opener, names, site, gate, spawner, rt),
-        Some(peer) => serve_mirrored(
-            alloc,
-            opener,
-            names,
-            peer.text(),
-            site,
-            gate,
-            spawner,
-            rt,
-        ),
+        Some(peer) => serve_mirrored(alloc, opener, names, peer.text(), site, gate, spawner, rt),
     }
 }

@@ -54,12 +54,12 @@ impl Display for Why<'_> {
     }
 }
 
-/// How many words a mode has behind it, at least and at most; None: there is no such mode.
-fn words_behind(mode: &str) -> Option<(usize, usize)> {
+/// How many words a line of the mode has with the mode itself, at least and at most; None: there is no such mode.
+fn words_of(mode: &str) -> Option<(usize, usize)> {
     match mode {
-        "script" | "check" | "standby" => Some((2, 2)),
-        "serve" => Some((5, 6)),
-        "load" => Some((1, 1)),
+        "script" | "check" | "standby" => Some((3, 3)),
+        "serve" => Some((6, 7)),
+        "load" => Some((2, 2)),
         _ => None,
     }
 }
@@ -76,17 +76,23 @@ fn number_of_mode<'a>(mode: &str, words: &'a [Name]) -> Option<&'a Name> {
 /// The first word that stands in no line of the program.
 fn word_at_fault(words: &[Name]) -> Option<&Name> {
     let mode = words.first()?;
-    let Some((least, most)) = words_behind(mode.text()) else {
+    let Some((least, most)) = words_of(mode.text()) else {
         return Some(mode);
     };
     if let Some(dashed) = words.iter().find(|word| word.text().starts_with('-')) {
         return Some(dashed);
     }
-    if words.len() <= least {
+    if words.len() < least {
         return None;
     }
     // One too many, or else a number: of workers, or of the load.
-    words.get(most + 1).or(number_of_mode(mode.text(), words))
+<<<<<<< ours
+    words.get(most).or(number_of_mode(mode.text(), words))
+=======
+    words
+        .get(most.saturating_add(1))
+        .or(number_of_mode(mode.text(), words))
+>>>>>>> theirs
 }
 
 fn write_word<W: Write>(f: &mut Formatter<W>, words: &[Name]) -> fmt::Result {

@@ -115,3 +115,24 @@ fn an_opener_hands_out_a_disk_once(rt: HostRuntime) -> Result<(), Fail> {
     assert!(rt; matches!(opener.journal(alloc, "a.jnl"), Opened::Failed));
     Ok(())
 }
+
+#[test]
+fn an_opener_hands_out_a_peer_once(rt: HostRuntime) -> Result<(), Fail> {
+    let alloc = rt.alloc();
+    let link = MemLink::new(
+        vec![in alloc; 7]?,
+        Vec::new(alloc),
+        Vec::new(alloc),
+        Vec::new(alloc),
+    );
+    let name = Name::of("standby".to_string(alloc)?);
+    let mut opener =
+        MemOpener::new(alloc, Vec::new(alloc)).with_peers(vec![in alloc; (name, link)]?);
+    assert!(rt; matches!(opener.peer(alloc, "primary"), Opened::Failed));
+    let Opened::Open(mut peer) = opener.peer(alloc, "standby") else {
+        return Err("no peer was handed out".into());
+    };
+    assert_eq!(rt; next(&mut peer).0, Got::Bytes(1));
+    assert!(rt; matches!(opener.peer(alloc, "standby"), Opened::Failed));
+    Ok(())
+}

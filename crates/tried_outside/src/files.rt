@@ -1,6 +1,6 @@
 use dxc_disk::Disk;
 use dxc_outside::{
-    Came, Clock, FileLines, Frame, HostOpener, Lines, Listener, Opened, Opener, Put,
+    Came, Clock, FileLines, Frame, Got, HostOpener, Lines, Link, Listener, Opened, Opener, Put,
 };
 use std::fs;
 use std::net::{TcpListener, TcpStream};
@@ -98,5 +98,28 @@ fn listeners_at_one_address_share_their_callers(rt: HostRuntime) -> Result<(), F
     assert!(rt; matches!(back.accept(&rt), Came::Link(_)));
     assert!(rt; matches!(opener.listener(alloc, "no address"), Opened::Failed));
     assert!(rt; 25 <= opener.clock().now().year);
+    Ok(())
+}
+
+#[test]
+fn a_peer_is_whoever_listens(rt: HostRuntime) -> Result<(), Fail> {
+    let alloc = rt.alloc();
+    let mut opener = HostOpener::new(rt, Vec::new(alloc));
+    let free = TcpListener::bind(&rt, "127.0.0.1:0")?.local_addr()?;
+    let address = format!(in alloc; "{free}")?;
+    assert!(rt; matches!(opener.peer(alloc, address.as_str()), Opened::Failed));
+    let Opened::Open(mut door) = opener.listener(alloc, address.as_str()) else {
+        return Err("not bound".into());
+    };
+    let Opened::Open(mut peer) = opener.peer(alloc, address.as_str()) else {
+        return Err("nobody answered".into());
+    };
+    let Came::Link(mut link) = door.accept(&rt) else {
+        return Err("nobody called".into());
+    };
+    let mut piece = [0u8; 1];
+    assert_eq!(rt; peer.write(b"a"), Put::Took(1));
+    assert_eq!(rt; link.read(&mut piece), Got::Bytes(1));
+    assert_eq!(rt; peer.read(&mut piece), Got::Quiet);
     Ok(())
 }

@@ -1,5 +1,5 @@
 use crate::row::{Call, Primary, Row};
-use crate::standby::served;
+use crate::standby::serve;
 use crate::tape::Tape;
 use anyhow::{Context, Result};
 use dxc_disk::{Disk, MemDisk};
@@ -51,7 +51,7 @@ pub fn sent_fault(
     let disk = MemDisk::new(alloc, nothing, Vec::new(alloc))
         .ok()
         .context("no memory for a disk")?;
-    let copy = served(alloc, link, disk)?;
+    let copy = serve(alloc, link, disk)?;
     if copy.file.as_slice() == copy_wanted {
         return Ok(None);
     }

@@ -177,11 +177,11 @@ impl Primary {
                 let (bytes, rest) = parted(rest)?;
                 let place = place.parse::<u64>()?;
                 let bytes = bytes_of(alloc, bytes)?;
-                self.calls.push(call(alloc, Some(place), bytes, rest)?)?;
+                self.calls.push(call_of(alloc, Some(place), bytes, rest)?)?;
             }
             "sync" => {
                 let none = Vec::new(alloc);
-                self.calls.push(call(alloc, None, none, rest)?)?;
+                self.calls.push(call_of(alloc, None, none, rest)?)?;
             }
             "sent" => self.sent.extend_from_slice(&bytes_of(alloc, rest)?)?,
             "copy" => self.copy = bytes_of(alloc, rest)?,
@@ -192,7 +192,7 @@ impl Primary {
 }
 
 // A call that `rest` says the end of: `ok MIRROR` or `fault MIRROR`.
-fn call(alloc: Global, place: Option<u64>, bytes: Vec<u8>, rest: &str) -> Result<Call> {
+fn call_of(alloc: Global, place: Option<u64>, bytes: Vec<u8>, rest: &str) -> Result<Call> {
     let (answer, mirror) = parted(rest)?;
     Ok(Call {
         place,

@@ -14,7 +14,7 @@ pub struct Served {
 }
 
 /// Serves a standby on the disk over the link.
-pub fn served(alloc: Global, mut link: MemLink, mut disk: MemDisk) -> Result<Served> {
+pub fn serve(alloc: Global, mut link: MemLink, mut disk: MemDisk) -> Result<Served> {
     let end = serve_standby(&mut link, &mut disk);
     Ok(Served {
         end,
@@ -27,7 +27,7 @@ pub fn served(alloc: Global, mut link: MemLink, mut disk: MemDisk) -> Result<Ser
 pub fn standby_fault(alloc: Global, row: &Row, standby: &Standby) -> Result<Option<String>> {
     for cut in 0..=row.input.len() {
         let input = row.input.get(..cut).unwrap_or(&[]).to_vec(alloc)?;
-        let served = served(alloc, row.link(alloc, input)?, row.disk(alloc)?)?;
+        let served = serve(alloc, row.link(alloc, input)?, row.disk(alloc)?)?;
         if let Some(why) = mark_fault(alloc, mark_at(&standby.marks, cut), &served)? {
             return Ok(Some(format!(in alloc; "of {cut} bytes {why}")?));
         }

@@ -283,13 +283,13 @@ pub fn next_place<D: Disk + Drop, U: Disk + Drop>(
     requires users_within { number < (arc_value users.old.turns).passes }
     requires users_fresh { AreFresh (arc_value users.old.turns).id number users.old.passes.items }
     requires users_begin { UsersBegin U.told U.state (arc_value users.old.turns).first }
-    ensures users { users.new.turns ≡ users.old.turns }
-    ensures users_fresh { AreFresh (arc_value users.old.turns).id (number + 1) users.new.passes.items }
-    ensures users_fewer { length users.new.passes.items + 1 ≡ length users.old.passes.items }
     requires within { number < (arc_value turns.now).passes }
     requires fresh { AreFresh (arc_value turns.now).id number passes.old.items }
     requires begins { Begins D.told D.state (arc_value turns.now).first }
     requires opening { IsAtOpening (opening_of D.state (arc_value turns.now).first) (arc_value shelf.now) (arc_value fabric.now) }
+    ensures users { users.new.turns ≡ users.old.turns }
+    ensures users_fresh { AreFresh (arc_value users.old.turns).id (number + 1) users.new.passes.items }
+    ensures users_fewer { length users.new.passes.items + 1 ≡ length users.old.passes.items }
     ensures fresh { AreFresh (arc_value turns.now).id (number + 1) passes.new.items }
     ensures fewer { length passes.new.items + 1 ≡ length passes.old.items }
 {

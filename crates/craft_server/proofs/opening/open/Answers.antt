@@ -1,6 +1,5 @@
 use Rattle.std.proofs.Common.{Ok, Err, ◌∙◌, inl, inr}
 use Rattle.std.proofs.lemmas.Result.{err_from_is_err_and}
-use Rattle.std.specs.Arc.{arc_value}
 use Rattle.xc_core.specs.States.{opening_of}
 use Rattle.craft_server.specs.Openings.{named, sources}
 use Rattle.craft_server.proofs.Starting.{begun, with_users}
@@ -24,8 +23,13 @@ returns-in-Err-clause-opened g c =
     let after = sources (g.O.Opener.state c.open_users.new.opener) (g.O.Opener.journal_at c.open_users.new.opener) (g.G.Gate.stops c.open_controller.new.gate) in
     let told = g.O.Journal.Disk.told in
     let state = g.O.Journal.Disk.state in
-    inr (h.0, opening_of state c.in_ok-controller.controller.state, begun told state h.0.disk h.0.shelf _ c.in_ok-controller.controller h.1, c.in_ok-controller.ensures.unstopped,
-    with_users told state g.O.Opener.told names before mid after h.0.shelf c.deref.result.now (Err c.in-Err.status) (c.deref.ensures ∙ h.1.shelf) c.open_controller.ensures.others c.open_controller.ensures.later c.in-Err.ensures.users)
+    inr (
+      h.0,
+      opening_of state c.in_ok-controller.controller.state,
+      begun told state h.0.disk h.0.shelf _ c.in_ok-controller.controller h.1,
+      c.in_ok-controller.ensures.unstopped,
+      with_users told state g.O.Opener.told names before mid after h.0.shelf c.deref.result.now (Err c.in-Err.status) (c.deref.ensures ∙ h.1.shelf) c.open_controller.ensures.others c.open_controller.ensures.later c.in-Err.ensures.users,
+    )
 
 pub returns-in_err-controller-clause-opened : goal.returns-in_err-controller-clause-opened
 returns-in_err-controller-clause-opened g c = let p = err_from_is_err_and c.from_residual.result c.from_residual.ensures.1 in rw (p.1, p.2) (inl c.in_err-controller.ensures.opened)

@@ -24,8 +24,13 @@ returns-in-Err-clause-opened g c =
     let after = sources (g.O.Opener.state c.open_users.new.opener) (g.O.Opener.journal_at c.open_users.new.opener) (g.G.Gate.stops c.mirrored_controller.new.gate) in
     let told = g.O.Journal.Disk.told in
     let state = mirror_state g.O.Journal.Disk.state in
-    inr (h.0, opening_of state c.in_ok-controller.controller.state, begun told state h.0.mirror h.0.shelf _ c.in_ok-controller.controller h.1, c.in_ok-controller.ensures.unstopped,
-    with_users told g.O.Journal.Disk.state g.O.Opener.told names before mid after h.0.shelf c.deref.result.now (Err c.in-Err.status) (c.deref.ensures ∙ h.1.shelf) c.mirrored_controller.ensures.others c.mirrored_controller.ensures.later c.in-Err.ensures.users)
+    inr (
+      h.0,
+      opening_of state c.in_ok-controller.controller.state,
+      begun told state h.0.mirror h.0.shelf _ c.in_ok-controller.controller h.1,
+      c.in_ok-controller.ensures.unstopped,
+      with_users told g.O.Journal.Disk.state g.O.Opener.told names before mid after h.0.shelf c.deref.result.now (Err c.in-Err.status) (c.deref.ensures ∙ h.1.shelf) c.mirrored_controller.ensures.others c.mirrored_controller.ensures.later c.in-Err.ensures.users,
+    )
 
 pub returns-in_err-controller-clause-opened : goal.returns-in_err-controller-clause-opened
 returns-in_err-controller-clause-opened g c = let p = err_from_is_err_and c.from_residual.result c.from_residual.ensures.1 in rw (p.1, p.2) (inl c.in_err-controller.ensures.opened)

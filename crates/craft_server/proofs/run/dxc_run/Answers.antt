@@ -64,10 +64,14 @@ returns-in-Serve-clause-run g c =
     let keep : after.spawner ≡ before.spawner → IsUntouched before after = λ u. record { terminal = refl; clock = refl; spawner = u } in
     let P : Contents → g.row.O-Journal.Denot → Opening → g.row.O-Journal.Denot → UsersOpening → Type 0 = λ s d o e u. Serving (workers_in line) in
     let Q : Contents → g.row.O-Journal.Denot → Opening → g.row.O-Journal.Denot → UsersOpening → Type 0 = λ s d o e u. RanServe told state workers before after status in
-    inr (line, c.in-Ok.ensures.line, subst (λ (l : Line). IsRunOf told state peer_state g.O.Listener.Listener.state g.O.Listener.Link.Link.state (g.O.Opener.listener_at c.args.opener.now) l before after status) (sym c.in-Serve.is)
-    (serves_for told state peer_state g.O.Listener.Listener.state g.O.Listener.Link.Link.state (g.O.Opener.listener_at c.args.opener.now) c.in-Serve.shelf c.in-Serve.journal c.in-Serve.address c.in-Serve.lines workers before after status c.in-Serve.peer
-    (λ none. opens_for told.disk state told.opener (named_in line) names (ap named_in c.in-Serve.is) before.sources after.sources (after.spawner ≡ before.spawner) (IsUntouched before after) P Q status keep (λ s d o e u one. ran one) (c.serve_all.ensures.alone (ap peer_of c.in-Serve.is ∙ none)))
-    (λ some. mirrors_for told.disk told.peer state peer_state told.opener (named_in line) names (ap named_in c.in-Serve.is) before.sources after.sources (after.spawner ≡ before.spawner) (IsUntouched before after) (Serving (workers_in line)) (RanServe told state workers before after status) status keep ran (c.serve_all.ensures.mirrored (subst IsSome (sym (ap peer_of c.in-Serve.is)) some)))))
+    inr (
+      line,
+      c.in-Ok.ensures.line,
+      subst (λ (l : Line). IsRunOf told state peer_state g.O.Listener.Listener.state g.O.Listener.Link.Link.state (g.O.Opener.listener_at c.args.opener.now) l before after status) (sym c.in-Serve.is)
+          (serves_for told state peer_state g.O.Listener.Listener.state g.O.Listener.Link.Link.state (g.O.Opener.listener_at c.args.opener.now) c.in-Serve.shelf c.in-Serve.journal c.in-Serve.address c.in-Serve.lines workers before after status c.in-Serve.peer
+          (λ none. opens_for told.disk state told.opener (named_in line) names (ap named_in c.in-Serve.is) before.sources after.sources (after.spawner ≡ before.spawner) (IsUntouched before after) P Q status keep (λ s d o e u one. ran one) (c.serve_all.ensures.alone (ap peer_of c.in-Serve.is ∙ none)))
+          (λ some. mirrors_for told.disk told.peer state peer_state told.opener (named_in line) names (ap named_in c.in-Serve.is) before.sources after.sources (after.spawner ≡ before.spawner) (IsUntouched before after) (Serving (workers_in line)) (RanServe told state workers before after status) status keep ran (c.serve_all.ensures.mirrored (subst IsSome (sym (ap peer_of c.in-Serve.is)) some)))),
+    )
 
 pub returns-in-Standby-clause-run : goal.returns-in-Standby-clause-run
 returns-in-Standby-clause-run g c =

@@ -1,4 +1,4 @@
-use Rattle.std.proofs.Common.{◌≡◌, ◌+◌, ◌∙◌, ℕ, refl, sym, ap, ap₂, subst}
+use Rattle.std.proofs.Common.{◌≡◌, ◌+◌, ◌∙◌, ℕ, sym, ap, ap₂, subst}
 use Rattle.std.specs.Prelude.{IsSome}
 use Rattle.shelf_file.specs.Contents.{Contents}
 use Rattle.user_admin.specs.Histories.{Opening as UsersOpening}

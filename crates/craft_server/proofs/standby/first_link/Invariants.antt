@@ -1,4 +1,4 @@
-use Rattle.std.proofs.Common.{◌≡◌, ◌≤◌}
+use Rattle.std.proofs.Common.{◌≡◌}
 use Rattle.std.specs.Prelude.{IsTrue}
 use Rattle.craft_server.specs.Serving.{RoseBy}
 use Rattle.craft_server.proofs.standby.first_link.Given as goal
