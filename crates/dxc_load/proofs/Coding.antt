@@ -4,7 +4,7 @@ use Rattle.std.specs.Prelude.{slice_index}
 use Rattle.std.proofs.Math.Seq.{take-length}
 use Rattle.std.proofs.lemmas.Bool.{eqb-true}
 use Rattle.std.proofs.lemmas.List.{drop_all, length-drop, nil_from_length, take-append-drop, take_rest}
-use Rattle.dxc_load.specs.Codes.{Spot, Login, Front, Tag, Code, Rest, HasNoCode, HasNone, IsBehind, IsNextCode, code_of, codes_at, coded_from, next_spot}
+use Rattle.dxc_load.specs.Codes.{Spot, Login, Front, Tag, Code, Rest, HasNoCode, HasNone, IsBehind, IsNextCode, codes_at, coded_from, next_spot}
 
 -- no byte of those before a place has the value
 pub none_before : (byte at : ℕ) (text : List ℕ) → at ≤ length text → ((k : ℕ) → 0 ≤ k → k < at → (slice_index text k == byte) ≡ true → ⊥) → HasNone byte (take at text)

@@ -87,7 +87,10 @@ fn leave(file: &mut Vec<u8>, at: usize, bytes: &[u8], left: Left) -> Result<(), 
         Left::Front => overwrite(file, at, &bytes[..bytes.len() / 2]),
         Left::Sealed => {
             overwrite(file, at, bytes)?;
-            if let Some(range) = file.as_mut_slice().get_mut(at..at.saturating_add(bytes.len())) {
+            if let Some(range) = file
+                .as_mut_slice()
+                .get_mut(at..at.saturating_add(bytes.len()))
+            {
                 range.fill(SEALED);
             }
             Ok(())
