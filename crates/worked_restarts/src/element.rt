@@ -25,7 +25,7 @@ use dxc_outside::AlwaysGo;
 use fabric_words::{Fabric, MoverSeat, WorkerSeat};
 use shelf_file::{Shelf, shelf_of};
 use std::alloc::Global;
-use std::sync::Arc;
+use std::sync::{Arc, Wait};
 use turnstile::{Pass, Sequential, Turnstile};
 use xc_core::{Adopted, Core, State};
 
