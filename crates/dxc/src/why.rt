@@ -86,13 +86,7 @@ fn word_at_fault(words: &[Name]) -> Option<&Name> {
         return None;
     }
     // One too many, or else a number: of workers, or of the load.
-<<<<<<< ours
     words.get(most).or(number_of_mode(mode.text(), words))
-=======
-    words
-        .get(most.saturating_add(1))
-        .or(number_of_mode(mode.text(), words))
->>>>>>> theirs
 }
 
 fn write_word<W: Write>(f: &mut Formatter<W>, words: &[Name]) -> fmt::Result {
