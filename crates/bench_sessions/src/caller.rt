@@ -39,10 +39,12 @@ impl<D: Disk + Drop, U: Disk + Drop, C: Clock> Caller<D, U, C> {
 }
 
 /// Serves all callers to their ends, each on a thread of its own.
-pub fn serve_all<D: Disk + Drop + Send, U: Disk + Drop + Send, C: Clock + Send, R: Threads + Wait + Sync>(
-    rt: &R,
-    callers: &mut [Caller<D, U, C>],
-)
+pub fn serve_all<
+    D: Disk + Drop + Send,
+    U: Disk + Drop + Send,
+    C: Clock + Send,
+    R: Threads + Wait + Sync,
+>(rt: &R, callers: &mut [Caller<D, U, C>])
     ensures { AllServed C.told C.coming callers.old callers.new }
 {
     let threads = callers.len().max(1);

@@ -38,7 +38,11 @@ const ROOM: usize = 131_081 + 65_536 * 72 + 405_570;
 const CIRCUITS: u64 = 8 * 23;
 
 /// So many places at the state of an element on which 184 circuits stand.
-pub fn open_places<R: Wait>(alloc: Global, count: u16, rt: &R) -> Result<Vec<Place<MemDisk, MemDisk>>>
+pub fn open_places<R: Wait>(
+    alloc: Global,
+    count: u16,
+    rt: &R,
+) -> Result<Vec<Place<MemDisk, MemDisk>>>
     ensures { IfOk result (λ ps. vec_len ps ≡ count) }
 {
     ensure!(count > 0, "no session");
@@ -103,7 +107,9 @@ fn places_of<D: Disk + Drop, U: Disk + Drop>(
     for number in 0..count {
         let pass = passes.remove(0);
         let users_pass = users_passes.remove(0);
-        let place = place_of(alloc, number, pass, users_pass, shelf, fabric, &turns, &users)?;
+        let place = place_of(
+            alloc, number, pass, users_pass, shelf, fabric, &turns, &users,
+        )?;
         places.push_reserved(place);
     }
     Ok(places)
@@ -155,9 +161,7 @@ fn place_of<D: Disk + Drop, U: Disk + Drop>(
     ) else {
         return Err(NoMemory);
     };
-    Place::new(
-        alloc, pass, users_pass, number, shelf, fabric, turns, users,
-    )
+    Place::new(alloc, pass, users_pass, number, shelf, fabric, turns, users)
 }
 
 // The units that enter the circuits, behind a log-in.

@@ -114,10 +114,13 @@ module _ {U M : Type 0} (l : Language U M) (place : ℕ) (o : Opening) (excused 
   heard_alone g es nothing x h legal fails = (h.1, ap (λ (k : List UserEntry). users_after o (g ++ k)) h.0 ∙ ap (users_after o) (append-nil g))
   heard_alone g es (to_look uid pid) x h legal fails = (h.1, ap (λ (k : List UserEntry). users_after o (g ++ k)) h.0 ∙ users_more o g (entry place (op.Look uid) Answered))
   heard_alone g es (to_do what) x h legal fails =
-      let e = entry place what h.0 in
-      (h.0, legal_last o g e (subst (λ (k : List UserEntry). IsLegal o (g ++ k)) h.1 legal),
-      failed_excuses excused h.0 (λ one. subst (λ (k : List UserEntry). 1 ≤ failures k → excused) h.1 fails (omega (arith, one))), h.2,
-      ap (λ (k : List UserEntry). users_after o (g ++ k)) h.1 ∙ users_more o g e)
+      let e = entry place what h.0 in (
+        h.0,
+        legal_last o g e (subst (λ (k : List UserEntry). IsLegal o (g ++ k)) h.1 legal),
+        failed_excuses excused h.0 (λ one. subst (λ (k : List UserEntry). 1 ≤ failures k → excused) h.1 fails (omega (arith, one))),
+        h.2,
+        ap (λ (k : List UserEntry). users_after o (g ++ k)) h.1 ∙ users_more o g e,
+      )
 
   pub consults_played : (hs : List (Happening U)) (h : List UserEntry) (s : SessionUser) → Consults l place o [] hs h s → AllByRecursion (λ e. e.place ≡ place) h → IsLegal o h → (1 ≤ failures h → excused) → PlaysUsers l o.shelf.sid excused o.users Nobody hs (users_after o h) s
   consults_played _ _ _ consults_none mine legal fails = (refl, refl)
@@ -136,11 +139,11 @@ consults_alone l d place o is hs h s c history mine =
     let n = length (units_in hs) in
     let costs = consults_cost l place o hs h s c mine in
     let few : users_room_of n < d.room → failures h ≤ d.margin = λ roomy.
-        let room = is.room (omega (arith, roomy)) in
-        let margin = is.margin (omega (arith, roomy)) in
-        let later = is.later in
-        let fell = history.paid (omega (arith, roomy, room, costs)) in
-        omega (arith, fell, margin, later) in
+    let room = is.room (omega (arith, roomy)) in
+    let margin = is.margin (omega (arith, roomy)) in
+    let later = is.later in
+    let fell = history.paid (omega (arith, roomy, room, costs)) in
+    omega (arith, fell, margin, later) in
     record {
       history = h;
       heard = c;

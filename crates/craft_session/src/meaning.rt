@@ -230,11 +230,7 @@ fn on_users<U: Disk + Drop, G: Gate, R: Wait>(
 }
 
 /// Reads the rows of one user, or of all.
-fn list_users<U: Disk + Drop, R: Wait>(
-    users: &mut UserDesk<U>,
-    which: Option<Uid>,
-    rt: &R,
-) -> Ask
+fn list_users<U: Disk + Drop, R: Wait>(users: &mut UserDesk<U>, which: Option<Uid>, rt: &R) -> Ask
     requires no_rows { users.old.rows.items ≡ [] }
     ensures same { IsSameUserSeat users.old.seat users.new.seat }
     ensures asked { IsAsked users.old.seat (to_do (UserOp.Rows which)) heard_ask result users.new.rows.items users.new.seat.seen }

@@ -44,7 +44,11 @@ impl Display for Why<'_> {
             Status::BadJournal(JournalBad::Record(number)) => {
                 writeln!(f, "dxc: record {number}, counted from 0, makes no change")
             }
-            Status::BadJournal(JournalBad::UsersHeader(bytes)) => write_header(f, "users' journal", &bytes),
+            Status::BadJournal(JournalBad::UsersHeader(bytes)) => write_header(
+                f,
+                "users' journal",
+                &bytes,
+            ),
             Status::BadJournal(JournalBad::UsersRecord(number)) => writeln!(
                 f,
                 "dxc: record {number} of the users' journal, counted from 0, makes no change"

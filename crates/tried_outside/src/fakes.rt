@@ -126,8 +126,9 @@ fn an_opener_hands_out_a_peer_once(rt: HostRuntime) -> Result<(), Fail> {
         Vec::new(alloc),
     );
     let name = Name::of("standby".to_string(alloc)?);
-    let mut opener =
-        MemOpener::new(alloc, Vec::new(alloc)).with_peers(vec![in alloc; (name, link)]?);
+    let mut opener = MemOpener::new(alloc, Vec::new(alloc)).with_peers(vec![in alloc;
+        (name, link),
+    ]?);
     assert!(rt; matches!(opener.peer(alloc, "primary"), Opened::Failed));
     let Opened::Open(mut peer) = opener.peer(alloc, "standby") else {
         return Err("no peer was handed out".into());

@@ -48,7 +48,9 @@ pub fn server_fault<R: Threads + Wait + Copy + Send + 'static>(
 
 fn words(alloc: Global) -> Result<Vec<Name>> {
     let mut words = Vec::new(alloc);
-    for word in ["serve", "shelf", "journal", "anywhere", "lines", "1", "standby"] {
+    for word in [
+        "serve", "shelf", "journal", "anywhere", "lines", "1", "standby",
+    ] {
         words.push(Name::of(word.to_string(alloc)?))?;
     }
     Ok(words)

@@ -54,7 +54,11 @@ fn append(into: &mut Vec<u8>, text: &[u8]) -> Result<(), NoMemory>
 
 // A file of no bytes, no call on which fails.
 fn new_file(alloc: Global) -> Option<Arc<Mutex<MemFile>>> {
-    Arc::new(alloc, Mutex::new(MemFile::new(alloc, Vec::new(alloc), Fate::None))).ok()
+    Arc::new(
+        alloc,
+        Mutex::new(MemFile::new(alloc, Vec::new(alloc), Fate::None)),
+    )
+    .ok()
 }
 
 impl Opener for RowOpener {

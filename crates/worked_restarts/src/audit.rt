@@ -8,8 +8,8 @@ ghost use Rattle.craft_session.specs.Seats.{IsSeated, seat_at};
 
 use anyhow::{Result, bail};
 use dxc_disk::Disk;
-use dxc_num::{Middle, Port, Reg, Shape};
 use dxc_model::{Entry, Op, Outcome};
+use dxc_num::{Middle, Port, Reg, Shape};
 use fabric_words::{Fabric, MoverSeat};
 use std::alloc::Global;
 use std::marker::Model;

@@ -65,7 +65,14 @@ impl Element {
         let crew = crew_of(alloc, &fabric, seats)?;
         let sessions = row.sessions.len();
         ensure!(sessions < 100, "{sessions} sessions");
-        let (audit, places) = seat_all(alloc, &shelf, &fabric, state, users_disk(alloc)?, sessions as u16)?;
+        let (audit, places) = seat_all(
+            alloc,
+            &shelf,
+            &fabric,
+            state,
+            users_disk(alloc)?,
+            sessions as u16,
+        )?;
         Ok(Element {
             places,
             audit,
@@ -90,7 +97,14 @@ impl Element {
         let Some(state) = adopt(alloc, &shelf, &fabric, disk, seat)? else {
             return Ok(Heir::Strange);
         };
-        let (audit, places) = seat_all(alloc, &shelf, &fabric, state, users_disk(alloc)?, sessions as u16)?;
+        let (audit, places) = seat_all(
+            alloc,
+            &shelf,
+            &fabric,
+            state,
+            users_disk(alloc)?,
+            sessions as u16,
+        )?;
         Ok(Heir::Element(Element {
             places,
             audit,
@@ -113,7 +127,10 @@ fn adopt<D: Disk + Drop>(
     ensures begins { IfOk result (λ x. IfSome x (Begins D.told D.state)) }
     ensures opening { IfOk result (λ x. IfSome x (λ s. IsAtOpening (opening_of D.state s) (arc_value shelf.now) (arc_value fabric.now))) }
 {
-    ensure!(fabric.shape() == shelf.shape(), "the registers have another shape");
+    ensure!(
+        fabric.shape() == shelf.shape(),
+        "the registers have another shape"
+    );
     match Core::adopt(alloc, shelf, disk, seat, fabric) {
         Adopted::State(state) => Ok(Some(state)),
         Adopted::Strange(_, _) => Ok(None),
@@ -233,7 +250,15 @@ fn seat_all<D: Disk + Drop, U: Disk + Drop>(
     let audit = Audit::new(pass, Arc::try_clone(&turns)?, Arc::try_clone(fabric)?);
     let mut places = Vec::new(alloc);
     for number in 1..count + 1 {
-        places.push(next_place(alloc, number, &mut passes, &mut users, shelf, fabric, &turns)?)?;
+        places.push(next_place(
+            alloc,
+            number,
+            &mut passes,
+            &mut users,
+            shelf,
+            fabric,
+            &turns,
+        )?)?;
     }
     Ok((audit, places))
 }
@@ -299,9 +324,7 @@ pub fn next_place<D: Disk + Drop, U: Disk + Drop>(
     let fabric = Arc::try_clone(fabric)?;
     let turns = Arc::try_clone(turns)?;
     let users = Arc::try_clone(&users.turns)?;
-    Place::new(
-        alloc, pass, users_pass, number, shelf, fabric, turns, users,
-    )
+    Place::new(alloc, pass, users_pass, number, shelf, fabric, turns, users)
         .ok()
         .context("no memory")
 }

@@ -72,7 +72,9 @@ pub fn adoptions<R: Wait>(
             "session\nadopts\nuse login\nasked 0 0 0\nlast {frame}\nwords {words}\n"
         )?;
         let last = restart(alloc, course, point)?;
-        let text = format!(in alloc; "row a stop at place {asking}, and another controller\n{first}{found}{last}")?;
+        let text = format!(in alloc;
+            "row a stop at place {asking}, and another controller\n{first}{found}{last}"
+        )?;
         tally.run(alloc, rt, text.as_str())?;
     }
     Ok(())

@@ -9,6 +9,7 @@ use worked_common::NOON;
 
 /// The journals of a row.
 const JOURNAL: &str = "row.journal";
+
 const USERS: &str = "row.journal.users";
 
 /// Runs the row's runs on journals of its own. None where they did what they must, else what didn't hold.
@@ -71,11 +72,7 @@ fn fault_of<R: Threads + Wait + Copy + Send + 'static>(
 }
 
 // What is wrong with a journal behind the run, where the row says what it must be.
-fn journal_fault(
-    rt: &HostRuntime,
-    name: &str,
-    wanted: &Option<Vec<u8>>,
-) -> Result<Option<String>> {
+fn journal_fault(rt: &HostRuntime, name: &str, wanted: &Option<Vec<u8>>) -> Result<Option<String>> {
     let alloc = rt.alloc();
     let Some(wanted) = wanted else {
         return Ok(None);

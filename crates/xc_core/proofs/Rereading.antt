@@ -150,10 +150,10 @@ module _ {D : Type 0} (told : Type 0) (state : D → DiskState) (b : Past) (p : 
       own_failed t None before g r own = elim own [
         | inl done ↦ inl done
         | inr last ↦ inr (record {
-            whole = ap (λ (y : Book). y.to_mend) same_book ∙ last.whole;
-            still = ap (λ (y : Book). y.turning) same_book ∙ last.still;
-            comes = subst (λ (w : Head × List (List ℕ)). ComesTo b.fold.table.shape w.0 w.1 b.fold.table b.fold.colours r.work.ops.items) (λ i. (sym head_same i, sym (same t) i)) last.comes;
-          })
+          whole = ap (λ (y : Book). y.to_mend) same_book ∙ last.whole;
+          still = ap (λ (y : Book). y.turning) same_book ∙ last.still;
+          comes = subst (λ (w : Head × List (List ℕ)). ComesTo b.fold.table.shape w.0 w.1 b.fold.table b.fold.colours r.work.ops.items) (λ i. (sym head_same i, sym (same t) i)) last.comes;
+        })
       ]
       own_failed t (Some x) before g r own = own
 

@@ -240,7 +240,7 @@ module _ {D : Type 0} (state : D → DiskState) (b : Past) (p : Provisioner D) (
         let leads : d ≡ after_ops ops before = led ∙ sym way.leads ∙ ap (λ (os : List LegOp). after_ops os before) rolled in
         let made : OpsMade ops before d = (way.under_way.proper, subst (AreValidOps before) rolled way.under_way.valid, leads) in
         at_own None g before r way rolled c is (ops_once ops before c d made (last_undone c ops d is))
-            (λ q also. inr (subst (LastIs s book b) (rolled ∙ sym also) listed_last))
+        (λ q also. inr (subst (LastIs s book b) (rolled ∙ sym also) listed_last))
         )
   ]
   at_stage (Some x) g before r (op, asked, granted, met, is_g) way own led work last_read c is =

@@ -138,12 +138,12 @@ module _ {D : Type 0} (told : Type 0) (state : D → DiskState) (t : told) (b : 
       let k = h.known t in
       let w = k.way in
       ⊎_elim
-          (λ old. by_list old w.lacking w.past w.before w.rolling w.taken w.on_way k.own k.journal)
-          (λ other. ⊎_elim
-          (λ more. by_doubt more.0 more.1 w.lacking w.past w.before w.rolling w.taken w.on_way k.own k.journal)
-          (λ turn. by_rows turn.0 turn.1 w.lacking w.past w.before w.rolling w.taken w.on_way k.own k.journal)
-          other)
-          may
+      (λ old. by_list old w.lacking w.past w.before w.rolling w.taken w.on_way k.own k.journal)
+      (λ other. ⊎_elim
+      (λ more. by_doubt more.0 more.1 w.lacking w.past w.before w.rolling w.taken w.on_way k.own k.journal)
+      (λ turn. by_rows turn.0 turn.1 w.lacking w.past w.before w.rolling w.taken w.on_way k.own k.journal)
+      other)
+      may
 
 -- home or halted
 pub stopped_adopted : {D : Type 0} (told : Type 0) (state : D → DiskState) → told → (b : Past) (p : Provisioner D) → IsHome told state b p ⊎ IsHalted told state b p → (file : List ℕ) → MayStand p.journal.1 (listed p.journal.1 (state p.journal.0).reads_as) (doubted p.journal.1 (state p.journal.0).reads_as) (rows p.journal.1 (state p.journal.0).reads_as) file
@@ -171,9 +171,9 @@ module _ {D : Type 0} (told : Type 0) (state : D → DiskState) (t : told) (b : 
       let book = p.journal.1 in
       let here : file ≡ s.reads_as = last_moment primary.before primary.file file moment (omega (arith, le, answered)) at ∙ reads in
       let may = ⊎_elim
-          (λ halted. kept_stands s book halted.past.book (halted_kept told state b p halted t) s.reads_as disk.reads_now)
-          (λ marked. kept_stands s book marked.past.book (halted_kept told state b (with_halt true p) marked t) s.reads_as disk.reads_now)
-          (stopped is) in
+      (λ halted. kept_stands s book halted.past.book (halted_kept told state b p halted t) s.reads_as disk.reads_now)
+      (λ marked. kept_stands s book marked.past.book (halted_kept told state b (with_halt true p) marked t) s.reads_as disk.reads_now)
+      (stopped is) in
       subst (λ (f : List ℕ). MayStand book (listed book s.reads_as) (doubted book s.reads_as) (rows book s.reads_as) f) (sym here) may
 
   pub standby_adopted : IsHome told state b p ⊎ IsHalted told state b p → (pair : Pair) → KeepsUp pair → IsMirrored (state p.journal.0) p.journal.1 pair.primary

@@ -10,12 +10,12 @@ use Rattle.craft_session.proofs.Consulted.{asked_nothing}
 use Rattle.craft_session.proofs.meaning.served.Goals as goal
 
 pub returns-then-is_other_user-clause-asked : goal.returns-then-is_other_user-clause-asked
-returns-then-is_other_user-clause-asked g c = 
+returns-then-is_other_user-clause-asked g c =
     let other : is_other_user c.args.user.now (text_at c.args.unit.now c.in-CancUser.uid) ≡ true = sym (c.is_other_user.ensures ∙ ap (is_other_user c.args.user.now) c.text-in-CancUser.ensures) ∙ c.if-is_other_user.true in
     asked_nothing _ _ _ _ _ (ap (λ (k : Command). session_wants (asked_by c.args.unit.now k)) c.in-CancUser.is) (sym (ap (λ (k : Command). session_ask c.args.user.now unasked (asked_by c.args.unit.now k)) c.in-CancUser.is ∙ ap (λ (b : Bool). if b then Refused OtherUser else LogsOut) other)) c.requires.no_rows
 
 pub returns-else-is_other_user-clause-asked : goal.returns-else-is_other_user-clause-asked
-returns-else-is_other_user-clause-asked g c = 
+returns-else-is_other_user-clause-asked g c =
     let other : is_other_user c.args.user.now (text_at c.args.unit.now c.in-CancUser.uid) ≡ false = sym (c.is_other_user.ensures ∙ ap (is_other_user c.args.user.now) c.text-in-CancUser.ensures) ∙ c.if-is_other_user.false in
     asked_nothing _ _ _ _ _ (ap (λ (k : Command). session_wants (asked_by c.args.unit.now k)) c.in-CancUser.is) (sym (ap (λ (k : Command). session_ask c.args.user.now unasked (asked_by c.args.unit.now k)) c.in-CancUser.is ∙ ap (λ (b : Bool). if b then Refused OtherUser else LogsOut) other)) c.requires.no_rows
 

@@ -34,7 +34,6 @@ returns-in-Err-BadRecord-clause-fails g c told =
 -- what a test of the header and the records accepts, for the shelf's shape
 
 passing_as : (d e : Dimensions) (test : Head → List (List ℕ) → Bool) (a b : DiskState) → d ≡ e → (Leaves a (Passing d test) → LeavesOnly a b (Passing d test)) → Leaves a (Passing e test) → LeavesOnly a b (Passing e test)
-
 passing_as d e test a b same passes = subst (λ (x : Dimensions). Leaves a (Passing x test) → LeavesOnly a b (Passing x test)) same passes
 
 pub returns-in-Err-clause-passing : goal.returns-in-Err-clause-passing

@@ -54,7 +54,7 @@ returns-clause-ok g c =
     let joins = joined.2 ∙ ap (λ (y : Driver g.row.D.Denot). switches_in (joins_of y.p.matrix)) e in
     let behind = c.join_all.ensures.others ∙ ap (λ (y : Driver g.row.D.Denot). record (y.p) { mover = q.mover; spent = q.spent }) e ∙ ap (λ (p : Provisioner g.row.D.Denot). record p { mover = q.mover; spent = q.spent }) r.held in
     opened g.D.Disk.told g.D.Disk.state c.args.shelf.now (g.D.Disk.state c.args.disk) c.args.mover x r (λ told. g.met.D.Disk.is_disk r.journal.0 told)
-        q.mover rest joins c.args.fabric.now q.spent c.of-origin.result d joined.0 c.join_all.ensures.spent behind c.of-origin.ensures.table (c.of-origin.ensures.provisioner ∙ ap (λ (y : Driver g.row.D.Denot). y.p) c.deref.ensures) c.of-origin.ensures.last
+    q.mover rest joins c.args.fabric.now q.spent c.of-origin.result d joined.0 c.join_all.ensures.spent behind c.of-origin.ensures.table (c.of-origin.ensures.provisioner ∙ ap (λ (y : Driver g.row.D.Denot). y.p) c.deref.ensures) c.of-origin.ensures.last
 
 -- the journal is the one that was read
 journal_is : (g : given.Over) (c : goal.After-of-origin g) → c.join_all.new.p.journal ≡ c.in-Ok.read.p.journal
