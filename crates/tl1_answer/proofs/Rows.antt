@@ -1,13 +1,10 @@
 -- Rows and denials behind what a block holds already.
 use Rattle.std.proofs.Common.{◌≡◌, ℕ, List, [], ◌∷◌, ◌++◌, codes, refl, sym, ◌∙◌, ap, append_assoc}
 use Rattle.dxc_num.specs.Dimensions.{Dimensions}
-use Rattle.dxc_model.specs.declared.cause.Cause.{Cause}
 use Rattle.dxc_model.specs.declared.conn.Conn.{Conn}
-use Rattle.dxc_model.specs.Causes.{row_of}
 use Rattle.dxc_aid.specs.Names.{port_name}
 use Rattle.tl1_answer.specs.Messages.{with_line}
 use Rattle.tl1_answer.specs.Texts.{cct_text, with_label, with_conn, row_text}
-use Rattle.tl1_answer.specs.Responses.{with_lines, denial}
 use Rattle.tl1_answer.proofs.Headers.{behind, behind_front}
 
 label_behind : (front text label : List ℕ) → with_label (front ++ text) label ≡ front ++ with_label text label
