@@ -1,5 +1,5 @@
 //! The opening of an element on a disk, with a place for each session of a row.
-ghost use Rattle.std.specs.Prelude.{◌≡◌, ◌≤◌, ◌<◌, ◌+◌, IfOk, IfSome, ℕ, [], length, true};
+ghost use Rattle.std.specs.Prelude.{◌≡◌, ◌≤◌, ◌<◌, ◌+◌, IfOk, ℕ, [], length, true};
 ghost use Rattle.std.specs.Arc.{arc_value};
 ghost use Rattle.fabric_core.specs.State.{new_worker};
 ghost use Rattle.fabric_words.specs.New.{AreNew};
@@ -9,7 +9,7 @@ ghost use Rattle.xc_core.specs.Openings.{Begins};
 ghost use Rattle.xc_core.specs.States.{opening_of};
 ghost use Rattle.craft_server.specs.Places.{AreFresh, IsAtOpening};
 
-use crate::audit::{Audit, Released};
+use crate::audit::Audit;
 use crate::carriage::Carriage;
 use crate::carrier::Carrier;
 use crate::crew::Crew;
@@ -20,12 +20,12 @@ use anyhow::{Context, Result, bail, ensure};
 use craft_session::Place;
 use dxc_disk::{Disk, MemDisk};
 use dxc_outside::AlwaysGo;
-use fabric_words::{Fabric, MoverSeat, WorkerSeat};
+use fabric_words::{Fabric, WorkerSeat};
 use shelf_file::{Shelf, shelf_of};
 use std::alloc::Global;
-use std::sync::{Arc, Wait};
+use std::sync::Arc;
 use turnstile::{Pass, Turnstile};
-use xc_core::{Adopted, Core, State};
+use xc_core::{Core, State};
 
 /// The turnstile of an element.
 pub type Turns<D> = Arc<Turnstile<State<D>>>;
@@ -38,15 +38,6 @@ pub struct Element {
     pub audit: Audit<RowDisk>,
     pub gate: Carrier,
     pub levers: Arc<Levers>,
-    shelf: Arc<Shelf>,
-}
-
-/// What came of handing an element's registers to another controller.
-#[derive(Drop)]
-pub enum Heir {
-    Element(Element),
-    /// The journal's last record has no stage at which they are.
-    Strange,
 }
 
 impl Element {
@@ -69,53 +60,7 @@ impl Element {
             audit,
             gate: Carrier::new(alloc, crew),
             levers,
-            shelf,
         })
-    }
-
-    /// Ends the controller, and another one goes on with its disk and its registers, with as many places.
-    pub fn handed_on<R: Wait>(self, alloc: Global, rt: &R) -> Result<Heir> {
-        let Element {
-            places,
-            audit,
-            gate,
-            levers,
-            shelf,
-        } = self;
-        let sessions = places.len();
-        ensure!(sessions < 100, "{sessions} sessions");
-        let Released { disk, seat, fabric } = audit.release(rt)?;
-        let Some(state) = adopt(alloc, &shelf, &fabric, disk, seat)? else {
-            return Ok(Heir::Strange);
-        };
-        let (audit, places) = seat_all(alloc, &shelf, &fabric, state, sessions as u16)?;
-        Ok(Heir::Element(Element {
-            places,
-            audit,
-            gate,
-            levers,
-            shelf,
-        }))
-    }
-}
-
-// The controller that goes on with disk and registers; None where these are strange to the journal.
-fn adopt<D: Disk + Drop>(
-    alloc: Global,
-    shelf: &Arc<Shelf>,
-    fabric: &Arc<Fabric>,
-    disk: D,
-    seat: MoverSeat,
-) -> Result<Option<State<D>>>
-    requires own { seat.fabric ≡ arc_value fabric.now }
-    ensures begins { IfOk result (λ x. IfSome x (Begins D.told D.state)) }
-    ensures opening { IfOk result (λ x. IfSome x (λ s. IsAtOpening (opening_of D.state s) (arc_value shelf.now) (arc_value fabric.now))) }
-{
-    ensure!(fabric.shape() == shelf.shape(), "the registers have another shape");
-    match Core::adopt(alloc, shelf, disk, seat, fabric) {
-        Adopted::State(state) => Ok(Some(state)),
-        Adopted::Strange(_, _) => Ok(None),
-        Adopted::Open(_) => bail!("not opened"),
     }
 }
 
