@@ -1,5 +1,5 @@
 //! What the registers hold between sessions.
-ghost use Rattle.std.specs.Prelude.{◌≡◌, ◌↔◌, IfOk, IfSome, IsTrue, List};
+ghost use Rattle.std.specs.Prelude.{◌≡◌, ◌↔◌, IsTrue, List};
 ghost use Rattle.std.specs.Arc.{arc_value};
 ghost use Rattle.dxc_model.specs.declared.entry.Entry.{Entry};
 ghost use Rattle.fabric_words.specs.Places.{IsRegInside};
@@ -8,14 +8,19 @@ ghost use Rattle.craft_session.specs.Seats.{IsSeated, seat_at};
 
 use anyhow::{Result, bail};
 use dxc_disk::Disk;
+<<<<<<< HEAD
 use dxc_model::{Entry, Op, Outcome};
 use dxc_num::{Middle, Port, Reg, Shape};
 use fabric_words::{Fabric, MoverSeat};
+=======
+use dxc_num::{Middle, Port, Reg, Shape};
+use fabric_words::Fabric;
+>>>>>>> 7b122479a3efcecd5da56c6b54349877fe90037e
 use std::alloc::Global;
 use std::marker::Model;
 use std::sync::{Arc, Wait};
 use turnstile::{Pass, Turnstile};
-use xc_core::{Driver, Provisioner, State, release};
+use xc_core::{Provisioner, State};
 
 /// One who looks at all registers in a turn.
 #[derive(Drop)]
@@ -54,62 +59,6 @@ impl<D: Disk + Drop> Audit<D> {
     /// All register words: IN by module and middle, MID by middle and module, OUT by port.
     pub fn words<R: Wait>(&mut self, alloc: Global, rt: &R) -> Result<Vec<u64>> {
         words_in_turn(alloc, &mut self.pass, &self.turns, &self.fabric, rt)
-    }
-}
-
-/// What a controller's end leaves: the journal's disk, the registers, and the seat of the one who writes them.
-#[derive(Drop)]
-pub struct Released<D: Disk> {
-    pub disk: D,
-    pub seat: MoverSeat,
-    pub fabric: Arc<Fabric>,
-}
-
-impl<D: Disk + Drop> Audit<D> {
-    /// Ends the controller between sessions: nobody makes a change at its state any more.
-    pub fn release<R: Wait>(self, rt: &R) -> Result<Released<D>>
-        ensures { IfOk result (λ r. r.seat.fabric ≡ arc_value r.fabric) }
-    {
-        let Audit {
-            pass,
-            turns,
-            fabric,
-        } = self;
-        let mut pass = pass;
-        let Some(driver) = taken_out(&mut pass, &turns, &fabric, rt) else {
-            bail!("the Provisioner is out");
-        };
-        let Driver { p, rolling: _ } = Box::into_inner(driver);
-        let (disk, seat) = release(p);
-        Ok(Released { disk, seat, fabric })
-    }
-}
-
-// The state's Provisioner, which a turn of the pass takes out for good.
-fn taken_out<D: Disk + Drop, R: Wait>(
-    pass: &mut Pass,
-    turns: &Turnstile<State<D>>,
-    fabric: &Fabric,
-    rt: &R,
-) -> Option<Box<Driver<D>>>
-    requires { IsSeated D.told D.state pass.old turns.now fabric.now }
-    ensures { IfSome result (λ d. d.value.p.mover.fabric ≡ fabric.now) }
-{
-    let _ = fabric;
-    let mut turn = turns.enter(pass, rt);
-    let found = turn.state_mut().take_out();
-    let place = pass.number();
-    let op = Op::Restart;
-    let outcome = Outcome::Taken;
-    match found {
-        Some(driver) => {
-            turns.leave(pass, turn, Entry { place, op, outcome });
-            Some(driver)
-        }
-        None => {
-            turns.back(pass, turn);
-            None
-        }
     }
 }
 

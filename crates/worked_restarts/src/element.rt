@@ -1,5 +1,5 @@
 //! The opening of an element on a disk, with a place for each session of a row.
-ghost use Rattle.std.specs.Prelude.{◌≡◌, ◌≤◌, ◌<◌, ◌+◌, IfOk, IfSome, ℕ, [], length, true};
+ghost use Rattle.std.specs.Prelude.{◌≡◌, ◌≤◌, ◌<◌, ◌+◌, IfOk, ℕ, [], length, true};
 ghost use Rattle.std.specs.Arc.{arc_value};
 ghost use Rattle.fabric_core.specs.State.{new_worker};
 ghost use Rattle.fabric_words.specs.New.{AreNew};
@@ -10,7 +10,7 @@ ghost use Rattle.xc_core.specs.Openings.{Begins};
 ghost use Rattle.xc_core.specs.States.{opening_of};
 ghost use Rattle.craft_server.specs.Places.{AreFresh, IsAtOpening};
 
-use crate::audit::{Audit, Released};
+use crate::audit::Audit;
 use crate::carriage::Carriage;
 use crate::carrier::Carrier;
 use crate::crew::Crew;
@@ -22,12 +22,18 @@ use anyhow::{Context, Result, bail, ensure};
 use craft_session::Place;
 use dxc_disk::{Disk, MemDisk};
 use dxc_outside::AlwaysGo;
-use fabric_words::{Fabric, MoverSeat, WorkerSeat};
+use fabric_words::{Fabric, WorkerSeat};
 use shelf_file::{Shelf, shelf_of};
 use std::alloc::Global;
+<<<<<<< HEAD
 use std::sync::{Arc, Wait};
 use turnstile::{Pass, Sequential, Turnstile};
 use xc_core::{Adopted, Core, State};
+=======
+use std::sync::Arc;
+use turnstile::{Pass, Turnstile};
+use xc_core::{Core, State};
+>>>>>>> 7b122479a3efcecd5da56c6b54349877fe90037e
 
 /// The turnstile of an element.
 pub type Turns<D> = Arc<Turnstile<State<D>>>;
@@ -40,15 +46,6 @@ pub struct Element {
     pub audit: Audit<RowDisk>,
     pub gate: Carrier,
     pub levers: Arc<Levers>,
-    shelf: Arc<Shelf>,
-}
-
-/// What came of handing an element's registers to another controller.
-#[derive(Drop)]
-pub enum Heir {
-    Element(Element),
-    /// The journal's last record has no stage at which they are.
-    Strange,
 }
 
 impl Element {
@@ -78,9 +75,9 @@ impl Element {
             audit,
             gate: Carrier::new(alloc, crew),
             levers,
-            shelf,
         })
     }
+<<<<<<< HEAD
 
     /// Ends the controller, and another one goes on with its disk and its registers, with as many places and with the shelf's users.
     pub fn handed_on<R: Wait>(self, alloc: Global, rt: &R) -> Result<Heir> {
@@ -136,6 +133,8 @@ fn adopt<D: Disk + Drop>(
         Adopted::Strange(_, _) => Ok(None),
         Adopted::Open(_) => bail!("not opened"),
     }
+=======
+>>>>>>> 7b122479a3efcecd5da56c6b54349877fe90037e
 }
 
 /// A controller that has started, on a new fabric with a seat for each worker.

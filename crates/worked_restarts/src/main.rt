@@ -45,7 +45,6 @@ fn main(rt: HostRuntime) -> Result<()> {
     );
     tally.run(alloc, &rt, rows.as_str())?;
     stops::restarts(alloc, &rt, &course, &mut tally)?;
-    stops::adoptions(alloc, &rt, &course, &mut tally)?;
     stops::second_stops(alloc, &rt, &course, &mut tally)?;
     changes::changes(alloc, &rt, &course, &mut tally)?;
     faults::faults(alloc, &rt, &course, &mut tally)?;

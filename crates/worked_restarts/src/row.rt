@@ -16,10 +16,6 @@ pub struct Share {
 #[derive(Drop)]
 pub struct Session {
     pub input: Vec<u8>,
-    /// Whether another controller takes over before it.
-    pub adopts: bool,
-    /// Whether one is to find the registers strange, and the row ends.
-    pub strange: bool,
     /// The asking, from 0, at which the gate stops.
     pub stop: Option<u64>,
     /// The call of the disk, from 0, that fails.
@@ -92,8 +88,6 @@ impl Session {
     fn new(alloc: Global) -> Session {
         Session {
             input: Vec::new(alloc),
-            adopts: false,
-            strange: false,
             stop: None,
             failing: None,
             shows: false,
@@ -111,8 +105,6 @@ impl Session {
     fn take(&mut self, alloc: Global, word: &str, rest: &str) -> Result<()> {
         match word {
             "send" => self.input.extend_from_slice(rest.as_bytes())?,
-            "adopts" => self.adopts = true,
-            "strange" => self.strange = true,
             "stop" => self.stop = Some(rest.parse::<u64>()?),
             "fails" => self.failing = Some(rest.parse::<u64>()?),
             "shows" => self.shows = true,

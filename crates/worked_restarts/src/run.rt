@@ -1,11 +1,11 @@
-use crate::element::{Element, Heir};
+use crate::element::Element;
 use crate::row::{Row, Session};
 use anyhow::{Context, Result};
 use craft_session::{Place, SessionEnd, serve_session};
 use dxc_disk::Disk;
 use dxc_outside::{Gate, MemClock, MemLink, Moment};
 use std::alloc::Global;
-use std::sync::{Arc, Wait};
+use std::sync::Wait;
 
 const NOON: Moment = Moment {
     year: 26,
@@ -28,41 +28,15 @@ pub struct Ran {
 /// Opens an element for the row and serves its sessions.
 pub fn run_row<R: Wait>(alloc: Global, rt: &R, row: &Row) -> Result<Ran> {
     let mut element = Element::open(alloc, row)?;
-    let levers = Arc::try_clone(&element.levers)?;
     let mut why = None;
     for (number, session) in row.sessions.iter().enumerate() {
-        match heir_of(alloc, rt, element, session)? {
-            Heir::Element(next) => element = next,
-            Heir::Strange => {
-                let calls = levers.calls();
-                let why = strange_otherwise(alloc, session, true)?;
-                return Ok(Ran { why, calls });
-            }
-        }
         if let Some(what) = serve(alloc, rt, &mut element, number, session)? {
             why = Some(format!(in alloc; "session {number}: {what}")?);
             break;
         }
     }
-    let calls = levers.calls();
+    let calls = element.levers.calls();
     Ok(Ran { why, calls })
-}
-
-// The element at which a session is served: another controller's, where the session says so.
-fn heir_of<R: Wait>(alloc: Global, rt: &R, element: Element, session: &Session) -> Result<Heir> {
-    if !session.adopts && !session.strange {
-        return Ok(Heir::Element(element));
-    }
-    element.levers.set(session.failing, session.shows);
-    element.handed_on(alloc, rt)
-}
-
-// What is otherwise where another controller found the registers strange, or not.
-fn strange_otherwise(alloc: Global, session: &Session, strange: bool) -> Result<Option<String>> {
-    if session.strange == strange {
-        return Ok(None);
-    }
-    Ok(Some(format!(in alloc; "that the registers are strange was {strange}")?))
 }
 
 // Serves one session at the place of that number. Some: what isn't as it must be.
@@ -73,10 +47,6 @@ fn serve<R: Wait>(
     number: usize,
     session: &Session,
 ) -> Result<Option<String>> {
-    let why = strange_otherwise(alloc, session, false)?;
-    if why.is_some() {
-        return Ok(why);
-    }
     element.gate.set(alloc, session)?;
     element.levers.set(session.failing, session.shows);
     let place = element.places.get_mut(number).context("no place is left")?;

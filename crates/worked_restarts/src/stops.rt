@@ -56,6 +56,7 @@ pub fn restarts<R: Wait>(
     Ok(())
 }
 
+<<<<<<< HEAD
 /// A stop at each place of the entry, another controller on its disk and registers, and a restart.
 pub fn adoptions<R: Wait>(
     alloc: Global,
@@ -80,6 +81,8 @@ pub fn adoptions<R: Wait>(
     Ok(())
 }
 
+=======
+>>>>>>> 7b122479a3efcecd5da56c6b54349877fe90037e
 /// A stop at each place of the entry, one at each place of its restart, and a restart.
 pub fn second_stops<R: Wait>(
     alloc: Global,
