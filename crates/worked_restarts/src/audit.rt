@@ -8,14 +8,8 @@ ghost use Rattle.craft_session.specs.Seats.{IsSeated, seat_at};
 
 use anyhow::{Result, bail};
 use dxc_disk::Disk;
-<<<<<<< HEAD
-use dxc_model::{Entry, Op, Outcome};
-use dxc_num::{Middle, Port, Reg, Shape};
-use fabric_words::{Fabric, MoverSeat};
-=======
 use dxc_num::{Middle, Port, Reg, Shape};
 use fabric_words::Fabric;
->>>>>>> 7b122479a3efcecd5da56c6b54349877fe90037e
 use std::alloc::Global;
 use std::marker::Model;
 use std::sync::{Arc, Wait};

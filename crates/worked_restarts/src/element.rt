@@ -25,15 +25,9 @@ use dxc_outside::AlwaysGo;
 use fabric_words::{Fabric, WorkerSeat};
 use shelf_file::{Shelf, shelf_of};
 use std::alloc::Global;
-<<<<<<< HEAD
-use std::sync::{Arc, Wait};
-use turnstile::{Pass, Sequential, Turnstile};
-use xc_core::{Adopted, Core, State};
-=======
 use std::sync::Arc;
-use turnstile::{Pass, Turnstile};
+use turnstile::{Pass, Sequential, Turnstile};
 use xc_core::{Core, State};
->>>>>>> 7b122479a3efcecd5da56c6b54349877fe90037e
 
 /// The turnstile of an element.
 pub type Turns<D> = Arc<Turnstile<State<D>>>;
@@ -62,14 +56,7 @@ impl Element {
         let crew = crew_of(alloc, &fabric, seats)?;
         let sessions = row.sessions.len();
         ensure!(sessions < 100, "{sessions} sessions");
-        let (audit, places) = seat_all(
-            alloc,
-            &shelf,
-            &fabric,
-            state,
-            users_disk(alloc)?,
-            sessions as u16,
-        )?;
+        let (audit, places) = seat_all(alloc, &shelf, &fabric, state, users_disk(alloc)?, sessions as u16)?;
         Ok(Element {
             places,
             audit,
@@ -77,64 +64,6 @@ impl Element {
             levers,
         })
     }
-<<<<<<< HEAD
-
-    /// Ends the controller, and another one goes on with its disk and its registers, with as many places and with the shelf's users.
-    pub fn handed_on<R: Wait>(self, alloc: Global, rt: &R) -> Result<Heir> {
-        let Element {
-            places,
-            audit,
-            gate,
-            levers,
-            shelf,
-        } = self;
-        let sessions = places.len();
-        ensure!(sessions < 100, "{sessions} sessions");
-        let Released { disk, seat, fabric } = audit.release(rt)?;
-        let Some(state) = adopt(alloc, &shelf, &fabric, disk, seat)? else {
-            return Ok(Heir::Strange);
-        };
-        let (audit, places) = seat_all(
-            alloc,
-            &shelf,
-            &fabric,
-            state,
-            users_disk(alloc)?,
-            sessions as u16,
-        )?;
-        Ok(Heir::Element(Element {
-            places,
-            audit,
-            gate,
-            levers,
-            shelf,
-        }))
-    }
-}
-
-// The controller that goes on with disk and registers; None where these are strange to the journal.
-fn adopt<D: Disk + Drop>(
-    alloc: Global,
-    shelf: &Arc<Shelf>,
-    fabric: &Arc<Fabric>,
-    disk: D,
-    seat: MoverSeat,
-) -> Result<Option<State<D>>>
-    requires own { seat.fabric ≡ arc_value fabric.now }
-    ensures begins { IfOk result (λ x. IfSome x (Begins D.told D.state)) }
-    ensures opening { IfOk result (λ x. IfSome x (λ s. IsAtOpening (opening_of D.state s) (arc_value shelf.now) (arc_value fabric.now))) }
-{
-    ensure!(
-        fabric.shape() == shelf.shape(),
-        "the registers have another shape"
-    );
-    match Core::adopt(alloc, shelf, disk, seat, fabric) {
-        Adopted::State(state) => Ok(Some(state)),
-        Adopted::Strange(_, _) => Ok(None),
-        Adopted::Open(_) => bail!("not opened"),
-    }
-=======
->>>>>>> 7b122479a3efcecd5da56c6b54349877fe90037e
 }
 
 /// A controller that has started, on a new fabric with a seat for each worker.
@@ -249,15 +178,7 @@ fn seat_all<D: Disk + Drop, U: Disk + Drop>(
     let audit = Audit::new(pass, Arc::try_clone(&turns)?, Arc::try_clone(fabric)?);
     let mut places = Vec::new(alloc);
     for number in 1..count + 1 {
-        places.push(next_place(
-            alloc,
-            number,
-            &mut passes,
-            &mut users,
-            shelf,
-            fabric,
-            &turns,
-        )?)?;
+        places.push(next_place(alloc, number, &mut passes, &mut users, shelf, fabric, &turns)?)?;
     }
     Ok((audit, places))
 }
@@ -323,7 +244,9 @@ pub fn next_place<D: Disk + Drop, U: Disk + Drop>(
     let fabric = Arc::try_clone(fabric)?;
     let turns = Arc::try_clone(turns)?;
     let users = Arc::try_clone(&users.turns)?;
-    Place::new(alloc, pass, users_pass, number, shelf, fabric, turns, users)
+    Place::new(
+        alloc, pass, users_pass, number, shelf, fabric, turns, users,
+    )
         .ok()
         .context("no memory")
 }

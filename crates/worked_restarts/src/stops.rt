@@ -56,33 +56,6 @@ pub fn restarts<R: Wait>(
     Ok(())
 }
 
-<<<<<<< HEAD
-/// A stop at each place of the entry, another controller on its disk and registers, and a restart.
-pub fn adoptions<R: Wait>(
-    alloc: Global,
-    rt: &R,
-    course: &Course,
-    tally: &mut Tally<'_>,
-) -> Result<()> {
-    for asking in 0..PLACES {
-        let first = fifth(alloc, course, asking)?;
-        let point = Point::at(asking);
-        let frame = point.frame();
-        let words = course.words_after(alloc, point.made)?;
-        let found = format!(in alloc;
-            "session\nadopts\nuse login\nasked 0 0 0\nlast {frame}\nwords {words}\n"
-        )?;
-        let last = restart(alloc, course, point)?;
-        let text = format!(in alloc;
-            "row a stop at place {asking}, and another controller\n{first}{found}{last}"
-        )?;
-        tally.run(alloc, rt, text.as_str())?;
-    }
-    Ok(())
-}
-
-=======
->>>>>>> 7b122479a3efcecd5da56c6b54349877fe90037e
 /// A stop at each place of the entry, one at each place of its restart, and a restart.
 pub fn second_stops<R: Wait>(
     alloc: Global,
