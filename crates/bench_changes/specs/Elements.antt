@@ -7,7 +7,7 @@ use Rattle.xc_core.specs.declared.provisioner.Provisioner.{Provisioner}
 use Rattle.xc_core.specs.declared.state.State.{State}
 use Rattle.xc_core.specs.Reckonings.{Past}
 use Rattle.xc_core.specs.Provisioners.{IsHome}
-use Rattle.xc_core.specs.States.{Stands, opening_of}
+use Rattle.xc_core.specs.States.{StandsFor, opening_of}
 use Rattle.dxc_num.specs.declared.port.Leg.{Leg}
 use Rattle.dxc_num.specs.declared.port.Middle.{Middle}
 use Rattle.dxc_model.specs.declared.conn.Cct.TheVariants.{OneWay}
@@ -29,7 +29,7 @@ pub record IsAtTable {D : Type 0} (told : Type 0) (state : D → DiskState) (s :
 -- nothing happened since its opening on this fabric
 pub record IsNew {D : Type 0} (told : Type 0) (state : D → DiskState) (f : FabricId) (s : State D) : Type 0 where
   pub fabric : (opening_of state s).site.fabric ≡ f
-  pub stands : Stands told state s []
+  pub stands : StandsFor told state (opening_of state s) s []
 
 -- and writes this fabric
 abbrev pub IsTaken : {D : Type 0} → Type 0 → (D → DiskState) → FabricId → State D → Provisioner D → Type 0
