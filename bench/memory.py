@@ -79,7 +79,7 @@ def refused_in_turn(folder, library, mode):
     ended = number = 0
     while True:
         number += 1
-        for name in (journal, reached):
+        for name in (journal, journal + ".users", reached):
             if os.path.exists(name):
                 os.remove(name)
         made = run(["script", SHELF, journal], "ACT-USER::ANNA:1::bc;ENT-CRS-T0::DS0-1-1,DS0-2-1:2;")

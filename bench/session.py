@@ -85,10 +85,17 @@ def streams(units):
     yield "changes beside 1,000 connections", LOG_IN + entered(1000) + changes(units), False
 
 
+def begin_anew(journal):
+    """Removes the journal, and that of the users beside it."""
+    for name in (journal, journal + ".users"):
+        if os.path.exists(name):
+            os.remove(name)
+
+
 def measured(command, stream, journal=None):
     """Seconds and the largest resident memory in KiB of a command that reads the stream, on a new journal."""
-    if journal and os.path.exists(journal):
-        os.remove(journal)
+    if journal:
+        begin_anew(journal)
     memory = 0
     with open(stream, "rb") as given, open(os.devnull, "wb") as taken:
         start = time.perf_counter()
@@ -108,8 +115,7 @@ def instructions(shelf, stream, journal, text):
     """Instructions of the program over a stream."""
     with open(stream, "w") as file:
         file.write(text)
-    if os.path.exists(journal):
-        os.remove(journal)
+    begin_anew(journal)
     command = ["valgrind", "--tool=callgrind", "--callgrind-out-file=/dev/null", PROGRAM, "script", shelf, journal]
     with open(stream, "rb") as given:
         ended = subprocess.run(command, stdin=given, stdout=subprocess.DEVNULL, stderr=subprocess.PIPE, text=True, check=True)

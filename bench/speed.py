@@ -74,7 +74,7 @@ MEMORY_KIB = {(8, 24): 2356, (32, 32): 2400, (64, 96): None}
 
 
 class Room:
-    """A folder in memory with a shelf file, and a journal that is new for each run."""
+    """A folder in memory with a shelf file, and journals that are new for each run."""
 
     def __init__(self, folder):
         self.shelf, self.journal = os.path.join(folder, "shelf.toml"), os.path.join(folder, "journal")
@@ -85,8 +85,9 @@ class Room:
             file.write(f'sid = "BENCH"\nmodules = {shape[0]}\nslots = {shape[1]}\n')
             for uid, kind in (("ANNA", "S"), ("BEN", "P"), ("CARA", "R")):
                 file.write(f'[[user]]\nuid = "{uid}"\nclass = "{kind}"\nsalt = "61"\ndigest = "{DIGEST}"\n')
-        if os.path.exists(self.journal):
-            os.unlink(self.journal)
+        for name in (self.journal, self.journal + ".users"):
+            if os.path.exists(name):
+                os.unlink(name)
         return [PROGRAM, "script", self.shelf, self.journal]
 
 
