@@ -56,7 +56,14 @@ impl Element {
         let crew = crew_of(alloc, &fabric, seats)?;
         let sessions = row.sessions.len();
         ensure!(sessions < 100, "{sessions} sessions");
-        let (audit, places) = seat_all(alloc, &shelf, &fabric, state, users_disk(alloc)?, sessions as u16)?;
+        let (audit, places) = seat_all(
+            alloc,
+            &shelf,
+            &fabric,
+            state,
+            users_disk(alloc)?,
+            sessions as u16,
+        )?;
         Ok(Element {
             places,
             audit,
@@ -178,7 +185,15 @@ fn seat_all<D: Disk + Drop, U: Disk + Drop>(
     let audit = Audit::new(pass, Arc::try_clone(&turns)?, Arc::try_clone(fabric)?);
     let mut places = Vec::new(alloc);
     for number in 1..count + 1 {
-        places.push(next_place(alloc, number, &mut passes, &mut users, shelf, fabric, &turns)?)?;
+        places.push(next_place(
+            alloc,
+            number,
+            &mut passes,
+            &mut users,
+            shelf,
+            fabric,
+            &turns,
+        )?)?;
     }
     Ok((audit, places))
 }
@@ -244,9 +259,7 @@ pub fn next_place<D: Disk + Drop, U: Disk + Drop>(
     let fabric = Arc::try_clone(fabric)?;
     let turns = Arc::try_clone(turns)?;
     let users = Arc::try_clone(&users.turns)?;
-    Place::new(
-        alloc, pass, users_pass, number, shelf, fabric, turns, users,
-    )
+    Place::new(alloc, pass, users_pass, number, shelf, fabric, turns, users)
         .ok()
         .context("no memory")
 }

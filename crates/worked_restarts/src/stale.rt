@@ -60,7 +60,13 @@ pub fn run_stale<R: Wait>(alloc: Global, rt: &R, row: &Row) -> Result<Option<Str
         state,
     } = start(alloc, row, disk_of(alloc, row, &levers)?)?;
     let late = second_seat(alloc, &fabric, seats)?;
-    let Seated { turns, place, pass } = seat_two(alloc, &shelf, &fabric, state, users_disk(alloc)?)?;
+    let Seated { turns, place, pass } = seat_two(
+        alloc,
+        &shelf,
+        &fabric,
+        state,
+        users_disk(alloc)?,
+    )?;
     between(
         alloc, rt, &turns, &fabric, place, pass, late, before, behind,
     )
