@@ -4,7 +4,7 @@ ghost use Rattle.std.specs.Arc.{arc_value};
 ghost use Rattle.user_admin.specs.Openings.{Begins as UsersBegin};
 ghost use Rattle.xc_core.specs.Openings.{Begins};
 ghost use Rattle.xc_core.specs.States.{opening_of};
-ghost use Rattle.craft_server.specs.Places.{AreFresh, IsAtOpening, fresh_pass};
+ghost use Rattle.craft_session.specs.Places.{AreFresh, IsAtOpening, fresh_pass};
 
 use crate::counts::Counts;
 use crate::kind::LOG_IN;

@@ -22,7 +22,7 @@ use Rattle.craft_server.specs.declared.opening.Controller.{Controller}
 use Rattle.craft_server.specs.declared.status.Status.{Status}
 use Rattle.craft_server.specs.declared.status.Status.TheVariants.{Done, Link, Stopped as Was_stopped, Spent as Ran_out}
 use Rattle.craft_server.specs.Openings.{AreUsersStarted, IsStarted}
-use Rattle.craft_server.specs.Places.{ArePlaces, place_at}
+use Rattle.craft_session.specs.Places.{ArePlaces, place_at}
 use Rattle.craft_server.specs.Scripts.{RanSession}
 use Rattle.craft_server.specs.Statuses.{status_of}
 

@@ -32,7 +32,7 @@ use Rattle.craft_server.specs.declared.status.Status.{Status}
 use Rattle.craft_server.specs.declared.status.Status.TheVariants.{CannotOpen, Disk, NoMemory}
 use Rattle.craft_server.specs.Statuses.{status_of_users_fault, status_of_users_why}
 use Rattle.craft_server.proofs.Counting.{rose_behind}
-use Rattle.craft_server.specs.Places.{IsAtOpening}
+use Rattle.craft_session.specs.Places.{IsAtOpening}
 use Rattle.craft_server.specs.Openings.{AreUsersNotStarted, AreUsersStarted, Began, Found, HasController, HasOpening, HasUsers, IsStarted, Named, NoController, NoUsers, NotStarted, Opens, Sources, users_name}
 
 -- the disk that was handed out is the one of that name

@@ -4,7 +4,6 @@ pub mod Statuses
 pub mod Stocks
 pub mod Openings
 pub mod Loads
-pub mod Places
 pub mod Listings
 pub mod Serving
 pub mod Scripts

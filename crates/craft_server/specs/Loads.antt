@@ -29,7 +29,7 @@ use Rattle.craft_server.specs.declared.opening.Element.{Element}
 use Rattle.craft_server.specs.declared.status.Status.{Status}
 use Rattle.craft_server.specs.declared.status.Status.TheVariants.{NoMemory, Stopped}
 use Rattle.craft_server.specs.Openings.{AreUsersStarted, IsStarted}
-use Rattle.craft_server.specs.Places.{place_at}
+use Rattle.craft_session.specs.Places.{place_at}
 use Rattle.craft_server.specs.Statuses.{status_of_sent}
 use Rattle.craft_server.specs.Stocks.{IsLeft}
 

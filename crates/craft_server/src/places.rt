@@ -6,7 +6,7 @@ ghost use Rattle.user_admin.specs.States.{opening_of as users_opening};
 ghost use Rattle.turnstile.specs.Passing.{Ident};
 ghost use Rattle.xc_core.specs.Openings.{Begins};
 ghost use Rattle.xc_core.specs.States.{opening_of};
-ghost use Rattle.craft_server.specs.Places.{AreFresh, ArePlaces, IsAtOpening, fresh_pass, place_at};
+ghost use Rattle.craft_session.specs.Places.{AreFresh, ArePlaces, IsAtOpening, fresh_pass, place_at};
 
 use craft_session::Place;
 use dxc_causes::NoMemory;

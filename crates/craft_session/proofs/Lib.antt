@@ -20,3 +20,4 @@ pub mod Once
 pub mod Hearings
 pub mod Completing
 pub mod Scripts
+pub mod FreshPlaces

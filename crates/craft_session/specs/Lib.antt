@@ -20,3 +20,4 @@ pub mod PlainUsers
 pub mod Scripts
 pub mod Entering
 pub mod Laws
+pub mod Places

@@ -11,7 +11,8 @@ use crate::streams::held_streams;
 use crate::why::{Why, fault_text};
 use crate::words::words_given;
 use craft_server::{Status, dxc_run};
-use dxc_outside::{AlwaysGo, HostClock, HostOpener, TermLink, ThreadSpawner};
+use dxc_host::{HostClock, HostOpener, TermLink, ThreadSpawner};
+use dxc_outside::AlwaysGo;
 use std::io::{self, IsTerminal};
 use std::process::ExitCode;
 

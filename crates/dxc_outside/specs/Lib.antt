@@ -12,4 +12,3 @@ pub mod Openings
 pub mod Pieces
 pub mod Spawners
 pub mod Threads
-pub mod Utc

@@ -1,4 +1,5 @@
-use dxc_outside::{Clock, HostClock, Moment, moment_of};
+use dxc_host::{HostClock, moment_of};
+use dxc_outside::{Clock, Moment};
 use std::test::Fail;
 
 fn parts(moment: Moment) -> (u8, u8, u8, u8, u8, u8) {

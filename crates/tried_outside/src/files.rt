@@ -1,7 +1,6 @@
 use dxc_disk::Disk;
-use dxc_outside::{
-    Came, Clock, FileLines, Frame, Got, HostOpener, Lines, Link, Listener, Opened, Opener, Put,
-};
+use dxc_host::{FileLines, HostOpener};
+use dxc_outside::{Came, Clock, Frame, Got, Lines, Link, Listener, Opened, Opener, Put};
 use std::fs;
 use std::net::{TcpListener, TcpStream};
 use std::test::Fail;

@@ -1,4 +1,5 @@
-use dxc_outside::{Came, Got, Link, Listener, Put, Sent, TcpDoor, TcpLink, TermLink, write_all};
+use dxc_host::{TcpDoor, TcpLink, TermLink};
+use dxc_outside::{Came, Got, Link, Listener, Put, Sent, write_all};
 use std::io::{Read, Write};
 use std::net::{TcpListener, TcpStream};
 use std::test::Fail;

@@ -1,4 +1,5 @@
-use dxc_outside::{Spawner, Started, Task, ThreadSpawner};
+use dxc_host::ThreadSpawner;
+use dxc_outside::{Spawner, Started, Task};
 use std::alloc::Global;
 use std::sync::atomic::{AtomicU64, Ordering};
 use std::sync::{Arc, Wait};

@@ -8,7 +8,7 @@ ghost use Rattle.turnstile.specs.Passing.{Ident};
 ghost use Rattle.user_admin.specs.Openings.{Begins as UsersBegin};
 ghost use Rattle.xc_core.specs.Openings.{Begins};
 ghost use Rattle.xc_core.specs.States.{opening_of};
-ghost use Rattle.craft_server.specs.Places.{AreFresh, IsAtOpening};
+ghost use Rattle.craft_session.specs.Places.{AreFresh, IsAtOpening};
 
 use crate::audit::Audit;
 use crate::carriage::Carriage;

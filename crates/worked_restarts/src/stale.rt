@@ -8,7 +8,7 @@ ghost use Rattle.fabric_words.specs.New.{AreNew};
 ghost use Rattle.xc_core.specs.Openings.{Begins};
 ghost use Rattle.xc_core.specs.States.{opening_of};
 ghost use Rattle.craft_session.specs.Seats.{IsSeated};
-ghost use Rattle.craft_server.specs.Places.{IsAtOpening};
+ghost use Rattle.craft_session.specs.Places.{IsAtOpening};
 
 use crate::audit::words_in_turn;
 use crate::beside::{Beside, change_beside};

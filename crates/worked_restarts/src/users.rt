@@ -2,7 +2,7 @@
 ghost use Rattle.std.specs.Prelude.{◌≡◌, ◌<◌, ◌+◌, IfOk, length};
 ghost use Rattle.std.specs.Arc.{arc_value};
 ghost use Rattle.user_admin.specs.Openings.{Begins as UsersBegin};
-ghost use Rattle.craft_server.specs.Places.{AreFresh};
+ghost use Rattle.craft_session.specs.Places.{AreFresh};
 
 use crate::element::turns_of;
 use anyhow::{Result, bail};

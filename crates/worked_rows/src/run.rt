@@ -1,7 +1,8 @@
 use crate::row::{Row, Run};
 use anyhow::Result;
 use craft_server::dxc_run;
-use dxc_outside::{AlwaysGo, HostOpener, MemClock, MemLink, MemSpawner, Name};
+use dxc_host::HostOpener;
+use dxc_outside::{AlwaysGo, MemClock, MemLink, MemSpawner, Name};
 use std::fs;
 use std::sync::Wait;
 use std::thread::Threads;

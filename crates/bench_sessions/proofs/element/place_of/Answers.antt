@@ -1,5 +1,5 @@
 use Rattle.std.specs.Arc.{arc_value}
-use Rattle.craft_server.proofs.Seating.{seated, users_seated}
+use Rattle.craft_session.proofs.FreshPlaces.{seated, users_seated}
 use Rattle.bench_sessions.proofs.element.place_of.Goals as goal
 
 pub new-requires-clause-seated : goal.new-requires-clause-seated

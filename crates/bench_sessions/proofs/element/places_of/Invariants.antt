@@ -1,7 +1,7 @@
 use Rattle.std.proofs.Common.{◌≡◌, ◌+◌, length}
 use Rattle.std.specs.Prelude.{vec_capacity}
 use Rattle.std.specs.Arc.{arc_value}
-use Rattle.craft_server.specs.Places.{AreFresh}
+use Rattle.craft_session.specs.Places.{AreFresh}
 use Rattle.bench_sessions.proofs.element.places_of.Given as goal
 
 abbrev pub invariant-loop-number : goal.invariant-loop-number

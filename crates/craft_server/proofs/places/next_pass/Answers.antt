@@ -1,4 +1,4 @@
-use Rattle.craft_server.proofs.Seating.{next_fresh}
+use Rattle.craft_session.proofs.FreshPlaces.{next_fresh}
 use Rattle.craft_server.proofs.places.next_pass.Goals as goal
 
 pub returns-clause-next : goal.returns-clause-next

@@ -2,8 +2,8 @@ use Rattle.std.proofs.Common.{rules, ℕ, arith, ◌∙◌, ap}
 use Rattle.std.specs.Arc.{arc_value}
 use Rattle.user_admin.specs.States.{opening_of as users_opening}
 use Rattle.xc_core.specs.States.{opening_of}
-use Rattle.craft_server.specs.Places.{place_at}
-use Rattle.craft_server.proofs.Seating.{places_more}
+use Rattle.craft_session.specs.Places.{place_at}
+use Rattle.craft_session.proofs.FreshPlaces.{places_more}
 use Rattle.craft_server.proofs.places.open_places.Goals as goal
 
 pub loop-number-preserved : goal.loop-number-preserved

@@ -3,7 +3,7 @@ use Rattle.std.specs.Prelude.{vec_capacity}
 use Rattle.std.specs.Arc.{arc_value}
 use Rattle.user_admin.specs.States.{opening_of as users_opening}
 use Rattle.xc_core.specs.States.{opening_of}
-use Rattle.craft_server.specs.Places.{AreFresh, ArePlaces}
+use Rattle.craft_session.specs.Places.{AreFresh, ArePlaces}
 use Rattle.craft_server.proofs.places.open_places.Given as goal
 
 abbrev pub invariant-loop-number : goal.invariant-loop-number

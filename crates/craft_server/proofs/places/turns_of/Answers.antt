@@ -1,7 +1,7 @@
 use Rattle.std.proofs.Common.{sym, subst}
 use Rattle.turnstile.specs.Passing.{Gate}
-use Rattle.craft_server.specs.Places.{AreFresh}
-use Rattle.craft_server.proofs.Seating.{all_fresh}
+use Rattle.craft_session.specs.Places.{AreFresh}
+use Rattle.craft_session.proofs.FreshPlaces.{all_fresh}
 use Rattle.craft_server.proofs.places.turns_of.Goals as goal
 
 pub returns-clause-fresh : goal.returns-clause-fresh

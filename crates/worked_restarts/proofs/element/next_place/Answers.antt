@@ -2,7 +2,7 @@ use Rattle.std.specs.Arc.{arc_value}
 use Rattle.turnstile.specs.Passing.{Gate}
 use Rattle.user_admin.specs.declared.state.UserState.{UserState}
 use Rattle.xc_core.specs.declared.state.State.{State}
-use Rattle.craft_server.proofs.Seating.{seated, users_seated}
+use Rattle.craft_session.proofs.FreshPlaces.{seated, users_seated}
 use Rattle.worked_restarts.proofs.element.next_place.Goals as goal
 
 pub new-requires-clause-seated : goal.new-requires-clause-seated

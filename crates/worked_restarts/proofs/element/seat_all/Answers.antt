@@ -3,7 +3,7 @@ use Rattle.std.specs.Arc.{arc_value}
 use Rattle.turnstile.specs.Passing.{Gate}
 use Rattle.xc_core.specs.declared.state.State.{State}
 use Rattle.xc_core.specs.States.{opening_of}
-use Rattle.craft_server.proofs.Seating.{seated}
+use Rattle.craft_session.proofs.FreshPlaces.{seated}
 use Rattle.worked_restarts.proofs.element.seat_all.Goals as goal
 
 pub new-audit-requires : goal.new-audit-requires

@@ -3,7 +3,7 @@ use Rattle.std.specs.Arc.{arc_value}
 use Rattle.turnstile.specs.Passing.{Gate}
 use Rattle.xc_core.specs.declared.state.State.{State}
 use Rattle.xc_core.specs.States.{opening_of}
-use Rattle.craft_server.proofs.Seating.{seated}
+use Rattle.craft_session.proofs.FreshPlaces.{seated}
 use Rattle.worked_restarts.proofs.stale.seat_two.Goals as goal
 
 pub returns-2-clause-seated : goal.returns-2-clause-seated

@@ -1,0 +1,164 @@
+ghost use Rattle.std.specs.Prelude.{◌≡◌, ◌≤◌, ◌+◌, ◌++◌, List, ℕ, OnOk, OnErr, length};
+ghost use Rattle.dxc_causes.specs.Causes.{HasCause};
+ghost use Rattle.dxc_outside.specs.Openings.{IsClosed, most_shelf_bytes};
+
+use crate::{FileLines, HostClock, TcpDoor, TcpLink};
+use dxc_disk::FileDisk;
+use dxc_outside::{AlwaysGo, Opened, Opener, most_shelf_bytes};
+use std::alloc::Global;
+use std::fs::File;
+use std::io::{self, ErrorKind, Read};
+use std::net::{Net, TcpListener, TcpStream};
+use std::rt::{Clock as SystemClock, Files};
+
+/// Opens files of the operating system by their paths, and TCP listeners and connections by their addresses. It tells nothing of what they hold.
+#[derive(Drop)]
+pub struct HostOpener<T> {
+    system: T,
+    bound: Vec<(String, TcpListener)>,
+    faults: u64,
+}
+
+impl<T: Drop> HostOpener<T> {
+    /// The listeners that it binds are kept behind what `bound` holds.
+    pub fn new(system: T, bound: Vec<(String, TcpListener)>) -> HostOpener<T> {
+        HostOpener {
+            system,
+            bound,
+            faults: 0,
+        }
+    }
+
+    // The answer for an error: memory was wanting, or else a fault, which is counted.
+    fn not_opened<X>(&mut self, error: &io::Error) -> Opened<X>
+        ensures closed { IsClosed result }
+        ensures cause { HasCause self.old.faults self.new.faults (result ≡ Opened.Failed) }
+    {
+        if error.kind() == ErrorKind::OutOfMemory {
+            return Opened::NoMemory;
+        }
+        self.faults = self.faults.saturating_add(1);
+        Opened::Failed
+    }
+}
+
+// Appends the bytes of a file as far as they are read, or nothing.
+fn append_file<T: Files<File = File>>(files: &T, path: &str, into: &mut Vec<u8>) -> io::Result<()>
+    ensures ok { OnOk result ((part : List ℕ) × (into.new.items ≡ into.old.items ++ part) × (length part ≤ most_shelf_bytes)) }
+    ensures err { OnErr result (into.new.items ≡ into.old.items) }
+{
+    let start = into.len();
+    let most = most_shelf_bytes();
+    let file = File::open(files, path)?;
+    if let Err(error) = file.take(most as u64).read_to_end(into) {
+        into.truncate(start);
+        return Err(error);
+    }
+    into.truncate(start.saturating_add(most));
+    Ok(())
+}
+
+// A listener at the address: a handle of the one that was bound there before, or else a new one.
+fn bind<T: Net<Listener = TcpListener, Stream = TcpStream>>(
+    alloc: Global,
+    net: &T,
+    bound: &mut Vec<(String, TcpListener)>,
+    address: &str,
+) -> io::Result<TcpListener> {
+    if let Some((_, listener)) = bound.iter().find(|(held, _)| held.as_str() == address) {
+        return listener.try_clone();
+    }
+    let listener = TcpListener::bind(net, address)?;
+    let held = listener.try_clone()?;
+    bound.push((address.to_string(alloc)?, held))?;
+    Ok(listener)
+}
+
+// A link to whoever listens at the address.
+fn call<T: Net<Listener = TcpListener, Stream = TcpStream>>(
+    net: &T,
+    address: &str,
+) -> io::Result<TcpLink> {
+    TcpLink::new(TcpStream::connect(net, address)?)
+}
+
+impl<
+    T: Files<File = File>
+        + Net<Listener = TcpListener, Stream = TcpStream>
+        + SystemClock
+        + Copy
+        + Send
+        + Drop
+        + 'static,
+> Opener for HostOpener<T> {
+    ghost use Rattle.std.specs.Prelude.{None};
+
+    type Journal = FileDisk;
+
+    type Lines = FileLines;
+
+    type Listener = TcpDoor<T>;
+
+    type Clock = HostClock<T>;
+
+    type Gate = AlwaysGo;
+
+    type Peer = TcpLink;
+
+    ghost told = { ⊥ };
+
+    ghost state = { λ o. record { shelf_at = λ _. None; faults = o.faults } };
+
+    ghost journal_at = { λ _ _. None };
+
+    ghost listener_at = { λ _ _. None };
+
+    fn shelf(&mut self, _alloc: Global, name: &str, into: &mut Vec<u8>) -> Opened<()> {
+        match append_file(&self.system, name, into) {
+            Ok(()) => Opened::Open(()),
+            Err(error) => self.not_opened(&error),
+        }
+    }
+
+    /// A file that isn't there is made. A journal has one owner: another that is opened while the first is held is a fault.
+    fn journal(&mut self, _alloc: Global, name: &str) -> Opened<FileDisk> {
+        match FileDisk::open(&self.system, name) {
+            Ok(disk) => Opened::Open(disk),
+            Err(error) => self.not_opened(&error),
+        }
+    }
+
+    /// Worker `w` of the name `L` reads `L.in` and writes `L.w.out`.
+    fn lines(&mut self, alloc: Global, name: &str, worker: u16) -> Opened<FileLines> {
+        match FileLines::open(alloc, &self.system, name, worker) {
+            Opened::Open(lines) => Opened::Open(lines),
+            Opened::NoMemory => Opened::NoMemory,
+            Opened::Failed => {
+                self.faults = self.faults.saturating_add(1);
+                Opened::Failed
+            }
+        }
+    }
+
+    fn listener(&mut self, alloc: Global, address: &str) -> Opened<TcpDoor<T>> {
+        match bind(alloc, &self.system, &mut self.bound, address) {
+            Ok(listener) => Opened::Open(TcpDoor::new(listener, self.system)),
+            Err(error) => self.not_opened(&error),
+        }
+    }
+
+    fn peer(&mut self, _alloc: Global, address: &str) -> Opened<TcpLink> {
+        match call(&self.system, address) {
+            Ok(link) => Opened::Open(link),
+            Err(error) => self.not_opened(&error),
+        }
+    }
+
+    fn clock(&mut self) -> HostClock<T> {
+        HostClock::new(self.system)
+    }
+
+    fn gate(&mut self) -> AlwaysGo {
+        AlwaysGo
+    }
+}

@@ -1,0 +1,22 @@
+//! The product's surroundings as the operating system gives them: terminal, TCP, files, threads and the clock, as adapters of the
+//! traits of `dxc_outside`. They tell nothing of what they hold, and a call fails only where its count rose.
+#![tactic(auto)]
+
+mod file_lines;
+mod host_clock;
+mod host_opener;
+mod shown;
+mod tcp_door;
+mod tcp_link;
+mod term_link;
+mod thread_spawner;
+mod utc;
+
+pub use file_lines::FileLines;
+pub use host_clock::HostClock;
+pub use host_opener::HostOpener;
+pub use tcp_door::TcpDoor;
+pub use tcp_link::TcpLink;
+pub use term_link::TermLink;
+pub use thread_spawner::ThreadSpawner;
+pub use utc::moment_of;

@@ -1,0 +1,56 @@
+ghost use Rattle.std.specs.Prelude.{[]};
+
+use crate::TcpLink;
+use dxc_outside::{Came, Listener};
+use std::net::TcpListener;
+use std::rt::Clock as SystemClock;
+use std::sync::Wait;
+use std::time::Duration;
+use std::{io, thread};
+
+/// How long an accept that failed rests before it answers: a host without free descriptors may have some again.
+const REST_MILLIS: u64 = 100;
+
+/// A listener over TCP, which never says End. It tells nothing of who calls.
+#[derive(Drop)]
+pub struct TcpDoor<T> {
+    listener: TcpListener,
+    system: T,
+    faults: u64,
+}
+
+impl<T: SystemClock + Drop> TcpDoor<T> {
+    pub fn new(listener: TcpListener, system: T) -> TcpDoor<T> {
+        TcpDoor {
+            listener,
+            system,
+            faults: 0,
+        }
+    }
+
+    fn answer(&self) -> io::Result<TcpLink> {
+        let (stream, _) = self.listener.accept()?;
+        TcpLink::new(stream)
+    }
+}
+
+impl<T: SystemClock + Drop> Listener for TcpDoor<T> {
+    ghost use Rattle.std.specs.Prelude.{false};
+
+    type Link = TcpLink;
+
+    ghost told = { ⊥ };
+
+    ghost state = { λ d. record { coming = []; ended = false; faults = d.faults; sound = false } };
+
+    fn accept<R: Wait>(&mut self, _rt: &R) -> Came<TcpLink> {
+        match self.answer() {
+            Ok(link) => Came::Link(link),
+            Err(_) => {
+                thread::sleep(&self.system, Duration::from_millis(REST_MILLIS));
+                self.faults = self.faults.saturating_add(1);
+                Came::Failed
+            }
+        }
+    }
+}

@@ -1,0 +1,65 @@
+use dxc_outside::{Spawner, Way};
+use std::sync::Wait;
+use std::thread::{JoinHandle, Threads};
+
+/// Runs each job on a thread of its own.
+#[derive(Drop)]
+pub struct ThreadSpawner<T> {
+    threads: T,
+    running: Vec<JoinHandle<()>>,
+    starts: u64,
+    waited: bool,
+    faults: u64,
+}
+
+impl<T: Threads + Wait + Copy + Send + Drop + 'static> ThreadSpawner<T> {
+    /// The threads that run are kept behind what `running` holds.
+    pub fn new(threads: T, running: Vec<JoinHandle<()>>) -> ThreadSpawner<T> {
+        ThreadSpawner {
+            threads,
+            running,
+            starts: 0,
+            waited: true,
+            faults: 0,
+        }
+    }
+}
+
+impl<T: Threads + Wait + Copy + Send + Drop + 'static> Spawner for ThreadSpawner<T> {
+    type Threads = T;
+
+    ghost state = { λ s. record { starts = s.starts; waited = s.waited; faults = s.faults } };
+
+    /// The place for the thread's handle is taken before the thread is started, so that no job is lost for want of it.
+    fn way(&mut self) -> Way<T> {
+        if self.running.reserve(1).is_err() {
+            self.faults = self.faults.saturating_add(1);
+            return Way::Refused;
+        }
+        Way::Thread(self.threads)
+    }
+
+    fn ran(&mut self) {
+        self.starts = self.starts.saturating_add(1);
+        self.waited = false;
+    }
+
+    fn keep(&mut self, handle: JoinHandle<()>) {
+        self.starts = self.starts.saturating_add(1);
+        self.waited = false;
+        if let Err(refused) = self.running.push(handle) {
+            refused.value.join(&self.threads);
+        }
+    }
+
+    fn refused(&mut self) {
+        self.faults = self.faults.saturating_add(1);
+    }
+
+    fn wait_all<R: Wait>(&mut self, _rt: &R) {
+        while let Some(handle) = self.running.pop() {
+            handle.join(&self.threads);
+        }
+        self.waited = true;
+    }
+}
