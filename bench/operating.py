@@ -1,11 +1,11 @@
 #!/usr/bin/env python3
-"""Runs each example of a document as it stands, and compares what it writes with what the document says.
+"""Runs each example of documents as it stands, and compares what it writes with what the document says.
 
-usage: bench/operating.py [DOCUMENT]     (docs/OPERATING.md where nothing is given)
+usage: bench/operating.py [DOCUMENT..]     (README.md and docs/OPERATING.md where nothing is given)
 
-An example is a block marked `sh` and the block marked `text` behind it; a block without one must only succeed. All run in bash, in
-order, in one new folder. Dates and times of headers, carriage returns, and blank lines beyond one are left out of the comparison. The first call of the
-launcher builds the program, which isn't timed.
+An example is a block marked `sh` and the block marked `text` behind it; a block without one must only succeed. All of a document run in
+bash, in order, in one new folder with links to the checkout's launcher, examples and tools. Dates and times of headers, carriage returns,
+and blank lines beyond one are left out of the comparison. The first call of the launcher builds the program, which isn't timed.
 """
 import os
 import re
@@ -17,6 +17,8 @@ TOP = os.path.dirname(os.path.dirname(os.path.abspath(__file__)))
 BLOCK = re.compile(r"^```(sh|text)\n(.*?)^```$", re.MULTILINE | re.DOTALL)
 MOMENT = re.compile(r"\b\d\d-\d\d-\d\d \d\d:\d\d:\d\d\b")
 SECONDS = 60
+DOCUMENTS = ("README.md", os.path.join("docs", "OPERATING.md"))
+LINKED = ("dxc", "examples", "tools")
 
 
 def examples(text):
@@ -33,14 +35,15 @@ def masked(text):
     return re.sub(r"\n{3,}", "\n\n", MOMENT.sub("YY-MM-DD HH:MM:SS", text.replace("\r", ""))).strip("\n")
 
 
-def main():
-    document = sys.argv[1] if len(sys.argv) > 1 else os.path.join(TOP, "docs", "OPERATING.md")
+def run(document):
+    """How many examples of the document there are, and how many failed."""
     with open(document, encoding="utf-8") as file:
         text = file.read()
-    subprocess.run([os.path.join(TOP, "dxc"), "--version"], check=True, stdout=subprocess.DEVNULL)
     world = dict(os.environ, DXC=TOP, PATH=TOP + os.pathsep + os.environ["PATH"], LC_ALL="C")
     failed = count = 0
     with tempfile.TemporaryDirectory() as folder:
+        for name in LINKED:
+            os.symlink(os.path.join(TOP, name), os.path.join(folder, name))
         for commands, wanted in examples(text):
             ran = subprocess.run(
                 ["bash", "-c", commands], cwd=folder, env=world, stdin=subprocess.DEVNULL, stdout=subprocess.PIPE, stderr=subprocess.STDOUT, timeout=SECONDS, check=False
@@ -50,8 +53,16 @@ def main():
             if written != masked(wanted) if wanted is not None else ran.returncode != 0:
                 failed += 1
                 print(f"--- commands\n{commands}--- wanted\n{wanted}--- written\n{written}\n--- status {ran.returncode}")
-    print(f"{count} examples, {failed} failed")
-    sys.exit(failed > 0)
+    return count, failed
+
+
+def main():
+    documents = sys.argv[1:] or [os.path.join(TOP, name) for name in DOCUMENTS]
+    subprocess.run([os.path.join(TOP, "dxc"), "--version"], check=True, stdout=subprocess.DEVNULL)
+    ran = [run(document) for document in documents]
+    for document, (count, failed) in zip(documents, ran):
+        print(f"{os.path.relpath(document)}: {count} examples, {failed} failed")
+    sys.exit(any(failed for _, failed in ran))
 
 
 if __name__ == "__main__":
