@@ -1,12 +1,8 @@
-pub mod Walks
-pub mod Counting
 pub mod Crossing
 pub mod Starting
 pub mod Checking
 pub mod Audits
 pub mod Scripting
-pub mod LoadShelf
 pub mod Loading
 pub mod Mirroring
 pub mod Wording
-pub mod StandingBy

@@ -6,8 +6,6 @@ use Rattle.dxc_disk.specs.declared.mem_disk.MemDisk.{MemDisk}
 use Rattle.dxc_disk.specs.Disks.{DiskState}
 use Rattle.dxc_disk.specs.Fresh.{IsFresh}
 use Rattle.dxc_disk.specs.MemView.{mem_state}
-use Rattle.dxc_outside.specs.declared.send.Sent.{Sent}
-use Rattle.dxc_outside.specs.declared.send.Sent.TheVariants.{Whole, Cut}
 use Rattle.dxc_outside.specs.Links.{LinkState}
 use Rattle.dxc_model.specs.declared.entry.Entry.{Entry}
 use Rattle.dxc_model.specs.declared.op.Selection.TheVariants.{All}
@@ -33,14 +31,16 @@ use Rattle.xc_core.proofs.Standing.{table_is}
 use Rattle.craft_session.specs.declared.end.SessionEnd.{SessionEnd}
 use Rattle.craft_session.specs.declared.end.SessionEnd.TheVariants.{End, Spent}
 use Rattle.craft_server.specs.declared.opening.Controller.{Controller}
-use Rattle.craft_server.specs.declared.status.Status.{Status}
-use Rattle.craft_server.specs.declared.status.Status.TheVariants.{BadWords, Disk}
-use Rattle.craft_server.specs.declared.status.Status.TheVariants as Status_of
+use Rattle.craft_words.specs.declared.status.Status.{Status}
+use Rattle.craft_words.specs.declared.status.Status.TheVariants.{BadWords, Disk}
+use Rattle.craft_words.specs.declared.status.Status.TheVariants as Status_of
 use Rattle.craft_server.specs.declared.stock.Stock.{Stock}
-use Rattle.craft_server.specs.Loads.{IsLoad, IsLoadController, IsLoadShelf, NotLoaded}
+use Rattle.dxc_load.specs.LoadShelf.{IsLoadShelf}
+use Rattle.craft_server.specs.Loads.{IsLoad, IsLoadController, NotLoaded}
 use Rattle.craft_server.specs.Openings.{AreUsersNotStarted, IsStarted, NotStarted}
-use Rattle.craft_server.specs.Statuses.{status_of_fault, status_of_sent, status_of_users_fault, status_of_users_why, status_of_why}
+use Rattle.craft_server.specs.Statuses.{status_of_fault, status_of_users_fault, status_of_users_why, status_of_why}
 use Rattle.craft_server.specs.Stocks.{IsStock, IsStockAfter}
+use Rattle.craft_server.proofs.Wording.{sent_words}
 
 -- the first of a fabric's new seats
 pub first_new : (f : FabricId) (n : ℕ) (seats : List WorkerSeat) (d : WorkerSeat) → AreNew f n seats → 0 < length seats → (slice_index_or seats 0 d).reader ≡ record { fabric = f; worker = new_worker n }
@@ -128,10 +128,6 @@ load_words number told k l stops later status is = λ bad. elim is [
   | inl not ↦ (elim not.1 [ inl memory ↦ (let no : Status_of.NoMemory ≡ BadWords = sym memory ∙ bad in cc) | inr stopped ↦ (let no : Status_of.Stopped ≡ BadWords = sym stopped.0 ∙ bad in cc) ])
   | inr ran ↦ sent_words ran.3.0 (sym ran.3.2 ∙ bad)
 ]
-  where
-    sent_words : (sent : Sent) → status_of_sent sent ≡ BadWords → ⊥
-    sent_words Whole is = cc
-    sent_words Cut is = cc
 
 -- a link of the load never fails a read
 pub no_read_fault : Rose 0 0 → ⊥

@@ -6,10 +6,10 @@ use Rattle.dxc_outside.specs.Callers.{ListenerState}
 use Rattle.dxc_outside.specs.Links.{LinkState}
 use Rattle.standby_link.specs.declared.mirror_disk.MirrorDisk.{MirrorDisk}
 use Rattle.xc_core.specs.States.{opening_of}
-use Rattle.craft_server.specs.declared.line.Line.TheVariants.{Serve}
+use Rattle.craft_words.specs.declared.line.Line.TheVariants.{Serve}
 use Rattle.craft_server.specs.declared.opening.Controller.{Controller}
 use Rattle.craft_server.specs.declared.opening.Element.{Element}
-use Rattle.craft_server.specs.declared.status.Status.{Status}
+use Rattle.craft_words.specs.declared.status.Status.{Status}
 use Rattle.craft_server.specs.Openings.{IsStarted, Named, NotStarted, Sources, named}
 use Rattle.craft_server.specs.Peers.{FoundMirror, HasMirrored, IsMirrorOf, IsOpenedOn, Mirrors, NoMirrored, mirror_state}
 use Rattle.craft_server.specs.Runs.{IsRunOf, Lent, MirrorsFor, OpensFor, Told}

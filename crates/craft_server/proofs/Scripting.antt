@@ -19,8 +19,8 @@ use Rattle.craft_session.specs.Seats.{IsSameSeat, IsSameUserSeat, PlaceAt}
 use Rattle.craft_session.specs.Sessions.{IsServed}
 use Rattle.craft_session.proofs.Scripts.{script_of}
 use Rattle.craft_server.specs.declared.opening.Controller.{Controller}
-use Rattle.craft_server.specs.declared.status.Status.{Status}
-use Rattle.craft_server.specs.declared.status.Status.TheVariants.{Done, Link, Stopped as Was_stopped, Spent as Ran_out}
+use Rattle.craft_words.specs.declared.status.Status.{Status}
+use Rattle.craft_words.specs.declared.status.Status.TheVariants.{Done, Link, Stopped as Was_stopped, Spent as Ran_out}
 use Rattle.craft_server.specs.Openings.{AreUsersStarted, IsStarted}
 use Rattle.craft_session.specs.Places.{ArePlaces, place_at}
 use Rattle.craft_server.specs.Scripts.{RanSession}

@@ -4,9 +4,6 @@ use Rattle.std.specs.Prelude.{MatchResult, IfErr, IfSome}
 use Rattle.std.specs.Arc.{arc_value}
 use Rattle.dxc_causes.specs.Causes.{HasCause, Rose}
 use Rattle.dxc_disk.specs.Disks.{CountsOn, DiskState, IsSound, Spends}
-use Rattle.dxc_outside.specs.declared.opened.Opened.{Opened}
-use Rattle.dxc_outside.specs.declared.opened.Opened.TheVariants.{Open}
-use Rattle.dxc_outside.specs.Openings.{Hands}
 use Rattle.fabric_words.specs.New.{AreNew}
 use Rattle.fabric_words.specs.Seats.{FabricId}
 use Rattle.shelf_file.specs.Contents.{Contents}
@@ -28,16 +25,11 @@ use Rattle.craft_session.specs.Scripts.{opening_room}
 use Rattle.craft_session.specs.PlainUsers.{users_opening_room}
 use Rattle.craft_session.proofs.Scripts.{opening_of_disk, users_opening_of_disk}
 use Rattle.craft_server.specs.declared.opening.Controller.{Controller}
-use Rattle.craft_server.specs.declared.status.Status.{Status}
-use Rattle.craft_server.specs.declared.status.Status.TheVariants.{CannotOpen, Disk, NoMemory}
+use Rattle.craft_words.specs.declared.status.Status.{Status}
+use Rattle.craft_words.specs.declared.status.Status.TheVariants.{CannotOpen, Disk, NoMemory}
 use Rattle.craft_server.specs.Statuses.{status_of_users_fault, status_of_users_why}
-use Rattle.craft_server.proofs.Counting.{rose_behind}
 use Rattle.craft_session.specs.Places.{IsAtOpening}
 use Rattle.craft_server.specs.Openings.{AreUsersNotStarted, AreUsersStarted, Began, Found, HasController, HasOpening, HasUsers, IsStarted, Named, NoController, NoUsers, NotStarted, Opens, Sources, users_name}
-
--- the disk that was handed out is the one of that name
-pub handed : {J : Type 0} (told : Type 0) (old_at mid_at new_at : List ℕ → Option J) (opened : Opened J) (d : J) (name : List ℕ) → (told → (n : List ℕ) → mid_at n ≡ old_at n) → opened ≡ Open d → (told → Hands opened (mid_at name) (new_at name)) → told → old_at name ≡ Some d
-handed {J} told old_at mid_at new_at opened d name same is hands t = sym (same t name) ∙ subst (λ (x : Opened J). Hands x (mid_at name) (new_at name)) is (hands t)
 
 -- the users' disk stood against it
 why_disk : (w : JournalWhy) → status_of_users_why w ≡ Disk → w ≡ why_of.Disk
@@ -49,6 +41,10 @@ disk_error (users_fault.Journal f) was = why_disk f.why was
 disk_error (users_fault.BadRecord i) was = cc
 disk_error (users_fault.Disk d) was = tt
 disk_error users_fault.NoMemory was = cc
+
+-- a fault behind what was opened before
+pub rose_behind : (a b c : ℕ) → a ≤ b → Rose b c → Rose a c
+rose_behind a b c later rose = omega (arith, later, rose)
 
 -- the name of a users' journal isn't that of the journal beside it
 users_apart : (n : List ℕ) → users_name n ≢ n

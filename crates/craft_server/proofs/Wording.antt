@@ -5,6 +5,8 @@ use Rattle.dxc_disk.specs.Disks.{DiskState}
 use Rattle.dxc_outside.specs.Callers.{ListenerState}
 use Rattle.dxc_outside.specs.Links.{LinkState}
 use Rattle.dxc_outside.specs.Threads.{SpawnerState}
+use Rattle.dxc_outside.specs.declared.send.Sent.{Sent}
+use Rattle.dxc_outside.specs.declared.send.Sent.TheVariants as sent
 use Rattle.journal_core.specs.declared.fault.JournalWhy.{JournalWhy}
 use Rattle.journal_core.specs.declared.fault.JournalWhy.TheVariants as why
 use Rattle.shelf_file.specs.Contents.{Contents}
@@ -14,13 +16,17 @@ use Rattle.user_admin.specs.declared.fault.UserOpenFault.{UserOpenFault}
 use Rattle.user_admin.specs.declared.fault.UserOpenFault.TheVariants as users_fault
 use Rattle.xc_core.specs.declared.fault.OpenFault.{OpenFault}
 use Rattle.xc_core.specs.declared.fault.OpenFault.TheVariants as fault
-use Rattle.craft_server.specs.declared.status.Status.{Status}
-use Rattle.craft_server.specs.declared.status.Status.TheVariants.{BadWords}
-use Rattle.craft_server.specs.Openings.{Named, NoShelf, NotStarted, NoUsers, Opens, Sources}
+use Rattle.xc_core.specs.States.{Opening}
+use Rattle.craft_session.specs.declared.end.SessionEnd.{SessionEnd}
+use Rattle.craft_session.specs.declared.end.SessionEnd.TheVariants as session
+use Rattle.craft_words.specs.declared.status.Status.{Status}
+use Rattle.craft_words.specs.declared.status.Status.TheVariants.{BadWords}
+use Rattle.craft_server.specs.Openings.{Began, Found, Named, NoShelf, NotStarted, NoUsers, Opens, Sources}
 use Rattle.craft_server.specs.Peers.{Mirrors, mirror_state}
 use Rattle.craft_server.specs.Serving.{IsServing}
-use Rattle.craft_server.specs.Standbys.{StandsBy}
-use Rattle.craft_server.specs.Statuses.{status_of_fault, status_of_standby, status_of_users_fault, status_of_users_why, status_of_why}
+use Rattle.craft_words.specs.Statuses.{status_of_sent}
+use Rattle.craft_jobs.specs.Standbys.{StandsBy, status_of_standby}
+use Rattle.craft_server.specs.Statuses.{status_of, status_of_fault, status_of_users_fault, status_of_users_why, status_of_why}
 
 why_words : (w : JournalWhy) → status_of_why w ≡ BadWords → ⊥
 why_words (why.BadHeader bytes) is = cc
@@ -61,13 +67,27 @@ no_users_words opener_told told state names before after s status none is = elim
   | inr not ↦ users_fault_words not.1.fault (sym not.1.is ∙ is)
 ]
 
-serving_words : (jobs faults later : ℕ) (old new : SpawnerState) → IsServing jobs faults later old new BadWords → ⊥
-serving_words jobs faults later old new is = let e = is.only (λ no. cc) (λ no. cc) (λ no. cc) in cc
+-- none of serving, of a session or of lines that were written
+pub serving_words : (jobs faults later : ℕ) (old new : SpawnerState) (status : Status) → IsServing jobs faults later old new status → status ≡ BadWords → ⊥
+serving_words jobs faults later old new status is bad =
+    let e = is.only (λ done. let no = sym done ∙ bad in cc) (λ none. let no = sym none ∙ bad in cc) (λ closed. let no = sym closed ∙ bad in cc) in
+    let no = sym e ∙ bad in cc
 
--- serving on a journal alone
-pub opens_words : (opener_told : Type 0) {D : Type 0} (told : Type 0) (state : D → DiskState) (names : Named) (before after : Sources D) (untouched P : Type 0) (jobs faults later : ℕ) (old new : SpawnerState) (status : Status) → (P → IsServing jobs faults later old new status)
-    → Opens opener_told told state names before after untouched (λ f o u. P) status → status ≡ BadWords → ⊥
-opens_words opener_told told state names before after untouched P jobs faults later old new status serving opens is = elim opens [
+pub end_words : (end : SessionEnd) → status_of end ≡ BadWords → ⊥
+end_words session.End is = cc
+end_words session.ReadFault is = cc
+end_words session.WriteFault is = cc
+end_words session.Stopped is = cc
+end_words session.Spent is = cc
+
+pub sent_words : (sent : Sent) → status_of_sent sent ≡ BadWords → ⊥
+sent_words sent.Whole is = cc
+sent_words sent.Cut is = cc
+
+-- what was opened by these names, and what was done there
+pub opens_words : (opener_told : Type 0) {D : Type 0} (told : Type 0) (state : D → DiskState) (names : Named) (before after : Sources D) (untouched : Type 0) (done : (f : Found opener_told names before) → Opening → Began opener_told told state names before f.shelf → Type 0) (status : Status)
+    → ((f : Found opener_told names before) (o : Opening) (u : Began opener_told told state names before f.shelf) → done f o u → status ≡ BadWords → ⊥) → Opens opener_told told state names before after untouched done status → status ≡ BadWords → ⊥
+opens_words opener_told told state names before after untouched done status other opens is = elim opens [
   | inl not ↦ (elim not.0 [
     | inl no_controller ↦ (elim no_controller [
       | inl no_shelf ↦ subst (λ (s : Status). NoShelf opener_told before.opener after.opener names.shelf s) is no_shelf.1
@@ -78,13 +98,13 @@ opens_words opener_told told state names before after untouched P jobs faults la
     ])
     | inr no_users ↦ no_users_words opener_told told state names before after no_users.0.shelf status no_users.4 is
   ])
-  | inr ran ↦ serving_words jobs faults later old new (subst (λ (s : Status). IsServing jobs faults later old new s) is (serving ran.4))
+  | inr ran ↦ other ran.0 ran.1 ran.3 ran.4 is
 ]
 
--- and on a mirrored one
-pub mirrors_words : {D K : Type 0} (told link_told : Type 0) (state : D → DiskState) (link : K → LinkState) (opener_told : Type 0) (names : Named) (before after : Sources D) (untouched P : Type 0) (jobs faults later : ℕ) (old new : SpawnerState) (status : Status) → (P → IsServing jobs faults later old new status)
+-- and by these with a peer
+pub mirrors_words : {D K : Type 0} (told link_told : Type 0) (state : D → DiskState) (link : K → LinkState) (opener_told : Type 0) (names : Named) (before after : Sources D) (untouched P : Type 0) (status : Status) → (P → status ≡ BadWords → ⊥)
     → Mirrors told link_told state link opener_told names before after untouched (λ f o u. P) status → status ≡ BadWords → ⊥
-mirrors_words told link_told state link opener_told names before after untouched P jobs faults later old new status serving mirrors is = elim mirrors [
+mirrors_words told link_told state link opener_told names before after untouched P status other mirrors is = elim mirrors [
   | inl not ↦ (elim not.0 [
     | inl no_controller ↦ (elim no_controller [
       | inl no_shelf ↦ subst (λ (s : Status). NoShelf opener_told before.opener after.opener names.shelf s) is no_shelf.1
@@ -95,7 +115,7 @@ mirrors_words told link_told state link opener_told names before after untouched
     ])
     | inr no_users ↦ no_users_words opener_told told state names before after no_users.0.shelf status no_users.4 is
   ])
-  | inr ran ↦ serving_words jobs faults later old new (subst (λ (s : Status). IsServing jobs faults later old new s) is (serving ran.4))
+  | inr ran ↦ other ran.4 is
 ]
 
 -- a standby

@@ -1,5 +1,3 @@
-pub mod Lines
-pub mod Matching
 pub mod Statuses
 pub mod Stocks
 pub mod Openings
@@ -8,5 +6,4 @@ pub mod Listings
 pub mod Serving
 pub mod Scripts
 pub mod Peers
-pub mod Standbys
 pub mod Runs

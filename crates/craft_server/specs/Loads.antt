@@ -1,12 +1,10 @@
 -- What the load mode does.
-use Rattle.std.specs.Prelude.{◌≡◌, ◌⊎◌, ◌*◌, ◌<◌, ℕ, true, List, [], ◌∷◌, codes}
+use Rattle.std.specs.Prelude.{◌≡◌, ◌⊎◌, ◌*◌, ℕ, [], ◌∷◌}
 use Rattle.dxc_causes.specs.Causes.{Rose}
 use Rattle.dxc_disk.specs.declared.mem_disk.MemDisk.{MemDisk}
 use Rattle.dxc_disk.specs.MemView.{mem_state}
 use Rattle.dxc_outside.specs.declared.send.Sent.{Sent}
 use Rattle.dxc_outside.specs.Links.{LinkState, IsSent}
-use Rattle.dxc_model.specs.declared.user.Class.TheVariants.{P}
-use Rattle.dxc_model.specs.Equipment.{has_bit}
 use Rattle.fabric_core.specs.declared.worker.Worker.{Worker}
 use Rattle.fabric_words.specs.Seats.{FabricId}
 use Rattle.shelf_file.specs.Contents.{Contents}
@@ -21,34 +19,18 @@ use Rattle.craft_session.specs.Sessions.{IsServed}
 use Rattle.dxc_load.specs.declared.summary.Summary.{Summary}
 use Rattle.dxc_load.specs.Carrying.{carried_in}
 use Rattle.dxc_load.specs.Codes.{coded_in, compld, deny}
-use Rattle.dxc_load.specs.Script.{load_moment, load_shape}
+use Rattle.dxc_load.specs.LoadShelf.{IsLoadShelf}
+use Rattle.dxc_load.specs.Script.{load_moment}
 use Rattle.dxc_load.specs.Sending.{unread}
 use Rattle.dxc_load.specs.Summaries.{summary_line}
 use Rattle.craft_server.specs.declared.opening.Controller.{Controller}
 use Rattle.craft_server.specs.declared.opening.Element.{Element}
-use Rattle.craft_server.specs.declared.status.Status.{Status}
-use Rattle.craft_server.specs.declared.status.Status.TheVariants.{NoMemory, Stopped}
+use Rattle.craft_words.specs.declared.status.Status.{Status}
+use Rattle.craft_words.specs.declared.status.Status.TheVariants.{NoMemory, Stopped}
 use Rattle.craft_server.specs.Openings.{AreUsersStarted, IsStarted}
 use Rattle.craft_session.specs.Places.{place_at}
-use Rattle.craft_server.specs.Statuses.{status_of_sent}
+use Rattle.craft_words.specs.Statuses.{status_of_sent}
 use Rattle.craft_server.specs.Stocks.{IsLeft}
-
--- the digest of the user's salt and PID: SHA-256 of the bytes abc
-abbrev pub load_digest : List ℕ
-load_digest =
-    186 ∷ 120 ∷ 22 ∷ 191 ∷ 143 ∷ 1 ∷ 207 ∷ 234 ∷ 65 ∷ 65 ∷ 64 ∷ 222 ∷ 93 ∷ 174 ∷ 34 ∷ 35
-    ∷ 176 ∷ 3 ∷ 97 ∷ 163 ∷ 150 ∷ 23 ∷ 122 ∷ 156 ∷ 180 ∷ 16 ∷ 255 ∷ 97 ∷ 242 ∷ 0 ∷ 21 ∷ 173 ∷ []
-
--- the element of the load, as its shelf file describes it
-abbrev pub load_file : List ℕ
-load_file = codes "sid=\"LOAD\"\nmodules=8\nslots=24\n[[user]]\nuid=\"LOAD\"\nclass=\"P\"\nsalt=\"61\"\ndigest=\"ba7816bf8f01cfea414140de5dae2223b00361a396177a9cb410ff61f20015ad\"\n"
-
--- all modules of its shape are equipped, and it has one user
-pub record IsLoadShelf (s : Contents) : Type 0 where
-  pub sid : s.sid ≡ codes "LOAD"
-  pub shape : s.shape ≡ load_shape
-  pub equipped : (m : ℕ) → m < 8 → has_bit s.equipped m ≡ true
-  pub users : s.users ≡ record { name = codes "LOAD"; class = P; salt = 97 ∷ []; digest = load_digest } ∷ []
 
 -- The script was sent to a session on new journals, and all of it was read. The codes are those of its responses, connections and switches are what
 -- it left, and the bytes are those that a worker noted in 10,000 frames.

@@ -21,8 +21,8 @@ use Rattle.craft_session.specs.PlainUsers.{IsUsersOpeningOf, users_opening_room}
 use Rattle.craft_session.specs.Scripts.{IsOpeningOf, opening_room}
 use Rattle.craft_server.specs.declared.opening.Controller.{Controller}
 use Rattle.craft_server.specs.declared.opening.Element.{Element}
-use Rattle.craft_server.specs.declared.status.Status.{Status}
-use Rattle.craft_server.specs.declared.status.Status.TheVariants.{Done, BadWords, BadShelf, BadJournal, Disk, CannotOpen, NoThread, NoMemory, Link, Stopped, Spent, BadMessage, NotEmpty}
+use Rattle.craft_words.specs.declared.status.Status.{Status}
+use Rattle.craft_words.specs.declared.status.Status.TheVariants.{Done, BadWords, BadShelf, BadJournal, Disk, CannotOpen, NoThread, NoMemory, Link, Stopped, Spent, BadMessage, NotEmpty}
 use Rattle.craft_server.specs.Statuses.{status_of_fault, status_of_users_fault}
 
 -- the names of a shelf file and a journal

@@ -9,7 +9,7 @@ use Rattle.standby_link.specs.Moves.{Joins}
 use Rattle.xc_core.specs.States.{Opening}
 use Rattle.craft_server.specs.declared.opening.Controller.{Controller}
 use Rattle.craft_server.specs.declared.opening.Element.{Element}
-use Rattle.craft_server.specs.declared.status.Status.{Status}
+use Rattle.craft_words.specs.declared.status.Status.{Status}
 use Rattle.craft_server.specs.Openings.{Began, HasOpening, HasShelf, HasUsers, IsStarted, Named, NoDisk, NoShelf, NotStarted, NoUsers, Sources}
 
 -- what a mirrored disk shows is what the disk below shows

@@ -11,19 +11,19 @@ use Rattle.dxc_model.specs.Tables.{rows}
 use Rattle.shelf_file.specs.Contents.{Contents}
 use Rattle.user_admin.specs.Histories.{Opening as UsersOpening}
 use Rattle.xc_core.specs.States.{Opening}
-use Rattle.craft_server.specs.declared.line.Line.{Line}
-use Rattle.craft_server.specs.declared.line.Line.TheVariants.{Script, Check, Serve, Standby, Load}
-use Rattle.craft_server.specs.declared.status.Status.{Status}
-use Rattle.craft_server.specs.declared.status.Status.TheVariants.{BadWords, NoMemory}
-use Rattle.craft_server.specs.Lines.{IsLine}
+use Rattle.craft_words.specs.declared.line.Line.{Line}
+use Rattle.craft_words.specs.declared.line.Line.TheVariants.{Script, Check, Serve, Standby, Load}
+use Rattle.craft_words.specs.declared.status.Status.{Status}
+use Rattle.craft_words.specs.declared.status.Status.TheVariants.{BadWords, NoMemory}
+use Rattle.craft_words.specs.Lines.{IsLine}
 use Rattle.craft_server.specs.Listings.{listing}
 use Rattle.craft_server.specs.Loads.{IsLoad}
 use Rattle.craft_server.specs.Openings.{Began, Found, Named, Opens, Sources, named}
 use Rattle.craft_server.specs.Peers.{Mirrors}
 use Rattle.craft_server.specs.Scripts.{RanSession}
 use Rattle.craft_server.specs.Serving.{IsServing, named_in}
-use Rattle.craft_server.specs.Standbys.{StandsBy}
-use Rattle.craft_server.specs.Statuses.{status_of_sent}
+use Rattle.craft_jobs.specs.Standbys.{StandsBy}
+use Rattle.craft_words.specs.Statuses.{status_of_sent}
 
 -- whether opener, disk, terminal, clock, peer, listener and the listener's links tell what they hold
 pub record Told : Type 1 where

@@ -1,16 +1,13 @@
 -- The serving of callers, and the program's jobs.
-use Rattle.std.specs.Prelude.{◌≡◌, ◌≢◌, ℕ, ◌+◌, ◌≤◌, ◌⊎◌, min, true, List, [], Option, None}
-use Rattle.dxc_causes.specs.Causes.{Rose, last}
+use Rattle.std.specs.Prelude.{◌≡◌, ◌≢◌, ℕ, ◌+◌, ◌≤◌, ◌⊎◌, true, List, [], Option, None}
+use Rattle.dxc_causes.specs.Causes.{Rose}
 use Rattle.dxc_outside.specs.Threads.{SpawnerState}
-use Rattle.craft_server.specs.declared.line.Line.{Line}
-use Rattle.craft_server.specs.declared.line.Line.TheVariants.{Script, Check, Serve, Standby, Load}
-use Rattle.craft_server.specs.declared.status.Status.{Status}
-use Rattle.craft_server.specs.declared.status.Status.TheVariants.{Done, CannotOpen, NoThread, NoMemory}
+use Rattle.craft_words.specs.declared.line.Line.{Line}
+use Rattle.craft_words.specs.declared.line.Line.TheVariants.{Script, Check, Serve, Standby, Load}
+use Rattle.craft_words.specs.declared.status.Status.{Status}
+use Rattle.craft_words.specs.declared.status.Status.TheVariants.{Done, CannotOpen, NoThread, NoMemory}
+use Rattle.craft_jobs.specs.Counts.{RoseBy}
 use Rattle.craft_server.specs.Openings.{Named, named}
-
--- a count has risen by at least so much, or stands at its last value
-abbrev pub RoseBy : ℕ → ℕ → ℕ → Type 0
-RoseBy n before now = min (before + n) last ≤ now
 
 -- a line of the mode serve, with 1 to 8 workers
 abbrev pub IsServe : Line → Type 0

@@ -1,7 +1,4 @@
 -- How the program ends, by how its parts did.
-use Rattle.std.specs.Prelude.{ℕ}
-use Rattle.dxc_outside.specs.declared.send.Sent.{Sent}
-use Rattle.dxc_outside.specs.declared.send.Sent.TheVariants as sent
 use Rattle.journal_core.specs.declared.fault.JournalWhy.{JournalWhy}
 use Rattle.journal_core.specs.declared.fault.JournalWhy.TheVariants as why
 use Rattle.xc_core.specs.declared.fault.OpenFault.{OpenFault}
@@ -10,47 +7,17 @@ use Rattle.user_admin.specs.declared.fault.UserOpenFault.{UserOpenFault}
 use Rattle.user_admin.specs.declared.fault.UserOpenFault.TheVariants as users
 use Rattle.craft_session.specs.declared.end.SessionEnd.{SessionEnd}
 use Rattle.craft_session.specs.declared.end.SessionEnd.TheVariants as end
-use Rattle.standby_link.specs.declared.end.StandbyEnd.{StandbyEnd}
-use Rattle.standby_link.specs.declared.end.StandbyEnd.TheVariants as standby
-use Rattle.craft_server.specs.declared.status.JournalBad.TheVariants.{Header, Record, UsersHeader, UsersRecord}
-use Rattle.craft_server.specs.declared.status.Status.{Status}
-use Rattle.craft_server.specs.declared.status.Status.TheVariants.{Done, BadWords, BadShelf, BadJournal, Disk, CannotOpen, NoThread, NoMemory, Link, Stopped, Spent, BadMessage, NotEmpty}
+use Rattle.craft_words.specs.declared.status.JournalBad.TheVariants.{Header, Record, UsersHeader, UsersRecord}
+use Rattle.craft_words.specs.declared.status.Status.{Status}
+use Rattle.craft_words.specs.declared.status.Status.TheVariants.{Done, BadJournal, Disk, NoMemory, Link, Stopped, Spent}
 
--- the number that the process ends with
-abbrev pub number_of : Status → ℕ
-number_of Done = 0
-number_of BadWords = 2
-number_of (BadShelf f) = 3
-number_of (BadJournal f) = 4
-number_of Disk = 5
-number_of CannotOpen = 6
-number_of NoThread = 7
-number_of NoMemory = 8
-number_of Link = 9
-number_of Stopped = 10
-number_of Spent = 11
-number_of BadMessage = 12
-number_of NotEmpty = 13
-
+-- after a session over the terminal
 abbrev pub status_of : SessionEnd → Status
 status_of end.End = Done
 status_of end.ReadFault = Link
 status_of end.WriteFault = Link
 status_of end.Stopped = Stopped
 status_of end.Spent = Spent
-
-abbrev pub status_of_standby : StandbyEnd → Status
-status_of_standby standby.End = Done
-status_of_standby standby.ReadFault = Link
-status_of_standby standby.WriteFault = Link
-status_of_standby standby.DiskFault = Disk
-status_of_standby standby.BadMessage = BadMessage
-status_of_standby standby.NotEmpty = NotEmpty
-status_of_standby standby.Spent = Spent
-
-abbrev pub status_of_sent : Sent → Status
-status_of_sent sent.Whole = Done
-status_of_sent sent.Cut = Link
 
 abbrev pub status_of_why : JournalWhy → Status
 status_of_why (why.BadHeader bytes) = BadJournal (Header bytes)

@@ -11,10 +11,10 @@ ghost use Rattle.craft_server.specs.Listings.{row_line, count_line, listing, rec
 ghost use Rattle.craft_server.specs.Openings.{Opens, named, sources};
 ghost use Rattle.craft_server.specs.Runs.{IsCheck};
 
-use crate::Status;
 use crate::opening::{Element, Names, open};
 use crate::script::WORKERS;
 use arrayvec::ArrayVec;
+use craft_words::Status;
 use dxc_disk::Disk;
 use dxc_model::{Conn, Selection, Table};
 use dxc_num::Shape;

@@ -4,10 +4,10 @@ ghost use Rattle.std.specs.Arc.{arc_value};
 ghost use Rattle.dxc_causes.specs.Causes.{HasCause};
 ghost use Rattle.fabric_words.specs.New.{AreNew};
 
-use crate::Status;
-use crate::frames::FrameJob;
 use crate::sessions::SessionJob;
+use craft_jobs::FrameJob;
 use craft_session::Place;
+use craft_words::Status;
 use dxc_disk::Disk;
 use dxc_outside::{Opened, Opener};
 use fabric_words::{Fabric, WorkerSeat};

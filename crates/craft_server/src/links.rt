@@ -1,6 +1,6 @@
 ghost use Rattle.std.specs.Prelude.{◌≡◌, ◌≤◌, ◌⊎◌, [], true};
 ghost use Rattle.craft_session.specs.Seats.{IsSameSeat, IsSameUserSeat};
-ghost use Rattle.craft_server.specs.Serving.{RoseBy};
+ghost use Rattle.craft_jobs.specs.Counts.{RoseBy};
 
 use craft_session::{Place, serve_session};
 use dxc_disk::Disk;
@@ -17,7 +17,7 @@ pub enum LinksEnd {
 }
 
 /// So many accepts in a row may not fail.
-pub(crate) const FAILURES: u8 = 16;
+const FAILURES: u8 = 16;
 
 /// Serves each caller of the listener by one session, one after another, until the listener says End or 16 accepts in a row failed.
 /// A session that ends by a fault, or that the gate stops, ends for its caller alone.

@@ -2,43 +2,21 @@
 ghost use Rattle.std.specs.Prelude.{◌≡◌, ◌≤◌, ◌⊎◌, ◌^◌, [], IfOk, MatchResult};
 ghost use Rattle.dxc_disk.specs.Fresh.{IsFresh};
 ghost use Rattle.dxc_disk.specs.MemView.{mem_state};
-ghost use Rattle.craft_server.specs.Loads.{IsLoad, IsLoadController, IsLoadStarted, IsLoadShelf, IsLoaded, NotLoaded};
+ghost use Rattle.craft_server.specs.Loads.{IsLoad, IsLoadController, IsLoadStarted, IsLoaded, NotLoaded};
 
-use crate::Status;
 use crate::opening::{Controller, Element, start, start_users};
 use crate::places::open_place;
 use crate::stock::stock_of;
 use arrayvec::ArrayVec;
 use craft_session::{SessionEnd, serve_session};
+use craft_words::Status;
 use dxc_causes::NoMemory;
 use dxc_disk::MemDisk;
-use dxc_load::{LoadClock, LoadLink, Summary, codes_in};
+use dxc_load::{LoadClock, LoadLink, Summary, codes_in, load_shelf};
 use dxc_model::Conn;
 use dxc_outside::{Gate, Link, write_all};
-use shelf_file::{Shelf, ShelfFault, shelf_of};
 use std::alloc::Global;
-use std::sync::{Arc, Wait};
-
-/// The element of the load: 8 modules of 24 slots, all equipped, and one user, whose PID is bc.
-const SHELF: &[u8] = b"sid=\"LOAD\"
-modules=8
-slots=24
-[[user]]
-uid=\"LOAD\"
-class=\"P\"
-salt=\"61\"
-digest=\"ba7816bf8f01cfea414140de5dae2223b00361a396177a9cb410ff61f20015ad\"
-";
-
-fn load_shelf(alloc: Global) -> Result<Shelf, NoMemory>
-    ensures { IfOk result IsLoadShelf }
-{
-    match shelf_of(alloc, SHELF) {
-        Ok(shelf) => Ok(shelf),
-        Err(ShelfFault::NoMemory) => Err(NoMemory),
-        Err(_) => unreachable!(),
-    }
-}
+use std::sync::Wait;
 
 /// How many calls and bytes the journal's disk has room for.
 const DISK_ROOM: usize = 1 << 21;

@@ -2,17 +2,19 @@
 ghost use Rattle.std.specs.Prelude.{◌≡◌, ◌≢◌, ◌⊎◌, ◌≤◌, Some, IfOk, ◌<◌, ℕ, List, MatchResult};
 ghost use Rattle.dxc_causes.specs.Causes.{Rose};
 ghost use Rattle.craft_server.specs.Openings.{AreUsersNotStarted, AreUsersStarted, FoundUsers, HasController, HasShelf, IsOpened, IsStarted, NoController, NoShelf, NotOpened, NotStarted, named, sources, users_name as name_of_users};
+ghost use Rattle.craft_server.specs.Statuses.{status_of_fault, status_of_users_fault};
 
-use crate::Status;
+use craft_words::{JournalBad, Status};
 use dxc_causes::NoMemory;
 use dxc_disk::Disk;
 use dxc_outside::{Gate, Name, Opened, Opener};
 use fabric_words::{Fabric, WorkerSeat};
+use journal_core::JournalWhy;
 use shelf_file::{Shelf, ShelfFault, shelf_of};
 use std::alloc::Global;
 use std::sync::Arc;
-use user_admin::UserState;
-use xc_core::{Core, State};
+use user_admin::{UserOpenFault, UserState};
+use xc_core::{Core, OpenFault, State};
 
 /// The names of a shelf file and a journal.
 #[derive(Clone, Copy)]
@@ -122,7 +124,7 @@ pub(crate) fn start<D: Disk + Drop, G: Gate>(
     };
     let state = match Core::open(alloc, &shelf, disk, mover, &fabric, gate) {
         Ok(state) => state,
-        Err(fault) => return Err(Status::of_fault(fault)),
+        Err(fault) => return Err(not_started(fault)),
     };
     let Ok(fabric) = Arc::new(alloc, fabric) else {
         return Err(Status::NoMemory);
@@ -133,6 +135,21 @@ pub(crate) fn start<D: Disk + Drop, G: Gate>(
         seats,
         state,
     })
+}
+
+fn not_started<D: Disk + Drop>(fault: OpenFault<D>) -> Status
+    ensures { result ≡ status_of_fault fault }
+{
+    match fault {
+        OpenFault::Journal(fault) => match fault.why {
+            JournalWhy::BadHeader(bytes) => Status::BadJournal(JournalBad::Header(bytes)),
+            JournalWhy::Disk => Status::Disk,
+        },
+        OpenFault::BadRecord(number) => Status::BadJournal(JournalBad::Record(number)),
+        OpenFault::Disk(_) => Status::Disk,
+        OpenFault::NoMemory => Status::NoMemory,
+        OpenFault::Stopped => Status::Stopped,
+    }
 }
 
 // The name of the users' journal beside a journal of this name.
@@ -175,6 +192,20 @@ pub(crate) fn start_users<D: Disk + Drop>(
 {
     match UserState::open(alloc, shelf, disk) {
         Ok(users) => Ok(users),
-        Err(fault) => Err(Status::of_users_fault(fault)),
+        Err(fault) => Err(users_not_started(fault)),
+    }
+}
+
+fn users_not_started<D: Disk + Drop>(fault: UserOpenFault<D>) -> Status
+    ensures { result ≡ status_of_users_fault fault }
+{
+    match fault {
+        UserOpenFault::Journal(fault) => match fault.why {
+            JournalWhy::BadHeader(bytes) => Status::BadJournal(JournalBad::UsersHeader(bytes)),
+            JournalWhy::Disk => Status::Disk,
+        },
+        UserOpenFault::BadRecord(number) => Status::BadJournal(JournalBad::UsersRecord(number)),
+        UserOpenFault::Disk(_) => Status::Disk,
+        UserOpenFault::NoMemory => Status::NoMemory,
     }
 }

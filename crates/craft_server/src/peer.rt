@@ -5,10 +5,10 @@ ghost use Rattle.craft_server.specs.Openings.{named, sources};
 ghost use Rattle.craft_server.specs.Peers.{HasMirrored, IsMirrorOf, IsOpenedOn, Mirrors, NoMirrored, NotMirrored};
 ghost use Rattle.craft_server.specs.Serving.{IsServing};
 
-use crate::Status;
 use crate::opening::{Controller, Element, Names, open_users, shelf_of_file, start};
 use crate::places::open_places;
 use crate::serve::{SESSIONS, Site, serve_on};
+use craft_words::Status;
 use dxc_outside::{Gate, Listener, Opened, Opener, Spawner};
 use standby_link::MirrorDisk;
 use std::alloc::Global;

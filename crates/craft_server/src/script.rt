@@ -1,11 +1,12 @@
 ghost use Rattle.std.specs.Prelude.{◌≡◌};
 ghost use Rattle.craft_server.specs.Openings.{Opens, named, sources};
 ghost use Rattle.craft_server.specs.Scripts.{RanSession};
+ghost use Rattle.craft_server.specs.Statuses.{status_of};
 
-use crate::Status;
 use crate::opening::{Controller, Element, Names, open};
 use crate::places::open_places;
-use craft_session::serve_session;
+use craft_session::{SessionEnd, serve_session};
+use craft_words::Status;
 use dxc_outside::{Clock, Gate, Link, Opener};
 use std::alloc::Global;
 use std::sync::Wait;
@@ -39,5 +40,16 @@ pub(crate) fn run_script<O: Opener, K: Link, C: Clock, G: Gate, R: Wait>(
         return Status::NoMemory;
     };
     let mut place = places.remove(0);
-    Status::of_end(serve_session(&mut place, terminal, clock, gate, rt))
+    after_session(serve_session(&mut place, terminal, clock, gate, rt))
+}
+
+fn after_session(end: SessionEnd) -> Status
+    ensures { result ≡ status_of end }
+{
+    match end {
+        SessionEnd::End => Status::Done,
+        SessionEnd::ReadFault | SessionEnd::WriteFault => Status::Link,
+        SessionEnd::Stopped => Status::Stopped,
+        SessionEnd::Spent => Status::Spent,
+    }
 }

@@ -11,7 +11,7 @@ use turnstile::{Pass, Turnstile};
 use xc_core::{Home, State};
 
 /// How many connections there are, and how many switches were made since the fabric was.
-#[derive(Clone, Copy, Debug, PartialEq, Eq)]
+#[derive(Clone, Copy)]
 pub(crate) struct Stock {
     pub(crate) connections: u64,
     pub(crate) switches: u64,

@@ -1,5 +1,5 @@
 use Rattle.std.proofs.Common.{◌∙◌, arith, rules}
-use Rattle.craft_server.proofs.Counting.{rose_more}
+use Rattle.craft_jobs.proofs.Counting.{rose_more}
 use Rattle.craft_server.proofs.links.serve_links.Goals as goal
 
 pub loop-preserved : goal.loop-preserved

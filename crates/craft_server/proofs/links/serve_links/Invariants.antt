@@ -1,6 +1,6 @@
 use Rattle.std.proofs.Common.{◌≡◌, ◌≤◌, ◌<◌}
 use Rattle.craft_session.specs.Seats.{IsSameSeat, IsSameUserSeat}
-use Rattle.craft_server.specs.Serving.{RoseBy}
+use Rattle.craft_jobs.specs.Counts.{RoseBy}
 use Rattle.craft_server.proofs.links.serve_links.Given as goal
 
 abbrev pub invariant-loop : goal.invariant-loop

@@ -1,5 +1,6 @@
+use Rattle.craft_jobs.proofs.Handing.{handed}
 use Rattle.craft_server.specs.Openings.{named, sources}
-use Rattle.craft_server.proofs.Starting.{handed, opened}
+use Rattle.craft_server.proofs.Starting.{opened}
 use Rattle.craft_server.proofs.opening.open_controller.Goals as goal
 
 pub returns-in-Open-clause-opened : goal.returns-in-Open-clause-opened

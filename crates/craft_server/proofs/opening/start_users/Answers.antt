@@ -9,4 +9,4 @@ returns-in-Ok g c =
 pub returns-in-Err : goal.returns-in-Err
 returns-in-Err g c =
     let e = c.open.ensures in
-    users_not_started g.D.Disk.told g.D.Disk.state c.args.disk c.args.shelf.now c.in-Err.fault c.open.result c.of_users_fault.result c.in-Err.is c.of_users_fault.ensures e.fails e.sound
+    users_not_started g.D.Disk.told g.D.Disk.state c.args.disk c.args.shelf.now c.in-Err.fault c.open.result c.users_not_started.result c.in-Err.is c.users_not_started.ensures e.fails e.sound

@@ -1,5 +1,5 @@
 use Rattle.std.proofs.Common.{refl}
-use Rattle.craft_server.proofs.Starting.{handed}
+use Rattle.craft_jobs.proofs.Handing.{handed}
 use Rattle.craft_server.proofs.peer.mirror_of.Goals as goal
 
 pub returns-in-Open-peer-clause-mirror : goal.returns-in-Open-peer-clause-mirror

@@ -3,9 +3,8 @@ use Rattle.std.specs.Prelude.{vec_len}
 use Rattle.craft_server.specs.Openings.{named, sources}
 use Rattle.craft_server.specs.Peers.{mirror_state}
 use Rattle.craft_server.specs.Serving.{IsServing}
-use Rattle.craft_server.proofs.Counting.{rose_behind}
 use Rattle.craft_server.proofs.Mirroring.{serves}
-use Rattle.craft_server.proofs.Starting.{opened_at}
+use Rattle.craft_server.proofs.Starting.{opened_at, rose_behind}
 use Rattle.craft_server.proofs.peer.serve_mirrored.Goals as goal
 
 pub returns-in-Err : goal.returns-in-Err

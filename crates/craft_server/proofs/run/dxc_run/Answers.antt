@@ -5,16 +5,17 @@ use Rattle.dxc_outside.specs.Openings.{OpenerState}
 use Rattle.shelf_file.specs.Contents.{Contents}
 use Rattle.user_admin.specs.Histories.{Opening as UsersOpening}
 use Rattle.xc_core.specs.States.{Opening}
-use Rattle.craft_server.specs.declared.line.Line.{Line}
+use Rattle.craft_words.specs.declared.line.Line.{Line}
+use Rattle.craft_words.specs.declared.status.Status.TheVariants.{BadWords}
 use Rattle.craft_server.specs.Openings.{named, sources}
 use Rattle.craft_server.specs.Runs.{IsCheck, IsRunOf, IsUntouched, RanCheck, RanScript, RanServe, lent, told_by}
 use Rattle.craft_server.specs.Scripts.{RanSession}
-use Rattle.craft_server.specs.Standbys.{StandsBy}
+use Rattle.craft_jobs.specs.Standbys.{StandsBy}
 use Rattle.craft_server.specs.Serving.{IsServing, named_in, peer_of, workers_in}
 use Rattle.craft_server.proofs.Loading.{load_words}
 use Rattle.craft_server.proofs.Mirroring.{mirrors_for, serves_for}
 use Rattle.craft_server.proofs.Starting.{opens_for}
-use Rattle.craft_server.proofs.Wording.{mirrors_words, opens_words, serve_words, stands_words}
+use Rattle.craft_server.proofs.Wording.{end_words, mirrors_words, opens_words, sent_words, serve_words, serving_words, stands_words}
 use Rattle.craft_server.proofs.run.dxc_run.Goals as goal
 
 pub returns-in-Script-clause-run : goal.returns-in-Script-clause-run
@@ -88,6 +89,18 @@ returns-in-Standby-clause-run g c =
     let stands : by c.in-Standby.journal c.in-Standby.address = subst (λ (n : List ℕ). by n c.in-Standby.address) c.text-in-Standby.ensures (subst (λ (n : List ℕ). by c.text-in-Standby.result.now n) c.text-in-Standby-2.ensures c.run_standby.ensures) in
     inr (c.in-Ok.line, c.in-Ok.ensures.line, subst (λ (l : Line). IsRunOf told state g.O.Peer.Link.state listener link listeners l before after status) (sym c.in-Standby.is) (record { stands_by = stands; untouched = record { terminal = refl; clock = refl; spawner = refl }; gate = refl }))
 
+pub returns-in-Script-clause-words : goal.returns-in-Script-clause-words
+returns-in-Script-clause-words g c = λ bad l is.
+    let before = sources (g.O.Opener.state c.args.opener.now) (g.O.Opener.journal_at c.args.opener.now) (g.G.Gate.stops c.args.gate.now) in
+    let after = sources (g.O.Opener.state c.run_script.new.opener) (g.O.Opener.journal_at c.run_script.new.opener) (g.G.Gate.stops c.run_script.new.gate) in
+    opens_words g.O.Opener.told g.O.Journal.Disk.told g.O.Journal.Disk.state _ before after _ _ c.run_script.result (λ f o u ran no. end_words ran.end (sym ran.status_is ∙ no)) c.run_script.ensures bad
+
+pub returns-in-Check-clause-words : goal.returns-in-Check-clause-words
+returns-in-Check-clause-words g c = λ bad l is.
+    let before = sources (g.O.Opener.state c.args.opener.now) (g.O.Opener.journal_at c.args.opener.now) (g.G.Gate.stops c.args.gate.now) in
+    let after = sources (g.O.Opener.state c.run_check.new.opener) (g.O.Opener.journal_at c.run_check.new.opener) (g.G.Gate.stops c.run_check.new.gate) in
+    opens_words g.O.Opener.told g.O.Journal.Disk.told g.O.Journal.Disk.state _ before after _ _ c.run_check.result (λ f o u ran no. sent_words ran.1.sent (sym ran.1.status_is ∙ no)) c.run_check.ensures bad
+
 pub returns-in-Serve-clause-words : goal.returns-in-Serve-clause-words
 returns-in-Serve-clause-words g c = λ bad l is.
     let before = sources (g.O.Opener.state c.args.opener.now) (g.O.Opener.journal_at c.args.opener.now) (g.G.Gate.stops c.args.gate.now) in
@@ -96,10 +109,12 @@ returns-in-Serve-clause-words g c = λ bad l is.
     let q = g.P.Spawner.state c.serve_all.new.spawner in
     let line = c.in-Ok.line in
     let jobs = workers_in line + 16 in
-    let Serving : Type 0 = (after.stops ≡ before.stops) × IsServing jobs before.opener.faults after.opener.faults p q c.serve_all.result in
+    let status = c.serve_all.result in
+    let Serving : Type 0 = (after.stops ≡ before.stops) × IsServing jobs before.opener.faults after.opener.faults p q status in
+    let other : Serving → status ≡ BadWords → ⊥ = λ ran. serving_words jobs before.opener.faults after.opener.faults p q status ran.1 in
     serve_words c.in-Serve.peer
-    (λ none. opens_words g.O.Opener.told g.O.Journal.Disk.told g.O.Journal.Disk.state (named_in line) before after (q ≡ p) Serving jobs before.opener.faults after.opener.faults p q c.serve_all.result (λ ran. ran.1) (c.serve_all.ensures.alone (ap peer_of c.in-Serve.is ∙ none)) bad)
-    (λ some. mirrors_words g.O.Journal.Disk.told g.O.Peer.Link.told g.O.Journal.Disk.state g.O.Peer.Link.state g.O.Opener.told (named_in line) before after (q ≡ p) Serving jobs before.opener.faults after.opener.faults p q c.serve_all.result (λ ran. ran.1) (c.serve_all.ensures.mirrored (subst IsSome (sym (ap peer_of c.in-Serve.is)) some)) bad)
+    (λ none. opens_words g.O.Opener.told g.O.Journal.Disk.told g.O.Journal.Disk.state (named_in line) before after (q ≡ p) (λ f o u. Serving) status (λ f o u. other) (c.serve_all.ensures.alone (ap peer_of c.in-Serve.is ∙ none)) bad)
+    (λ some. mirrors_words g.O.Journal.Disk.told g.O.Peer.Link.told g.O.Journal.Disk.state g.O.Peer.Link.state g.O.Opener.told (named_in line) before after (q ≡ p) Serving status other (c.serve_all.ensures.mirrored (subst IsSome (sym (ap peer_of c.in-Serve.is)) some)) bad)
 
 pub returns-in-Standby-clause-words : goal.returns-in-Standby-clause-words
 returns-in-Standby-clause-words g c = λ bad l is. stands_words _ _ _ _ _ _ _ _ _ _ _ _ _ _ c.run_standby.ensures bad

@@ -40,6 +40,6 @@ returns g c =
       opening_of state x.state,
       begun told state f.disk f.shelf _ x st,
       users_began told state g.O.Opener.told _ _ f.shelf users u,
-      ran_session told state g.K.Link.told g.C.Clock.told k l (g.C.Clock.coming c.args.clock.now) (g.C.Clock.coming c.serve_session.new.clock) (g.G.Gate.stops c.args.gate.now) later f.shelf f.disk u.0.disk _ x users c.remove-place.result c.serve_session.new.place c.serve_session.result c.of_end.result st u.1 is e.seat e.users e.numbers e.users_numbers e.astray e.session
-          (subst (λ (n : ℕ). IsEnd k l n later c.serve_session.result) c.in-Ok.ensures.unstopped ended) c.of_end.ensures,
+      ran_session told state g.K.Link.told g.C.Clock.told k l (g.C.Clock.coming c.args.clock.now) (g.C.Clock.coming c.serve_session.new.clock) (g.G.Gate.stops c.args.gate.now) later f.shelf f.disk u.0.disk _ x users c.remove-place.result c.serve_session.new.place c.serve_session.result c.after_session.result st u.1 is e.seat e.users e.numbers e.users_numbers e.astray e.session
+          (subst (λ (n : ℕ). IsEnd k l n later c.serve_session.result) c.in-Ok.ensures.unstopped ended) c.after_session.ensures,
     )

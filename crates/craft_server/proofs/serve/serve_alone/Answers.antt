@@ -3,8 +3,7 @@ use Rattle.std.specs.Prelude.{vec_len}
 use Rattle.xc_core.specs.States.{opening_of}
 use Rattle.craft_server.specs.Openings.{named, sources}
 use Rattle.craft_server.specs.Serving.{IsServing}
-use Rattle.craft_server.proofs.Counting.{rose_behind}
-use Rattle.craft_server.proofs.Starting.{begun, opened_at, users_began}
+use Rattle.craft_server.proofs.Starting.{begun, opened_at, rose_behind, users_began}
 use Rattle.craft_server.proofs.serve.serve_alone.Goals as goal
 
 pub returns-in-Err : goal.returns-in-Err

@@ -1,0 +1,8 @@
+-- Counts, one by one.
+use Rattle.std.proofs.Common.{◌+◌, ℕ, arith}
+use Rattle.dxc_causes.specs.Causes.{Rose}
+use Rattle.craft_jobs.specs.Counts.{RoseBy}
+
+-- one more behind n
+pub rose_more : (n before now later : ℕ) → RoseBy n before now → Rose now later → RoseBy (n + 1) before later
+rose_more n before now later r s = omega arith

@@ -1,0 +1,84 @@
+-- What a standby came to, by what it was lent.
+use Rattle.std.proofs.Common.{◌≡◌, ◌+◌, ◌≤◌, ◌<◌, ◌∙◌, ℕ, arith, List, Option, inl, inr, refl, subst}
+use Rattle.std.specs.Prelude.{IsTrue, length}
+use Rattle.dxc_causes.specs.Causes.{Rose, last}
+use Rattle.dxc_disk.specs.Disks.{CountsOn, DiskState, IsSound}
+use Rattle.dxc_outside.specs.Callers.{IsAccept, ListenerState}
+use Rattle.dxc_outside.specs.Links.{LinkState}
+use Rattle.dxc_outside.specs.declared.listener.Came.{Came}
+use Rattle.dxc_outside.specs.declared.listener.Came.TheVariants.{Link, End, Failed}
+use Rattle.standby_link.specs.declared.end.StandbyEnd.{StandbyEnd}
+use Rattle.standby_link.specs.Serves.{bytes_in}
+use Rattle.craft_words.specs.declared.status.Status.{Status}
+use Rattle.craft_words.specs.declared.status.Status.TheVariants.{CannotOpen, Done}
+use Rattle.craft_jobs.specs.Counts.{RoseBy}
+use Rattle.craft_jobs.specs.Standbys.{Ends, HasBoth, IsFirst, RanStandby, StandsBy, read_in, status_of_standby}
+use Rattle.craft_jobs.proofs.Counting.{rose_more}
+
+-- a count of faults doesn't rise on a disk that is sound for what is taken
+never_rises : (room margin faults now spare taken : ℕ) → (0 < room → faults < last) → margin ≡ 0 → 1 ≤ taken → taken ≤ room → now + spare ≤ faults + margin → Rose faults now → ⊥
+never_rises room margin faults now spare taken counts none some enough spent rose = let below = counts (omega (arith, some, enough)) in absurd (omega (arith, below, none, spent, rose))
+
+-- so no run of a standby ends by its disk that is sound for one more than the bytes that were read
+pub no_disk_fault : (disk_told link_told : Type 0) (k k' : LinkState) (d d' : DiskState) (end : StandbyEnd) (ends : Ends disk_told link_told k k' d d' end) → CountsOn d → IsSound (1 + read_in disk_told link_told k k' d d' end ends) d → Rose d.faults d'.faults → ⊥
+no_disk_fault disk_told link_told k k' d d' end (inl unbegun) counts sound rose = never_rises d.room d.margin d.faults d'.faults d'.margin 1 counts sound.margin (omega arith) sound.enough (unbegun.spent sound.enough).margin rose
+no_disk_fault disk_told link_told k k' d d' end (inr served) counts sound rose = never_rises d.room d.margin d.faults d'.faults d'.margin (1 + length (bytes_in served.came)) counts sound.margin (omega arith) sound.enough (served.spent sound.enough).1 rose
+
+module _ (opener_told disk_told listener_told link_told : Type 0) {D L K : Type 0} (disk : D → DiskState) (listener : L → ListenerState K) (link : K → LinkState) (journal_at : List ℕ → Option D) (listener_at : List ℕ → Option L) (faults later : ℕ) (journal address : List ℕ) (b : HasBoth opener_told disk_told listener_told link_told disk listener link journal_at listener_at journal address) (door : L) where
+  -- the first link was served
+  pub served_one : (first : Came K) (caller served : K) (copy : D) (end : StandbyEnd) (status : Status) → first ≡ Link caller → status ≡ status_of_standby end → IsFirst listener_told link (listener b.door) (listener door) first → RanStandby disk_told link_told (link caller) (link served) (disk b.copy) (disk copy) end
+      → StandsBy opener_told disk_told listener_told link_told disk listener link journal_at listener_at faults later journal address status
+  served_one first caller served copy end status is status_is came ran =
+      let one = subst (λ (f : Came K). IsFirst listener_told link (listener b.door) (listener door) f) is came in
+      inr (inr (
+        b,
+        inr (inr (record {
+          caller = caller;
+          first = λ t. ((listener door).coming, one.coming t);
+          is_sound = one.sound;
+          new_caller = served;
+          new_disk = copy;
+          end = end;
+          ran = ran;
+          status_is = status_is;
+        })),
+      ))
+
+  -- the listener said End
+  pub nobody_came : (first : Came K) → first ≡ End → IsFirst listener_told link (listener b.door) (listener door) first → StandsBy opener_told disk_told listener_told link_told disk listener link journal_at listener_at faults later journal address Done
+  nobody_came first is came =
+      let one = subst (λ (f : Came K). IsFirst listener_told link (listener b.door) (listener door) f) is came in
+      inr (inr (b, inl (record { status_is = refl; new_door = door; ended = one.ended refl; nobody = λ t. one.coming t ∙ one.end t refl })))
+
+  -- 16 accepts failed
+  pub none_accepted : (first : Came K) → first ≡ Failed → IsFirst listener_told link (listener b.door) (listener door) first → StandsBy opener_told disk_told listener_told link_told disk listener link journal_at listener_at faults later journal address CannotOpen
+  none_accepted first is came =
+      let one = subst (λ (f : Came K). IsFirst listener_told link (listener b.door) (listener door) f) is came in
+      inr (inr (b, inr (inl (record { status_is = refl; new_door = door; risen = one.risen refl; unsound = one.sound }))))
+
+module _ {K : Type 0} (told : Type 0) (state : K → LinkState) (old mid new : ListenerState K) (failures : ℕ) (coming : told → old.coming ≡ mid.coming) (risen : RoseBy failures old.faults mid.faults) (sound : IsTrue old.sound → (failures ≡ 0) × IsTrue mid.sound) (answer : Came K) (accepted : IsAccept told state mid new answer) where
+  -- one more accept that failed
+  pub failed_more : answer ≡ Failed → (told → old.coming ≡ new.coming) × (RoseBy (failures + 1) old.faults new.faults × (IsTrue old.sound → (failures + 1 ≡ 0) × IsTrue new.sound))
+  failed_more is =
+      let one = subst (λ (a : Came K). IsAccept told state mid new a) is accepted in
+      ((λ t. coming t ∙ one.link t), (rose_more failures old.faults mid.faults new.faults risen (one.cause.cause refl), λ s. absurd (one.sound (sound s).1).1))
+
+  -- an accept that didn't
+  pub first_answer : (answer ≡ Failed → ⊥) → IsFirst told state old new answer
+  first_answer not = record {
+    coming = λ t. coming t ∙ accepted.link t;
+    end = λ t is. accepted.end t is;
+    ended = accepted.ended;
+    risen = λ is. absurd (not is);
+    sound = λ s. (accepted.sound (sound s).1).1;
+  }
+
+-- so many failed
+pub all_failed : {K : Type 0} (told : Type 0) (state : K → LinkState) (old new : ListenerState K) → (told → old.coming ≡ new.coming) → RoseBy 16 old.faults new.faults → (IsTrue old.sound → (◌≡◌ {A = ℕ} 16 0) × IsTrue new.sound) → IsFirst told state old new Failed
+all_failed told state old new coming risen sound = record {
+  coming = coming;
+  end = λ t is. cc;
+  ended = λ is. cc;
+  risen = λ is. risen;
+  sound = λ s. let no = (sound s).0 in absurd (omega (arith, no));
+}

@@ -1,0 +1,18 @@
+use Rattle.craft_jobs.proofs.StandingBy.{no_disk_fault}
+use Rattle.craft_jobs.proofs.standby.stand_by.Goals as goal
+
+pub returns : goal.returns
+returns g c =
+    let e = c.serve_standby.ensures in
+    record {
+      ends = e.served;
+      not_empty = e.not_empty;
+      empty = e.empty;
+      ended = e.end;
+      read_fault = e.read_fault;
+      write_fault = e.write_fault;
+      disk_fault = e.disk_fault;
+      spent = e.spent;
+      sound_link = e.sound_link;
+      sound_disk = λ fault sound. no_disk_fault g.D.Disk.told g.K.Link.told _ _ _ _ _ e.served (g.met.D.Disk.counts_on c.args.disk.now) sound (e.disk_fault fault);
+    }

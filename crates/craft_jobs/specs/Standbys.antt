@@ -1,0 +1,96 @@
+-- What a standby did.
+use mathlib.Core.Logic.{inl, inr}
+use Rattle.std.specs.Prelude.{◌≡◌, ◌≢◌, ◌⊎◌, ◌↔◌, ◌+◌, ◌^◌, ℕ, false, true, List, [], ◌∷◌, ◌++◌, length, Option, Some, IsTrue}
+use Rattle.dxc_causes.specs.Causes.{Rose, Counted}
+use Rattle.dxc_disk.specs.Disks.{DiskState, IsSound}
+use Rattle.dxc_outside.specs.Callers.{ListenerState, IsSoundCame, came}
+use Rattle.dxc_outside.specs.Links.{IsSoundLink, LinkState}
+use Rattle.dxc_outside.specs.declared.listener.Came.{Came}
+use Rattle.dxc_outside.specs.declared.listener.Came.TheVariants as answer
+use Rattle.standby_link.specs.declared.end.StandbyEnd.{StandbyEnd}
+use Rattle.standby_link.specs.declared.end.StandbyEnd.TheVariants as standby
+use Rattle.standby_link.specs.Serves.{Served, Unbegun, bytes_in}
+use Rattle.craft_words.specs.declared.status.Status.{Status}
+use Rattle.craft_words.specs.declared.status.Status.TheVariants.{Done, Disk, CannotOpen, NoMemory, Link, Spent, BadMessage, NotEmpty}
+use Rattle.craft_jobs.specs.Counts.{RoseBy}
+
+-- the status of a standby, by the end of its run
+abbrev pub status_of_standby : StandbyEnd → Status
+status_of_standby standby.End = Done
+status_of_standby standby.ReadFault = Link
+status_of_standby standby.WriteFault = Link
+status_of_standby standby.DiskFault = Disk
+status_of_standby standby.BadMessage = BadMessage
+status_of_standby standby.NotEmpty = NotEmpty
+status_of_standby standby.Spent = Spent
+
+-- what came of the accepts up to the first link, the listener's End, or 16 faults
+pub record IsFirst {K : Type 0} (told : Type 0) (state : K → LinkState) (old new : ListenerState K) (first : Came K) : Type 0 where
+  pub coming : told → old.coming ≡ came first ++ new.coming
+  pub end : told → first ≡ answer.End → new.coming ≡ []
+  pub ended : first ≡ answer.End → new.ended ≡ true
+  pub risen : first ≡ answer.Failed → RoseBy 16 old.faults new.faults
+  pub sound : IsTrue old.sound → IsSoundCame state first
+
+module _ (disk_told link_told : Type 0) (k k' : LinkState) (d d' : DiskState) (end : StandbyEnd) where
+  -- a standby's run, which didn't begin, or was served
+  abbrev pub Ends : Type 0
+  Ends = Unbegun disk_told k k' d d' end ⊎ Served link_told disk_told d.room (d.faults + d.margin) k k' d' end
+
+  -- how many bytes it read
+  abbrev pub read_in : Ends → ℕ
+  read_in (inl unbegun) = 0
+  read_in (inr served) = length (bytes_in served.came)
+
+  -- A whole run, with the cause of its end. On a sound link no call fails, nor on a disk that is sound for one more than the bytes that were read.
+  pub record RanStandby : Type 0 where
+    pub ends : Ends
+    pub not_empty : disk_told → d.reads_as ≢ [] → (end ≡ standby.NotEmpty) ⊎ (end ≡ standby.DiskFault)
+    pub empty : disk_told → end ≡ standby.NotEmpty → d.reads_as ≢ []
+    pub ended : k.ended ≡ false → ((end ≡ standby.End) ↔ IsTrue k'.ended)
+    pub read_fault : end ≡ standby.ReadFault → Rose k.read_faults k'.read_faults
+    pub write_fault : end ≡ standby.WriteFault → Rose k.write_faults k'.write_faults
+    pub disk_fault : end ≡ standby.DiskFault → Rose d.faults d'.faults
+    pub spent : end ≡ standby.Spent → Counted k.reads k'.reads (2 ^ 32)
+    pub sound_link : IsSoundLink k → (end ≢ standby.ReadFault) × (end ≢ standby.WriteFault)
+    pub sound_disk : end ≡ standby.DiskFault → IsSound (1 + read_in ends) d → ⊥
+
+module _ (opener_told disk_told listener_told link_told : Type 0) {D L K : Type 0} (disk : D → DiskState) (listener : L → ListenerState K) (link : K → LinkState) where
+  -- the disk and the listener that the opener handed out, the one by the journal's name and the other by the address
+  pub record HasBoth (journal_at : List ℕ → Option D) (listener_at : List ℕ → Option L) (journal address : List ℕ) : Type 0 where
+    pub copy : D
+    pub handed : opener_told → journal_at journal ≡ Some copy
+    pub door : L
+    pub opened : opener_told → listener_at address ≡ Some door
+
+  -- the first link that came was served on the disk
+  pub record ServedOne (d : D) (l : ListenerState K) (status : Status) : Type 0 where
+    pub caller : K
+    pub first : listener_told → (more : List K) × (l.coming ≡ caller ∷ more)
+    pub is_sound : IsTrue l.sound → IsSoundLink (link caller)
+    pub new_caller : K
+    pub new_disk : D
+    pub end : StandbyEnd
+    pub ran : RanStandby disk_told link_told (link caller) (link new_caller) (disk d) (disk new_disk) end
+    pub status_is : status ≡ status_of_standby end
+
+  -- the listener said End before a link came
+  pub record NobodyCame (l : ListenerState K) (status : Status) : Type 0 where
+    pub status_is : status ≡ Done
+    pub new_door : L
+    pub ended : (listener new_door).ended ≡ true
+    pub nobody : listener_told → l.coming ≡ []
+
+  -- 16 accepts in a row failed
+  pub record NoneAccepted (l : ListenerState K) (status : Status) : Type 0 where
+    pub status_is : status ≡ CannotOpen
+    pub new_door : L
+    pub risen : RoseBy 16 l.faults (listener new_door).faults
+    pub unsound : IsTrue l.sound → ⊥
+
+  -- it couldn't be opened, and why; or what came of it, by the opener's count of faults before and after
+  abbrev pub StandsBy : (journal_at : List ℕ → Option D) (listener_at : List ℕ → Option L) (faults later : ℕ) (journal address : List ℕ) → Status → Type 0
+  StandsBy journal_at listener_at faults later journal address status =
+      (status ≡ NoMemory)
+      ⊎ (((status ≡ CannotOpen) × Rose faults later)
+      ⊎ ((b : HasBoth journal_at listener_at journal address) × (NobodyCame (listener b.door) status ⊎ (NoneAccepted (listener b.door) status ⊎ ServedOne b.copy (listener b.door) status))))

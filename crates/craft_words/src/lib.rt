@@ -1,0 +1,10 @@
+//! The program's words: what they ask for, and the status that the program ends with.
+#![tactic(auto)]
+
+mod line;
+mod matching;
+mod number;
+mod status;
+
+pub use line::{Line, WordsFault, line_of};
+pub use status::{JournalBad, Status};
