@@ -2,7 +2,7 @@ use crate::line::take_line;
 use crate::row::Row;
 use anyhow::{Context, Result};
 use std::alloc::Global;
-use worked_common::two;
+use worked_common::{is_silent, numbers_of, word_of};
 
 /// A row as text, which is run for each number from the first to the last.
 #[derive(Drop)]
@@ -23,11 +23,20 @@ impl<'a> Form<'a> {
         }
     }
 
+    fn take_numbers(&mut self, alloc: Global, text: &str) -> Result<()> {
+        let numbers = numbers_of(alloc, text)?;
+        let [first, last] = numbers.as_slice() else {
+            return None.context("two numbers are wanted");
+        };
+        (self.first, self.last) = (*first, *last);
+        Ok(())
+    }
+
     /// The row for that number.
     pub fn row(&self, alloc: Global, number: u64) -> Result<Row> {
         let mut row = Row::new(alloc)?;
         for line in &self.lines {
-            let (word, rest) = line.split_once(' ').unwrap_or((line, ""));
+            let (word, rest) = word_of(line);
             take_line(alloc, &mut row, number, word, rest)?;
         }
         Ok(row)
@@ -38,7 +47,7 @@ impl<'a> Form<'a> {
 pub fn forms_of(alloc: Global, text: &str) -> Result<Vec<Form<'_>>> {
     let mut forms = Vec::new(alloc);
     for line in text.lines() {
-        if line.is_empty() || line.starts_with('#') {
+        if is_silent(line) {
             continue;
         }
         if let Some(name) = line.strip_prefix("row ") {
@@ -49,9 +58,7 @@ pub fn forms_of(alloc: Global, text: &str) -> Result<Vec<Form<'_>>> {
             .last_mut()
             .context("a line stands before the first row")?;
         if let Some(numbers) = line.strip_prefix("each ") {
-            let (first, last) = two(numbers)?;
-            form.first = first.parse::<u64>()?;
-            form.last = last.parse::<u64>()?;
+            form.take_numbers(alloc, numbers)?;
         } else {
             form.lines.push(line)?;
         }

@@ -1,10 +1,7 @@
 use crate::row::{Caller, Part, Place, Row, Run, Worker};
 use anyhow::{Context, Result, ensure};
 use std::alloc::Global;
-use worked_common::{Torn, bytes_of, two};
-
-/// The byte that goes out where nothing is connected.
-const IDLE: u8 = 0x7F;
+use worked_common::{Torn, bytes_of, frame_of, two, word_of};
 
 /// The element's name, as headers have it.
 const SID: &str = "DXC1";
@@ -18,7 +15,7 @@ pub fn take_line(alloc: Global, row: &mut Row, number: u64, word: &str, rest: &s
             let (count, bytes) = two(rest)?;
             take_times(alloc, &mut row.journal, count.parse::<u64>()?, bytes)?;
         }
-        "torn" => row.torn = torn_of(rest)?,
+        "torn" => row.torn = Torn::of(rest)?,
         "words" => row.runs.push(Run::new(alloc, rest)?)?,
         "script" | "check" => {
             let line = format!(in alloc; "{word} {} row.journal", row.shelf)?;
@@ -42,15 +39,6 @@ fn take_times(alloc: Global, into: &mut Vec<u8>, count: u64, digits: &str) -> Re
     Ok(())
 }
 
-fn torn_of(text: &str) -> Result<Torn> {
-    match text {
-        "lost" => Ok(Torn::Lost),
-        "whole" => Ok(Torn::Whole),
-        "other" => Ok(Torn::Other),
-        _ => None.context("nothing else comes of a failed write"),
-    }
-}
-
 fn take_of_run(alloc: Global, run: &mut Run, number: u64, word: &str, rest: &str) -> Result<()> {
     match word {
         "status" => run.status = rest.parse::<u8>()?,
@@ -63,7 +51,7 @@ fn take_of_run(alloc: Global, run: &mut Run, number: u64, word: &str, rest: &str
         }
         "lines" => run.workers.push(worker_of(alloc, rest)?)?,
         "carried" => {
-            let (count, frames) = rest.split_once(' ').unwrap_or((rest, ""));
+            let (count, frames) = word_of(rest);
             let count = number_of(count, number)?;
             run.worker()?.output = frames_of(alloc, frames, count)?;
         }
@@ -82,7 +70,7 @@ fn take_of_caller(
     rest: &str,
 ) -> Result<()> {
     match word {
-        "takes" => caller.most = rest.parse::<usize>()?,
+        "takes" => caller.most = rest.parse::<u64>()? as usize,
         "byte" => {
             let byte = u8::try_from(number_of(rest, number)?).ok();
             caller
@@ -119,19 +107,16 @@ fn worker_of(alloc: Global, frames: &str) -> Result<Worker> {
     })
 }
 
-// The bytes of so many of the frames, in which a dot stands for an idle output.
+// The bytes of so many of the frames.
 fn frames_of(alloc: Global, text: &str, count: u64) -> Result<Vec<u8>> {
     let mut bytes = Vec::new(alloc);
     let mut left = count;
-    for byte in text.bytes() {
+    for frame in text.split(' ') {
         if left == 0 {
             break;
         }
-        match byte {
-            b' ' => left -= 1,
-            b'.' => bytes.push(IDLE)?,
-            _ => bytes.push(byte)?,
-        }
+        left -= 1;
+        bytes.extend_from_slice(&frame_of(alloc, frame)?)?;
     }
     Ok(bytes)
 }

@@ -7,7 +7,7 @@ use std::alloc::Global;
 use std::fs;
 use std::sync::{Arc, Wait};
 use std::thread::Threads;
-use worked_common::{Levers, NOON, RowDisk};
+use worked_common::{Levers, NOON, RowDisk, written_otherwise};
 
 /// Runs the row's runs, one behind the other. None where they did what they must, else what didn't hold.
 pub fn run_row<R: Threads + Wait + Copy + Send + 'static>(
@@ -81,9 +81,8 @@ fn fault_of<R: Threads + Wait + Copy + Send + 'static>(
 fn written_otherwise(alloc: Global, wanted: &[Wanted<'_>]) -> Result<Option<String>> {
     for each in wanted {
         let written = each.kept.get().context("somebody has no end")?;
-        if written.as_slice() != each.bytes {
-            let text = String::from_utf8_lossy(alloc, written.as_slice())?;
-            return Ok(Some(format!(in alloc; "{} was written {text}", each.who)?));
+        if let Some(why) = written_otherwise(alloc, each.who, written.as_slice(), each.bytes)? {
+            return Ok(Some(why));
         }
     }
     Ok(None)

@@ -2,9 +2,10 @@
 use crate::file::Left;
 use anyhow::{Context, Result};
 use std::ops::RangeInclusive;
+use worked_common::{two, word_of};
 
 /// What is done at a place before or in the row's first run.
-#[derive(Clone, Copy, Debug, PartialEq, Eq)]
+#[derive(Clone, Copy)]
 pub enum Kind {
     /// Nothing.
     Plain,
@@ -19,7 +20,7 @@ pub enum Kind {
 }
 
 /// The places from the first to the last.
-#[derive(Clone, Copy, Debug)]
+#[derive(Clone, Copy)]
 pub struct Each {
     pub kind: Kind,
     first: u32,
@@ -36,9 +37,9 @@ impl Each {
 
     /// `FIRST LAST cut`, `FIRST LAST change BITS`, `FIRST LAST fail LEFT` or `FIRST LAST crash LEFT`.
     pub fn of(text: &str) -> Result<Each> {
-        let (first, rest) = text.split_once(' ').context("a place is wanted")?;
-        let (last, rest) = rest.split_once(' ').context("two places are wanted")?;
-        let (word, more) = rest.split_once(' ').unwrap_or((rest, ""));
+        let (first, rest) = two(text)?;
+        let (last, rest) = two(rest)?;
+        let (word, more) = word_of(rest);
         let kind = match word {
             "cut" => Kind::Cut,
             "change" => Kind::Change(more.parse::<u8>()?),

@@ -1,17 +1,29 @@
 //! Many connections: each port's to the one so many behind it.
 use anyhow::Result;
 use std::alloc::Global;
+use worked_common::shape_of;
 
 /// The first so many ports of a shape, and how far each is connected.
-#[derive(Clone, Copy, Debug)]
+#[derive(Clone, Copy)]
 pub struct Entries {
     pub count: u16,
-    pub step: u16,
-    pub modules: u16,
-    pub slots: u16,
+    step: u16,
+    modules: u16,
+    slots: u16,
 }
 
 impl Entries {
+    /// The two numbers of the text, on ports of this shape.
+    pub fn of(modules: u16, slots: u16, text: &str) -> Result<Entries> {
+        let (count, step) = shape_of(text)?;
+        Ok(Entries {
+            count,
+            step,
+            modules,
+            slots,
+        })
+    }
+
     /// The rows without quotes, in the table's order.
     pub fn rows(self, alloc: Global) -> Result<Vec<String>> {
         let mut rows = Vec::new(alloc);

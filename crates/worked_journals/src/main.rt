@@ -2,7 +2,7 @@
 //! program's one call, and compares what is written, the status, the journal's file and the calls on it with what they say.
 #![tactic(auto)]
 
-mod answer;
+mod blocks;
 mod disk;
 mod each;
 mod entries;

@@ -4,20 +4,12 @@ use crate::opener::RowOpener;
 use crate::row::{Row, Run};
 use anyhow::{Context, Result};
 use craft_server::{Status, dxc_run};
-use dxc_outside::{AlwaysGo, MemClock, MemLink, MemSpawner, Moment, Name};
+use dxc_outside::{AlwaysGo, MemClock, MemLink, MemOpener, MemSpawner, Name};
 use std::alloc::Global;
 use std::mem;
 use std::sync::{Arc, Mutex, Wait};
 use std::thread::Threads;
-
-const NOON: Moment = Moment {
-    year: 26,
-    month: 3,
-    day: 1,
-    hour: 12,
-    minute: 0,
-    second: 0,
-};
+use worked_common::{NOON, shelf_text, written_otherwise};
 
 /// What a run did.
 #[derive(Drop)]
@@ -109,12 +101,15 @@ fn served<R: Threads + Wait + Copy + Send + 'static>(
         Name::of("j".to_string(alloc)?),
     ]?;
     let mut terminal = MemLink::new(
-        copy_of(alloc, &run.input).ok().context("no memory")?,
+        copy_of(alloc, &run.exchange.input).ok().context("no memory")?,
         Vec::new(alloc),
         Vec::new(alloc),
         Vec::new(alloc),
     );
-    let mut opener = RowOpener::new(alloc, shelf_text(alloc, row)?, file);
+    let shelf = shelf_text(alloc, row.modules, row.slots)?.into_bytes();
+    let named = (Name::of("s".to_string(alloc)?), shelf);
+    let files = MemOpener::new(alloc, Vec::new(alloc)).with_shelves(vec![in alloc; named]?);
+    let mut opener = RowOpener::new(files, file);
     let status = dxc_run(
         alloc,
         &words,
@@ -129,24 +124,16 @@ fn served<R: Threads + Wait + Copy + Send + 'static>(
     Ok((status, output.ok().context("no memory")?))
 }
 
-// A shelf of the row's shape with all modules equipped, and a user ANNA of class S with the PID bc.
-fn shelf_text(alloc: Global, row: &Row) -> Result<String> {
-    Ok(format!(in alloc;
-        "sid = \"DXC1\"\nmodules = {}\nslots = {}\n[[user]]\nuid = \"ANNA\"\nclass = \"S\"\nsalt = \"61\"\ndigest = \"ba7816bf8f01cfea414140de5dae2223b00361a396177a9cb410ff61f20015ad\"\n",
-        row.modules, row.slots
-    )?)
-}
-
 // What the run did otherwise than it must.
 fn otherwise(alloc: Global, run: &Run, came: &Came, journal: &[u8]) -> Result<Option<String>> {
-    if let Some(wanted) = &run.output {
+    if !run.any {
         let status = came.status.number();
         if status != run.status {
             return Ok(Some(format!(in alloc; "status {status}")?));
         }
-        if came.output.as_slice() != wanted.as_slice() {
-            let written = String::from_utf8_lossy(alloc, &came.output)?;
-            return Ok(Some(format!(in alloc; "written was {written}")?));
+        let wanted = &run.exchange.output;
+        if let Some(why) = written_otherwise(alloc, "the terminal", &came.output, wanted)? {
+            return Ok(Some(why));
         }
     }
     if run.calls.is_some_and(|wanted| wanted != came.calls) {

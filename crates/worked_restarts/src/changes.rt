@@ -58,6 +58,6 @@ fn change(alloc: Global, unit: Unit, from: Point) -> Result<String> {
     let held = if from.held { "held" } else { "lost" };
     let writes = from.left().saturating_add(unit.writes(from.held));
     Ok(format!(in alloc;
-        "session\nuse login\nuse allowed\nuse {name}\nuse {name}-{held}\nasked 2 {writes} 2\n"
+        "session\nlogin ANNA 1\nuse allowed\nuse {name}\nuse {name}-{held}\nasked 2 {writes} 2\n"
     )?)
 }

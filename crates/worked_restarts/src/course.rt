@@ -1,20 +1,20 @@
 use anyhow::{Context, Result};
 use std::alloc::Global;
-use std::fmt::Write as _;
+use worked_common::{numbers_of, two};
 
 /// Of three modules of two slots.
-const MIDDLES: usize = 3;
+const MIDDLES: u64 = 3;
 
-const MODULES: usize = 3;
+const MODULES: u64 = 3;
 
-const SLOTS: usize = 2;
+const SLOTS: u64 = 2;
 
-const MIDS: usize = MODULES * MIDDLES;
+const MIDS: u64 = MODULES * MIDDLES;
 
-const OUTS: usize = MIDS + MIDDLES * MODULES;
+const OUTS: u64 = MIDS + MIDDLES * MODULES;
 
 /// A register write: its place among all words, and its word.
-#[derive(Clone, Copy, Debug, PartialEq, Eq)]
+#[derive(Clone, Copy)]
 struct Write {
     place: usize,
     word: u64,
@@ -31,21 +31,21 @@ impl Course {
     /// The words stand in the first line, each write in one of its own: its kind, the register's two numbers, its word.
     pub fn of(alloc: Global, text: &str) -> Result<Course> {
         let (first, rest) = text.split_once('\n').context("no first line")?;
-        let mut words = Vec::new(alloc);
-        for word in first.split(' ') {
-            words.push(word.parse::<u64>()?)?;
-        }
         let mut writes = Vec::new(alloc);
         for line in rest.lines() {
-            writes.push(Write::of(line)?)?;
+            writes.push(Write::of(alloc, line)?)?;
         }
-        Ok(Course { words, writes })
+        Ok(Course {
+            words: numbers_of(alloc, first)?,
+            writes,
+        })
     }
 
     /// The words when so many of the writes are made, with blanks between them.
     pub fn words_after(&self, alloc: Global, made: u64) -> Result<String> {
         let mut words = self.words.clone()?;
-        for write in self.writes.iter().take(made as usize) {
+        let made = (made as usize).min(self.writes.len());
+        for write in &self.writes[..made] {
             if let Some(word) = words.get_mut(write.place) {
                 *word = write.word;
             }
@@ -60,25 +60,31 @@ fn spelled(alloc: Global, words: &[u64]) -> Result<String> {
         if !text.is_empty() {
             text.push(' ')?;
         }
-        write!(text, "{word}")?;
+        text.push_str(word.to_string(alloc)?.as_str())?;
     }
     Ok(text)
 }
 
 impl Write {
-    fn of(line: &str) -> Result<Write> {
-        let (kind, rest) = line.split_once(' ').context("a kind is wanted")?;
-        let (first, rest) = rest.split_once(' ').context("three numbers are wanted")?;
-        let (second, word) = rest.split_once(' ').context("three numbers are wanted")?;
-        let first = first.parse::<u8>()? as usize;
-        let second = second.parse::<u8>()? as usize;
-        let place = match kind {
-            "IN" => first * MIDDLES + second,
-            "MID" => MIDS + first * MODULES + second,
-            "OUT" => OUTS + first * SLOTS + second,
+    fn of(alloc: Global, line: &str) -> Result<Write> {
+        let (kind, rest) = two(line)?;
+        let numbers = numbers_of(alloc, rest)?;
+        let [first, second, word] = numbers.as_slice() else {
+            return None.context("three numbers are wanted");
+        };
+        let (before, each) = match kind {
+            "IN" => (0, MIDDLES),
+            "MID" => (MIDS, MODULES),
+            "OUT" => (OUTS, SLOTS),
             _ => None.context("no such kind")?,
         };
-        let word = word.parse::<u64>()?;
-        Ok(Write { place, word })
+        let place = first
+            .saturating_mul(each)
+            .saturating_add(*second)
+            .saturating_add(before);
+        Ok(Write {
+            place: place as usize,
+            word: *word,
+        })
     }
 }

@@ -7,47 +7,40 @@ use anyhow::Result;
 use std::alloc::Global;
 use std::sync::Wait;
 
-/// Why a restart is to be made, or what asks for it.
-#[derive(Clone, Copy, Debug)]
-enum Need {
-    /// The fifth entry was stopped at that asking.
-    Stop(u64),
-    /// A change finds that stop.
-    Change(u64),
-    /// The disk failed while the fifth entry's record was sealed; a restart mends that first.
-    Doubt,
+/// Why a restart is to be made.
+#[derive(Clone, Copy)]
+struct Need {
+    name: &'static str,
+    /// The asking at which the fifth entry was stopped. None: the disk failed while its record was sealed; a restart mends that first.
+    stopped: Option<u64>,
+    /// The unit that asks for it.
+    unit: &'static str,
 }
 
 impl Need {
-    fn point(self) -> Point {
-        match self {
-            Need::Stop(asking) | Need::Change(asking) => Point::at(asking),
-            Need::Doubt => Point::at(0),
+    const fn restart(name: &'static str, stopped: Option<u64>) -> Need {
+        Need {
+            name,
+            stopped,
+            unit: "INIT-SYS:::2;",
         }
+    }
+
+    fn point(self) -> Point {
+        Point::at(self.stopped.unwrap_or(0))
     }
 
     // The sessions before the restart.
     fn sessions(self, alloc: Global, course: &Course) -> Result<String> {
-        match self {
-            Need::Stop(asking) | Need::Change(asking) => fifth(alloc, course, asking),
-            Need::Doubt => Ok("use four\nuse doubted\n".to_string(alloc)?),
-        }
-    }
-
-    // The unit that asks for it.
-    fn unit(self) -> &'static str {
-        match self {
-            Need::Stop(_) | Need::Doubt => "INIT-SYS:::2;",
-            Need::Change(_) => "DLT-CRS-T0::DS0-3-2,DS0-3-1:2;",
+        match self.stopped {
+            Some(asking) => fifth(alloc, course, asking),
+            None => Ok("use four\nuse doubted\n".to_string(alloc)?),
         }
     }
 
     // How many calls of the disk come before the gate is asked.
     fn mends(self) -> u64 {
-        match self {
-            Need::Stop(_) | Need::Change(_) => 0,
-            Need::Doubt => 2,
-        }
+        if self.stopped.is_some() { 0 } else { 2 }
     }
 }
 
@@ -59,11 +52,15 @@ pub fn faults<R: Wait>(
     tally: &mut Tally<'_>,
 ) -> Result<()> {
     for need in [
-        Need::Stop(0),
-        Need::Stop(8),
-        Need::Stop(19),
-        Need::Change(8),
-        Need::Doubt,
+        Need::restart("a stop at place 0", Some(0)),
+        Need::restart("a stop at place 8", Some(8)),
+        Need::restart("a stop at place 19", Some(19)),
+        Need {
+            name: "a change behind a stop at place 8",
+            stopped: Some(8),
+            unit: "DLT-CRS-T0::DS0-3-2,DS0-3-1:2;",
+        },
+        Need::restart("a seal that failed", None),
     ] {
         for torn in ["lost", "whole", "other"] {
             each_call(alloc, rt, course, tally, need, torn)?;
@@ -82,12 +79,13 @@ fn each_call<R: Wait>(
 ) -> Result<()> {
     let first = need.sessions(alloc, course)?;
     let last = restart(alloc, course, need.point())?;
-    let text = format!(in alloc; "row {need:?}, {torn}\n{first}torn {torn}\n{last}")?;
+    let text = format!(in alloc; "row {}, {torn}\n{first}torn {torn}\n{last}", need.name)?;
     let calls = tally.run(alloc, rt, text.as_str())?;
     for call in 0..calls {
         let failed = failed(alloc, course, need, call)?;
         let text = format!(in alloc;
-            "row {need:?}, {torn}, call {call} of the restart\n{first}torn {torn}\n{failed}{last}"
+            "row {}, {torn}, call {call} of the restart\n{first}torn {torn}\n{failed}{last}",
+            need.name
         )?;
         tally.run(alloc, rt, text.as_str())?;
     }
@@ -98,9 +96,9 @@ fn each_call<R: Wait>(
 fn failed(alloc: Global, course: &Course, need: Need, call: u64) -> Result<String> {
     let point = need.point();
     let asked = (call >= need.mends()) as u8;
-    let (unit, frame) = (need.unit(), point.frame());
+    let (unit, frame) = (need.unit, point.frame());
     let words = course.words_after(alloc, point.made)?;
     Ok(format!(in alloc;
-        "session\nuse login\nsend {unit}\nuse failed\nfails {call}\nasked {asked} 0 0\nframes {frame}\nlast {frame}\nwords {words}\n"
+        "session\nlogin ANNA 1\nsend {unit}\nuse failed\nfails {call}\nasked {asked} 0 0\nframes {frame}\nlast {frame}\nwords {words}\n"
     )?)
 }

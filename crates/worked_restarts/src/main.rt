@@ -2,7 +2,6 @@
 //! asked, each frame and each register word with what they say.
 #![tactic(auto)]
 
-mod answer;
 mod audit;
 mod beside;
 mod carriage;
@@ -10,10 +9,8 @@ mod carrier;
 mod changes;
 mod course;
 mod crew;
-mod disk;
 mod element;
 mod faults;
-mod levers;
 mod point;
 mod read;
 mod reader;
@@ -45,6 +42,7 @@ fn main(rt: HostRuntime) -> Result<()> {
     );
     tally.run(alloc, &rt, rows.as_str())?;
     stops::restarts(alloc, &rt, &course, &mut tally)?;
+    stops::adoptions(alloc, &rt, &course, &mut tally)?;
     stops::second_stops(alloc, &rt, &course, &mut tally)?;
     changes::changes(alloc, &rt, &course, &mut tally)?;
     faults::faults(alloc, &rt, &course, &mut tally)?;

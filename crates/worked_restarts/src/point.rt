@@ -5,7 +5,7 @@ pub const WRITES: u64 = 18;
 pub const PLACES: u64 = WRITES + 2;
 
 /// How far the fifth entry came.
-#[derive(Clone, Copy, Debug, PartialEq, Eq)]
+#[derive(Clone, Copy)]
 pub struct Point {
     /// Whether the journal holds it.
     pub held: bool,

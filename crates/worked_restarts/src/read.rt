@@ -1,6 +1,7 @@
 use crate::row::Row;
 use anyhow::{Context, Result};
 use std::alloc::Global;
+use worked_common::{is_silent, word_of};
 
 /// Lines that rows have in common, by name.
 #[derive(Clone, Copy)]
@@ -25,10 +26,10 @@ impl<'a> Parts<'a> {
 pub fn rows_of(alloc: Global, parts: Parts<'_>, text: &str) -> Result<Vec<Row>> {
     let mut rows = Vec::new(alloc);
     for line in text.lines() {
-        if line.is_empty() || line.starts_with('#') {
+        if is_silent(line) {
             continue;
         }
-        let (word, rest) = split(line);
+        let (word, rest) = word_of(line);
         if word == "row" {
             rows.push(Row::new(alloc, rest)?)?;
             continue;
@@ -47,12 +48,8 @@ pub fn rows_of(alloc: Global, parts: Parts<'_>, text: &str) -> Result<Vec<Row>> 
 
 fn take_part(alloc: Global, row: &mut Row, lines: &str) -> Result<()> {
     for line in lines.lines() {
-        let (word, rest) = split(line);
+        let (word, rest) = word_of(line);
         row.take(alloc, word, rest)?;
     }
     Ok(())
-}
-
-fn split(line: &str) -> (&str, &str) {
-    line.split_once(' ').unwrap_or((line, ""))
 }

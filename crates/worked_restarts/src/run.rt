@@ -3,18 +3,10 @@ use crate::row::{Row, Session};
 use anyhow::{Context, Result};
 use craft_session::{Place, SessionEnd, serve_session};
 use dxc_disk::Disk;
-use dxc_outside::{Gate, MemClock, MemLink, Moment};
+use dxc_outside::{Gate, MemClock, MemLink};
 use std::alloc::Global;
-use std::sync::Wait;
-
-const NOON: Moment = Moment {
-    year: 26,
-    month: 3,
-    day: 1,
-    hour: 12,
-    minute: 0,
-    second: 0,
-};
+use std::sync::{Arc, Wait};
+use worked_common::{NOON, written_otherwise};
 
 /// What came of a row.
 #[derive(Drop)]
@@ -28,15 +20,35 @@ pub struct Ran {
 /// Opens an element for the row and serves its sessions.
 pub fn run_row<R: Wait>(alloc: Global, rt: &R, row: &Row) -> Result<Ran> {
     let mut element = Element::open(alloc, row)?;
+    let levers = Arc::try_clone(&element.levers)?;
     let mut why = None;
     for (number, session) in row.sessions.iter().enumerate() {
+        let Some(next) = heir_of(alloc, rt, element, session)? else {
+            why = (!session.strange).then_some("the registers are strange".to_string(alloc)?);
+            break;
+        };
+        element = next;
         if let Some(what) = serve(alloc, rt, &mut element, number, session)? {
             why = Some(format!(in alloc; "session {number}: {what}")?);
             break;
         }
     }
-    let calls = element.levers.calls();
+    let calls = levers.calls();
     Ok(Ran { why, calls })
+}
+
+// The element at which a session is served: another controller's, where the session says so. None: that one found the registers strange.
+fn heir_of<R: Wait>(
+    alloc: Global,
+    rt: &R,
+    element: Element,
+    session: &Session,
+) -> Result<Option<Element>> {
+    if !session.adopts && !session.strange {
+        return Ok(Some(element));
+    }
+    element.levers.set(session.failing, session.shows);
+    element.handed_on(alloc, rt)
 }
 
 // Serves one session at the place of that number. Some: what isn't as it must be.
@@ -47,6 +59,9 @@ fn serve<R: Wait>(
     number: usize,
     session: &Session,
 ) -> Result<Option<String>> {
+    if session.strange {
+        return Ok(Some("the registers aren't strange".to_string(alloc)?));
+    }
     element.gate.set(alloc, session)?;
     element.levers.set(session.failing, session.shows);
     let place = element.places.get_mut(number).context("no place is left")?;
@@ -76,18 +91,15 @@ pub fn serve_at<D: Disk + Drop, U: Disk + Drop, G: Gate, R: Wait>(
     gate: &mut G,
 ) -> Result<(SessionEnd, Option<String>)> {
     let mut link = MemLink::new(
-        session.input.clone()?,
+        session.exchange.input.clone()?,
         Vec::new(alloc),
         Vec::new(alloc),
         Vec::new(alloc),
     );
     let mut clock = MemClock::new(vec![in alloc; NOON]?);
     let end = serve_session(place, &mut link, &mut clock, gate, rt);
-    if link.output() == session.output.as_slice() {
-        return Ok((end, None));
-    }
-    let written = String::from_utf8_lossy(alloc, link.output())?;
-    Ok((end, Some(format!(in alloc; "written was {written}")?)))
+    let wanted = &session.exchange.output;
+    Ok((end, written_otherwise(alloc, "it", link.output(), wanted)?))
 }
 
 // What is otherwise of the session's end, and of what gate and disk were asked.
@@ -106,7 +118,10 @@ fn ended_otherwise(
     }
     let asked = element.gate.asked();
     if session.asked.is_some_and(|wanted| wanted != asked) {
-        return Ok(Some(format!(in alloc; "the gate was asked {asked:?}")?));
+        return Ok(Some(format!(in alloc;
+            "the gate was asked {} {} {}",
+            asked.journal, asked.register, asked.finish
+        )?));
     }
     let calls = element.levers.calls();
     let none_failed = session.failing.is_some_and(|failing| failing >= calls);
@@ -128,16 +143,14 @@ fn carried_otherwise(
     let crew = &mut element.gate.crew;
     crew.carry();
     if let Some(last) = &session.last {
-        if crew.frame() != last.as_slice() {
-            let frame = String::from_utf8_lossy(alloc, crew.frame())?;
-            return Ok(Some(format!(in alloc; "the frame was {frame}")?));
+        if let Some(why) = written_otherwise(alloc, "the line", crew.frame(), last)? {
+            return Ok(Some(why));
         }
     }
     for share in &session.shares {
         let output = crew.frame_by(share.worker).context("no such worker")?;
-        if output != share.output.as_slice() {
-            let frame = String::from_utf8_lossy(alloc, output)?;
-            return Ok(Some(format!(in alloc; "worker {} wrote {frame}", share.worker)?));
+        if let Some(why) = written_otherwise(alloc, "a worker's line", output, &share.output)? {
+            return Ok(Some(why));
         }
     }
     Ok(None)

@@ -11,7 +11,7 @@ pub fn seals<R: Wait>(alloc: Global, rt: &R, tally: &mut Tally<'_>) -> Result<()
     for seal in 0..=u8::MAX {
         let part = if seal == SEALED { "sealed" } else { "unsealed" };
         let text = format!(in alloc;
-            "row a seal of {seal:02x}\nshelf 2 1\nold a54458434a524e4c 0100000200010000 0000000000030000 0000000000000000 {seal:02x}01000000010001 0000000000000000 0000000000000000 0000000000000000 00\nsession\nuse login\nuse {part}\n"
+            "row a seal of {seal:02x}\nshelf 2 1\nold a54458434a524e4c 0100000200010000 0000000000030000 0000000000000000 {seal:02x}01000000010001 0000000000000000 0000000000000000 0000000000000000 00\nsession\nlogin ANNA 1\nuse {part}\n"
         )?;
         tally.run(alloc, rt, text.as_str())?;
     }

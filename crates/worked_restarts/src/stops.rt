@@ -14,7 +14,7 @@ pub fn fifth(alloc: Global, course: &Course, asking: u64) -> Result<String> {
     let frame = point.frame();
     let words = course.words_after(alloc, point.made)?;
     Ok(format!(in alloc;
-        "use four\nsession\nuse login\nsend ENT-CRS-T0::DS0-1-2,DS0-1-1:2;\nstop {asking}\nasked 1 {asked} {ended}\nframes .eacf. {frame}\nlast {frame}\nwords {words}\n"
+        "use four\nsession\nlogin ANNA 1\nsend ENT-CRS-T0::DS0-1-2,DS0-1-1:2;\nstop {asking}\nasked 1 {asked} {ended}\nframes .eacf. {frame}\nlast {frame}\nwords {words}\n"
     )?)
 }
 
@@ -26,7 +26,7 @@ fn restart_stopped(alloc: Global, course: &Course, from: Point, asking: u64) -> 
     let (first, frame) = (from.frame(), point.frame());
     let words = course.words_after(alloc, point.made)?;
     Ok(format!(in alloc;
-        "session\nuse login\nsend INIT-SYS:::2;\nstop {asking}\nasked 1 {asked} {ended}\nframes {first} {frame}\nlast {frame}\nwords {words}\n"
+        "session\nlogin ANNA 1\nsend INIT-SYS:::2;\nstop {asking}\nasked 1 {asked} {ended}\nframes {first} {frame}\nlast {frame}\nwords {words}\n"
     )?)
 }
 
@@ -36,7 +36,7 @@ pub fn restart(alloc: Global, course: &Course, from: Point) -> Result<String> {
     let (first, frame, listed, left) = (from.frame(), end.frame(), end.listed(), from.left());
     let words = course.words_after(alloc, end.made)?;
     Ok(format!(in alloc;
-        "session\nuse login\nuse warm\nuse {listed}\nasked 1 {left} 1\nframes {first} {frame}\nlast {frame}\nwords {words}\n"
+        "session\nlogin ANNA 1\nuse warm\nuse {listed}\nasked 1 {left} 1\nframes {first} {frame}\nlast {frame}\nwords {words}\n"
     )?)
 }
 
@@ -54,6 +54,32 @@ pub fn restarts<R: Wait>(
         tally.run(alloc, rt, text.as_str())?;
     }
     Ok(())
+}
+
+/// A stop at each place of the entry, another controller on its disk and registers, and a restart.
+pub fn adoptions<R: Wait>(
+    alloc: Global,
+    rt: &R,
+    course: &Course,
+    tally: &mut Tally<'_>,
+) -> Result<()> {
+    for asking in 0..PLACES {
+        let first = fifth(alloc, course, asking)?;
+        let found = found(alloc, course, Point::at(asking))?;
+        let last = restart(alloc, course, Point::at(asking))?;
+        let text = format!(in alloc; "row a stop at place {asking}, and another controller\n{first}{found}{last}")?;
+        tally.run(alloc, rt, text.as_str())?;
+    }
+    Ok(())
+}
+
+// What another controller finds there and leaves as it is.
+fn found(alloc: Global, course: &Course, from: Point) -> Result<String> {
+    let frame = from.frame();
+    let words = course.words_after(alloc, from.made)?;
+    Ok(format!(in alloc;
+        "session\nadopts\nlogin ANNA 1\nasked 0 0 0\nlast {frame}\nwords {words}\n"
+    )?)
 }
 
 /// A stop at each place of the entry, one at each place of its restart, and a restart.

@@ -7,7 +7,7 @@ use std::fmt::Write as _;
 use std::sync::Wait;
 
 const STALE: &str =
-    "row a worker that holds its frame while circuits are moved\nuse four\nworkers 2\nsession\nuse login\nuse five-listed\nuse five-words\n";
+    "row a worker that holds its frame while circuits are moved\nuse four\nworkers 2\nsession\nlogin ANNA 1\nuse five-listed\nuse five-words\n";
 
 /// How many rows were run, and what those that failed did.
 #[derive(Drop)]

@@ -1,16 +1,16 @@
 use crate::row::{Row, Run};
 use anyhow::{Context, Result};
 use std::alloc::Global;
-use worked_common::bytes_of;
+use worked_common::{bytes_of, is_silent, word_of};
 
 /// The rows that the text describes, line by line.
 pub fn rows_of(alloc: Global, text: &str) -> Result<Vec<Row>> {
     let mut rows = Vec::new(alloc);
     for line in text.lines() {
-        if line.is_empty() || line.starts_with('#') {
+        if is_silent(line) {
             continue;
         }
-        let (word, rest) = line.split_once(' ').unwrap_or((line, ""));
+        let (word, rest) = word_of(line);
         if word == "row" {
             rows.push(Row::new(alloc, rest)?)?;
         } else {

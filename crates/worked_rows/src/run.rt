@@ -5,7 +5,7 @@ use dxc_outside::{AlwaysGo, HostOpener, MemClock, MemLink, MemSpawner, Name};
 use std::fs;
 use std::sync::Wait;
 use std::thread::Threads;
-use worked_common::NOON;
+use worked_common::{NOON, written_otherwise};
 
 /// The journals of a row.
 const JOURNAL: &str = "row.journal";
@@ -61,9 +61,9 @@ fn fault_of<R: Threads + Wait + Copy + Send + 'static>(
     if status.number() != run.status {
         return Ok(Some(format!(in alloc; "status {}", status.number())?));
     }
-    if terminal.output() != run.terminal.output.as_slice() {
-        let written = String::from_utf8_lossy(alloc, terminal.output())?;
-        return Ok(Some(format!(in alloc; "written was {written}")?));
+    let (written, wanted) = (terminal.output(), &run.terminal.output);
+    if let Some(why) = written_otherwise(alloc, "the terminal", written, wanted)? {
+        return Ok(Some(why));
     }
     if let Some(why) = journal_fault(rt, JOURNAL, &run.journal)? {
         return Ok(Some(why));

@@ -1,10 +1,11 @@
 //! What was written and carried, beside what must be.
 
-use crate::lines::{IDLE, byte_of, is_of_worker};
+use crate::lines::{byte_of, is_of_worker};
 use crate::meeting::Meeting;
 use crate::row::{Row, Session};
 use anyhow::Result;
 use std::alloc::Global;
+use worked_common::{IDLE, written_otherwise};
 
 /// What the session was written otherwise than it must.
 pub fn fault_of_session(
@@ -16,11 +17,7 @@ pub fn fault_of_session(
     let Some(output) = output else {
         return Ok(Some(format!(in alloc; "session {name} has no end")?));
     };
-    if output == session.wanted.as_slice() {
-        return Ok(None);
-    }
-    let written = String::from_utf8_lossy(alloc, output)?;
-    Ok(Some(format!(in alloc; "session {name} was written {written}")?))
+    written_otherwise(alloc, name, output, &session.wanted)
 }
 
 /// What the frames carried otherwise than they must.

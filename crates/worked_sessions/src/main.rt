@@ -18,7 +18,6 @@ mod random;
 mod read;
 mod row;
 mod run;
-mod wanted;
 
 use crate::read::rows_of;
 use crate::run::run_row;

@@ -138,10 +138,9 @@ pub fn take_random(alloc: Global, row: &mut Row, plan: Plan<'_>) -> Result<()> {
 
 // Logs the session in, and has it told all changes.
 fn begin(alloc: Global, session: &mut Session, uid: &str) -> Result<()> {
-    let unit = format!(in alloc; "ACT-USER::{uid}:1::bc;ALW-MSG-ALL:::2;")?;
     session.asked.push(Ask::Plain)?;
     session.asked.push(Ask::Plain)?;
-    session.send(alloc, unit.as_str())
+    session.send(alloc, &["ACT-USER::", uid, ":1::bc;ALW-MSG-ALL:::2;"])
 }
 
 // The unit that asks for it, tagged by its number in the session.
@@ -170,7 +169,7 @@ fn teller_of(
             both: false,
         };
         let unit = next_unit(alloc, &mut session, Ask::Change(Change::Enter(joined)))?;
-        session.send(alloc, unit.as_str())?;
+        session.send(alloc, &[unit.as_str()])?;
         carried.push(Carried::from_point(0, size.port(joined.from)?, size.port(joined.to)?))?;
     }
     session.cues.push(Cue::Reach(0))?;
@@ -178,7 +177,7 @@ fn teller_of(
         attend_round(&mut session, plan, round)?;
     }
     let unit = next_unit(alloc, &mut session, Ask::Rows(Which::All))?;
-    session.send(alloc, unit.as_str())?;
+    session.send(alloc, &[unit.as_str()])?;
     Ok(session)
 }
 
@@ -211,7 +210,7 @@ fn drawn_session(
             let ask = draws.ask(size, pool);
             units.push_str(next_unit(alloc, &mut session, ask)?.as_str())?;
         }
-        session.send(alloc, units.as_str())?;
+        session.send(alloc, &[units.as_str()])?;
         session.cues.push(Cue::Reach(plan.done(round, number)))?;
         session.cues.push(Cue::Await(plan.go_on(round)))?;
     }

@@ -3,18 +3,20 @@ use crate::gate::Act;
 use crate::plain::Spot;
 use crate::random::{Plan, take_random};
 use crate::row::{Carried, NEVER, POINTS, Row, Session, Size};
-use crate::wanted::{add_completed, add_denied, add_line, add_report, add_rows};
-use anyhow::{Context, Result, bail, ensure};
+use anyhow::{Context, Result, ensure};
 use std::alloc::Global;
+use worked_common::{
+    add_completed, add_report, add_texts, add_wanted, is_silent, numbers_of, shape_of, two, word_of,
+};
 
 /// The rows that the text describes, line by line.
 pub fn rows_of(alloc: Global, text: &str) -> Result<Vec<Row>> {
     let mut rows = Vec::new(alloc);
     for line in text.lines() {
-        if line.is_empty() || line.starts_with('#') {
+        if is_silent(line) {
             continue;
         }
-        let (word, rest) = line.split_once(' ').unwrap_or((line, ""));
+        let (word, rest) = word_of(line);
         if word == "row" {
             rows.push(Row::new(alloc, rest)?)?;
         } else {
@@ -32,11 +34,7 @@ fn take_line(alloc: Global, row: &mut Row, word: &str, rest: &str) -> Result<()>
         "shelf" => take_shelf(alloc, row, rest)?,
         "sid" => row.sid = rest.to_string(alloc)?,
         "workers" => row.workers = rest.parse::<u16>()?,
-        "each" => {
-            let (first, last) = two(rest)?;
-            row.first = first.parse::<u64>()?;
-            row.last = last.parse::<u64>()?;
-        }
+        "each" => take_numbers(alloc, row, rest)?,
         "carried" => take_carried(row, rest)?,
         "stands" => {
             let (input, output) = two(rest)?;
@@ -56,25 +54,26 @@ fn take_line(alloc: Global, row: &mut Row, word: &str, rest: &str) -> Result<()>
     Ok(())
 }
 
-// The words in front of the first blank and behind it.
-fn two(text: &str) -> Result<(&str, &str)> {
-    text.split_once(' ').context("two words are wanted")
-}
-
 fn point(text: &str) -> Result<usize> {
-    let point = text.parse::<usize>()?;
+    let point = text.parse::<u64>()? as usize;
     ensure!(point < POINTS, "no such point");
     Ok(point)
 }
 
+fn take_numbers(alloc: Global, row: &mut Row, rest: &str) -> Result<()> {
+    let numbers = numbers_of(alloc, rest)?;
+    let [first, last] = numbers.as_slice() else {
+        return None.context("two numbers are wanted");
+    };
+    (row.first, row.last) = (*first, *last);
+    Ok(())
+}
+
 fn take_shelf(alloc: Global, row: &mut Row, rest: &str) -> Result<()> {
     let (file, size) = two(rest)?;
-    let (modules, slots) = two(size)?;
+    let (modules, slots) = shape_of(size)?;
     row.shelf = file.to_string(alloc)?;
-    row.size = Size {
-        modules: modules.parse::<u16>()?,
-        slots: slots.parse::<u16>()?,
-    };
+    row.size = Size { modules, slots };
     Ok(())
 }
 
@@ -92,19 +91,19 @@ fn take_carried(row: &mut Row, rest: &str) -> Result<()> {
     Ok(())
 }
 
-// The numbers that are parted by blanks, and at last a user.
+// A user, and numbers.
 fn take_plan(alloc: Global, row: &mut Row, rest: &str) -> Result<()> {
-    let (seed, rest) = two(rest)?;
-    let (sessions, rest) = two(rest)?;
-    let (rounds, rest) = two(rest)?;
-    let (units, rest) = two(rest)?;
-    let (equipped, uid) = two(rest)?;
+    let (uid, rest) = two(rest)?;
+    let numbers = numbers_of(alloc, rest)?;
+    let [seed, sessions, rounds, units, equipped] = numbers.as_slice() else {
+        return None.context("five numbers are wanted");
+    };
     let plan = Plan {
-        seed: seed.parse::<u64>()?,
-        sessions: sessions.parse::<usize>()?,
-        rounds: rounds.parse::<usize>()?,
-        units: units.parse::<usize>()?,
-        equipped: equipped.parse::<u16>()?,
+        seed: *seed,
+        sessions: *sessions as usize,
+        rounds: *rounds as usize,
+        units: *units as usize,
+        equipped: u16::try_from(*equipped)?,
         uid,
     };
     take_random(alloc, row, plan)
@@ -118,7 +117,7 @@ fn take_step(
     rest: &str,
 ) -> Result<()> {
     match word {
-        "send" => session.send(alloc, rest)?,
+        "send" => session.send(alloc, &[rest])?,
         "times" => take_times(alloc, session, rest)?,
         "quiet" => session.cues.push(Cue::Quiet)?,
         "point" => session.cues.push(Cue::Reach(point(rest)?))?,
@@ -141,8 +140,8 @@ fn take_step(
 fn take_times(alloc: Global, session: &mut Session, rest: &str) -> Result<()> {
     let (count, text) = two(rest)?;
     let mut bytes = Vec::new(alloc);
-    for _ in 0..count.parse::<u32>()? {
-        bytes.extend_from_slice(text.as_bytes())?;
+    for _ in 0..count.parse::<u64>()? {
+        add_texts(&[text], &mut bytes)?;
     }
     session.cues.push(Cue::Send(bytes))?;
     Ok(())
@@ -157,32 +156,32 @@ fn take_wanted(
 ) -> Result<()> {
     let wanted = &mut session.wanted;
     match word {
-        "want" => add_line(alloc, sid, rest, wanted),
-        "compld" => add_completed(alloc, sid, rest, wanted),
-        "compldx" => {
-            let (count, tag) = two(rest)?;
-            for _ in 0..count.parse::<u32>()? {
-                add_completed(alloc, sid, tag, wanted)?;
-            }
+        "compldx" => take_completed(sid, rest, wanted),
+        "reports" => take_reports(alloc, sid, rest, wanted),
+        "login" => take_login(alloc, session, sid, rest),
+        _ => {
+            ensure!(
+                add_wanted(sid, word, rest, wanted)?,
+                "the word {word} isn't known"
+            );
             Ok(())
         }
-        "deny" => add_denied(alloc, sid, rest, wanted),
-        "report" => {
-            let (number, text) = two(rest)?;
-            add_report(alloc, sid, number.parse::<u64>()?, text, wanted)
-        }
-        "reports" => take_reports(alloc, sid, rest, wanted),
-        "rows" => add_rows(alloc, sid, rest, wanted),
-        "login" => take_login(alloc, session, sid, rest),
-        _ => bail!("the word {word} isn't known"),
     }
+}
+
+// So many responses of this tag.
+fn take_completed(sid: &str, rest: &str, into: &mut Vec<u8>) -> Result<()> {
+    let (count, tag) = two(rest)?;
+    for _ in 0..count.parse::<u64>()? {
+        add_completed(sid, tag, into)?;
+    }
+    Ok(())
 }
 
 fn take_login(alloc: Global, session: &mut Session, sid: &str, rest: &str) -> Result<()> {
     let (uid, tag) = two(rest)?;
-    let unit = format!(in alloc; "ACT-USER::{uid}:{tag}::bc;")?;
-    session.send(alloc, unit.as_str())?;
-    add_completed(alloc, sid, tag, &mut session.wanted)
+    session.send(alloc, &["ACT-USER::", uid, ":", tag, "::bc;"])?;
+    add_completed(sid, tag, &mut session.wanted)
 }
 
 // Reports from the one number to the other, which have the two texts in turn.
@@ -192,7 +191,7 @@ fn take_reports(alloc: Global, sid: &str, rest: &str, into: &mut Vec<u8>) -> Res
     let (one, other) = two(texts)?;
     let mut text = (one, other);
     for number in first.parse::<u64>()?..=last.parse::<u64>()? {
-        add_report(alloc, sid, number, text.0, into)?;
+        add_report(sid, number.to_string(alloc)?.as_str(), text.0, into)?;
         text = (text.1, text.0);
     }
     Ok(())

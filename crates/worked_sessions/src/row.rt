@@ -5,6 +5,7 @@ use crate::meeting::Meeting;
 use crate::plain::Spot;
 use anyhow::{Context, Result, ensure};
 use std::alloc::Global;
+use worked_common::add_texts;
 
 /// The points that a row's text may name are below this number.
 pub const POINTS: usize = 64;
@@ -74,10 +75,10 @@ impl Session {
         })
     }
 
-    /// The text comes next.
-    pub fn send(&mut self, alloc: Global, text: &str) -> Result<()> {
+    /// The texts come next, one behind the other.
+    pub fn send(&mut self, alloc: Global, texts: &[&str]) -> Result<()> {
         let mut bytes = Vec::new(alloc);
-        bytes.extend_from_slice(text.as_bytes())?;
+        add_texts(texts, &mut bytes)?;
         self.cues.push(Cue::Send(bytes))?;
         Ok(())
     }

@@ -9,21 +9,13 @@ use crate::row::{Row, Session};
 use anyhow::{Context, Result};
 use craft_server::dxc_run;
 use dxc_disk::MemDisk;
-use dxc_outside::{MemClock, MemGate, MemLink, MemOpener, Moment, Name, ThreadSpawner};
+use dxc_outside::{MemClock, MemGate, MemLink, MemOpener, Name, ThreadSpawner};
 use std::alloc::Global;
 use std::collections::VecDeque;
 use std::fs;
 use std::sync::{Arc, Wait};
 use std::thread::Threads;
-
-const NOON: Moment = Moment {
-    year: 26,
-    month: 3,
-    day: 1,
-    hour: 12,
-    minute: 0,
-    second: 0,
-};
+use worked_common::NOON;
 
 /// The program serves so many sessions at a time.
 const PLACES: u16 = 16;

@@ -1,16 +1,17 @@
-use crate::row::{Row, Run, bytes_of};
+use crate::row::{Row, Run};
 use anyhow::{Context, Result};
 use std::alloc::Global;
+use worked_common::{bytes_of, is_silent, two, word_of};
 
 /// The rows that the text describes, line by line.
 pub fn rows_of(alloc: Global, text: &str) -> Result<Vec<Row>> {
     let mut rows = Vec::new(alloc);
     let mut file = Vec::new(alloc);
     for line in text.lines() {
-        if line.is_empty() || line.starts_with('#') {
+        if is_silent(line) {
             continue;
         }
-        let (word, rest) = line.split_once(' ').unwrap_or((line, ""));
+        let (word, rest) = word_of(line);
         match word {
             "file" => file = bytes_of(alloc, rest)?,
             "row" => rows.push(Row {
@@ -31,7 +32,7 @@ pub fn rows_of(alloc: Global, text: &str) -> Result<Vec<Row>> {
 
 fn take_line(alloc: Global, row: &mut Row, word: &str, rest: &str) -> Result<()> {
     match word {
-        "front" => row.journal.truncate(rest.parse::<usize>()?),
+        "front" => row.journal.truncate(rest.parse::<u64>()? as usize),
         "byte" => change_byte(&mut row.journal, rest)?,
         "open" => row.runs.push(Run::new(alloc, rest)?)?,
         _ => {
@@ -46,11 +47,9 @@ fn take_line(alloc: Global, row: &mut Row, word: &str, rest: &str) -> Result<()>
 }
 
 fn change_byte(journal: &mut [u8], rest: &str) -> Result<()> {
-    let (at, byte) = rest
-        .split_once(' ')
-        .context("a place and a byte are wanted")?;
+    let (at, byte) = two(rest)?;
     let place = journal
-        .get_mut(at.parse::<usize>()?)
+        .get_mut(at.parse::<u64>()? as usize)
         .context("no such byte")?;
     *place = byte.parse::<u8>()?;
     Ok(())
