@@ -6,7 +6,7 @@ ghost use Rattle.fabric_words.specs.Places.{IsRegInside};
 ghost use Rattle.xc_core.specs.States.{Opening, StandsFor};
 ghost use Rattle.craft_session.specs.Seats.{IsSeated, seat_at};
 
-use anyhow::{Context, Result, bail};
+use anyhow::{Result, bail};
 use dxc_disk::Disk;
 use dxc_num::{Middle, Port, Reg, Shape};
 use fabric_words::{Fabric, MoverSeat};
@@ -74,26 +74,30 @@ impl<D: Disk + Drop> Audit<D> {
             turns,
             fabric,
         } = self;
-        let driver = taken_out(&mut pass, &turns, &fabric, rt);
-        let Driver { p, rolling: _ } = Box::into_inner(driver.context("the Provisioner is out")?);
-        let (disk, seat) = release(p);
+        let Some((disk, seat)) = end_in_turn(&mut pass, &turns, &fabric, rt) else {
+            bail!("the Provisioner is out");
+        };
         Ok(Released { disk, seat, fabric })
     }
 }
 
-// The state's Provisioner, in a turn that nobody leaves any more.
-fn taken_out<D: Disk + Drop, R: Wait>(
+// The disk of the state's Provisioner and the seat, in a turn that nobody leaves any more.
+fn end_in_turn<D: Disk + Drop, R: Wait>(
     pass: &mut Pass,
     turns: &Turnstile<State<D>>,
     fabric: &Fabric,
     rt: &R,
-) -> Option<Box<Driver<D>>>
+) -> Option<(D, MoverSeat)>
     requires { IsSeated D.told D.state pass.old turns.now fabric.now }
-    ensures { IfSome result (λ d. d.value.p.mover.fabric ≡ fabric.now) }
+    ensures { IfSome result (λ r. r.1.fabric ≡ fabric.now) }
 {
     let _ = fabric;
     let mut turn = turns.enter(pass, rt);
-    turn.state_mut().take_out()
+    let Some(driver) = turn.state_mut().take_out() else {
+        return None;
+    };
+    let Driver { p, rolling: _ } = Box::into_inner(driver);
+    Some(release(p))
 }
 
 /// The words as a turn of the pass finds them. It adds nothing to the history.

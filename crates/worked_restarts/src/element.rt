@@ -119,8 +119,12 @@ fn adopt<D: Disk + Drop>(
     ensures begins { IfOk result (λ x. IfSome x (Begins D.told D.state)) }
     ensures opening { IfOk result (λ x. IfSome x (λ s. IsAtOpening (opening_of D.state s) (arc_value shelf.now) (arc_value fabric.now))) }
 {
-    ensure!(fabric.shape() == shelf.shape(), "the registers have another shape");
-    match Core::adopt(alloc, shelf, disk, seat, fabric) {
+    let (described, registers) = (&**shelf, &**fabric);
+    ensure!(
+        registers.shape() == described.shape(),
+        "the registers have another shape"
+    );
+    match Core::adopt(alloc, described, disk, seat, registers) {
         Adopted::State(state) => Ok(Some(state)),
         Adopted::Strange(_, _) => Ok(None),
         Adopted::Open(_) => bail!("not opened"),

@@ -6,49 +6,37 @@ mod audit;
 mod beside;
 mod carriage;
 mod carrier;
-mod changes;
-mod course;
 mod crew;
 mod element;
-mod faults;
-mod point;
 mod read;
 mod reader;
 mod row;
 mod run;
-mod seals;
 mod stale;
-mod stops;
-mod tally;
 mod users;
 
-use crate::course::Course;
-use crate::read::Parts;
-use crate::tally::Tally;
+use crate::read::{Parts, rows_of};
+use crate::run::run_row;
 use anyhow::Result;
 use std::fs;
 
 fn main(rt: HostRuntime) -> Result<()> {
     let alloc = rt.alloc();
-    let parts = fs::read_to_string(&rt, "parts.txt")?;
-    let rows = fs::read_to_string(&rt, "rows.txt")?;
-    let writes = fs::read_to_string(&rt, "writes.txt")?;
-    let course = Course::of(alloc, writes.as_str())?;
-    let mut tally = Tally::new(
-        alloc,
-        Parts {
-            text: parts.as_str(),
-        },
-    );
-    tally.run(alloc, &rt, rows.as_str())?;
-    stops::restarts(alloc, &rt, &course, &mut tally)?;
-    stops::adoptions(alloc, &rt, &course, &mut tally)?;
-    stops::second_stops(alloc, &rt, &course, &mut tally)?;
-    changes::changes(alloc, &rt, &course, &mut tally)?;
-    faults::faults(alloc, &rt, &course, &mut tally)?;
-    seals::seals(alloc, &rt, &mut tally)?;
-    tally.run_stale(alloc, &rt)?;
-    print!(rt; "{}", tally.report)?;
-    println!(rt; "{} rows, {} of them failed", tally.rows, tally.failed)?;
+    let mut parts = fs::read_to_string(&rt, "parts.txt")?;
+    parts.push_str("\n")?;
+    parts.push_str(fs::read_to_string(&rt, "points.txt")?.as_str())?;
+    let text = parts.as_str();
+    let (mut count, mut failed) = (0u64, 0u64);
+    for name in ["rows.txt", "stops.txt"] {
+        let lines = fs::read_to_string(&rt, name)?;
+        for row in &rows_of(alloc, Parts { text }, lines.as_str())? {
+            if let Some(why) = run_row(alloc, &rt, row)? {
+                println!(rt; "{}: {why}", row.name)?;
+                failed = failed.saturating_add(1);
+            }
+            count = count.saturating_add(1);
+        }
+    }
+    println!(rt; "{count} rows, {failed} of them failed")?;
     Ok(())
 }

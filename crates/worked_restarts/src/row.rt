@@ -48,6 +48,8 @@ pub struct Row {
     pub journal: Vec<u8>,
     pub shown: Vec<u8>,
     pub torn: Torn,
+    /// Whether a worker holds its frame in an entry between its two sessions.
+    pub held: bool,
     pub sessions: Vec<Session>,
 }
 
@@ -61,6 +63,7 @@ impl Row {
             journal: Vec::new(alloc),
             shown: Vec::new(alloc),
             torn: Torn::Lost,
+            held: false,
             sessions: Vec::new(alloc),
         })
     }
@@ -73,6 +76,7 @@ impl Row {
             "old" => self.journal = bytes_of(alloc, rest)?,
             "shown" => self.shown = bytes_of(alloc, rest)?,
             "torn" => self.torn = Torn::of(rest)?,
+            "held" => self.held = true,
             "session" => self.sessions.push(Session::new(alloc))?,
             _ => self
                 .sessions

@@ -1,40 +1,30 @@
 use crate::element::Element;
 use crate::row::{Row, Session};
+use crate::stale::run_stale;
 use anyhow::{Context, Result};
 use craft_session::{Place, SessionEnd, serve_session};
 use dxc_disk::Disk;
 use dxc_outside::{Gate, MemClock, MemLink};
 use std::alloc::Global;
-use std::sync::{Arc, Wait};
+use std::sync::Wait;
 use worked_common::{NOON, written_otherwise};
 
-/// What came of a row.
-#[derive(Drop)]
-pub struct Ran {
-    /// The first thing that isn't as it must be.
-    pub why: Option<String>,
-    /// How many calls the disk saw in the last session.
-    pub calls: u64,
-}
-
-/// Opens an element for the row and serves its sessions.
-pub fn run_row<R: Wait>(alloc: Global, rt: &R, row: &Row) -> Result<Ran> {
+/// Opens an element for the row and serves its sessions. Some: the first thing that isn't as it must be.
+pub fn run_row<R: Wait>(alloc: Global, rt: &R, row: &Row) -> Result<Option<String>> {
+    if row.held {
+        return run_stale(alloc, rt, row);
+    }
     let mut element = Element::open(alloc, row)?;
-    let levers = Arc::try_clone(&element.levers)?;
-    let mut why = None;
     for (number, session) in row.sessions.iter().enumerate() {
         let Some(next) = heir_of(alloc, rt, element, session)? else {
-            why = (!session.strange).then_some("the registers are strange".to_string(alloc)?);
-            break;
+            return Ok((!session.strange).then_some("the registers are strange".to_string(alloc)?));
         };
         element = next;
         if let Some(what) = serve(alloc, rt, &mut element, number, session)? {
-            why = Some(format!(in alloc; "session {number}: {what}")?);
-            break;
+            return Ok(Some(format!(in alloc; "session {number}: {what}")?));
         }
     }
-    let calls = levers.calls();
-    Ok(Ran { why, calls })
+    Ok(None)
 }
 
 // The element at which a session is served: another controller's, where the session says so. None: that one found the registers strange.

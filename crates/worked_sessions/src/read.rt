@@ -35,11 +35,11 @@ fn take_line(alloc: Global, row: &mut Row, word: &str, rest: &str) -> Result<()>
         "sid" => row.sid = rest.to_string(alloc)?,
         "workers" => row.workers = rest.parse::<u16>()?,
         "each" => take_numbers(alloc, row, rest)?,
-        "carried" => take_carried(row, rest)?,
+        "carried" => take_carried(alloc, row, rest)?,
         "stands" => {
             let (input, output) = two(rest)?;
-            let input = row.size.port(Spot::of(input)?)?;
-            row.stands.push((input, row.size.port(Spot::of(output)?)?))?;
+            let input = row.size.port(Spot::of(alloc, input)?)?;
+            row.stands.push((input, row.size.port(Spot::of(alloc, output)?)?))?;
         }
         "random" => take_plan(alloc, row, rest)?,
         "session" => row.sessions.push(Session::new(alloc, rest)?)?,
@@ -77,15 +77,15 @@ fn take_shelf(alloc: Global, row: &mut Row, rest: &str) -> Result<()> {
     Ok(())
 }
 
-fn take_carried(row: &mut Row, rest: &str) -> Result<()> {
+fn take_carried(alloc: Global, row: &mut Row, rest: &str) -> Result<()> {
     let (from, rest) = two(rest)?;
     let (until, rest) = two(rest)?;
     let (input, output) = two(rest)?;
     row.carried.push(Carried {
         from: point(from)?,
         until: if until == "-" { NEVER } else { point(until)? },
-        input: row.size.port(Spot::of(input)?)?,
-        output: row.size.port(Spot::of(output)?)?,
+        input: row.size.port(Spot::of(alloc, input)?)?,
+        output: row.size.port(Spot::of(alloc, output)?)?,
         stands: false,
     })?;
     Ok(())
