@@ -32,7 +32,7 @@ HEAD = """# Worked rows of journals. `bench/journals.py` writes them. Each has a
 #   enters N S     enters the first N ports, each to the one S behind it; retrieves, lists: wants them so
 #   calls N        how many writes and syncs the journal must see
 #   length N       how many bytes the journal must then have            piece N HEX    which bytes it must have there
-#   repeat N       the line behind it, N times; its parts are parted by ~
+#   fill N TEXT    is sent N times         compldx N TAG      N responses without text
 """
 LOGIN = "ACT-USER::ANNA:1::bc"
 LEFTS = ("lost", "whole", "front", "sealed")
@@ -358,7 +358,6 @@ def largest():
     """A full table of the largest shape, entered, retrieved, audited, and written as a checkpoint."""
     ports, login = 6_144, [f"send {LOGIN};", "compld 1"]
     more = journal.MOST[2] - ports
-    out, back = f"send {delete(ONE)}; ~ compld 1", f"send {enter(ONE)}; ~ compld 1"
     return [
         "row a full table of 64 modules of 96 slots",
         "shelf 64 96",
@@ -373,10 +372,8 @@ def largest():
         f"list RECORDS {ports}",
         "script",
         *login,
-        f"repeat {more // 2}",
-        f"{out} ~ {back}",
-        "repeat 1",
-        f"{out} ~ {back}",
+        f"fill {more // 2 + 1} {delete(ONE)};{enter(ONE)};",
+        f"compldx {more + 2} 1",
         f"calls {1 + 4 * more + 3 + ports - 1 + 3 + 4}",
         f"length {AREAS[1] + 33 + 64 * ports}",
         "check",

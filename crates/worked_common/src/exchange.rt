@@ -1,5 +1,5 @@
-use crate::wanted::{add_completed, add_texts, add_wanted};
-use crate::words::{bytes_of, numbers_of, two};
+use crate::wanted::{add_completed, add_wanted};
+use crate::words::{add_texts, bytes_of, number_of, numbers_of, two};
 use anyhow::Result;
 use std::alloc::Global;
 
@@ -30,7 +30,7 @@ impl Exchange {
             "fill" => self.take_fill(rest)?,
             "pieces" => self.take_pieces(alloc, rest)?,
             "list" => add_texts(&[rest, "\n"], &mut self.output)?,
-            _ => return add_wanted(sid, word, rest, &mut self.output),
+            _ => return add_wanted(alloc, sid, word, rest, &mut self.output),
         }
         Ok(true)
     }
@@ -43,7 +43,7 @@ impl Exchange {
 
     fn take_fill(&mut self, rest: &str) -> Result<()> {
         let (count, text) = two(rest)?;
-        for _ in 0..count.parse::<u64>()? {
+        for _ in 0..number_of(count)? {
             add_texts(&[text], &mut self.input)?;
         }
         Ok(())

@@ -1,5 +1,5 @@
-//! What the programs of worked rows have in common: the words that a line is made of, the lines that say what a session is sent and must be
-//! written, a shelf file, and a disk on which a row lets a call fail.
+//! What the programs of worked rows have in common: what a line is made of, the lines that say what a session is sent and must be written, a shelf
+//! file, a disk on which a row lets a call fail, and the count of what failed.
 #![tactic(auto)]
 
 mod disk;
@@ -7,6 +7,7 @@ mod exchange;
 mod levers;
 mod noon;
 mod shelf;
+mod tally;
 mod torn;
 mod wanted;
 mod words;
@@ -17,7 +18,11 @@ pub use exchange::Exchange;
 pub use levers::Levers;
 pub use noon::NOON;
 pub use shelf::shelf_text;
+pub use tally::Tally;
 pub use torn::Torn;
-pub use wanted::{add_completed, add_header, add_report, add_texts, add_wanted};
-pub use words::{IDLE, bytes_of, frame_of, is_silent, numbers_of, shape_of, two, word_of};
-pub use written::written_otherwise;
+pub use wanted::{add_completed, add_header, add_report, add_wanted};
+pub use words::{
+    IDLE, Line, add_texts, bytes_of, decimal, frame_of, hex_of, joined, lines_of, number_of,
+    numbers_of, shape_of, small, small_of, two, words_of,
+};
+pub use written::{number_otherwise, written_otherwise};

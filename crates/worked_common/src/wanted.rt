@@ -1,23 +1,28 @@
 //! What a session must be written, line by line.
 
-use crate::words::two;
+use crate::words::{add_texts, number_of, two, words_of};
 use anyhow::Result;
-
-/// Appends the texts one behind the other.
-pub fn add_texts(texts: &[&str], into: &mut Vec<u8>) -> Result<()> {
-    for text in texts {
-        into.extend_from_slice(text.as_bytes())?;
-    }
-    Ok(())
-}
+use std::alloc::Global;
 
 /// Appends what a line of a row wants of an element of this name; false where the word is none of these.
-pub fn add_wanted(sid: &str, word: &str, rest: &str, into: &mut Vec<u8>) -> Result<bool> {
+pub fn add_wanted(
+    alloc: Global,
+    sid: &str,
+    word: &str,
+    rest: &str,
+    into: &mut Vec<u8>,
+) -> Result<bool> {
     match word {
         "want" => add_line(sid, rest, into)?,
         "compld" => add_completed(sid, rest, into)?,
+        "compldx" => {
+            let (count, tag) = two(rest)?;
+            for _ in 0..number_of(count)? {
+                add_completed(sid, tag, into)?;
+            }
+        }
         "deny" => add_denied(sid, rest, into)?,
-        "rows" => add_rows(sid, rest, into)?,
+        "rows" => add_rows(alloc, sid, rest, into)?,
         "report" => {
             let (number, text) = two(rest)?;
             add_report(sid, number, text, into)?;
@@ -65,11 +70,11 @@ pub fn add_report(sid: &str, number: &str, text: &str, into: &mut Vec<u8>) -> Re
 }
 
 // Appends a response COMPLD with rows, which stand behind its tag.
-fn add_rows(sid: &str, rest: &str, into: &mut Vec<u8>) -> Result<()> {
+fn add_rows(alloc: Global, sid: &str, rest: &str, into: &mut Vec<u8>) -> Result<()> {
     let (tag, rows) = two(rest)?;
     add_header(sid, into)?;
     add_texts(&["M  ", tag, " COMPLD\r\n"], into)?;
-    for row in rows.split(' ') {
+    for row in &words_of(alloc, rows)? {
         add_texts(&["   \"", row, "\"\r\n"], into)?;
     }
     add_texts(&[";"], into)

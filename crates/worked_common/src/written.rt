@@ -1,3 +1,4 @@
+use crate::words::{decimal, joined};
 use anyhow::Result;
 use std::alloc::Global;
 
@@ -12,5 +13,19 @@ pub fn written_otherwise(
         return Ok(None);
     }
     let text = String::from_utf8_lossy(alloc, written)?;
-    Ok(Some(format!(in alloc; "{who} was written {text}")?))
+    Ok(Some(joined(alloc, &[who, " was written ", text.as_str()])?))
+}
+
+/// What a number is otherwise than it must be.
+pub fn number_otherwise(
+    alloc: Global,
+    what: &str,
+    number: u64,
+    wanted: u64,
+) -> Result<Option<String>> {
+    if number == wanted {
+        return Ok(None);
+    }
+    let number = decimal(alloc, number)?;
+    Ok(Some(joined(alloc, &[what, " was ", number.as_str()])?))
 }

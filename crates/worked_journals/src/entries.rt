@@ -1,7 +1,7 @@
 //! Many connections: each port's to the one so many behind it.
 use anyhow::Result;
 use std::alloc::Global;
-use worked_common::shape_of;
+use worked_common::{decimal, joined, shape_of};
 
 /// The first so many ports of a shape, and how far each is connected.
 #[derive(Clone, Copy)]
@@ -28,7 +28,8 @@ impl Entries {
     pub fn rows(self, alloc: Global) -> Result<Vec<String>> {
         let mut rows = Vec::new(alloc);
         for port in 0..self.count {
-            rows.push(format!(in alloc; "{}:1WAY", self.pair(alloc, port)?)?)?;
+            let pair = self.pair(alloc, port)?;
+            rows.push(joined(alloc, &[pair.as_str(), ":1WAY"])?)?;
         }
         Ok(rows)
     }
@@ -39,16 +40,13 @@ impl Entries {
         let to = port.saturating_add(self.step).checked_rem(ports);
         let from = self.name(alloc, port)?;
         let to = self.name(alloc, to.unwrap_or(0))?;
-        Ok(format!(in alloc; "{from},{to}")?)
+        joined(alloc, &[from.as_str(), ",", to.as_str()])
     }
 
     fn name(self, alloc: Global, port: u16) -> Result<String> {
-        let module = port.checked_div(self.slots).unwrap_or(0);
-        let slot = port.checked_rem(self.slots).unwrap_or(0);
-        Ok(format!(in alloc;
-            "DS0-{}-{}",
-            module.saturating_add(1),
-            slot.saturating_add(1)
-        )?)
+        let module = port.checked_div(self.slots).unwrap_or(0) as u64 + 1;
+        let slot = port.checked_rem(self.slots).unwrap_or(0) as u64 + 1;
+        let (module, slot) = (decimal(alloc, module)?, decimal(alloc, slot)?);
+        joined(alloc, &["DS0-", module.as_str(), "-", slot.as_str()])
     }
 }

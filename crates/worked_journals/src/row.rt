@@ -3,7 +3,9 @@ use crate::each::Each;
 use crate::entries::Entries;
 use anyhow::{Context, Result, ensure};
 use std::alloc::Global;
-use worked_common::{Exchange, add_completed, add_texts, shape_of, two};
+use worked_common::{
+    Exchange, add_completed, add_texts, bytes_of, joined, number_of, shape_of, two, words_of,
+};
 
 /// The element's name, as headers have it.
 pub const SID: &str = "DXC1";
@@ -23,7 +25,7 @@ pub struct Run {
     pub exchange: Exchange,
     /// Whether anything may be written, and whatever the status is.
     pub any: bool,
-    pub status: u8,
+    pub status: u64,
     /// How many writes and syncs the journal must have seen.
     pub calls: Option<u64>,
     /// How many bytes the journal must then have.
@@ -46,7 +48,7 @@ pub struct Row {
 impl Row {
     pub fn new(alloc: Global, name: &str) -> Result<Row> {
         Ok(Row {
-            name: name.to_string(alloc)?,
+            name: joined(alloc, &[name])?,
             modules: 2,
             slots: 1,
             journal: Vec::new(alloc),
@@ -60,9 +62,9 @@ impl Row {
         match word {
             "shelf" => (self.modules, self.slots) = shape_of(rest)?,
             "each" => self.each = Each::of(rest)?,
-            "old" => self.journal.extend_from_slice(&bytes_of(alloc, rest)?)?,
+            "old" => self.journal.extend_from_slice(&bytes_with_zeros(alloc, rest)?)?,
             "again" => self.take_again(alloc, rest)?,
-            "from" => fill_to(&mut self.journal, rest.parse::<u64>()? as usize)?,
+            "from" => fill_to(&mut self.journal, number_of(rest)? as usize)?,
             "script" | "check" => self.runs.push(Run::new(alloc, word)?)?,
             _ => self.take_of_run(alloc, word, rest)?,
         }
@@ -71,8 +73,8 @@ impl Row {
 
     fn take_again(&mut self, alloc: Global, rest: &str) -> Result<()> {
         let (times, bytes) = two(rest)?;
-        let bytes = bytes_of(alloc, bytes)?;
-        for _ in 0..times.parse::<u64>()? {
+        let bytes = bytes_with_zeros(alloc, bytes)?;
+        for _ in 0..number_of(times)? {
             self.journal.extend_from_slice(&bytes)?;
         }
         Ok(())
@@ -96,7 +98,7 @@ impl Row {
 impl Run {
     fn new(alloc: Global, mode: &str) -> Result<Run> {
         Ok(Run {
-            mode: mode.to_string(alloc)?,
+            mode: joined(alloc, &[mode])?,
             exchange: Exchange::new(alloc),
             any: false,
             status: 0,
@@ -110,13 +112,13 @@ impl Run {
     fn take(&mut self, alloc: Global, word: &str, rest: &str) -> Result<()> {
         match word {
             "any" => self.any = true,
-            "status" => self.status = rest.parse::<u8>()?,
-            "calls" => self.calls = Some(rest.parse::<u64>()?),
-            "length" => self.length = Some(rest.parse::<u64>()? as usize),
+            "status" => self.status = number_of(rest)?,
+            "calls" => self.calls = Some(number_of(rest)?),
+            "length" => self.length = Some(number_of(rest)? as usize),
             "piece" => self.pieces.push(piece_of(alloc, rest)?)?,
             _ => ensure!(
                 self.exchange.take(alloc, SID, word, rest)?,
-                "the word {word} isn't known"
+                "a word isn't known"
             ),
         }
         Ok(())
@@ -150,8 +152,8 @@ impl Run {
 fn piece_of(alloc: Global, text: &str) -> Result<Piece> {
     let (at, bytes) = two(text)?;
     Ok(Piece {
-        at: at.parse::<u64>()? as usize,
-        bytes: bytes_of(alloc, bytes)?,
+        at: number_of(at)? as usize,
+        bytes: bytes_with_zeros(alloc, bytes)?,
     })
 }
 
@@ -167,15 +169,15 @@ fn fill_to(journal: &mut Vec<u8>, length: usize) -> Result<()> {
 }
 
 // The bytes that hexadecimal digits spell; blanks between them fall away. `00*N` stands for so many zeros.
-fn bytes_of(alloc: Global, text: &str) -> Result<Vec<u8>> {
+fn bytes_with_zeros(alloc: Global, text: &str) -> Result<Vec<u8>> {
     let mut bytes = Vec::new(alloc);
-    for word in text.split(' ') {
-        if let Some(("00", count)) = word.split_once('*') {
-            let longer = bytes.len().saturating_add(count.parse::<u64>()? as usize);
-            bytes.resize(longer, 0)?;
-        } else {
-            let some = hex::decode(alloc, word.as_bytes()).ok();
-            bytes.extend_from_slice(&some.context("no hexadecimal bytes")?)?;
+    for word in &words_of(alloc, text)? {
+        match word.strip_prefix("00*") {
+            Some(count) => {
+                let longer = bytes.len().saturating_add(number_of(count)? as usize);
+                fill_to(&mut bytes, longer)?;
+            }
+            None => bytes.extend_from_slice(&bytes_of(alloc, word)?)?,
         }
     }
     Ok(bytes)

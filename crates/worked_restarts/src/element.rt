@@ -55,7 +55,7 @@ impl Element {
         } = start(alloc, row, disk)?;
         let crew = crew_of(alloc, &fabric, seats)?;
         let sessions = row.sessions.len();
-        ensure!(sessions < 100, "{sessions} sessions");
+        ensure!(sessions < 100, "too many sessions");
         let (audit, places) = seat_all(
             alloc,
             &shelf,
@@ -84,7 +84,7 @@ impl Element {
             shelf,
         } = self;
         let sessions = places.len();
-        ensure!(sessions < 100, "{sessions} sessions");
+        ensure!(sessions < 100, "too many sessions");
         let Released { disk, seat, fabric } = audit.release(rt)?;
         let Some(state) = adopt(alloc, &shelf, &fabric, disk, seat)? else {
             return Ok(None);
@@ -155,7 +155,7 @@ pub fn start<D: Disk + Drop>(alloc: Global, row: &Row, disk: D) -> Result<Starte
     let text = shelf_text(alloc, row.modules, row.slots)?;
     let shelf = shelf_of(alloc, text.as_bytes()).ok().context("no shelf")?;
     let workers = row.workers;
-    ensure!(1 <= workers && workers <= 8, "{workers} workers");
+    ensure!(1 <= workers && workers <= 8, "no such number of workers");
     let Ok((fabric, mover, seats)) = Fabric::new(alloc, shelf.shape(), workers) else {
         bail!("no memory");
     };

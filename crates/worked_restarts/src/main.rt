@@ -15,28 +15,28 @@ mod run;
 mod stale;
 mod users;
 
-use crate::read::{Parts, rows_of};
+use crate::read::rows_of;
 use crate::run::run_row;
 use anyhow::Result;
 use std::fs;
+use worked_common::{Tally, decimal, joined, lines_of};
 
 fn main(rt: HostRuntime) -> Result<()> {
     let alloc = rt.alloc();
-    let mut parts = fs::read_to_string(&rt, "parts.txt")?;
-    parts.push_str("\n")?;
-    parts.push_str(fs::read_to_string(&rt, "points.txt")?.as_str())?;
-    let text = parts.as_str();
-    let (mut count, mut failed) = (0u64, 0u64);
+    let parts = fs::read_to_string(&rt, "parts.txt")?;
+    let points = fs::read_to_string(&rt, "points.txt")?;
+    let parts = joined(alloc, &[parts.as_str(), points.as_str()])?;
+    let parts = lines_of(alloc, parts.as_str())?;
+    let mut tally = Tally::new(alloc);
     for name in ["rows.txt", "stops.txt"] {
-        let lines = fs::read_to_string(&rt, name)?;
-        for row in &rows_of(alloc, Parts { text }, lines.as_str())? {
-            if let Some(why) = run_row(alloc, &rt, row)? {
-                println!(rt; "{}: {why}", row.name)?;
-                failed = failed.saturating_add(1);
-            }
-            count = count.saturating_add(1);
+        let text = fs::read_to_string(&rt, name)?;
+        for row in &rows_of(alloc, &parts, text.as_str())? {
+            let why = run_row(alloc, &rt, row)?;
+            tally.count(alloc, row.name.as_str(), 0, why)?;
         }
     }
-    println!(rt; "{count} rows, {failed} of them failed")?;
+    let count = decimal(alloc, tally.runs)?;
+    let counted = joined(alloc, &[count.as_str(), " rows"])?;
+    print!(rt; "{}", tally.told(alloc, counted.as_str())?)?;
     Ok(())
 }

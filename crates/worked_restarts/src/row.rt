@@ -1,7 +1,10 @@
 use crate::carrier::Asked;
 use anyhow::{Context, Result, ensure};
 use std::alloc::Global;
-use worked_common::{Exchange, Torn, bytes_of, frame_of, numbers_of, shape_of, two};
+use worked_common::{
+    Exchange, Torn, bytes_of, frame_of, joined, number_of, numbers_of, shape_of, small_of, two,
+    words_of,
+};
 
 /// The element's name, as headers have it.
 const SID: &str = "DXC1";
@@ -56,7 +59,7 @@ pub struct Row {
 impl Row {
     pub fn new(alloc: Global, name: &str) -> Result<Row> {
         Ok(Row {
-            name: name.to_string(alloc)?,
+            name: joined(alloc, &[name])?,
             modules: 0,
             slots: 0,
             workers: 1,
@@ -72,7 +75,7 @@ impl Row {
     pub fn take(&mut self, alloc: Global, word: &str, rest: &str) -> Result<()> {
         match word {
             "shelf" => (self.modules, self.slots) = shape_of(rest)?,
-            "workers" => self.workers = rest.parse::<u16>()?,
+            "workers" => self.workers = small_of(rest)?,
             "old" => self.journal = bytes_of(alloc, rest)?,
             "shown" => self.shown = bytes_of(alloc, rest)?,
             "torn" => self.torn = Torn::of(rest)?,
@@ -111,25 +114,25 @@ impl Session {
         match word {
             "adopts" => self.adopts = true,
             "strange" => self.strange = true,
-            "stop" => self.stop = Some(rest.parse::<u64>()?),
-            "fails" => self.failing = Some(rest.parse::<u64>()?),
+            "stop" => self.stop = Some(number_of(rest)?),
+            "fails" => self.failing = Some(number_of(rest)?),
             "shows" => self.shows = true,
             "asked" => self.asked = Some(asked_of(alloc, rest)?),
-            "calls" => self.calls = Some(rest.parse::<u64>()?),
+            "calls" => self.calls = Some(number_of(rest)?),
             "frames" => self.take_frames(alloc, rest)?,
             "last" => self.last = Some(frame_of(alloc, rest)?),
             "by" => self.shares.push(share_of(alloc, rest)?)?,
             "words" => self.words = numbers_of(alloc, rest)?,
             _ => ensure!(
                 self.exchange.take(alloc, SID, word, rest)?,
-                "the word {word} isn't known"
+                "a word isn't known"
             ),
         }
         Ok(())
     }
 
     fn take_frames(&mut self, alloc: Global, rest: &str) -> Result<()> {
-        for frame in rest.split(' ') {
+        for frame in &words_of(alloc, rest)? {
             self.frames.push(frame_of(alloc, frame)?)?;
         }
         Ok(())
@@ -151,7 +154,7 @@ fn asked_of(alloc: Global, text: &str) -> Result<Asked> {
 fn share_of(alloc: Global, text: &str) -> Result<Share> {
     let (worker, frame) = two(text)?;
     Ok(Share {
-        worker: worker.parse::<u64>()? as usize,
+        worker: number_of(worker)? as usize,
         output: frame_of(alloc, frame)?,
     })
 }

@@ -1,3 +1,4 @@
+use crate::carrier::Asked;
 use crate::element::Element;
 use crate::row::{Row, Session};
 use crate::stale::run_stale;
@@ -7,7 +8,7 @@ use dxc_disk::Disk;
 use dxc_outside::{Gate, MemClock, MemLink};
 use std::alloc::Global;
 use std::sync::Wait;
-use worked_common::{NOON, written_otherwise};
+use worked_common::{NOON, decimal, joined, number_otherwise, written_otherwise};
 
 /// Opens an element for the row and serves its sessions. Some: the first thing that isn't as it must be.
 pub fn run_row<R: Wait>(alloc: Global, rt: &R, row: &Row) -> Result<Option<String>> {
@@ -17,11 +18,13 @@ pub fn run_row<R: Wait>(alloc: Global, rt: &R, row: &Row) -> Result<Option<Strin
     let mut element = Element::open(alloc, row)?;
     for (number, session) in row.sessions.iter().enumerate() {
         let Some(next) = heir_of(alloc, rt, element, session)? else {
-            return Ok((!session.strange).then_some("the registers are strange".to_string(alloc)?));
+            return strange_otherwise(alloc, session, true);
         };
         element = next;
         if let Some(what) = serve(alloc, rt, &mut element, number, session)? {
-            return Ok(Some(format!(in alloc; "session {number}: {what}")?));
+            let number = decimal(alloc, number as u64)?;
+            let texts = ["session ", number.as_str(), ": ", what.as_str()];
+            return Ok(Some(joined(alloc, &texts)?));
         }
     }
     Ok(None)
@@ -41,6 +44,16 @@ fn heir_of<R: Wait>(
     element.handed_on(alloc, rt)
 }
 
+// What is otherwise where another controller found the registers strange, or not.
+fn strange_otherwise(alloc: Global, session: &Session, strange: bool) -> Result<Option<String>> {
+    number_otherwise(
+        alloc,
+        "that the registers are strange",
+        strange as u64,
+        session.strange as u64,
+    )
+}
+
 // Serves one session at the place of that number. Some: what isn't as it must be.
 fn serve<R: Wait>(
     alloc: Global,
@@ -49,8 +62,9 @@ fn serve<R: Wait>(
     number: usize,
     session: &Session,
 ) -> Result<Option<String>> {
-    if session.strange {
-        return Ok(Some("the registers aren't strange".to_string(alloc)?));
+    let why = strange_otherwise(alloc, session, false)?;
+    if why.is_some() {
+        return Ok(why);
     }
     element.gate.set(alloc, session)?;
     element.levers.set(session.failing, session.shows);
@@ -99,24 +113,38 @@ fn ended_otherwise(
     session: &Session,
     end: SessionEnd,
 ) -> Result<Option<String>> {
-    let wanted = match session.stop {
-        Some(_) => SessionEnd::Stopped,
-        None => SessionEnd::End,
+    let is_right = match session.stop {
+        Some(_) => matches!(end, SessionEnd::Stopped),
+        None => matches!(end, SessionEnd::End),
     };
-    if end != wanted {
-        return Ok(Some(format!(in alloc; "the end was {end:?}")?));
+    if !is_right {
+        return Ok(Some(joined(alloc, &["it ended otherwise"])?));
     }
-    let asked = element.gate.asked();
-    if session.asked.is_some_and(|wanted| wanted != asked) {
-        return Ok(Some(format!(in alloc;
-            "the gate was asked {} {} {}",
-            asked.journal, asked.register, asked.finish
-        )?));
+    if let Some(wanted) = session.asked {
+        if let Some(why) = asked_otherwise(alloc, element.gate.asked(), wanted)? {
+            return Ok(Some(why));
+        }
     }
     let calls = element.levers.calls();
-    let none_failed = session.failing.is_some_and(|failing| failing >= calls);
-    if none_failed || session.calls.is_some_and(|wanted| wanted != calls) {
-        return Ok(Some(format!(in alloc; "the disk saw {calls} calls")?));
+    if session.failing.is_some_and(|failing| failing >= calls) {
+        return Ok(Some(joined(alloc, &["no call of the disk failed"])?));
+    }
+    match session.calls {
+        Some(wanted) => number_otherwise(alloc, "the number of the disk's calls", calls, wanted),
+        None => Ok(None),
+    }
+}
+
+// What is otherwise of how often the gate was asked.
+fn asked_otherwise(alloc: Global, asked: Asked, wanted: Asked) -> Result<Option<String>> {
+    for (what, number, wanted) in [
+        ("askings before the journal", asked.journal, wanted.journal),
+        ("askings before a register", asked.register, wanted.register),
+        ("askings before the end", asked.finish, wanted.finish),
+    ] {
+        if let Some(why) = number_otherwise(alloc, what, number, wanted)? {
+            return Ok(Some(why));
+        }
     }
     Ok(None)
 }
@@ -128,7 +156,9 @@ fn carried_otherwise(
     session: &Session,
 ) -> Result<Option<String>> {
     if let Some(asking) = element.gate.wrong() {
-        return Ok(Some(format!(in alloc; "another frame was carried at asking {asking}")?));
+        let asking = decimal(alloc, asking)?;
+        let texts = ["another frame was carried at asking ", asking.as_str()];
+        return Ok(Some(joined(alloc, &texts)?));
     }
     let crew = &mut element.gate.crew;
     crew.carry();
@@ -146,10 +176,13 @@ fn carried_otherwise(
     Ok(None)
 }
 
-/// What is otherwise of the register words.
+/// What is otherwise of the register words: the first of them that is another one.
 pub fn words_otherwise(alloc: Global, session: &Session, words: &[u64]) -> Result<Option<String>> {
-    if words == session.words.as_slice() {
-        return Ok(None);
+    for (word, wanted) in words.iter().zip(session.words.iter()) {
+        if let Some(why) = number_otherwise(alloc, "a register", *word, *wanted)? {
+            return Ok(Some(why));
+        }
     }
-    Ok(Some(format!(in alloc; "the registers were {words:?}")?))
+    let (count, wanted) = (words.len() as u64, session.words.len() as u64);
+    number_otherwise(alloc, "the number of registers", count, wanted)
 }

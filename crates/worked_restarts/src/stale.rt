@@ -30,7 +30,7 @@ use shelf_file::Shelf;
 use std::alloc::Global;
 use std::sync::{Arc, Wait};
 use turnstile::{Pass, Turnstile};
-use worked_common::Levers;
+use worked_common::{Levers, joined};
 use xc_core::State;
 
 /// DS0-2-2.
@@ -159,10 +159,7 @@ fn between<D: Disk + Drop, U: Disk + Drop, R: Wait>(
         rt,
     )?;
     if beside != WANTED {
-        return Ok(Some(format!(in alloc;
-            "it was held up at asking {} of {}",
-            beside.asked, beside.asked_in_all
-        )?));
+        return Ok(Some(joined(alloc, &["the entry came otherwise"])?));
     }
     let words = words_in_turn(alloc, &mut pass, turns, fabric, rt)?;
     if let Some(why) = words_otherwise(alloc, behind, &words)? {

@@ -3,7 +3,7 @@
 use crate::plain::{Change, Joined, Which};
 use anyhow::{Context, Result, bail};
 use std::alloc::Global;
-use worked_common::add_texts;
+use worked_common::{add_texts, decimal, joined, small_of};
 
 /// What a unit asks.
 #[derive(Clone, Copy)]
@@ -30,7 +30,10 @@ pub fn add_unit(alloc: Global, ask: Ask, tag: &str, into: &mut Vec<u8>) -> Resul
 fn name_of(alloc: Global, which: Which) -> Result<String> {
     match which {
         Which::All => Ok(String::new(alloc)),
-        Which::Module(module) => Ok(format!(in alloc; "MOD-{module}")?),
+        Which::Module(module) => {
+            let number = decimal(alloc, module as u64)?;
+            joined(alloc, &["MOD-", number.as_str()])
+        }
         Which::Port(spot) => spot.name(alloc),
     }
 }
@@ -71,11 +74,11 @@ pub fn change_of(alloc: Global, text: &str) -> Result<Change> {
         "DLT-CRS-T0" => Change::Delete(Joined::of(alloc, rest)?),
         "ENT-EQPT" => Change::Equip(module_of(rest)?),
         "DLT-EQPT" => Change::Unequip(module_of(rest)?),
-        _ => bail!("no report of a change: {text}"),
+        _ => bail!("no report of a change"),
     })
 }
 
 fn module_of(name: &str) -> Result<u16> {
     let number = name.strip_prefix("MOD-").context("a module is wanted")?;
-    Ok(number.parse::<u16>()?)
+    small_of(number)
 }

@@ -8,7 +8,7 @@ use crate::plain::{Change, Joined, PlainTable, Which};
 use crate::row::{Row, Session};
 use anyhow::{Context, Result, bail, ensure};
 use std::alloc::Global;
-use worked_common::add_header;
+use worked_common::{add_header, number_of};
 
 /// The response to a unit: it was given when of all changes at least `from` and at most `until` were made.
 #[derive(Clone, Copy)]
@@ -75,7 +75,7 @@ fn history_of(alloc: Global, messages: &[Heard<'_>]) -> Result<Vec<Change>> {
         if let Heard::Report { number, text } = message {
             ensure!(
                 number.checked_sub(1) == Some(history.len() as u64),
-                "report {number} comes too early or late"
+                "a report comes too early or late"
             );
             history.push(change_of(alloc, text)?)?;
         }
@@ -110,8 +110,8 @@ fn answers_of<'m, 'a>(
                 lines,
             } => {
                 ensure!(
-                    tag.parse::<usize>()?.checked_sub(1) == Some(answers.len()),
-                    "response {tag} comes too early or late"
+                    number_of(tag)?.checked_sub(1) == Some(answers.len() as u64),
+                    "a response comes too early or late"
                 );
                 answers.push(Answer {
                     completed: *completed,
@@ -125,7 +125,7 @@ fn answers_of<'m, 'a>(
                 ensure!(
                     number.checked_sub(1) == Some(seen as u64)
                         && history.get(seen).copied() == Some(change),
-                    "report {number} isn't the history's"
+                    "a report isn't the history's"
                 );
                 seen = seen.saturating_add(1);
                 let last = answers.last_mut().context("a report comes first")?;
@@ -147,9 +147,7 @@ fn judge(
 ) -> Result<()> {
     ensure!(
         answers.len() == session.asked.len(),
-        "session {} has {} answers",
-        session.name,
-        answers.len()
+        "a session has another number of answers"
     );
     let mut at = 0;
     for (ask, answer) in session.asked.iter().zip(answers.iter()) {
@@ -165,10 +163,7 @@ fn judge(
             )?,
             _ => ensure!(
                 is_right(alloc, *ask, answer, history, &mut table, &mut at)?,
-                "session {}: an answer between changes {} and {} is wrong",
-                session.name,
-                answer.from,
-                answer.until
+                "an answer is wrong"
             ),
         }
     }

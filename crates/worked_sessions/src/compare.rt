@@ -5,7 +5,7 @@ use crate::meeting::Meeting;
 use crate::row::{Row, Session};
 use anyhow::Result;
 use std::alloc::Global;
-use worked_common::{IDLE, written_otherwise};
+use worked_common::{IDLE, decimal, joined, number_otherwise, written_otherwise};
 
 /// What the session was written otherwise than it must.
 pub fn fault_of_session(
@@ -15,7 +15,7 @@ pub fn fault_of_session(
 ) -> Result<Option<String>> {
     let name = session.name.as_str();
     let Some(output) = output else {
-        return Ok(Some(format!(in alloc; "session {name} has no end")?));
+        return Ok(Some(joined(alloc, &[name, " has no end"])?));
     };
     written_otherwise(alloc, name, output, &session.wanted)
 }
@@ -27,15 +27,17 @@ pub fn fault_of_frames(
     stands: &[(u16, u16)],
     meeting: &Meeting,
 ) -> Result<Option<String>> {
-    if meeting.astray() != 0 {
-        return Ok(Some(format!(in alloc; "{} bytes went astray", meeting.astray())?));
+    if let Some(why) = number_otherwise(alloc, "the bytes that went astray", meeting.astray(), 0)? {
+        return Ok(Some(why));
     }
     for worker in 0..row.workers {
         let Some(frames) = meeting.last_frames(worker as usize) else {
-            return Ok(Some(format!(in alloc; "worker {worker} has no end")?));
+            return Ok(Some(joined(alloc, &["a worker has no end"])?));
         };
         if let Some(port) = wrong_output(row, stands, worker, frames) {
-            return Ok(Some(format!(in alloc; "worker {worker} carried port {port} otherwise")?));
+            let port = decimal(alloc, port as u64)?;
+            let texts = ["a worker carried otherwise port ", port.as_str()];
+            return Ok(Some(joined(alloc, &texts)?));
         }
     }
     Ok(None)

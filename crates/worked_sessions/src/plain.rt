@@ -2,6 +2,7 @@
 
 use anyhow::{Context, Result, ensure};
 use std::alloc::Global;
+use worked_common::{decimal, joined, small_of};
 
 /// A port by its module and slot, from 1.
 #[derive(Clone, Copy, PartialEq, Eq)]
@@ -16,15 +17,17 @@ impl Spot {
         let rest = name.strip_prefix("DS0-").context("a port is wanted")?;
         let (module, slot) = rest.split_once('-').context("a slot is wanted")?;
         let spot = Spot {
-            module: module.parse::<u16>()?,
-            slot: slot.parse::<u16>()?,
+            module: small_of(module)?,
+            slot: small_of(slot)?,
         };
-        ensure!(spot.name(alloc)?.as_str() == name, "no port: {name}");
+        ensure!(spot.name(alloc)?.as_str() == name, "a port is wanted");
         Ok(spot)
     }
 
     pub fn name(self, alloc: Global) -> Result<String> {
-        Ok(format!(in alloc; "DS0-{}-{}", self.module, self.slot)?)
+        let module = decimal(alloc, self.module as u64)?;
+        let slot = decimal(alloc, self.slot as u64)?;
+        joined(alloc, &["DS0-", module.as_str(), "-", slot.as_str()])
     }
 
     // Greater the further behind the port stands in the table.

@@ -6,6 +6,7 @@ use crate::plain::{Change, Joined, Spot, Which};
 use crate::row::{Carried, NEVER, Row, Session, Size};
 use anyhow::Result;
 use std::alloc::Global;
+use worked_common::decimal;
 
 /// What a random row is.
 #[derive(Clone, Copy)]
@@ -146,7 +147,7 @@ fn begin(alloc: Global, session: &mut Session, uid: &str) -> Result<()> {
 // Appends the unit that asks for it, tagged by its number in the session.
 fn add_next(alloc: Global, session: &mut Session, ask: Ask, into: &mut Vec<u8>) -> Result<()> {
     session.asked.push(ask)?;
-    let tag = (session.asked.len() as u64).to_string(alloc)?;
+    let tag = decimal(alloc, session.asked.len() as u64)?;
     add_unit(alloc, ask, tag.as_str(), into)
 }
 
@@ -202,7 +203,7 @@ fn drawn_session(
     pool: &[Joined],
     draws: &mut Draws,
 ) -> Result<Session> {
-    let name = format!(in alloc; "{number}")?;
+    let name = decimal(alloc, number as u64)?;
     let mut session = Session::new(alloc, name.as_str())?;
     session.cues.push(Cue::Await(0))?;
     begin(alloc, &mut session, plan.uid)?;

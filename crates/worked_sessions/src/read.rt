@@ -6,24 +6,21 @@ use crate::row::{Carried, NEVER, POINTS, Row, Session, Size};
 use anyhow::{Context, Result, ensure};
 use std::alloc::Global;
 use worked_common::{
-    add_completed, add_report, add_texts, add_wanted, is_silent, numbers_of, shape_of, two, word_of,
+    add_completed, add_report, add_texts, add_wanted, decimal, joined, lines_of, number_of,
+    numbers_of, shape_of, small, small_of, two,
 };
 
 /// The rows that the text describes, line by line.
 pub fn rows_of(alloc: Global, text: &str) -> Result<Vec<Row>> {
     let mut rows = Vec::new(alloc);
-    for line in text.lines() {
-        if is_silent(line) {
-            continue;
-        }
-        let (word, rest) = word_of(line);
-        if word == "row" {
-            rows.push(Row::new(alloc, rest)?)?;
+    for line in &lines_of(alloc, text)? {
+        if line.word == "row" {
+            rows.push(Row::new(alloc, line.rest)?)?;
         } else {
             let row = rows
                 .last_mut()
                 .context("a line stands before the first row")?;
-            take_line(alloc, row, word, rest)?;
+            take_line(alloc, row, line.word, line.rest)?;
         }
     }
     Ok(rows)
@@ -32,8 +29,8 @@ pub fn rows_of(alloc: Global, text: &str) -> Result<Vec<Row>> {
 fn take_line(alloc: Global, row: &mut Row, word: &str, rest: &str) -> Result<()> {
     match word {
         "shelf" => take_shelf(alloc, row, rest)?,
-        "sid" => row.sid = rest.to_string(alloc)?,
-        "workers" => row.workers = rest.parse::<u16>()?,
+        "sid" => row.sid = joined(alloc, &[rest])?,
+        "workers" => row.workers = small_of(rest)?,
         "each" => take_numbers(alloc, row, rest)?,
         "carried" => take_carried(alloc, row, rest)?,
         "stands" => {
@@ -55,7 +52,7 @@ fn take_line(alloc: Global, row: &mut Row, word: &str, rest: &str) -> Result<()>
 }
 
 fn point(text: &str) -> Result<usize> {
-    let point = text.parse::<u64>()? as usize;
+    let point = number_of(text)? as usize;
     ensure!(point < POINTS, "no such point");
     Ok(point)
 }
@@ -72,7 +69,7 @@ fn take_numbers(alloc: Global, row: &mut Row, rest: &str) -> Result<()> {
 fn take_shelf(alloc: Global, row: &mut Row, rest: &str) -> Result<()> {
     let (file, size) = two(rest)?;
     let (modules, slots) = shape_of(size)?;
-    row.shelf = file.to_string(alloc)?;
+    row.shelf = joined(alloc, &[file])?;
     row.size = Size { modules, slots };
     Ok(())
 }
@@ -103,7 +100,7 @@ fn take_plan(alloc: Global, row: &mut Row, rest: &str) -> Result<()> {
         sessions: *sessions as usize,
         rounds: *rounds as usize,
         units: *units as usize,
-        equipped: u16::try_from(*equipped)?,
+        equipped: small(*equipped)?,
         uid,
     };
     take_random(alloc, row, plan)
@@ -140,7 +137,7 @@ fn take_step(
 fn take_times(alloc: Global, session: &mut Session, rest: &str) -> Result<()> {
     let (count, text) = two(rest)?;
     let mut bytes = Vec::new(alloc);
-    for _ in 0..count.parse::<u64>()? {
+    for _ in 0..number_of(count)? {
         add_texts(&[text], &mut bytes)?;
     }
     session.cues.push(Cue::Send(bytes))?;
@@ -156,26 +153,16 @@ fn take_wanted(
 ) -> Result<()> {
     let wanted = &mut session.wanted;
     match word {
-        "compldx" => take_completed(sid, rest, wanted),
         "reports" => take_reports(alloc, sid, rest, wanted),
         "login" => take_login(alloc, session, sid, rest),
         _ => {
             ensure!(
-                add_wanted(sid, word, rest, wanted)?,
-                "the word {word} isn't known"
+                add_wanted(alloc, sid, word, rest, wanted)?,
+                "a word isn't known"
             );
             Ok(())
         }
     }
-}
-
-// So many responses of this tag.
-fn take_completed(sid: &str, rest: &str, into: &mut Vec<u8>) -> Result<()> {
-    let (count, tag) = two(rest)?;
-    for _ in 0..count.parse::<u64>()? {
-        add_completed(sid, tag, into)?;
-    }
-    Ok(())
 }
 
 fn take_login(alloc: Global, session: &mut Session, sid: &str, rest: &str) -> Result<()> {
@@ -190,8 +177,8 @@ fn take_reports(alloc: Global, sid: &str, rest: &str, into: &mut Vec<u8>) -> Res
     let (last, texts) = two(rest)?;
     let (one, other) = two(texts)?;
     let mut text = (one, other);
-    for number in first.parse::<u64>()?..=last.parse::<u64>()? {
-        add_report(sid, number.to_string(alloc)?.as_str(), text.0, into)?;
+    for number in number_of(first)?..=number_of(last)? {
+        add_report(sid, decimal(alloc, number)?.as_str(), text.0, into)?;
         text = (text.1, text.0);
     }
     Ok(())

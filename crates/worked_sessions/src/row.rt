@@ -5,7 +5,7 @@ use crate::meeting::Meeting;
 use crate::plain::Spot;
 use anyhow::{Context, Result, ensure};
 use std::alloc::Global;
-use worked_common::add_texts;
+use worked_common::{add_texts, joined};
 
 /// The points that a row's text may name are below this number.
 pub const POINTS: usize = 64;
@@ -66,7 +66,7 @@ pub struct Session {
 impl Session {
     pub fn new(alloc: Global, name: &str) -> Result<Session> {
         Ok(Session {
-            name: name.to_string(alloc)?,
+            name: joined(alloc, &[name])?,
             cues: Vec::new(alloc),
             wanted: Vec::new(alloc),
             asked: Vec::new(alloc),
@@ -136,9 +136,9 @@ pub struct Row {
 impl Row {
     pub fn new(alloc: Global, name: &str) -> Result<Row> {
         Ok(Row {
-            name: name.to_string(alloc)?,
-            shelf: "".to_string(alloc)?,
-            sid: "DXC1".to_string(alloc)?,
+            name: joined(alloc, &[name])?,
+            shelf: String::new(alloc),
+            sid: joined(alloc, &["DXC1"])?,
             size: Size {
                 modules: 2,
                 slots: 1,
