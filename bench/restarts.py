@@ -126,7 +126,7 @@ def changes():
 
 # Why a restart is due and what asks for it: the asking at which the entry was stopped, or None where the disk failed while its record was sealed,
 # which a restart mends first; the unit; and how many calls of the disk a restart makes.
-NEEDS = [(0, "restart", 0), (8, "restart", 0), (19, "restart", 0), (8, "deletion", 0), (None, "restart", 0)]
+NEEDS = [(0, "restart", 11), (8, "restart", 13), (19, "restart", 13), (8, "deletion", 13), (None, "restart", 13)]
 
 
 def faults():

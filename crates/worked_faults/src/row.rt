@@ -111,7 +111,7 @@ impl Run {
     pub fn new(alloc: Global, line: &str) -> Result<Run> {
         let mut words = Vec::new(alloc);
         for word in &words_of(alloc, line)? {
-            words.push(joined(alloc, &[word])?)?;
+            words.push(joined(alloc, &[*word])?)?;
         }
         Ok(Run {
             words,

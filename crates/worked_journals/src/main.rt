@@ -27,7 +27,8 @@ fn main(rt: HostRuntime) -> Result<()> {
     let rows = run_all(alloc, &rt, &lines_of(alloc, text.as_str())?, &mut tally)?;
     let (rows, times) = (decimal(alloc, rows)?, decimal(alloc, tally.runs)?);
     let counted = joined(alloc, &[rows.as_str(), " rows, ", times.as_str(), " times"])?;
-    print!(rt; "{}", tally.told(alloc, counted.as_str())?)?;
+    let told = tally.told(alloc, counted.as_str())?;
+    print!(rt; "{told}")?;
     Ok(())
 }
 

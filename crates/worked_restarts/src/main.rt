@@ -37,6 +37,7 @@ fn main(rt: HostRuntime) -> Result<()> {
     }
     let count = decimal(alloc, tally.runs)?;
     let counted = joined(alloc, &[count.as_str(), " rows"])?;
-    print!(rt; "{}", tally.told(alloc, counted.as_str())?)?;
+    let told = tally.told(alloc, counted.as_str())?;
+    print!(rt; "{told}")?;
     Ok(())
 }

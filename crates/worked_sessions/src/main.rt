@@ -38,6 +38,7 @@ fn main(rt: HostRuntime) -> Result<()> {
     }
     let (runs, count) = (decimal(alloc, tally.runs)?, decimal(alloc, rows.len() as u64)?);
     let counted = joined(alloc, &[runs.as_str(), " runs of ", count.as_str(), " rows"])?;
-    print!(rt; "{}", tally.told(alloc, counted.as_str())?)?;
+    let told = tally.told(alloc, counted.as_str())?;
+    print!(rt; "{told}")?;
     Ok(())
 }
