@@ -26,12 +26,13 @@ HEAD = """# Worked rows of journals. `bench/journals.py` writes them. Each has a
 #                  file is what such a crash leaves. LEFT is what is left of the write that failed, or of those that no sync came behind:
 #                  lost, whole, front (its first half), sealed (filled with A5)
 #   script, check  begin a run             any            whatever is written and however it ends
-#   send TEXT      what is sent            answer TAG CODE | LINE ..    a response that must come       report N TEXT   a report
+#   send TEXT      what is sent            compld TAG     a response without text that must come
+#   rows TAG ROW ..    one with these rows     deny TAG CODE TEXT    a denial     want TEXT    a line; H is a header, ; the end
 #   list TEXT      a line that must come   status N       how the run must end, 0 where nothing is said
 #   enters N S     enters the first N ports, each to the one S behind it; retrieves, lists: wants them so
 #   calls N        how many writes and syncs the journal must see
 #   length N       how many bytes the journal must then have            piece N HEX    which bytes it must have there
-#   repeat N       the line behind it, N times; its parts are parted by ~
+#   fill N TEXT    is sent N times         compldx N TAG      N responses without text
 """
 LOGIN = "ACT-USER::ANNA:1::bc"
 LEFTS = ("lost", "whole", "front", "sealed")
@@ -118,7 +119,12 @@ def repeated(content, size):
 
 
 def answer_line(tag, is_done, lines):
-    return " | ".join([f"answer {tag} {'COMPLD' if is_done else 'DENY'}", *lines])
+    if not is_done:
+        code, text = lines
+        return f"deny {tag} {code} {text.removeprefix('/* ').removesuffix(' */')}"
+    if any(" " in line for line in lines):
+        return "\n".join(["want H", f"want M  {tag} COMPLD", *(f"want    {line}" for line in lines), "want ;"])
+    return " ".join([f"rows {tag}", *(line.strip('"') for line in lines)]) if lines else f"compld {tag}"
 
 
 def enter(pair, tag="1", more=""):
@@ -350,9 +356,8 @@ def fault(old, at, left, unit):
 
 def largest():
     """A full table of the largest shape, entered, retrieved, audited, and written as a checkpoint."""
-    ports, login = 6_144, [f"send {LOGIN};", "answer 1 COMPLD"]
+    ports, login = 6_144, [f"send {LOGIN};", "compld 1"]
     more = journal.MOST[2] - ports
-    out, back = f"send {delete(ONE)}; ~ answer 1 COMPLD", f"send {enter(ONE)}; ~ answer 1 COMPLD"
     return [
         "row a full table of 64 modules of 96 slots",
         "shelf 64 96",
@@ -367,10 +372,8 @@ def largest():
         f"list RECORDS {ports}",
         "script",
         *login,
-        f"repeat {more // 2}",
-        f"{out} ~ {back}",
-        "repeat 1",
-        f"{out} ~ {back}",
+        f"fill {more // 2 + 1} {delete(ONE)};{enter(ONE)};",
+        f"compldx {more + 2} 1",
         f"calls {1 + 4 * more + 3 + ports - 1 + 3 + 4}",
         f"length {AREAS[1] + 33 + 64 * ports}",
         "check",

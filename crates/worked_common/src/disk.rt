@@ -2,17 +2,9 @@ ghost use Rattle.std.specs.Prelude.{IsErr};
 ghost use Rattle.dxc_causes.specs.Causes.{HasCause};
 
 use crate::levers::Levers;
+use crate::torn::Torn;
 use dxc_disk::{Disk, DiskFault};
 use std::sync::Arc;
-
-/// What comes of the bytes of a write that fails.
-#[derive(Clone, Copy, Debug, PartialEq, Eq)]
-pub enum Torn {
-    Lost,
-    Whole,
-    /// Its range holds other bytes.
-    Other,
-}
 
 /// A byte that no seal is.
 const OTHER: u8 = 0x5A;

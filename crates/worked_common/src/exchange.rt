@@ -1,5 +1,5 @@
 use crate::wanted::{add_completed, add_wanted};
-use crate::words::{bytes_of, two};
+use crate::words::{add_texts, bytes_of, number_of, numbers_of, two};
 use anyhow::Result;
 use std::alloc::Global;
 
@@ -24,38 +24,34 @@ impl Exchange {
     /// Takes a line of its own, for an element of this name; false where the word is none of its own.
     pub fn take(&mut self, alloc: Global, sid: &str, word: &str, rest: &str) -> Result<bool> {
         match word {
-            "login" => self.take_login(alloc, sid, rest)?,
-            "send" => self.input.extend_from_slice(rest.as_bytes())?,
+            "login" => self.take_login(sid, rest)?,
+            "send" => add_texts(&[rest], &mut self.input)?,
             "hex" => self.input.extend_from_slice(&bytes_of(alloc, rest)?)?,
             "fill" => self.take_fill(rest)?,
-            "pieces" => self.take_pieces(rest)?,
-            "list" => {
-                self.output.extend_from_slice(rest.as_bytes())?;
-                self.output.push(b'\n')?;
-            }
+            "pieces" => self.take_pieces(alloc, rest)?,
+            "list" => add_texts(&[rest, "\n"], &mut self.output)?,
             _ => return add_wanted(alloc, sid, word, rest, &mut self.output),
         }
         Ok(true)
     }
 
-    fn take_login(&mut self, alloc: Global, sid: &str, rest: &str) -> Result<()> {
+    fn take_login(&mut self, sid: &str, rest: &str) -> Result<()> {
         let (uid, tag) = two(rest)?;
-        let unit = format!(in alloc; "ACT-USER::{uid}:{tag}::bc;")?;
-        self.input.extend_from_slice(unit.as_bytes())?;
-        add_completed(alloc, sid, tag, &mut self.output)
+        add_texts(&["ACT-USER::", uid, ":", tag, "::bc;"], &mut self.input)?;
+        add_completed(sid, tag, &mut self.output)
     }
 
     fn take_fill(&mut self, rest: &str) -> Result<()> {
         let (count, text) = two(rest)?;
-        for _ in 0..count.parse::<u32>()? {
-            self.input.extend_from_slice(text.as_bytes())?;
+        for _ in 0..number_of(count)? {
+            add_texts(&[text], &mut self.input)?;
         }
         Ok(())
     }
 
-    fn take_pieces(&mut self, rest: &str) -> Result<()> {
-        for length in rest.split(' ') {
-            self.pieces.push(length.parse::<usize>()?)?;
+    fn take_pieces(&mut self, alloc: Global, rest: &str) -> Result<()> {
+        for length in &numbers_of(alloc, rest)? {
+            self.pieces.push(*length as usize)?;
         }
         Ok(())
     }

@@ -1,17 +1,28 @@
-//! What the programs of worked rows have in common: the lines of a row that say what a session is sent and must be written, and a disk on which
-//! a row lets a call fail.
+//! What the programs of worked rows have in common: what a line is made of, the lines that say what a session is sent and must be written, a shelf
+//! file, a disk on which a row lets a call fail, and the count of what failed.
 #![tactic(auto)]
 
 mod disk;
 mod exchange;
 mod levers;
 mod noon;
+mod shelf;
+mod tally;
+mod torn;
 mod wanted;
 mod words;
+mod written;
 
-pub use disk::{RowDisk, Torn};
+pub use disk::RowDisk;
 pub use exchange::Exchange;
 pub use levers::Levers;
 pub use noon::NOON;
-pub use wanted::{add_completed, add_header, add_line, add_report, add_wanted};
-pub use words::{bytes_of, two};
+pub use shelf::shelf_text;
+pub use tally::Tally;
+pub use torn::Torn;
+pub use wanted::{add_completed, add_header, add_report, add_wanted};
+pub use words::{
+    IDLE, Line, add_texts, bytes_of, decimal, frame_of, hex_of, joined, lines_of, number_of,
+    numbers_of, shape_of, small, small_of, two, words_of,
+};
+pub use written::{number_otherwise, written_otherwise};

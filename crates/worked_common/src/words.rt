@@ -1,9 +1,98 @@
-use anyhow::{Context, Result};
+//! What a line of a row is made of. Programs take apart and put together texts by these calls alone: what stands behind them is then proved once.
+
+use anyhow::{Context, Result, ensure};
 use std::alloc::Global;
+
+/// A line of a row: its first word and what stands behind it, which may be nothing.
+#[derive(Clone, Copy)]
+pub struct Line<'a> {
+    pub word: &'a str,
+    pub rest: &'a str,
+}
+
+impl<'a> Line<'a> {
+    pub fn of(line: &'a str) -> Line<'a> {
+        let (word, rest) = line.split_once(' ').unwrap_or((line, ""));
+        Line { word, rest }
+    }
+}
+
+/// The lines of the text that say something: they aren't empty, and don't begin with #.
+pub fn lines_of<'a>(alloc: Global, text: &'a str) -> Result<Vec<Line<'a>>> {
+    let mut lines = Vec::new(alloc);
+    for line in text.lines() {
+        if !line.is_empty() && !line.starts_with('#') {
+            lines.push(Line::of(line))?;
+        }
+    }
+    Ok(lines)
+}
 
 /// The text in front of the first blank and that behind it.
 pub fn two(text: &str) -> Result<(&str, &str)> {
     text.split_once(' ').context("two words are wanted")
+}
+
+/// The words of the text, which are parted by blanks.
+pub fn words_of<'a>(alloc: Global, text: &'a str) -> Result<Vec<&'a str>> {
+    let mut words = Vec::new(alloc);
+    for word in text.split(' ') {
+        words.push(word)?;
+    }
+    Ok(words)
+}
+
+/// The number that the text spells.
+pub fn number_of(text: &str) -> Result<u64> {
+    Ok(text.parse::<u64>()?)
+}
+
+/// The number, where it is below 65,536.
+pub fn small(number: u64) -> Result<u16> {
+    ensure!(number < 65_536, "the number is too great");
+    Ok(number as u16)
+}
+
+/// The number below 65,536 that the text spells.
+pub fn small_of(text: &str) -> Result<u16> {
+    small(number_of(text)?)
+}
+
+/// The numbers that the text spells, with a blank between any two.
+pub fn numbers_of(alloc: Global, text: &str) -> Result<Vec<u64>> {
+    let mut numbers = Vec::new(alloc);
+    for word in &words_of(alloc, text)? {
+        numbers.push(number_of(word)?)?;
+    }
+    Ok(numbers)
+}
+
+/// Two numbers: the modules of an element and the slots of each.
+pub fn shape_of(text: &str) -> Result<(u16, u16)> {
+    let (modules, slots) = two(text)?;
+    Ok((small_of(modules)?, small_of(slots)?))
+}
+
+/// The number in decimal digits.
+pub fn decimal(alloc: Global, number: u64) -> Result<String> {
+    Ok(number.to_string(alloc)?)
+}
+
+/// The texts one behind the other.
+pub fn joined(alloc: Global, texts: &[&str]) -> Result<String> {
+    let mut all = String::new(alloc);
+    for text in texts {
+        all.push_str(text)?;
+    }
+    Ok(all)
+}
+
+/// The bytes of the texts one behind the other.
+pub fn add_texts(texts: &[&str], into: &mut Vec<u8>) -> Result<()> {
+    for text in texts {
+        into.extend_from_slice(text.as_bytes())?;
+    }
+    Ok(())
 }
 
 /// The bytes that the hexadecimal digits spell; blanks between them fall away.
@@ -17,4 +106,21 @@ pub fn bytes_of(alloc: Global, text: &str) -> Result<Vec<u8>> {
     hex::decode(alloc, &digits)
         .ok()
         .context("no hexadecimal bytes")
+}
+
+/// The hexadecimal digits of the bytes.
+pub fn hex_of(alloc: Global, bytes: &[u8]) -> Result<String> {
+    Ok(hex::encode(alloc, bytes)?)
+}
+
+/// The byte that goes out where nothing is connected.
+pub const IDLE: u8 = 0x7F;
+
+/// The bytes of a frame, in which a dot stands for an idle output.
+pub fn frame_of(alloc: Global, text: &str) -> Result<Vec<u8>> {
+    let mut frame = Vec::new(alloc);
+    for byte in text.bytes() {
+        frame.push(if byte == b'.' { IDLE } else { byte })?;
+    }
+    Ok(frame)
 }

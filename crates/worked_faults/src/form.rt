@@ -2,7 +2,7 @@ use crate::line::take_line;
 use crate::row::Row;
 use anyhow::{Context, Result};
 use std::alloc::Global;
-use worked_common::two;
+use worked_common::{Line, lines_of, numbers_of};
 
 /// A row as text, which is run for each number from the first to the last.
 #[derive(Drop)]
@@ -10,7 +10,7 @@ pub struct Form<'a> {
     pub name: &'a str,
     pub first: u64,
     pub last: u64,
-    lines: Vec<&'a str>,
+    lines: Vec<Line<'a>>,
 }
 
 impl<'a> Form<'a> {
@@ -23,37 +23,40 @@ impl<'a> Form<'a> {
         }
     }
 
+    fn take_numbers(&mut self, alloc: Global, text: &str) -> Result<()> {
+        let numbers = numbers_of(alloc, text)?;
+        let [first, last] = numbers.as_slice() else {
+            return None.context("two numbers are wanted");
+        };
+        (self.first, self.last) = (*first, *last);
+        Ok(())
+    }
+
     /// The row for that number.
     pub fn row(&self, alloc: Global, number: u64) -> Result<Row> {
         let mut row = Row::new(alloc)?;
         for line in &self.lines {
-            let (word, rest) = line.split_once(' ').unwrap_or((line, ""));
-            take_line(alloc, &mut row, number, word, rest)?;
+            take_line(alloc, &mut row, number, line.word, line.rest)?;
         }
         Ok(row)
     }
 }
 
 /// The rows that the text describes, line by line.
-pub fn forms_of(alloc: Global, text: &str) -> Result<Vec<Form<'_>>> {
+pub fn forms_of<'a>(alloc: Global, text: &'a str) -> Result<Vec<Form<'a>>> {
     let mut forms = Vec::new(alloc);
-    for line in text.lines() {
-        if line.is_empty() || line.starts_with('#') {
-            continue;
-        }
-        if let Some(name) = line.strip_prefix("row ") {
-            forms.push(Form::new(alloc, name))?;
+    for line in &lines_of(alloc, text)? {
+        if line.word == "row" {
+            forms.push(Form::new(alloc, line.rest))?;
             continue;
         }
         let form = forms
             .last_mut()
             .context("a line stands before the first row")?;
-        if let Some(numbers) = line.strip_prefix("each ") {
-            let (first, last) = two(numbers)?;
-            form.first = first.parse::<u64>()?;
-            form.last = last.parse::<u64>()?;
+        if line.word == "each" {
+            form.take_numbers(alloc, line.rest)?;
         } else {
-            form.lines.push(line)?;
+            form.lines.push(*line)?;
         }
     }
     Ok(forms)

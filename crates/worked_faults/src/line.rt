@@ -1,10 +1,7 @@
 use crate::row::{Caller, Part, Place, Row, Run, Worker};
 use anyhow::{Context, Result, ensure};
 use std::alloc::Global;
-use worked_common::{Torn, bytes_of, two};
-
-/// The byte that goes out where nothing is connected.
-const IDLE: u8 = 0x7F;
+use worked_common::{Line, Torn, bytes_of, frame_of, joined, number_of, two, words_of};
 
 /// The element's name, as headers have it.
 const SID: &str = "DXC1";
@@ -12,20 +9,21 @@ const SID: &str = "DXC1";
 /// Takes a line of the row, which is run for that number.
 pub fn take_line(alloc: Global, row: &mut Row, number: u64, word: &str, rest: &str) -> Result<()> {
     match word {
-        "shelf" => row.shelf = rest.to_string(alloc)?,
+        "shelf" => row.shelf = joined(alloc, &[rest])?,
         "old" => take_times(alloc, &mut row.journal, 1, rest)?,
         "times" => {
             let (count, bytes) = two(rest)?;
-            take_times(alloc, &mut row.journal, count.parse::<u64>()?, bytes)?;
+            take_times(alloc, &mut row.journal, number_of(count)?, bytes)?;
         }
-        "torn" => row.torn = torn_of(rest)?,
+        "torn" => row.torn = Torn::of(rest)?,
         "words" => row.runs.push(Run::new(alloc, rest)?)?,
         "script" | "check" => {
-            let line = format!(in alloc; "{word} {} row.journal", row.shelf)?;
+            let line = joined(alloc, &[word, " ", row.shelf.as_str(), " row.journal"])?;
             row.runs.push(Run::new(alloc, line.as_str())?)?;
         }
         "serve" => {
-            let line = format!(in alloc; "serve {} row.journal anywhere lines {rest}", row.shelf)?;
+            let behind = " row.journal anywhere lines ";
+            let line = joined(alloc, &["serve ", row.shelf.as_str(), behind, rest])?;
             row.runs.push(Run::new(alloc, line.as_str())?)?;
         }
         _ => take_of_run(alloc, row.run()?, number, word, rest)?,
@@ -42,29 +40,20 @@ fn take_times(alloc: Global, into: &mut Vec<u8>, count: u64, digits: &str) -> Re
     Ok(())
 }
 
-fn torn_of(text: &str) -> Result<Torn> {
-    match text {
-        "lost" => Ok(Torn::Lost),
-        "whole" => Ok(Torn::Whole),
-        "other" => Ok(Torn::Other),
-        _ => None.context("nothing else comes of a failed write"),
-    }
-}
-
 fn take_of_run(alloc: Global, run: &mut Run, number: u64, word: &str, rest: &str) -> Result<()> {
     match word {
-        "status" => run.status = rest.parse::<u8>()?,
+        "status" => run.status = number_of(rest)?,
         "after" => run.journal = Some(bytes_of(alloc, rest)?),
         "fails" => {
             let (kind, numbers) = two(rest)?;
-            for text in numbers.split(' ') {
-                run.failing(kind)?.push(number_of(text, number)?)?;
+            for text in &words_of(alloc, numbers)? {
+                run.failing(kind)?.push(number_in(text, number)?)?;
             }
         }
         "lines" => run.workers.push(worker_of(alloc, rest)?)?,
         "carried" => {
-            let (count, frames) = rest.split_once(' ').unwrap_or((rest, ""));
-            let count = number_of(count, number)?;
+            let Line { word: count, rest: frames } = Line::of(rest);
+            let count = number_in(count, number)?;
             run.worker()?.output = frames_of(alloc, frames, count)?;
         }
         "place" => run.places.push(Place::new(alloc))?,
@@ -82,31 +71,29 @@ fn take_of_caller(
     rest: &str,
 ) -> Result<()> {
     match word {
-        "takes" => caller.most = rest.parse::<usize>()?,
+        "takes" => caller.most = number_of(rest)? as usize,
         "byte" => {
-            let byte = u8::try_from(number_of(rest, number)?).ok();
-            caller
-                .exchange
-                .input
-                .push(byte.context("a byte is wanted")?)?;
+            let byte = number_in(rest, number)?;
+            ensure!(byte < 256, "a byte is wanted");
+            caller.exchange.input.push(byte as u8)?;
         }
-        "messages" => caller.part = Part::Messages(number_of(rest, number)?),
-        "bytes" => caller.part = Part::Bytes(number_of(rest, number)?),
+        "messages" => caller.part = Part::Messages(number_in(rest, number)?),
+        "bytes" => caller.part = Part::Bytes(number_in(rest, number)?),
         _ => ensure!(
             caller.exchange.take(alloc, SID, word, rest)?,
-            "the word {word} isn't known"
+            "a word isn't known"
         ),
     }
     Ok(())
 }
 
 // The number that the text spells: N is the number of the row, N-1 one less, N/2 half of it.
-fn number_of(text: &str, number: u64) -> Result<u64> {
+fn number_in(text: &str, number: u64) -> Result<u64> {
     match text {
         "N" => Ok(number),
         "N-1" => number.checked_sub(1).context("no number is below 0"),
         "N/2" => Ok(number / 2),
-        _ => Ok(text.parse::<u64>()?),
+        _ => number_of(text),
     }
 }
 
@@ -119,19 +106,16 @@ fn worker_of(alloc: Global, frames: &str) -> Result<Worker> {
     })
 }
 
-// The bytes of so many of the frames, in which a dot stands for an idle output.
+// The bytes of so many of the frames.
 fn frames_of(alloc: Global, text: &str, count: u64) -> Result<Vec<u8>> {
     let mut bytes = Vec::new(alloc);
     let mut left = count;
-    for byte in text.bytes() {
+    for frame in &words_of(alloc, text)? {
         if left == 0 {
             break;
         }
-        match byte {
-            b' ' => left -= 1,
-            b'.' => bytes.push(IDLE)?,
-            _ => bytes.push(byte)?,
-        }
+        left -= 1;
+        bytes.extend_from_slice(&frame_of(alloc, frame)?)?;
     }
     Ok(bytes)
 }

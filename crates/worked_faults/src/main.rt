@@ -12,29 +12,26 @@ mod outside;
 mod row;
 mod run;
 
-use crate::form::{Form, forms_of};
+use crate::form::forms_of;
 use crate::run::run_row;
 use anyhow::Result;
 use std::fs;
+use worked_common::{Tally, decimal, joined};
 
 fn main(rt: HostRuntime) -> Result<()> {
     let alloc = rt.alloc();
     let text = fs::read_to_string(&rt, "rows.txt")?;
     let forms = forms_of(alloc, text.as_str())?;
-    let mut runs = 0u64;
-    let mut failed = 0u64;
+    let mut tally = Tally::new(alloc);
     for form in &forms {
         for number in form.first..=form.last {
-            if let Some(why) = run_row(&rt, &rt, &form.row(alloc, number)?)? {
-                println!(rt; "{} {number}: {why}", form.name)?;
-                failed = failed.saturating_add(1);
-            }
-            runs = runs.saturating_add(1);
+            let why = run_row(&rt, &rt, &form.row(alloc, number)?)?;
+            tally.count(alloc, form.name, number, why)?;
         }
     }
-    println!(rt;
-        "{runs} runs of {} rows, {failed} of them failed",
-        forms.len()
-    )?;
+    let (runs, count) = (decimal(alloc, tally.runs)?, decimal(alloc, forms.len() as u64)?);
+    let counted = joined(alloc, &[runs.as_str(), " runs of ", count.as_str(), " rows"])?;
+    let told = tally.told(alloc, counted.as_str())?;
+    print!(rt; "{told}")?;
     Ok(())
 }

@@ -18,7 +18,7 @@ const PLACES: usize = 16;
 /// What must be written over a link or lines.
 #[derive(Drop)]
 pub struct Wanted<'a> {
-    pub who: String,
+    pub who: &'static str,
     pub kept: Kept,
     pub bytes: &'a [u8],
 }
@@ -77,12 +77,11 @@ fn new_disk(alloc: Global) -> Result<RowDisk> {
 // Where somebody's output is kept, which must be these bytes.
 fn kept_of<'a>(
     alloc: Global,
-    who: &str,
+    who: &'static str,
     bytes: &'a [u8],
     wanted: &mut Vec<Wanted<'a>>,
 ) -> Result<Kept> {
     let kept = Arc::new(alloc, OnceLock::new())?;
-    let who = who.to_string(alloc)?;
     wanted.push(Wanted {
         who,
         kept: Arc::try_clone(&kept)?,
@@ -94,7 +93,7 @@ fn kept_of<'a>(
 fn link_of<'a>(
     alloc: Global,
     caller: &'a Caller,
-    who: &str,
+    who: &'static str,
     wanted: &mut Vec<Wanted<'a>>,
 ) -> Result<RowLink> {
     let kept = kept_of(alloc, who, caller.wanted(), wanted)?;

@@ -1,6 +1,6 @@
 use anyhow::{Context, Result};
 use std::alloc::Global;
-use worked_common::{Exchange, Torn};
+use worked_common::{Exchange, Torn, joined, words_of};
 
 /// How much of what is wanted must be written.
 #[derive(Clone, Copy)]
@@ -92,7 +92,7 @@ pub struct Worker {
 #[derive(Drop)]
 pub struct Run {
     pub words: Vec<String>,
-    pub status: u8,
+    pub status: u64,
     /// What the journal's file then is, where the row says it.
     pub journal: Option<Vec<u8>>,
     /// The calls that fail.
@@ -110,8 +110,8 @@ impl Run {
     /// A run of these words, which are parted by blanks.
     pub fn new(alloc: Global, line: &str) -> Result<Run> {
         let mut words = Vec::new(alloc);
-        for word in line.split(' ') {
-            words.push(word.to_string(alloc)?)?;
+        for word in &words_of(alloc, line)? {
+            words.push(joined(alloc, &[*word])?)?;
         }
         Ok(Run {
             words,
@@ -178,7 +178,7 @@ pub struct Row {
 impl Row {
     pub fn new(alloc: Global) -> Result<Row> {
         Ok(Row {
-            shelf: "".to_string(alloc)?,
+            shelf: String::new(alloc),
             journal: Vec::new(alloc),
             torn: Torn::Lost,
             runs: Vec::new(alloc),

@@ -7,7 +7,9 @@ use std::alloc::Global;
 use std::fs;
 use std::sync::{Arc, Wait};
 use std::thread::Threads;
-use worked_common::{Levers, NOON, RowDisk};
+use worked_common::{
+    Levers, NOON, RowDisk, hex_of, joined, number_otherwise, written_otherwise,
+};
 
 /// Runs the row's runs, one behind the other. None where they did what they must, else what didn't hold.
 pub fn run_row<R: Threads + Wait + Copy + Send + 'static>(
@@ -30,12 +32,11 @@ pub fn run_row<R: Threads + Wait + Copy + Send + 'static>(
             return Ok(Some(why));
         }
         journal = levers.left().context("the disk is held")?.to_vec(alloc)?;
-        if run
-            .journal
-            .as_ref()
-            .is_some_and(|wanted| wanted.as_slice() != journal.as_slice())
-        {
-            return Ok(Some(format!(in alloc; "the journal was {journal:?}")?));
+        if let Some(wanted) = &run.journal {
+            if journal.as_slice() != wanted.as_slice() {
+                let journal = hex_of(alloc, &journal)?;
+                return Ok(Some(joined(alloc, &["the journal was ", journal.as_str()])?));
+            }
         }
     }
     Ok(None)
@@ -71,19 +72,19 @@ fn fault_of<R: Threads + Wait + Copy + Send + 'static>(
     // What is dropped leaves what it was written.
     drop(opener);
     drop(terminal);
-    if status.number() != run.status {
-        return Ok(Some(format!(in alloc; "status {}", status.number())?));
+    let status = status.number() as u64;
+    if let Some(why) = number_otherwise(alloc, "the status", status, run.status)? {
+        return Ok(Some(why));
     }
-    written_otherwise(alloc, &wanted)
+    kept_otherwise(alloc, &wanted)
 }
 
 // What was written otherwise than it must.
-fn written_otherwise(alloc: Global, wanted: &[Wanted<'_>]) -> Result<Option<String>> {
+fn kept_otherwise(alloc: Global, wanted: &[Wanted<'_>]) -> Result<Option<String>> {
     for each in wanted {
         let written = each.kept.get().context("somebody has no end")?;
-        if written.as_slice() != each.bytes {
-            let text = String::from_utf8_lossy(alloc, written.as_slice())?;
-            return Ok(Some(format!(in alloc; "{} was written {text}", each.who)?));
+        if let Some(why) = written_otherwise(alloc, each.who, written.as_slice(), each.bytes)? {
+            return Ok(Some(why));
         }
     }
     Ok(None)

@@ -1,10 +1,11 @@
 //! What a row is tried with again and again.
 use crate::file::Left;
-use anyhow::{Context, Result};
+use anyhow::{Context, Result, ensure};
 use std::ops::RangeInclusive;
+use worked_common::{Line, number_of, two};
 
 /// What is done at a place before or in the row's first run.
-#[derive(Clone, Copy, Debug, PartialEq, Eq)]
+#[derive(Clone, Copy)]
 pub enum Kind {
     /// Nothing.
     Plain,
@@ -19,11 +20,11 @@ pub enum Kind {
 }
 
 /// The places from the first to the last.
-#[derive(Clone, Copy, Debug)]
+#[derive(Clone, Copy)]
 pub struct Each {
     pub kind: Kind,
-    first: u32,
-    last: u32,
+    first: u64,
+    last: u64,
 }
 
 impl Each {
@@ -36,24 +37,30 @@ impl Each {
 
     /// `FIRST LAST cut`, `FIRST LAST change BITS`, `FIRST LAST fail LEFT` or `FIRST LAST crash LEFT`.
     pub fn of(text: &str) -> Result<Each> {
-        let (first, rest) = text.split_once(' ').context("a place is wanted")?;
-        let (last, rest) = rest.split_once(' ').context("two places are wanted")?;
-        let (word, more) = rest.split_once(' ').unwrap_or((rest, ""));
+        let (first, rest) = two(text)?;
+        let (last, rest) = two(rest)?;
+        let Line { word, rest: more } = Line::of(rest);
         let kind = match word {
             "cut" => Kind::Cut,
-            "change" => Kind::Change(more.parse::<u8>()?),
+            "change" => Kind::Change(bits_of(more)?),
             "fail" => Kind::Fail(Left::of(more)?),
             "crash" => Kind::Crash(Left::of(more)?),
             _ => None.context("the kind isn't known")?,
         };
         Ok(Each {
             kind,
-            first: first.parse::<u32>()?,
-            last: last.parse::<u32>()?,
+            first: number_of(first)?,
+            last: number_of(last)?,
         })
     }
 
-    pub fn places(&self) -> RangeInclusive<u32> {
+    pub fn places(&self) -> RangeInclusive<u64> {
         self.first..=self.last
     }
+}
+
+fn bits_of(text: &str) -> Result<u8> {
+    let bits = number_of(text)?;
+    ensure!(bits < 256, "a byte has no such bits");
+    Ok(bits as u8)
 }

@@ -5,7 +5,7 @@ use std::alloc::Global;
 use std::mem;
 
 /// What is left of a write that failed, or that no sync came behind.
-#[derive(Clone, Copy, Debug, PartialEq, Eq)]
+#[derive(Clone, Copy)]
 pub enum Left {
     Lost,
     Whole,
@@ -30,7 +30,7 @@ impl Left {
 }
 
 /// Which calls fail. Only writes and syncs count, from 0.
-#[derive(Clone, Copy, Debug, PartialEq, Eq)]
+#[derive(Clone, Copy)]
 pub enum Fate {
     None,
     One(u64, Left),

@@ -1,69 +1,33 @@
-ghost use Rattle.std.specs.Prelude.{◌≡◌, ◌≤◌, ◌++◌, List, ℕ, OnOk, OnErr, length};
-ghost use Rattle.dxc_causes.specs.Causes.{HasCause};
-ghost use Rattle.dxc_outside.specs.Openings.{most_shelf_bytes};
+ghost use Rattle.std.specs.Prelude.{None};
+ghost use Rattle.dxc_outside.specs.Holdings.{opener_state};
 
 use crate::disk::RowDisk;
 use crate::file::{Fate, MemFile};
-use dxc_causes::NoMemory;
-use dxc_outside::{AlwaysGo, MemClock, MemLines, MemLink, MemListener, Opened, Opener};
+use dxc_outside::{AlwaysGo, MemClock, MemLines, MemLink, MemListener, MemOpener, Opened, Opener};
 use std::alloc::Global;
 use std::sync::{Arc, Mutex};
 
-/// Opens the shelf file and the journal of a row, whatever their names, and a new journal of users. It tells nothing of what they hold.
+/// Opens the shelf file and the journal of a row, and a new journal of users. It tells nothing of what they hold.
 #[derive(Drop)]
 pub struct RowOpener {
-    alloc: Global,
-    shelf: String,
+    files: MemOpener,
     file: Arc<Mutex<MemFile>>,
-    faults: u64,
 }
 
 impl RowOpener {
-    pub fn new(alloc: Global, shelf: String, file: Arc<Mutex<MemFile>>) -> RowOpener {
-        RowOpener {
-            alloc,
-            shelf,
-            file,
-            faults: 0,
-        }
+    /// `files` holds the shelf file.
+    pub fn new(files: MemOpener, file: Arc<Mutex<MemFile>>) -> RowOpener {
+        RowOpener { files, file }
     }
-
-    // There is no such thing.
-    fn fail<T>(&mut self) -> Opened<T>
-        ensures { HasCause self.old.faults self.new.faults (result ≡ Opened.Failed) }
-    {
-        self.faults = self.faults.saturating_add(1);
-        Opened::Failed
-    }
-}
-
-/// How many bytes are read of a shelf file.
-const MOST: usize = 65_537;
-
-// Appends the bytes of a shelf file that isn't longer.
-fn append(into: &mut Vec<u8>, text: &[u8]) -> Result<(), NoMemory>
-    ensures ok { OnOk result ((part : List ℕ) × (into.new.items ≡ into.old.items ++ part) × (length part ≤ most_shelf_bytes)) }
-    ensures err { OnErr result (into.new.items ≡ into.old.items) }
-{
-    if text.len() > MOST {
-        return Err(NoMemory);
-    }
-    into.extend_from_slice(text)?;
-    Ok(())
 }
 
 // A file of no bytes, no call on which fails.
 fn new_file(alloc: Global) -> Option<Arc<Mutex<MemFile>>> {
-    Arc::new(
-        alloc,
-        Mutex::new(MemFile::new(alloc, Vec::new(alloc), Fate::None)),
-    )
-    .ok()
+    let file = MemFile::new(alloc, Vec::new(alloc), Fate::None);
+    Arc::new(alloc, Mutex::new(file)).ok()
 }
 
 impl Opener for RowOpener {
-    ghost use Rattle.std.specs.Prelude.{None};
-
     type Journal = RowDisk;
 
     type Lines = MemLines;
@@ -78,17 +42,14 @@ impl Opener for RowOpener {
 
     ghost told = { ⊥ };
 
-    ghost state = { λ o. record { shelf_at = λ _. None; faults = o.faults } };
+    ghost state = { λ o. opener_state o.files };
 
     ghost journal_at = { λ _ _. None };
 
     ghost listener_at = { λ _ _. None };
 
-    fn shelf(&mut self, _alloc: Global, _name: &str, into: &mut Vec<u8>) -> Opened<()> {
-        match append(into, self.shelf.as_bytes()) {
-            Ok(()) => Opened::Open(()),
-            Err(NoMemory) => Opened::NoMemory,
-        }
+    fn shelf(&mut self, alloc: Global, name: &str, into: &mut Vec<u8>) -> Opened<()> {
+        self.files.shelf(alloc, name, into)
     }
 
     fn journal(&mut self, alloc: Global, name: &str) -> Opened<RowDisk> {
@@ -103,20 +64,20 @@ impl Opener for RowOpener {
         }
     }
 
-    fn lines(&mut self, _alloc: Global, _name: &str, _worker: u16) -> Opened<MemLines> {
-        self.fail()
+    fn lines(&mut self, alloc: Global, name: &str, worker: u16) -> Opened<MemLines> {
+        self.files.lines(alloc, name, worker)
     }
 
-    fn listener(&mut self, _alloc: Global, _address: &str) -> Opened<MemListener> {
-        self.fail()
+    fn listener(&mut self, alloc: Global, address: &str) -> Opened<MemListener> {
+        self.files.listener(alloc, address)
     }
 
-    fn peer(&mut self, _alloc: Global, _address: &str) -> Opened<MemLink> {
-        self.fail()
+    fn peer(&mut self, alloc: Global, address: &str) -> Opened<MemLink> {
+        self.files.peer(alloc, address)
     }
 
     fn clock(&mut self) -> MemClock {
-        MemClock::new(Vec::new(self.alloc))
+        self.files.clock()
     }
 
     fn gate(&mut self) -> AlwaysGo {

@@ -1,8 +1,14 @@
-use crate::answer::{add_answer, add_blocks, add_report};
+use crate::blocks::add_blocks;
 use crate::each::Each;
 use crate::entries::Entries;
-use anyhow::{Context, Result};
+use anyhow::{Context, Result, ensure};
 use std::alloc::Global;
+use worked_common::{
+    Exchange, add_completed, add_texts, bytes_of, joined, number_of, shape_of, two, words_of,
+};
+
+/// The element's name, as headers have it.
+pub const SID: &str = "DXC1";
 
 /// Bytes that the journal must have at a place.
 #[derive(Drop)]
@@ -16,10 +22,10 @@ pub struct Piece {
 pub struct Run {
     /// The first word of its line.
     pub mode: String,
-    pub input: Vec<u8>,
-    /// None: whatever is written, and whatever the status is.
-    pub output: Option<Vec<u8>>,
-    pub status: u8,
+    pub exchange: Exchange,
+    /// Whether anything may be written, and whatever the status is.
+    pub any: bool,
+    pub status: u64,
     /// How many writes and syncs the journal must have seen.
     pub calls: Option<u64>,
     /// How many bytes the journal must then have.
@@ -42,7 +48,7 @@ pub struct Row {
 impl Row {
     pub fn new(alloc: Global, name: &str) -> Result<Row> {
         Ok(Row {
-            name: name.to_string(alloc)?,
+            name: joined(alloc, &[name])?,
             modules: 2,
             slots: 1,
             journal: Vec::new(alloc),
@@ -54,23 +60,22 @@ impl Row {
     /// Takes a line.
     pub fn take(&mut self, alloc: Global, word: &str, rest: &str) -> Result<()> {
         match word {
-            "shelf" => {
-                let (modules, slots) = rest.split_once(' ').context("a shelf is two numbers")?;
-                self.modules = modules.parse::<u16>()?;
-                self.slots = slots.parse::<u16>()?;
-            }
+            "shelf" => (self.modules, self.slots) = shape_of(rest)?,
             "each" => self.each = Each::of(rest)?,
-            "old" => self.journal.extend_from_slice(&bytes_of(alloc, rest)?)?,
-            "again" => {
-                let (times, bytes) = rest.split_once(' ').context("a number is wanted")?;
-                let bytes = bytes_of(alloc, bytes)?;
-                for _ in 0..times.parse::<u32>()? {
-                    self.journal.extend_from_slice(&bytes)?;
-                }
-            }
-            "from" => fill_to(&mut self.journal, rest.parse::<usize>()?)?,
+            "old" => self.journal.extend_from_slice(&bytes_with_zeros(alloc, rest)?)?,
+            "again" => self.take_again(alloc, rest)?,
+            "from" => fill_to(&mut self.journal, number_of(rest)? as usize)?,
             "script" | "check" => self.runs.push(Run::new(alloc, word)?)?,
             _ => self.take_of_run(alloc, word, rest)?,
+        }
+        Ok(())
+    }
+
+    fn take_again(&mut self, alloc: Global, rest: &str) -> Result<()> {
+        let (times, bytes) = two(rest)?;
+        let bytes = bytes_with_zeros(alloc, bytes)?;
+        for _ in 0..number_of(times)? {
+            self.journal.extend_from_slice(&bytes)?;
         }
         Ok(())
     }
@@ -82,16 +87,9 @@ impl Row {
             .last_mut()
             .context("a line stands before the row's first run")?;
         match word {
-            "enters" | "retrieves" | "lists" => {
-                let (count, step) = rest.split_once(' ').context("two numbers are wanted")?;
-                let entries = Entries {
-                    count: count.parse::<u16>()?,
-                    step: step.parse::<u16>()?,
-                    modules,
-                    slots,
-                };
-                run.take_entries(alloc, word, entries)
-            }
+            "enters" => run.enter(alloc, Entries::of(modules, slots, rest)?),
+            "retrieves" => run.retrieve(alloc, Entries::of(modules, slots, rest)?),
+            "lists" => run.list(alloc, Entries::of(modules, slots, rest)?),
             _ => run.take(alloc, word, rest),
         }
     }
@@ -100,9 +98,9 @@ impl Row {
 impl Run {
     fn new(alloc: Global, mode: &str) -> Result<Run> {
         Ok(Run {
-            mode: mode.to_string(alloc)?,
-            input: Vec::new(alloc),
-            output: Some(Vec::new(alloc)),
+            mode: joined(alloc, &[mode])?,
+            exchange: Exchange::new(alloc),
+            any: false,
             status: 0,
             calls: None,
             length: None,
@@ -113,67 +111,50 @@ impl Run {
     // Takes a line of the run's own.
     fn take(&mut self, alloc: Global, word: &str, rest: &str) -> Result<()> {
         match word {
-            "any" => self.output = None,
-            "send" => self.input.extend_from_slice(rest.as_bytes())?,
-            "answer" => add_answer(alloc, rest, self.wanted()?)?,
-            "report" => add_report(alloc, rest, self.wanted()?)?,
-            "list" => self.want_line(rest)?,
-            "status" => self.status = rest.parse::<u8>()?,
-            "calls" => self.calls = Some(rest.parse::<u64>()?),
-            "length" => self.length = Some(rest.parse::<usize>()?),
-            "piece" => {
-                let (at, bytes) = rest.split_once(' ').context("a place is wanted")?;
-                self.pieces.push(Piece {
-                    at: at.parse::<usize>()?,
-                    bytes: bytes_of(alloc, bytes)?,
-                })?;
-            }
-            _ => None.context("the word isn't known")?,
+            "any" => self.any = true,
+            "status" => self.status = number_of(rest)?,
+            "calls" => self.calls = Some(number_of(rest)?),
+            "length" => self.length = Some(number_of(rest)? as usize),
+            "piece" => self.pieces.push(piece_of(alloc, rest)?)?,
+            _ => ensure!(
+                self.exchange.take(alloc, SID, word, rest)?,
+                "a word isn't known"
+            ),
         }
         Ok(())
     }
 
-    // Enters these connections, retrieves them, or wants them listed.
-    fn take_entries(&mut self, alloc: Global, word: &str, entries: Entries) -> Result<()> {
-        let rows = entries.rows(alloc)?;
-        match word {
-            "enters" => {
-                for port in 0..entries.count {
-                    let pair = entries.pair(alloc, port)?;
-                    let unit = format!(in alloc; "ENT-CRS-T0::{pair}:1;")?;
-                    self.input.extend_from_slice(unit.as_bytes())?;
-                    add_answer(alloc, "1 COMPLD", self.wanted()?)?;
-                }
-            }
-            "retrieves" => {
-                self.input.extend_from_slice(b"RTRV-CRS-T0:::1;")?;
-                let mut quoted = Vec::new(alloc);
-                for row in &rows {
-                    quoted.push(format!(in alloc; "\"{row}\"")?)?;
-                }
-                add_blocks(alloc, "1 COMPLD", &quoted, self.wanted()?)?;
-            }
-            _ => {
-                for row in &rows {
-                    self.want_line(row.as_str())?;
-                }
-            }
+    // Enters these connections.
+    fn enter(&mut self, alloc: Global, entries: Entries) -> Result<()> {
+        for port in 0..entries.count {
+            let pair = entries.pair(alloc, port)?;
+            add_texts(&["ENT-CRS-T0::", pair.as_str(), ":1;"], &mut self.exchange.input)?;
+            add_completed(SID, "1", &mut self.exchange.output)?;
         }
         Ok(())
     }
 
-    fn wanted(&mut self) -> Result<&mut Vec<u8>> {
-        self.output
-            .as_mut()
-            .context("anything may be written in this run")
+    // Retrieves them.
+    fn retrieve(&mut self, alloc: Global, entries: Entries) -> Result<()> {
+        add_texts(&["RTRV-CRS-T0:::1;"], &mut self.exchange.input)?;
+        add_blocks(alloc, SID, &entries.rows(alloc)?, &mut self.exchange.output)
     }
 
-    fn want_line(&mut self, line: &str) -> Result<()> {
-        let wanted = self.wanted()?;
-        wanted.extend_from_slice(line.as_bytes())?;
-        wanted.push(b'\n')?;
+    // Wants them listed.
+    fn list(&mut self, alloc: Global, entries: Entries) -> Result<()> {
+        for row in &entries.rows(alloc)? {
+            add_texts(&[row.as_str(), "\n"], &mut self.exchange.output)?;
+        }
         Ok(())
     }
+}
+
+fn piece_of(alloc: Global, text: &str) -> Result<Piece> {
+    let (at, bytes) = two(text)?;
+    Ok(Piece {
+        at: number_of(at)? as usize,
+        bytes: bytes_with_zeros(alloc, bytes)?,
+    })
 }
 
 // Adds zeros up to this length.
@@ -188,15 +169,15 @@ fn fill_to(journal: &mut Vec<u8>, length: usize) -> Result<()> {
 }
 
 // The bytes that hexadecimal digits spell; blanks between them fall away. `00*N` stands for so many zeros.
-fn bytes_of(alloc: Global, text: &str) -> Result<Vec<u8>> {
+fn bytes_with_zeros(alloc: Global, text: &str) -> Result<Vec<u8>> {
     let mut bytes = Vec::new(alloc);
-    for word in text.split(' ') {
-        if let Some(("00", count)) = word.split_once('*') {
-            let longer = bytes.len().saturating_add(count.parse::<u32>()? as usize);
-            bytes.resize(longer, 0)?;
-        } else {
-            let some = hex::decode(alloc, word.as_bytes()).ok();
-            bytes.extend_from_slice(&some.context("no hexadecimal bytes")?)?;
+    for word in &words_of(alloc, text)? {
+        match word.strip_prefix("00*") {
+            Some(count) => {
+                let longer = bytes.len().saturating_add(number_of(count)? as usize);
+                fill_to(&mut bytes, longer)?;
+            }
+            None => bytes.extend_from_slice(&bytes_of(alloc, word)?)?,
         }
     }
     Ok(bytes)

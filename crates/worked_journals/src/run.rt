@@ -2,21 +2,15 @@ use crate::each::Kind;
 use crate::file::{Fate, MemFile, copy_of};
 use crate::opener::RowOpener;
 use crate::row::{Row, Run};
-use anyhow::{Context, Result};
+use anyhow::{Context, Result, ensure};
 use craft_server::{Status, dxc_run};
-use dxc_outside::{AlwaysGo, MemClock, MemLink, MemSpawner, Moment, Name};
+use dxc_outside::{AlwaysGo, MemClock, MemLink, MemOpener, MemSpawner, Name};
 use std::alloc::Global;
 use std::mem;
 use std::sync::{Arc, Mutex, Wait};
 use std::thread::Threads;
-
-const NOON: Moment = Moment {
-    year: 26,
-    month: 3,
-    day: 1,
-    hour: 12,
-    minute: 0,
-    second: 0,
+use worked_common::{
+    NOON, decimal, hex_of, joined, number_otherwise, shelf_text, written_otherwise,
 };
 
 /// What a run did.
@@ -32,7 +26,7 @@ pub fn run_row<R: Threads + Wait + Copy + Send + 'static>(
     alloc: Global,
     rt: &R,
     row: &Row,
-    at: u32,
+    at: u64,
 ) -> Result<Option<String>> {
     let mut journal = old_journal(alloc, row, at)?;
     for (number, run) in row.runs.iter().enumerate() {
@@ -41,26 +35,27 @@ pub fn run_row<R: Threads + Wait + Copy + Send + 'static>(
         } else {
             Kind::Plain
         };
-        let came = make_run(alloc, rt, row, run, &mut journal, kind, at as u64)?;
+        let came = make_run(alloc, rt, row, run, &mut journal, kind, at)?;
         if let Some(why) = otherwise(alloc, run, &came, &journal)? {
-            return Ok(Some(format!(in alloc; "run {number}: {why}")?));
+            let number = decimal(alloc, number as u64)?;
+            let texts = ["run ", number.as_str(), ": ", why.as_str()];
+            return Ok(Some(joined(alloc, &texts)?));
         }
     }
     Ok(None)
 }
 
 // The journal before the first run.
-fn old_journal(alloc: Global, row: &Row, at: u32) -> Result<Vec<u8>> {
+fn old_journal(alloc: Global, row: &Row, at: u64) -> Result<Vec<u8>> {
     let kept = match row.each.kind {
         Kind::Cut => row.journal.get(..at as usize).unwrap_or(&row.journal),
         _ => &row.journal,
     };
     let mut journal = copy_of(alloc, kept).ok().context("no memory")?;
     if let Kind::Change(bits) = row.each.kind {
-        let byte = journal
-            .get_mut(at as usize)
-            .context("there is no such byte")?;
-        *byte ^= bits;
+        let at = at as usize;
+        ensure!(at < journal.len(), "there is no such byte");
+        journal[at] ^= bits;
     }
     Ok(journal)
 }
@@ -105,16 +100,19 @@ fn served<R: Threads + Wait + Copy + Send + 'static>(
 ) -> Result<(Status, Vec<u8>)> {
     let words = vec![in alloc;
         Name::of(run.mode.clone()?),
-        Name::of("s".to_string(alloc)?),
-        Name::of("j".to_string(alloc)?),
+        Name::of(joined(alloc, &["s"])?),
+        Name::of(joined(alloc, &["j"])?),
     ]?;
     let mut terminal = MemLink::new(
-        copy_of(alloc, &run.input).ok().context("no memory")?,
+        copy_of(alloc, &run.exchange.input).ok().context("no memory")?,
         Vec::new(alloc),
         Vec::new(alloc),
         Vec::new(alloc),
     );
-    let mut opener = RowOpener::new(alloc, shelf_text(alloc, row)?, file);
+    let shelf = shelf_text(alloc, row.modules, row.slots)?.into_bytes();
+    let named = (Name::of(joined(alloc, &["s"])?), shelf);
+    let files = MemOpener::new(alloc, Vec::new(alloc)).with_shelves(vec![in alloc; named]?);
+    let mut opener = RowOpener::new(files, file);
     let status = dxc_run(
         alloc,
         &words,
@@ -129,28 +127,23 @@ fn served<R: Threads + Wait + Copy + Send + 'static>(
     Ok((status, output.ok().context("no memory")?))
 }
 
-// A shelf of the row's shape with all modules equipped, and a user ANNA of class S with the PID bc.
-fn shelf_text(alloc: Global, row: &Row) -> Result<String> {
-    Ok(format!(in alloc;
-        "sid = \"DXC1\"\nmodules = {}\nslots = {}\n[[user]]\nuid = \"ANNA\"\nclass = \"S\"\nsalt = \"61\"\ndigest = \"ba7816bf8f01cfea414140de5dae2223b00361a396177a9cb410ff61f20015ad\"\n",
-        row.modules, row.slots
-    )?)
-}
-
 // What the run did otherwise than it must.
 fn otherwise(alloc: Global, run: &Run, came: &Came, journal: &[u8]) -> Result<Option<String>> {
-    if let Some(wanted) = &run.output {
-        let status = came.status.number();
-        if status != run.status {
-            return Ok(Some(format!(in alloc; "status {status}")?));
+    if !run.any {
+        let status = came.status.number() as u64;
+        if let Some(why) = number_otherwise(alloc, "the status", status, run.status)? {
+            return Ok(Some(why));
         }
-        if came.output.as_slice() != wanted.as_slice() {
-            let written = String::from_utf8_lossy(alloc, &came.output)?;
-            return Ok(Some(format!(in alloc; "written was {written}")?));
+        let wanted = &run.exchange.output;
+        if let Some(why) = written_otherwise(alloc, "the terminal", &came.output, wanted)? {
+            return Ok(Some(why));
         }
     }
-    if run.calls.is_some_and(|wanted| wanted != came.calls) {
-        return Ok(Some(format!(in alloc; "the journal saw {} calls", came.calls)?));
+    if let Some(wanted) = run.calls {
+        let why = number_otherwise(alloc, "the journal's calls", came.calls, wanted)?;
+        if why.is_some() {
+            return Ok(why);
+        }
     }
     journal_otherwise(alloc, run, journal)
 }
@@ -158,15 +151,19 @@ fn otherwise(alloc: Global, run: &Run, came: &Came, journal: &[u8]) -> Result<Op
 // What of the journal is otherwise than it must be.
 fn journal_otherwise(alloc: Global, run: &Run, journal: &[u8]) -> Result<Option<String>> {
     let length = journal.len();
-    if run.length.is_some_and(|wanted| wanted != length) {
-        return Ok(Some(format!(in alloc; "the journal has {length} bytes")?));
+    if let Some(wanted) = run.length {
+        let why = number_otherwise(alloc, "the journal's length", length as u64, wanted as u64)?;
+        if why.is_some() {
+            return Ok(why);
+        }
     }
     for piece in &run.pieces {
         let end = piece.at.saturating_add(piece.bytes.len());
         let found = journal.get(piece.at..end.min(length)).unwrap_or(&[]);
         if found != piece.bytes.as_slice() {
-            let found = hex::encode(alloc, found)?;
-            return Ok(Some(format!(in alloc; "the journal has {found} at {}", piece.at)?));
+            let (found, at) = (hex_of(alloc, found)?, decimal(alloc, piece.at as u64)?);
+            let texts = ["the journal has ", found.as_str(), " at ", at.as_str()];
+            return Ok(Some(joined(alloc, &texts)?));
         }
     }
     Ok(None)

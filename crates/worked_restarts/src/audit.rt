@@ -1,5 +1,5 @@
 //! What the registers hold between sessions.
-ghost use Rattle.std.specs.Prelude.{◌≡◌, ◌↔◌, IsTrue, List};
+ghost use Rattle.std.specs.Prelude.{◌≡◌, ◌↔◌, IfOk, IfSome, IsTrue, List};
 ghost use Rattle.std.specs.Arc.{arc_value};
 ghost use Rattle.dxc_model.specs.declared.entry.Entry.{Entry};
 ghost use Rattle.fabric_words.specs.Places.{IsRegInside};
@@ -9,12 +9,12 @@ ghost use Rattle.craft_session.specs.Seats.{IsSeated, seat_at};
 use anyhow::{Result, bail};
 use dxc_disk::Disk;
 use dxc_num::{Middle, Port, Reg, Shape};
-use fabric_words::Fabric;
+use fabric_words::{Fabric, MoverSeat};
 use std::alloc::Global;
 use std::marker::Model;
 use std::sync::{Arc, Wait};
 use turnstile::{Pass, Turnstile};
-use xc_core::{Provisioner, State};
+use xc_core::{Driver, Provisioner, State, release};
 
 /// One who looks at all registers in a turn.
 #[derive(Drop)]
@@ -54,6 +54,50 @@ impl<D: Disk + Drop> Audit<D> {
     pub fn words<R: Wait>(&mut self, alloc: Global, rt: &R) -> Result<Vec<u64>> {
         words_in_turn(alloc, &mut self.pass, &self.turns, &self.fabric, rt)
     }
+}
+
+/// What a controller's end leaves: the journal's disk, the registers, and the seat of the one who writes them.
+#[derive(Drop)]
+pub struct Released<D: Disk> {
+    pub disk: D,
+    pub seat: MoverSeat,
+    pub fabric: Arc<Fabric>,
+}
+
+impl<D: Disk + Drop> Audit<D> {
+    /// Ends the controller between sessions.
+    pub fn release<R: Wait>(self, rt: &R) -> Result<Released<D>>
+        ensures { IfOk result (λ r. r.seat.fabric ≡ arc_value r.fabric) }
+    {
+        let Audit {
+            mut pass,
+            turns,
+            fabric,
+        } = self;
+        let Some((disk, seat)) = end_in_turn(&mut pass, &turns, &fabric, rt) else {
+            bail!("the Provisioner is out");
+        };
+        Ok(Released { disk, seat, fabric })
+    }
+}
+
+// The disk of the state's Provisioner and the seat, in a turn that nobody leaves any more.
+fn end_in_turn<D: Disk + Drop, R: Wait>(
+    pass: &mut Pass,
+    turns: &Turnstile<State<D>>,
+    fabric: &Fabric,
+    rt: &R,
+) -> Option<(D, MoverSeat)>
+    requires { IsSeated D.told D.state pass.old turns.now fabric.now }
+    ensures { IfSome result (λ r. r.1.fabric ≡ fabric.now) }
+{
+    let _ = fabric;
+    let mut turn = turns.enter(pass, rt);
+    let Some(driver) = turn.state_mut().take_out() else {
+        return None;
+    };
+    let Driver { p, rolling: _ } = Box::into_inner(driver);
+    Some(release(p))
 }
 
 /// The words as a turn of the pass finds them. It adds nothing to the history.

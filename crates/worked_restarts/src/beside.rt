@@ -24,7 +24,7 @@ use xc_core::turns::{self, Took};
 use xc_core::{Driver, State, drive};
 
 /// What mover and worker came to.
-#[derive(Clone, Copy, Debug, PartialEq, Eq)]
+#[derive(Clone, Copy, PartialEq, Eq)]
 pub struct Beside {
     /// The OUT word that the worker holds.
     pub held: Option<u64>,

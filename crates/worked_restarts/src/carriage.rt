@@ -7,9 +7,7 @@ use fabric_words::{Fabric, WorkerSeat};
 use frame_worker::carry_frame;
 use std::alloc::Global;
 use std::sync::Arc;
-
-/// The byte of an output that carries nothing.
-pub const IDLE: u8 = 0x7F;
+use worked_common::IDLE;
 
 /// The most frames of one worker.
 const FRAMES: u64 = 1 << 61;

@@ -5,7 +5,7 @@ use dxc_outside::{Gate, GatePlace, Pass1};
 use std::alloc::Global;
 
 /// How often a gate was asked at each place.
-#[derive(Clone, Copy, Debug, PartialEq, Eq)]
+#[derive(Clone, Copy)]
 pub struct Asked {
     pub journal: u64,
     pub register: u64,

@@ -1,5 +1,6 @@
-use crate::carriage::{Carriage, IDLE};
+use crate::carriage::Carriage;
 use std::alloc::{AllocError, Global};
+use worked_common::IDLE;
 
 /// The workers of an element.
 #[derive(Drop)]

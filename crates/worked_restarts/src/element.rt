@@ -1,5 +1,5 @@
 //! The opening of an element on a disk, with a place for each session of a row.
-ghost use Rattle.std.specs.Prelude.{◌≡◌, ◌≤◌, ◌<◌, ◌+◌, IfOk, ℕ, [], length, true};
+ghost use Rattle.std.specs.Prelude.{◌≡◌, ◌<◌, ◌+◌, IfOk, IfSome, ℕ, [], length, true};
 ghost use Rattle.std.specs.Arc.{arc_value};
 ghost use Rattle.fabric_core.specs.State.{new_worker};
 ghost use Rattle.fabric_words.specs.New.{AreNew};
@@ -10,24 +10,23 @@ ghost use Rattle.xc_core.specs.Openings.{Begins};
 ghost use Rattle.xc_core.specs.States.{opening_of};
 ghost use Rattle.craft_session.specs.Places.{AreFresh, IsAtOpening};
 
-use crate::audit::Audit;
+use crate::audit::{Audit, Released};
 use crate::carriage::Carriage;
 use crate::carrier::Carrier;
 use crate::crew::Crew;
-use crate::disk::RowDisk;
-use crate::levers::Levers;
 use crate::row::Row;
 use crate::users::{Users, users_disk, users_of};
 use anyhow::{Context, Result, bail, ensure};
 use craft_session::Place;
 use dxc_disk::{Disk, MemDisk};
 use dxc_outside::AlwaysGo;
-use fabric_words::{Fabric, WorkerSeat};
+use fabric_words::{Fabric, MoverSeat, WorkerSeat};
 use shelf_file::{Shelf, shelf_of};
 use std::alloc::Global;
-use std::sync::Arc;
+use std::sync::{Arc, Wait};
 use turnstile::{Pass, Sequential, Turnstile};
-use xc_core::{Core, State};
+use worked_common::{Levers, RowDisk, shelf_text};
+use xc_core::{Adopted, Core, State};
 
 /// The turnstile of an element.
 pub type Turns<D> = Arc<Turnstile<State<D>>>;
@@ -40,13 +39,14 @@ pub struct Element {
     pub audit: Audit<RowDisk>,
     pub gate: Carrier,
     pub levers: Arc<Levers>,
+    shelf: Arc<Shelf>,
 }
 
 impl Element {
     /// The element that the row's shelf and journal describe.
     pub fn open(alloc: Global, row: &Row) -> Result<Element> {
         let levers = Levers::new(alloc).ok().context("no memory")?;
-        let disk = disk_of(alloc, row, &levers)?;
+        let disk = disk_of(row, &levers)?;
         let Started {
             shelf,
             fabric,
@@ -55,7 +55,7 @@ impl Element {
         } = start(alloc, row, disk)?;
         let crew = crew_of(alloc, &fabric, seats)?;
         let sessions = row.sessions.len();
-        ensure!(sessions < 100, "{sessions} sessions");
+        ensure!(sessions < 100, "too many sessions");
         let (audit, places) = seat_all(
             alloc,
             &shelf,
@@ -69,7 +69,65 @@ impl Element {
             audit,
             gate: Carrier::new(alloc, crew),
             levers,
+            shelf,
         })
+    }
+
+    /// Ends the controller, and another one goes on with its disk and its registers, with as many places. None: it finds the registers strange to
+    /// the journal.
+    pub fn handed_on<R: Wait>(self, alloc: Global, rt: &R) -> Result<Option<Element>> {
+        let Element {
+            places,
+            audit,
+            gate,
+            levers,
+            shelf,
+        } = self;
+        let sessions = places.len();
+        ensure!(sessions < 100, "too many sessions");
+        let Released { disk, seat, fabric } = audit.release(rt)?;
+        let Some(state) = adopt(alloc, &shelf, &fabric, disk, seat)? else {
+            return Ok(None);
+        };
+        let (audit, places) = seat_all(
+            alloc,
+            &shelf,
+            &fabric,
+            state,
+            users_disk(alloc)?,
+            sessions as u16,
+        )?;
+        Ok(Some(Element {
+            places,
+            audit,
+            gate,
+            levers,
+            shelf,
+        }))
+    }
+}
+
+// The controller that goes on with disk and registers; None where these are strange to the journal.
+fn adopt<D: Disk + Drop>(
+    alloc: Global,
+    shelf: &Arc<Shelf>,
+    fabric: &Arc<Fabric>,
+    disk: D,
+    seat: MoverSeat,
+) -> Result<Option<State<D>>>
+    requires own { seat.fabric ≡ arc_value fabric.now }
+    ensures begins { IfOk result (λ x. IfSome x (Begins D.told D.state)) }
+    ensures opening { IfOk result (λ x. IfSome x (λ s. IsAtOpening (opening_of D.state s) (arc_value shelf.now) (arc_value fabric.now))) }
+{
+    let (described, registers) = (&**shelf, &**fabric);
+    ensure!(
+        registers.shape() == described.shape(),
+        "the registers have another shape"
+    );
+    match Core::adopt(alloc, described, disk, seat, registers) {
+        Adopted::State(state) => Ok(Some(state)),
+        Adopted::Strange(_, _) => Ok(None),
+        Adopted::Open(_) => bail!("not opened"),
     }
 }
 
@@ -83,22 +141,9 @@ pub struct Started<D: Disk> {
 }
 
 /// The disk of the row's journal, with these levers.
-pub fn disk_of(alloc: Global, row: &Row, levers: &Arc<Levers>) -> Result<RowDisk> {
-    let held = MemDisk::new(alloc, row.journal.clone()?, Vec::new(alloc));
-    Ok(RowDisk::new(
-        held.ok().context("no memory")?,
-        row.shown.clone()?,
-        row.torn,
-        Arc::try_clone(levers)?,
-    ))
-}
-
-// A shelf of this shape with all modules equipped, and a user ANNA with the PID bc.
-fn shelf_of_shape(alloc: Global, modules: u16, slots: u16) -> Result<Shelf> {
-    let text = format!(in alloc;
-        "sid = \"DXC1\"\nmodules = {modules}\nslots = {slots}\n[[user]]\nuid = \"ANNA\"\nclass = \"S\"\nsalt = \"61\"\ndigest = \"ba7816bf8f01cfea414140de5dae2223b00361a396177a9cb410ff61f20015ad\"\n"
-    )?;
-    shelf_of(alloc, text.as_bytes()).ok().context("no shelf")
+pub fn disk_of(row: &Row, levers: &Arc<Levers>) -> Result<RowDisk> {
+    let (held, shown) = (row.journal.clone()?, row.shown.clone()?);
+    Ok(RowDisk::new(held, shown, row.torn, Arc::try_clone(levers)?))
 }
 
 /// A controller of the row's shelf and workers on what the disk's journal came to.
@@ -107,9 +152,10 @@ pub fn start<D: Disk + Drop>(alloc: Global, row: &Row, disk: D) -> Result<Starte
     ensures opening { IfOk result (λ s. IsAtOpening (opening_of D.state s.state) (arc_value s.shelf) (arc_value s.fabric)) }
     ensures seats { IfOk result (λ s. AreNew (arc_value s.fabric) 0 s.seats.items) }
 {
-    let shelf = shelf_of_shape(alloc, row.modules, row.slots)?;
+    let text = shelf_text(alloc, row.modules, row.slots)?;
+    let shelf = shelf_of(alloc, text.as_bytes()).ok().context("no shelf")?;
     let workers = row.workers;
-    ensure!(1 <= workers && workers <= 8, "{workers} workers");
+    ensure!(1 <= workers && workers <= 8, "no such number of workers");
     let Ok((fabric, mover, seats)) = Fabric::new(alloc, shelf.shape(), workers) else {
         bail!("no memory");
     };

@@ -2,55 +2,42 @@
 //! asked, each frame and each register word with what they say.
 #![tactic(auto)]
 
-mod answer;
 mod audit;
 mod beside;
 mod carriage;
 mod carrier;
-mod changes;
-mod course;
 mod crew;
-mod disk;
 mod element;
-mod faults;
-mod levers;
-mod point;
 mod read;
 mod reader;
 mod row;
 mod run;
-mod seals;
 mod stale;
-mod stops;
-mod tally;
 mod users;
 
-use crate::course::Course;
-use crate::read::Parts;
-use crate::tally::Tally;
+use crate::read::rows_of;
+use crate::run::run_row;
 use anyhow::Result;
 use std::fs;
+use worked_common::{Tally, decimal, joined, lines_of};
 
 fn main(rt: HostRuntime) -> Result<()> {
     let alloc = rt.alloc();
     let parts = fs::read_to_string(&rt, "parts.txt")?;
-    let rows = fs::read_to_string(&rt, "rows.txt")?;
-    let writes = fs::read_to_string(&rt, "writes.txt")?;
-    let course = Course::of(alloc, writes.as_str())?;
-    let mut tally = Tally::new(
-        alloc,
-        Parts {
-            text: parts.as_str(),
-        },
-    );
-    tally.run(alloc, &rt, rows.as_str())?;
-    stops::restarts(alloc, &rt, &course, &mut tally)?;
-    stops::second_stops(alloc, &rt, &course, &mut tally)?;
-    changes::changes(alloc, &rt, &course, &mut tally)?;
-    faults::faults(alloc, &rt, &course, &mut tally)?;
-    seals::seals(alloc, &rt, &mut tally)?;
-    tally.run_stale(alloc, &rt)?;
-    print!(rt; "{}", tally.report)?;
-    println!(rt; "{} rows, {} of them failed", tally.rows, tally.failed)?;
+    let points = fs::read_to_string(&rt, "points.txt")?;
+    let parts = joined(alloc, &[parts.as_str(), points.as_str()])?;
+    let parts = lines_of(alloc, parts.as_str())?;
+    let mut tally = Tally::new(alloc);
+    for name in ["rows.txt", "stops.txt"] {
+        let text = fs::read_to_string(&rt, name)?;
+        for row in &rows_of(alloc, &parts, text.as_str())? {
+            let why = run_row(alloc, &rt, row)?;
+            tally.count(alloc, row.name.as_str(), 0, why)?;
+        }
+    }
+    let count = decimal(alloc, tally.runs)?;
+    let counted = joined(alloc, &[count.as_str(), " rows"])?;
+    let told = tally.told(alloc, counted.as_str())?;
+    print!(rt; "{told}")?;
     Ok(())
 }

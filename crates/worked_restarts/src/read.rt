@@ -1,58 +1,40 @@
 use crate::row::Row;
-use anyhow::{Context, Result};
+use anyhow::{Context, Result, ensure};
 use std::alloc::Global;
+use worked_common::{Line, lines_of};
 
-/// Lines that rows have in common, by name.
-#[derive(Clone, Copy)]
-pub struct Parts<'a> {
-    pub text: &'a str,
-}
-
-impl<'a> Parts<'a> {
-    // The lines of a part.
-    fn lines_of(self, alloc: Global, name: &str) -> Result<&'a str> {
-        let head = format!(in alloc; "part {name}\n")?;
-        let (_, rest) = self
-            .text
-            .split_once(head.as_str())
-            .context("no part has that name")?;
-        let (lines, _) = rest.split_once("\n\n").unwrap_or((rest, ""));
-        Ok(lines)
-    }
-}
-
-/// The rows that the text describes, line by line.
-pub fn rows_of(alloc: Global, parts: Parts<'_>, text: &str) -> Result<Vec<Row>> {
+/// The rows that the text describes, line by line; the parts are lines that rows have in common, by name.
+pub fn rows_of(alloc: Global, parts: &[Line<'_>], text: &str) -> Result<Vec<Row>> {
     let mut rows = Vec::new(alloc);
-    for line in text.lines() {
-        if line.is_empty() || line.starts_with('#') {
-            continue;
-        }
-        let (word, rest) = split(line);
-        if word == "row" {
-            rows.push(Row::new(alloc, rest)?)?;
+    for line in &lines_of(alloc, text)? {
+        if line.word == "row" {
+            rows.push(Row::new(alloc, line.rest)?)?;
             continue;
         }
         let row = rows
             .last_mut()
             .context("a line stands before the first row")?;
-        if word == "use" {
-            take_part(alloc, row, parts.lines_of(alloc, rest)?)?;
+        if line.word == "use" {
+            take_part(alloc, row, parts, line.rest)?;
         } else {
-            row.take(alloc, word, rest)?;
+            row.take(alloc, line.word, line.rest)?;
         }
     }
     Ok(rows)
 }
 
-fn take_part(alloc: Global, row: &mut Row, lines: &str) -> Result<()> {
-    for line in lines.lines() {
-        let (word, rest) = split(line);
-        row.take(alloc, word, rest)?;
+// Takes the lines of the part of that name.
+fn take_part(alloc: Global, row: &mut Row, parts: &[Line<'_>], name: &str) -> Result<()> {
+    let mut inside = false;
+    let mut found = false;
+    for line in parts {
+        if line.word == "part" {
+            inside = line.rest == name;
+            found = found || inside;
+        } else if inside {
+            row.take(alloc, line.word, line.rest)?;
+        }
     }
+    ensure!(found, "no part has that name");
     Ok(())
-}
-
-fn split(line: &str) -> (&str, &str) {
-    line.split_once(' ').unwrap_or((line, ""))
 }

@@ -1,9 +1,13 @@
-use crate::answer::{add_answer, add_report};
-use crate::carriage::IDLE;
 use crate::carrier::Asked;
-use crate::disk::Torn;
-use anyhow::{Context, Result};
+use anyhow::{Context, Result, ensure};
 use std::alloc::Global;
+use worked_common::{
+    Exchange, Torn, bytes_of, frame_of, joined, number_of, numbers_of, shape_of, small_of, two,
+    words_of,
+};
+
+/// The element's name, as headers have it.
+const SID: &str = "DXC1";
 
 /// What a worker must have written of the frame behind a session.
 #[derive(Drop)]
@@ -15,14 +19,17 @@ pub struct Share {
 /// One session, and what must come of it.
 #[derive(Drop)]
 pub struct Session {
-    pub input: Vec<u8>,
+    /// Whether another controller takes over before it.
+    pub adopts: bool,
+    /// Whether one is to find the registers strange, and the row ends.
+    pub strange: bool,
+    pub exchange: Exchange,
     /// The asking, from 0, at which the gate stops.
     pub stop: Option<u64>,
     /// The call of the disk, from 0, that fails.
     pub failing: Option<u64>,
     /// Whether the disk shows the other bytes.
     pub shows: bool,
-    pub output: Vec<u8>,
     pub asked: Option<Asked>,
     pub calls: Option<u64>,
     /// The frames that may come at an asking; none: any.
@@ -44,19 +51,22 @@ pub struct Row {
     pub journal: Vec<u8>,
     pub shown: Vec<u8>,
     pub torn: Torn,
+    /// Whether a worker holds its frame in an entry between its two sessions.
+    pub held: bool,
     pub sessions: Vec<Session>,
 }
 
 impl Row {
     pub fn new(alloc: Global, name: &str) -> Result<Row> {
         Ok(Row {
-            name: name.to_string(alloc)?,
+            name: joined(alloc, &[name])?,
             modules: 0,
             slots: 0,
             workers: 1,
             journal: Vec::new(alloc),
             shown: Vec::new(alloc),
             torn: Torn::Lost,
+            held: false,
             sessions: Vec::new(alloc),
         })
     }
@@ -64,15 +74,12 @@ impl Row {
     /// Takes a line.
     pub fn take(&mut self, alloc: Global, word: &str, rest: &str) -> Result<()> {
         match word {
-            "shelf" => {
-                let (modules, slots) = rest.split_once(' ').context("a shelf is two numbers")?;
-                self.modules = modules.parse::<u16>()?;
-                self.slots = slots.parse::<u16>()?;
-            }
-            "workers" => self.workers = rest.parse::<u16>()?,
+            "shelf" => (self.modules, self.slots) = shape_of(rest)?,
+            "workers" => self.workers = small_of(rest)?,
             "old" => self.journal = bytes_of(alloc, rest)?,
             "shown" => self.shown = bytes_of(alloc, rest)?,
-            "torn" => self.torn = torn_of(rest)?,
+            "torn" => self.torn = Torn::of(rest)?,
+            "held" => self.held = true,
             "session" => self.sessions.push(Session::new(alloc))?,
             _ => self
                 .sessions
@@ -87,11 +94,12 @@ impl Row {
 impl Session {
     fn new(alloc: Global) -> Session {
         Session {
-            input: Vec::new(alloc),
+            adopts: false,
+            strange: false,
+            exchange: Exchange::new(alloc),
             stop: None,
             failing: None,
             shows: false,
-            output: Vec::new(alloc),
             asked: None,
             calls: None,
             frames: Vec::new(alloc),
@@ -104,76 +112,49 @@ impl Session {
     // Takes a line of the session's own.
     fn take(&mut self, alloc: Global, word: &str, rest: &str) -> Result<()> {
         match word {
-            "send" => self.input.extend_from_slice(rest.as_bytes())?,
-            "stop" => self.stop = Some(rest.parse::<u64>()?),
-            "fails" => self.failing = Some(rest.parse::<u64>()?),
+            "adopts" => self.adopts = true,
+            "strange" => self.strange = true,
+            "stop" => self.stop = Some(number_of(rest)?),
+            "fails" => self.failing = Some(number_of(rest)?),
             "shows" => self.shows = true,
-            "answer" => add_answer(alloc, rest, &mut self.output)?,
-            "report" => add_report(alloc, rest, &mut self.output)?,
-            "asked" => self.asked = Some(asked_of(rest)?),
-            "calls" => self.calls = Some(rest.parse::<u64>()?),
-            "frames" => {
-                for frame in rest.split(' ') {
-                    self.frames.push(frame_of(alloc, frame)?)?;
-                }
-            }
+            "asked" => self.asked = Some(asked_of(alloc, rest)?),
+            "calls" => self.calls = Some(number_of(rest)?),
+            "frames" => self.take_frames(alloc, rest)?,
             "last" => self.last = Some(frame_of(alloc, rest)?),
             "by" => self.shares.push(share_of(alloc, rest)?)?,
-            "words" => {
-                for number in rest.split(' ') {
-                    self.words.push(number.parse::<u64>()?)?;
-                }
-            }
-            _ => None.context("the word isn't known")?,
+            "words" => self.words = numbers_of(alloc, rest)?,
+            _ => ensure!(
+                self.exchange.take(alloc, SID, word, rest)?,
+                "a word isn't known"
+            ),
+        }
+        Ok(())
+    }
+
+    fn take_frames(&mut self, alloc: Global, rest: &str) -> Result<()> {
+        for frame in &words_of(alloc, rest)? {
+            self.frames.push(frame_of(alloc, frame)?)?;
         }
         Ok(())
     }
 }
 
-fn torn_of(text: &str) -> Result<Torn> {
-    match text {
-        "lost" => Ok(Torn::Lost),
-        "whole" => Ok(Torn::Whole),
-        "other" => Ok(Torn::Other),
-        _ => None.context("nothing else comes of a failed write"),
-    }
-}
-
-fn asked_of(text: &str) -> Result<Asked> {
-    let (journal, rest) = text.split_once(' ').context("three numbers are wanted")?;
-    let (register, finish) = rest.split_once(' ').context("three numbers are wanted")?;
+fn asked_of(alloc: Global, text: &str) -> Result<Asked> {
+    let numbers = numbers_of(alloc, text)?;
+    let [journal, register, finish] = numbers.as_slice() else {
+        return None.context("three numbers are wanted");
+    };
     Ok(Asked {
-        journal: journal.parse::<u64>()?,
-        register: register.parse::<u64>()?,
-        finish: finish.parse::<u64>()?,
+        journal: *journal,
+        register: *register,
+        finish: *finish,
     })
 }
 
 fn share_of(alloc: Global, text: &str) -> Result<Share> {
-    let (worker, frame) = text
-        .split_once(' ')
-        .context("a worker and a frame are wanted")?;
+    let (worker, frame) = two(text)?;
     Ok(Share {
-        worker: worker.parse::<usize>()?,
+        worker: number_of(worker)? as usize,
         output: frame_of(alloc, frame)?,
     })
-}
-
-// The bytes of a frame, in which a dot stands for an idle output.
-fn frame_of(alloc: Global, text: &str) -> Result<Vec<u8>> {
-    let mut frame = Vec::new(alloc);
-    for byte in text.bytes() {
-        frame.push(if byte == b'.' { IDLE } else { byte })?;
-    }
-    Ok(frame)
-}
-
-// The bytes that hexadecimal digits spell; blanks between them fall away.
-fn bytes_of(alloc: Global, text: &str) -> Result<Vec<u8>> {
-    let mut bytes = Vec::new(alloc);
-    for word in text.split(' ') {
-        let some = hex::decode(alloc, word.as_bytes()).ok();
-        bytes.extend_from_slice(&some.context("no hexadecimal bytes")?)?;
-    }
-    Ok(bytes)
 }

@@ -1,42 +1,57 @@
+use crate::carrier::Asked;
 use crate::element::Element;
 use crate::row::{Row, Session};
+use crate::stale::run_stale;
 use anyhow::{Context, Result};
 use craft_session::{Place, SessionEnd, serve_session};
 use dxc_disk::Disk;
-use dxc_outside::{Gate, MemClock, MemLink, Moment};
+use dxc_outside::{Gate, MemClock, MemLink};
 use std::alloc::Global;
 use std::sync::Wait;
+use worked_common::{NOON, decimal, joined, number_otherwise, written_otherwise};
 
-const NOON: Moment = Moment {
-    year: 26,
-    month: 3,
-    day: 1,
-    hour: 12,
-    minute: 0,
-    second: 0,
-};
-
-/// What came of a row.
-#[derive(Drop)]
-pub struct Ran {
-    /// The first thing that isn't as it must be.
-    pub why: Option<String>,
-    /// How many calls the disk saw in the last session.
-    pub calls: u64,
-}
-
-/// Opens an element for the row and serves its sessions.
-pub fn run_row<R: Wait>(alloc: Global, rt: &R, row: &Row) -> Result<Ran> {
+/// Opens an element for the row and serves its sessions. Some: the first thing that isn't as it must be.
+pub fn run_row<R: Wait>(alloc: Global, rt: &R, row: &Row) -> Result<Option<String>> {
+    if row.held {
+        return run_stale(alloc, rt, row);
+    }
     let mut element = Element::open(alloc, row)?;
-    let mut why = None;
     for (number, session) in row.sessions.iter().enumerate() {
+        let Some(next) = heir_of(alloc, rt, element, session)? else {
+            return strange_otherwise(alloc, session, true);
+        };
+        element = next;
         if let Some(what) = serve(alloc, rt, &mut element, number, session)? {
-            why = Some(format!(in alloc; "session {number}: {what}")?);
-            break;
+            let number = decimal(alloc, number as u64)?;
+            let texts = ["session ", number.as_str(), ": ", what.as_str()];
+            return Ok(Some(joined(alloc, &texts)?));
         }
     }
-    let calls = element.levers.calls();
-    Ok(Ran { why, calls })
+    Ok(None)
+}
+
+// The element at which a session is served: another controller's, where the session says so. None: that one found the registers strange.
+fn heir_of<R: Wait>(
+    alloc: Global,
+    rt: &R,
+    element: Element,
+    session: &Session,
+) -> Result<Option<Element>> {
+    if !session.adopts && !session.strange {
+        return Ok(Some(element));
+    }
+    element.levers.set(session.failing, session.shows);
+    element.handed_on(alloc, rt)
+}
+
+// What is otherwise where another controller found the registers strange, or not.
+fn strange_otherwise(alloc: Global, session: &Session, strange: bool) -> Result<Option<String>> {
+    number_otherwise(
+        alloc,
+        "that the registers are strange",
+        strange as u64,
+        session.strange as u64,
+    )
 }
 
 // Serves one session at the place of that number. Some: what isn't as it must be.
@@ -47,6 +62,10 @@ fn serve<R: Wait>(
     number: usize,
     session: &Session,
 ) -> Result<Option<String>> {
+    let why = strange_otherwise(alloc, session, false)?;
+    if why.is_some() {
+        return Ok(why);
+    }
     element.gate.set(alloc, session)?;
     element.levers.set(session.failing, session.shows);
     let place = element.places.get_mut(number).context("no place is left")?;
@@ -76,18 +95,15 @@ pub fn serve_at<D: Disk + Drop, U: Disk + Drop, G: Gate, R: Wait>(
     gate: &mut G,
 ) -> Result<(SessionEnd, Option<String>)> {
     let mut link = MemLink::new(
-        session.input.clone()?,
+        session.exchange.input.clone()?,
         Vec::new(alloc),
         Vec::new(alloc),
         Vec::new(alloc),
     );
     let mut clock = MemClock::new(vec![in alloc; NOON]?);
     let end = serve_session(place, &mut link, &mut clock, gate, rt);
-    if link.output() == session.output.as_slice() {
-        return Ok((end, None));
-    }
-    let written = String::from_utf8_lossy(alloc, link.output())?;
-    Ok((end, Some(format!(in alloc; "written was {written}")?)))
+    let wanted = &session.exchange.output;
+    Ok((end, written_otherwise(alloc, "it", link.output(), wanted)?))
 }
 
 // What is otherwise of the session's end, and of what gate and disk were asked.
@@ -97,21 +113,38 @@ fn ended_otherwise(
     session: &Session,
     end: SessionEnd,
 ) -> Result<Option<String>> {
-    let wanted = match session.stop {
-        Some(_) => SessionEnd::Stopped,
-        None => SessionEnd::End,
+    let is_right = match session.stop {
+        Some(_) => matches!(end, SessionEnd::Stopped),
+        None => matches!(end, SessionEnd::End),
     };
-    if end != wanted {
-        return Ok(Some(format!(in alloc; "the end was {end:?}")?));
+    if !is_right {
+        return Ok(Some(joined(alloc, &["it ended otherwise"])?));
     }
-    let asked = element.gate.asked();
-    if session.asked.is_some_and(|wanted| wanted != asked) {
-        return Ok(Some(format!(in alloc; "the gate was asked {asked:?}")?));
+    if let Some(wanted) = session.asked {
+        if let Some(why) = asked_otherwise(alloc, element.gate.asked(), wanted)? {
+            return Ok(Some(why));
+        }
     }
     let calls = element.levers.calls();
-    let none_failed = session.failing.is_some_and(|failing| failing >= calls);
-    if none_failed || session.calls.is_some_and(|wanted| wanted != calls) {
-        return Ok(Some(format!(in alloc; "the disk saw {calls} calls")?));
+    if session.failing.is_some_and(|failing| failing >= calls) {
+        return Ok(Some(joined(alloc, &["no call of the disk failed"])?));
+    }
+    match session.calls {
+        Some(wanted) => number_otherwise(alloc, "the number of the disk's calls", calls, wanted),
+        None => Ok(None),
+    }
+}
+
+// What is otherwise of how often the gate was asked.
+fn asked_otherwise(alloc: Global, asked: Asked, wanted: Asked) -> Result<Option<String>> {
+    for (what, number, wanted) in [
+        ("askings before the journal", asked.journal, wanted.journal),
+        ("askings before a register", asked.register, wanted.register),
+        ("askings before the end", asked.finish, wanted.finish),
+    ] {
+        if let Some(why) = number_otherwise(alloc, what, number, wanted)? {
+            return Ok(Some(why));
+        }
     }
     Ok(None)
 }
@@ -123,30 +156,33 @@ fn carried_otherwise(
     session: &Session,
 ) -> Result<Option<String>> {
     if let Some(asking) = element.gate.wrong() {
-        return Ok(Some(format!(in alloc; "another frame was carried at asking {asking}")?));
+        let asking = decimal(alloc, asking)?;
+        let texts = ["another frame was carried at asking ", asking.as_str()];
+        return Ok(Some(joined(alloc, &texts)?));
     }
     let crew = &mut element.gate.crew;
     crew.carry();
     if let Some(last) = &session.last {
-        if crew.frame() != last.as_slice() {
-            let frame = String::from_utf8_lossy(alloc, crew.frame())?;
-            return Ok(Some(format!(in alloc; "the frame was {frame}")?));
+        if let Some(why) = written_otherwise(alloc, "the line", crew.frame(), last)? {
+            return Ok(Some(why));
         }
     }
     for share in &session.shares {
         let output = crew.frame_by(share.worker).context("no such worker")?;
-        if output != share.output.as_slice() {
-            let frame = String::from_utf8_lossy(alloc, output)?;
-            return Ok(Some(format!(in alloc; "worker {} wrote {frame}", share.worker)?));
+        if let Some(why) = written_otherwise(alloc, "a worker's line", output, &share.output)? {
+            return Ok(Some(why));
         }
     }
     Ok(None)
 }
 
-/// What is otherwise of the register words.
+/// What is otherwise of the register words: the first of them that is another one.
 pub fn words_otherwise(alloc: Global, session: &Session, words: &[u64]) -> Result<Option<String>> {
-    if words == session.words.as_slice() {
-        return Ok(None);
+    for (word, wanted) in words.iter().zip(session.words.iter()) {
+        if let Some(why) = number_otherwise(alloc, "a register", *word, *wanted)? {
+            return Ok(Some(why));
+        }
     }
-    Ok(Some(format!(in alloc; "the registers were {words:?}")?))
+    let (count, wanted) = (words.len() as u64, session.words.len() as u64);
+    number_otherwise(alloc, "the number of registers", count, wanted)
 }

@@ -15,7 +15,6 @@ use crate::beside::{Beside, change_beside};
 use crate::element::{
     Started, Turns, disk_of, next_pass, next_place, next_seat, next_worker, start, turns_of,
 };
-use crate::levers::Levers;
 use crate::row::{Row, Session};
 use crate::run::{serve_at, words_otherwise};
 use crate::users::{users_disk, users_of};
@@ -31,6 +30,7 @@ use shelf_file::Shelf;
 use std::alloc::Global;
 use std::sync::{Arc, Wait};
 use turnstile::{Pass, Turnstile};
+use worked_common::{Levers, joined};
 use xc_core::State;
 
 /// DS0-2-2.
@@ -58,7 +58,7 @@ pub fn run_stale<R: Wait>(alloc: Global, rt: &R, row: &Row) -> Result<Option<Str
         fabric,
         seats,
         state,
-    } = start(alloc, row, disk_of(alloc, row, &levers)?)?;
+    } = start(alloc, row, disk_of(row, &levers)?)?;
     let late = second_seat(alloc, &fabric, seats)?;
     let Seated { turns, place, pass } = seat_two(
         alloc,
@@ -159,7 +159,7 @@ fn between<D: Disk + Drop, U: Disk + Drop, R: Wait>(
         rt,
     )?;
     if beside != WANTED {
-        return Ok(Some(format!(in alloc; "it came to {beside:?}")?));
+        return Ok(Some(joined(alloc, &["the entry came otherwise"])?));
     }
     let words = words_in_turn(alloc, &mut pass, turns, fabric, rt)?;
     if let Some(why) = words_otherwise(alloc, behind, &words)? {

@@ -10,18 +10,20 @@ use crate::read::rows_of;
 use crate::run::run_row;
 use anyhow::Result;
 use std::fs;
+use worked_common::{Tally, decimal, joined};
 
 fn main(rt: HostRuntime) -> Result<()> {
     let alloc = rt.alloc();
     let text = fs::read_to_string(&rt, "rows.txt")?;
     let rows = rows_of(alloc, text.as_str())?;
-    let mut failed = 0usize;
+    let mut tally = Tally::new(alloc);
     for row in &rows {
-        if let Some(why) = run_row(&rt, &rt, row)? {
-            println!(rt; "{}: {why}", row.name)?;
-            failed = failed.saturating_add(1);
-        }
+        let why = run_row(&rt, &rt, row)?;
+        tally.count(alloc, row.name.as_str(), 0, why)?;
     }
-    println!(rt; "{} rows, {failed} of them failed", rows.len())?;
+    let count = decimal(alloc, tally.runs)?;
+    let counted = joined(alloc, &[count.as_str(), " rows"])?;
+    let told = tally.told(alloc, counted.as_str())?;
+    print!(rt; "{told}")?;
     Ok(())
 }

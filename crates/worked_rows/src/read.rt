@@ -1,23 +1,19 @@
 use crate::row::{Row, Run};
 use anyhow::{Context, Result};
 use std::alloc::Global;
-use worked_common::bytes_of;
+use worked_common::{bytes_of, joined, lines_of};
 
 /// The rows that the text describes, line by line.
 pub fn rows_of(alloc: Global, text: &str) -> Result<Vec<Row>> {
     let mut rows = Vec::new(alloc);
-    for line in text.lines() {
-        if line.is_empty() || line.starts_with('#') {
-            continue;
-        }
-        let (word, rest) = line.split_once(' ').unwrap_or((line, ""));
-        if word == "row" {
-            rows.push(Row::new(alloc, rest)?)?;
+    for line in &lines_of(alloc, text)? {
+        if line.word == "row" {
+            rows.push(Row::new(alloc, line.rest)?)?;
         } else {
             let row = rows
                 .last_mut()
                 .context("a line stands before the first row")?;
-            take_line(alloc, row, word, rest)?;
+            take_line(alloc, row, line.word, line.rest)?;
         }
     }
     Ok(rows)
@@ -25,13 +21,13 @@ pub fn rows_of(alloc: Global, text: &str) -> Result<Vec<Row>> {
 
 fn take_line(alloc: Global, row: &mut Row, word: &str, rest: &str) -> Result<()> {
     match word {
-        "shelf" => row.shelf = rest.to_string(alloc)?,
-        "sid" => row.sid = rest.to_string(alloc)?,
+        "shelf" => row.shelf = joined(alloc, &[rest])?,
+        "sid" => row.sid = joined(alloc, &[rest])?,
         "old" => row.journal = bytes_of(alloc, rest)?,
         "people" => row.users = bytes_of(alloc, rest)?,
         "words" => row.runs.push(Run::new(alloc, rest)?)?,
         "script" | "check" => {
-            let line = format!(in alloc; "{word} {} row.journal", row.shelf)?;
+            let line = joined(alloc, &[word, " ", row.shelf.as_str(), " row.journal"])?;
             row.runs.push(Run::new(alloc, line.as_str())?)?;
         }
         _ => {

@@ -1,13 +1,13 @@
 use anyhow::{Result, ensure};
 use std::alloc::Global;
-use worked_common::{Exchange, bytes_of};
+use worked_common::{Exchange, bytes_of, joined, number_of, words_of};
 
 /// One call of the program, and what it must do.
 #[derive(Drop)]
 pub struct Run {
     pub words: Vec<String>,
     pub terminal: Exchange,
-    pub status: u8,
+    pub status: u64,
     /// What the journal's file then is, where the row says it.
     pub journal: Option<Vec<u8>>,
     /// The same of the users' journal.
@@ -31,9 +31,9 @@ pub struct Row {
 impl Row {
     pub fn new(alloc: Global, name: &str) -> Result<Row> {
         Ok(Row {
-            name: name.to_string(alloc)?,
-            shelf: "".to_string(alloc)?,
-            sid: "DXC1".to_string(alloc)?,
+            name: joined(alloc, &[name])?,
+            shelf: String::new(alloc),
+            sid: joined(alloc, &["DXC1"])?,
             journal: Vec::new(alloc),
             users: Vec::new(alloc),
             runs: Vec::new(alloc),
@@ -45,8 +45,8 @@ impl Run {
     /// A run of these words, which are parted by blanks.
     pub fn new(alloc: Global, line: &str) -> Result<Run> {
         let mut words = Vec::new(alloc);
-        for word in line.split(' ') {
-            words.push(word.to_string(alloc)?)?;
+        for word in &words_of(alloc, line)? {
+            words.push(joined(alloc, &[*word])?)?;
         }
         Ok(Run {
             words,
@@ -60,12 +60,12 @@ impl Run {
     /// Takes a line of the run's own, for an element of this name.
     pub fn take(&mut self, alloc: Global, sid: &str, word: &str, rest: &str) -> Result<()> {
         match word {
-            "status" => self.status = rest.parse::<u8>()?,
+            "status" => self.status = number_of(rest)?,
             "after" => self.journal = Some(bytes_of(alloc, rest)?),
             "users" => self.users = Some(bytes_of(alloc, rest)?),
             _ => ensure!(
                 self.terminal.take(alloc, sid, word, rest)?,
-                "the word {word} isn't known"
+                "a word isn't known"
             ),
         }
         Ok(())

@@ -6,7 +6,7 @@ use dxc_outside::{AlwaysGo, MemClock, MemLink, MemSpawner, Name};
 use std::fs;
 use std::sync::Wait;
 use std::thread::Threads;
-use worked_common::NOON;
+use worked_common::{NOON, hex_of, joined, number_otherwise, written_otherwise};
 
 /// The journals of a row.
 const JOURNAL: &str = "row.journal";
@@ -59,12 +59,13 @@ fn fault_of<R: Threads + Wait + Copy + Send + 'static>(
         &mut spawner,
         waits,
     );
-    if status.number() != run.status {
-        return Ok(Some(format!(in alloc; "status {}", status.number())?));
+    let status = status.number() as u64;
+    if let Some(why) = number_otherwise(alloc, "the status", status, run.status)? {
+        return Ok(Some(why));
     }
-    if terminal.output() != run.terminal.output.as_slice() {
-        let written = String::from_utf8_lossy(alloc, terminal.output())?;
-        return Ok(Some(format!(in alloc; "written was {written}")?));
+    let (written, wanted) = (terminal.output(), &run.terminal.output);
+    if let Some(why) = written_otherwise(alloc, "the terminal", written, wanted)? {
+        return Ok(Some(why));
     }
     if let Some(why) = journal_fault(rt, JOURNAL, &run.journal)? {
         return Ok(Some(why));
@@ -82,5 +83,6 @@ fn journal_fault(rt: &HostRuntime, name: &str, wanted: &Option<Vec<u8>>) -> Resu
     if journal.as_slice() == wanted.as_slice() {
         return Ok(None);
     }
-    Ok(Some(format!(in alloc; "{name} was {}", hex::encode(alloc, &journal)?)?))
+    let journal = hex_of(alloc, &journal)?;
+    Ok(Some(joined(alloc, &[name, " was ", journal.as_str()])?))
 }

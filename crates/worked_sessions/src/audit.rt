@@ -8,6 +8,7 @@ use crate::plain::{Change, Joined, PlainTable, Which};
 use crate::row::{Row, Session};
 use anyhow::{Context, Result, bail, ensure};
 use std::alloc::Global;
+use worked_common::{add_header, number_of};
 
 /// The response to a unit: it was given when of all changes at least `from` and at most `until` were made.
 #[derive(Clone, Copy)]
@@ -34,16 +35,18 @@ pub fn stands_after(
     equipped: u16,
     meeting: &Meeting,
 ) -> Result<Vec<(u16, u16)>> {
-    let header = format!(in alloc; "\r\n\n   {} 26-03-01 12:00:00\r\n", row.sid)?;
+    let mut header = Vec::new(alloc);
+    add_header(row.sid.as_str(), &mut header)?;
+    let header = text_of(&header)?;
     let mut modules = Vec::new(alloc);
     for module in 1..=equipped {
         modules.push(module)?;
     }
-    let first = messages_of(alloc, header.as_str(), text_of(meeting, 0)?)?;
+    let first = messages_of(alloc, header, written_to(meeting, 0)?)?;
     let history = history_of(alloc, &first)?;
     let mut claims = Vec::new(alloc);
     for (number, session) in row.sessions.iter().enumerate() {
-        let messages = messages_of(alloc, header.as_str(), text_of(meeting, number)?)?;
+        let messages = messages_of(alloc, header, written_to(meeting, number)?)?;
         let answers = answers_of(alloc, &messages, &history)?;
         let table = PlainTable::new(alloc, &modules)?;
         judge(alloc, session, &answers, &history, table, &mut claims)?;
@@ -57,9 +60,12 @@ pub fn stands_after(
 }
 
 // What the session was written.
-fn text_of(meeting: &Meeting, session: usize) -> Result<&str> {
-    let output = meeting.output(session).context("a session has no end")?;
-    std::str::from_utf8(output).ok().context("no text")
+fn written_to(meeting: &Meeting, session: usize) -> Result<&str> {
+    text_of(meeting.output(session).context("a session has no end")?)
+}
+
+fn text_of(bytes: &[u8]) -> Result<&str> {
+    std::str::from_utf8(bytes).ok().context("no text")
 }
 
 // The changes that a session was told, which are all.
@@ -69,7 +75,7 @@ fn history_of(alloc: Global, messages: &[Heard<'_>]) -> Result<Vec<Change>> {
         if let Heard::Report { number, text } = message {
             ensure!(
                 number.checked_sub(1) == Some(history.len() as u64),
-                "report {number} comes too early or late"
+                "a report comes too early or late"
             );
             history.push(change_of(alloc, text)?)?;
         }
@@ -104,8 +110,8 @@ fn answers_of<'m, 'a>(
                 lines,
             } => {
                 ensure!(
-                    tag.parse::<usize>()?.checked_sub(1) == Some(answers.len()),
-                    "response {tag} comes too early or late"
+                    number_of(tag)?.checked_sub(1) == Some(answers.len() as u64),
+                    "a response comes too early or late"
                 );
                 answers.push(Answer {
                     completed: *completed,
@@ -119,7 +125,7 @@ fn answers_of<'m, 'a>(
                 ensure!(
                     number.checked_sub(1) == Some(seen as u64)
                         && history.get(seen).copied() == Some(change),
-                    "report {number} isn't the history's"
+                    "a report isn't the history's"
                 );
                 seen = seen.saturating_add(1);
                 let last = answers.last_mut().context("a report comes first")?;
@@ -141,9 +147,7 @@ fn judge(
 ) -> Result<()> {
     ensure!(
         answers.len() == session.asked.len(),
-        "session {} has {} answers",
-        session.name,
-        answers.len()
+        "a session has another number of answers"
     );
     let mut at = 0;
     for (ask, answer) in session.asked.iter().zip(answers.iter()) {
@@ -159,10 +163,7 @@ fn judge(
             )?,
             _ => ensure!(
                 is_right(alloc, *ask, answer, history, &mut table, &mut at)?,
-                "session {}: an answer between changes {} and {} is wrong",
-                session.name,
-                answer.from,
-                answer.until
+                "an answer is wrong"
             ),
         }
     }

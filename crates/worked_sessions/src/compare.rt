@@ -1,10 +1,11 @@
 //! What was written and carried, beside what must be.
 
-use crate::lines::{IDLE, byte_of, is_of_worker};
+use crate::lines::{byte_of, is_of_worker};
 use crate::meeting::Meeting;
 use crate::row::{Row, Session};
 use anyhow::Result;
 use std::alloc::Global;
+use worked_common::{IDLE, decimal, joined, number_otherwise, written_otherwise};
 
 /// What the session was written otherwise than it must.
 pub fn fault_of_session(
@@ -14,13 +15,9 @@ pub fn fault_of_session(
 ) -> Result<Option<String>> {
     let name = session.name.as_str();
     let Some(output) = output else {
-        return Ok(Some(format!(in alloc; "session {name} has no end")?));
+        return Ok(Some(joined(alloc, &[name, " has no end"])?));
     };
-    if output == session.wanted.as_slice() {
-        return Ok(None);
-    }
-    let written = String::from_utf8_lossy(alloc, output)?;
-    Ok(Some(format!(in alloc; "session {name} was written {written}")?))
+    written_otherwise(alloc, name, output, &session.wanted)
 }
 
 /// What the frames carried otherwise than they must.
@@ -30,15 +27,17 @@ pub fn fault_of_frames(
     stands: &[(u16, u16)],
     meeting: &Meeting,
 ) -> Result<Option<String>> {
-    if meeting.astray() != 0 {
-        return Ok(Some(format!(in alloc; "{} bytes went astray", meeting.astray())?));
+    if let Some(why) = number_otherwise(alloc, "the bytes that went astray", meeting.astray(), 0)? {
+        return Ok(Some(why));
     }
     for worker in 0..row.workers {
         let Some(frames) = meeting.last_frames(worker as usize) else {
-            return Ok(Some(format!(in alloc; "worker {worker} has no end")?));
+            return Ok(Some(joined(alloc, &["a worker has no end"])?));
         };
         if let Some(port) = wrong_output(row, stands, worker, frames) {
-            return Ok(Some(format!(in alloc; "worker {worker} carried port {port} otherwise")?));
+            let port = decimal(alloc, port as u64)?;
+            let texts = ["a worker carried otherwise port ", port.as_str()];
+            return Ok(Some(joined(alloc, &texts)?));
         }
     }
     Ok(None)

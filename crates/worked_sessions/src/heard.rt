@@ -2,6 +2,7 @@
 
 use anyhow::{Context, Result, bail, ensure};
 use std::alloc::Global;
+use worked_common::number_of;
 
 /// A message.
 #[derive(Drop)]
@@ -91,7 +92,7 @@ pub fn messages_of<'a>(alloc: Global, header: &str, text: &'a str) -> Result<Vec
 fn message_of<'a>(head: &'a str, lines: Vec<&'a str>) -> Result<Heard<'a>> {
     if let Some(rest) = head.strip_prefix("M  ") {
         let (tag, code) = rest.split_once(' ').context("a tag is wanted")?;
-        ensure!(code == "COMPLD" || code == "DENY", "no response: {head}");
+        ensure!(code == "COMPLD" || code == "DENY", "no response");
         let completed = code == "COMPLD";
         return Ok(Heard::Response {
             tag,
@@ -100,10 +101,7 @@ fn message_of<'a>(head: &'a str, lines: Vec<&'a str>) -> Result<Heard<'a>> {
         });
     }
     let rest = head.strip_prefix("A  ").context("no message")?;
-    let number = rest
-        .strip_suffix(" REPT DBCHG")
-        .context("no report")?
-        .parse::<u64>()?;
+    let number = number_of(rest.strip_suffix(" REPT DBCHG").context("no report")?)?;
     ensure!(lines.len() == 1, "a report of one line is wanted");
     let text = lines
         .first()

@@ -5,14 +5,12 @@ use crate::row::Carried;
 use dxc_outside::{Frame, Lines, Put};
 use std::sync::Arc;
 use std::thread::yield_now;
-
-/// The byte that goes out where nothing is connected. No byte of a frame that comes has this value.
-pub const IDLE: u8 = 127;
+use worked_common::IDLE;
 
 /// Frames are numbered from 0 to one less, again and again.
 const PERIOD: u8 = 254;
 
-/// The byte of the port in the frame of this number. An even frame and an odd one together tell any two of 2,000 ports apart.
+/// The byte of the port in the frame of this number, which is never the idle one. An even frame and an odd one together tell any two of 2,000 ports apart.
 pub fn byte_of(port: u16, frame: u8) -> u8 {
     let turned = if frame % 2 == 0 { 0 } else { port / 16 };
     ((port as u32 + turned as u32 + frame as u32) % IDLE as u32) as u8

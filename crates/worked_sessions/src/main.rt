@@ -18,31 +18,27 @@ mod random;
 mod read;
 mod row;
 mod run;
-mod wanted;
 
 use crate::read::rows_of;
 use crate::run::run_row;
 use anyhow::Result;
 use std::fs;
+use worked_common::{Tally, decimal, joined};
 
 fn main(rt: HostRuntime) -> Result<()> {
     let alloc = rt.alloc();
     let text = fs::read_to_string(&rt, "rows.txt")?;
     let rows = rows_of(alloc, text.as_str())?;
-    let mut runs = 0u64;
-    let mut failed = 0u64;
+    let mut tally = Tally::new(alloc);
     for row in &rows {
         for asking in row.first..=row.last {
-            if let Some(why) = run_row(&rt, &rt, row, asking)? {
-                println!(rt; "{} {asking}: {why}", row.name)?;
-                failed = failed.saturating_add(1);
-            }
-            runs = runs.saturating_add(1);
+            let why = run_row(&rt, &rt, row, asking)?;
+            tally.count(alloc, row.name.as_str(), asking, why)?;
         }
     }
-    println!(rt;
-        "{runs} runs of {} rows, {failed} of them failed",
-        rows.len()
-    )?;
+    let (runs, count) = (decimal(alloc, tally.runs)?, decimal(alloc, rows.len() as u64)?);
+    let counted = joined(alloc, &[runs.as_str(), " runs of ", count.as_str(), " rows"])?;
+    let told = tally.told(alloc, counted.as_str())?;
+    print!(rt; "{told}")?;
     Ok(())
 }

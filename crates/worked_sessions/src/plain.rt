@@ -2,30 +2,37 @@
 
 use anyhow::{Context, Result, ensure};
 use std::alloc::Global;
-use std::fmt;
+use worked_common::{decimal, joined, small_of};
 
 /// A port by its module and slot, from 1.
-#[derive(Clone, Copy, PartialEq, Eq, PartialOrd, Ord)]
+#[derive(Clone, Copy, PartialEq, Eq)]
 pub struct Spot {
     pub module: u16,
     pub slot: u16,
 }
 
-impl fmt::Display for Spot {
-    fn fmt<W: fmt::Write>(&self, f: &mut fmt::Formatter<W>) -> fmt::Result {
-        write!(f, "DS0-{}-{}", self.module, self.slot)
-    }
-}
-
 impl Spot {
-    /// The port of this name.
-    pub fn of(name: &str) -> Result<Spot> {
+    /// The port of this name, in the one spelling that there is.
+    pub fn of(alloc: Global, name: &str) -> Result<Spot> {
         let rest = name.strip_prefix("DS0-").context("a port is wanted")?;
         let (module, slot) = rest.split_once('-').context("a slot is wanted")?;
-        Ok(Spot {
-            module: module.parse::<u16>()?,
-            slot: slot.parse::<u16>()?,
-        })
+        let spot = Spot {
+            module: small_of(module)?,
+            slot: small_of(slot)?,
+        };
+        ensure!(spot.name(alloc)?.as_str() == name, "a port is wanted");
+        Ok(spot)
+    }
+
+    pub fn name(self, alloc: Global) -> Result<String> {
+        let module = decimal(alloc, self.module as u64)?;
+        let slot = decimal(alloc, self.slot as u64)?;
+        joined(alloc, &["DS0-", module.as_str(), "-", slot.as_str()])
+    }
+
+    // Greater the further behind the port stands in the table.
+    fn rank(self) -> u64 {
+        (self.module as u64) << 16 | self.slot as u64
     }
 }
 
@@ -37,26 +44,21 @@ pub struct Joined {
     pub both: bool,
 }
 
-impl fmt::Display for Joined {
-    fn fmt<W: fmt::Write>(&self, f: &mut fmt::Formatter<W>) -> fmt::Result {
-        let cct = if self.both { "2WAY" } else { "1WAY" };
-        write!(f, "{},{}:{cct}", self.from, self.to)
-    }
-}
-
 impl Joined {
-    /// The connection that a row or a report's text names, in the one spelling that there is.
+    /// The connection that a row or a report's text names.
     pub fn of(alloc: Global, text: &str) -> Result<Joined> {
         let (ports, cct) = text.split_once(':').context("a CCT is wanted")?;
         let (from, to) = ports.split_once(',').context("a second port is wanted")?;
-        let joined = Joined {
-            from: Spot::of(from)?,
-            to: Spot::of(to)?,
-            both: cct == "2WAY",
+        let both = match cct {
+            "1WAY" => false,
+            "2WAY" => true,
+            _ => None.context("a CCT is wanted")?,
         };
-        let spelled = joined.to_string(alloc)?;
-        ensure!(spelled.as_str() == text, "no row: {text}");
-        Ok(joined)
+        Ok(Joined {
+            from: Spot::of(alloc, from)?,
+            to: Spot::of(alloc, to)?,
+            both,
+        })
     }
 
     fn is_of(&self, from: Spot, to: Spot) -> bool {
@@ -69,6 +71,11 @@ impl Joined {
 
     fn has(&self, spot: Spot) -> bool {
         self.from == spot || self.to == spot
+    }
+
+    // Greater the further behind the connection stands in the table.
+    fn rank(&self) -> u64 {
+        self.from.rank() << 32 | self.to.rank()
     }
 }
 
@@ -235,10 +242,7 @@ impl PlainTable {
     }
 
     fn insert(&mut self, joined: Joined) -> Result<()> {
-        let behind = self
-            .joined
-            .iter()
-            .position(|j| (joined.from, joined.to) < (j.from, j.to));
+        let behind = self.joined.iter().position(|j| joined.rank() < j.rank());
         match behind {
             Some(at) => self.joined.insert(at, joined)?,
             None => self.joined.push(joined)?,

@@ -1,11 +1,12 @@
 //! Sessions of random units, beside one that is told all changes and lets them go on, round by round.
 
-use crate::asked::{Ask, unit_of};
+use crate::asked::{Ask, add_unit};
 use crate::cue::Cue;
 use crate::plain::{Change, Joined, Spot, Which};
 use crate::row::{Carried, NEVER, Row, Session, Size};
 use anyhow::Result;
 use std::alloc::Global;
+use worked_common::decimal;
 
 /// What a random row is.
 #[derive(Clone, Copy)]
@@ -138,17 +139,16 @@ pub fn take_random(alloc: Global, row: &mut Row, plan: Plan<'_>) -> Result<()> {
 
 // Logs the session in, and has it told all changes.
 fn begin(alloc: Global, session: &mut Session, uid: &str) -> Result<()> {
-    let unit = format!(in alloc; "ACT-USER::{uid}:1::bc;ALW-MSG-ALL:::2;")?;
     session.asked.push(Ask::Plain)?;
     session.asked.push(Ask::Plain)?;
-    session.send(alloc, unit.as_str())
+    session.send(alloc, &["ACT-USER::", uid, ":1::bc;ALW-MSG-ALL:::2;"])
 }
 
-// The unit that asks for it, tagged by its number in the session.
-fn next_unit(alloc: Global, session: &mut Session, ask: Ask) -> Result<String> {
+// Appends the unit that asks for it, tagged by its number in the session.
+fn add_next(alloc: Global, session: &mut Session, ask: Ask, into: &mut Vec<u8>) -> Result<()> {
     session.asked.push(ask)?;
-    let tag = session.asked.len().to_string(alloc)?;
-    unit_of(alloc, ask, tag.as_str())
+    let tag = decimal(alloc, session.asked.len() as u64)?;
+    add_unit(alloc, ask, tag.as_str(), into)
 }
 
 // The session that enters connections which stay, is told all changes, and lists the table behind the last of them.
@@ -160,6 +160,7 @@ fn teller_of(
 ) -> Result<Session> {
     let mut session = Session::new(alloc, "the one that is told")?;
     begin(alloc, &mut session, plan.uid)?;
+    let mut units = Vec::new(alloc);
     for module in 1..size.modules {
         let joined = Joined {
             from: Spot { module, slot: 1 },
@@ -169,16 +170,17 @@ fn teller_of(
             },
             both: false,
         };
-        let unit = next_unit(alloc, &mut session, Ask::Change(Change::Enter(joined)))?;
-        session.send(alloc, unit.as_str())?;
+        add_next(alloc, &mut session, Ask::Change(Change::Enter(joined)), &mut units)?;
         carried.push(Carried::from_point(0, size.port(joined.from)?, size.port(joined.to)?))?;
     }
+    session.cues.push(Cue::Send(units))?;
     session.cues.push(Cue::Reach(0))?;
     for round in 0..plan.rounds {
         attend_round(&mut session, plan, round)?;
     }
-    let unit = next_unit(alloc, &mut session, Ask::Rows(Which::All))?;
-    session.send(alloc, unit.as_str())?;
+    let mut last = Vec::new(alloc);
+    add_next(alloc, &mut session, Ask::Rows(Which::All), &mut last)?;
+    session.cues.push(Cue::Send(last))?;
     Ok(session)
 }
 
@@ -201,17 +203,17 @@ fn drawn_session(
     pool: &[Joined],
     draws: &mut Draws,
 ) -> Result<Session> {
-    let name = format!(in alloc; "{number}")?;
+    let name = decimal(alloc, number as u64)?;
     let mut session = Session::new(alloc, name.as_str())?;
     session.cues.push(Cue::Await(0))?;
     begin(alloc, &mut session, plan.uid)?;
     for round in 0..plan.rounds {
-        let mut units = "".to_string(alloc)?;
+        let mut units = Vec::new(alloc);
         for _ in 0..plan.units {
             let ask = draws.ask(size, pool);
-            units.push_str(next_unit(alloc, &mut session, ask)?.as_str())?;
+            add_next(alloc, &mut session, ask, &mut units)?;
         }
-        session.send(alloc, units.as_str())?;
+        session.cues.push(Cue::Send(units))?;
         session.cues.push(Cue::Reach(plan.done(round, number)))?;
         session.cues.push(Cue::Await(plan.go_on(round)))?;
     }

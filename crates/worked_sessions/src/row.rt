@@ -5,6 +5,7 @@ use crate::meeting::Meeting;
 use crate::plain::Spot;
 use anyhow::{Context, Result, ensure};
 use std::alloc::Global;
+use worked_common::{add_texts, joined};
 
 /// The points that a row's text may name are below this number.
 pub const POINTS: usize = 64;
@@ -65,7 +66,7 @@ pub struct Session {
 impl Session {
     pub fn new(alloc: Global, name: &str) -> Result<Session> {
         Ok(Session {
-            name: name.to_string(alloc)?,
+            name: joined(alloc, &[name])?,
             cues: Vec::new(alloc),
             wanted: Vec::new(alloc),
             asked: Vec::new(alloc),
@@ -74,10 +75,10 @@ impl Session {
         })
     }
 
-    /// The text comes next.
-    pub fn send(&mut self, alloc: Global, text: &str) -> Result<()> {
+    /// The texts come next, one behind the other.
+    pub fn send(&mut self, alloc: Global, texts: &[&str]) -> Result<()> {
         let mut bytes = Vec::new(alloc);
-        bytes.extend_from_slice(text.as_bytes())?;
+        add_texts(texts, &mut bytes)?;
         self.cues.push(Cue::Send(bytes))?;
         Ok(())
     }
@@ -135,9 +136,9 @@ pub struct Row {
 impl Row {
     pub fn new(alloc: Global, name: &str) -> Result<Row> {
         Ok(Row {
-            name: name.to_string(alloc)?,
-            shelf: "".to_string(alloc)?,
-            sid: "DXC1".to_string(alloc)?,
+            name: joined(alloc, &[name])?,
+            shelf: String::new(alloc),
+            sid: joined(alloc, &["DXC1"])?,
             size: Size {
                 modules: 2,
                 slots: 1,

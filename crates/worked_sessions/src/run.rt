@@ -10,21 +10,13 @@ use anyhow::{Context, Result};
 use craft_server::dxc_run;
 use dxc_disk::MemDisk;
 use dxc_host::ThreadSpawner;
-use dxc_outside::{MemClock, MemGate, MemLink, MemOpener, Moment, Name};
+use dxc_outside::{MemClock, MemGate, MemLink, MemOpener, Name};
 use std::alloc::Global;
 use std::collections::VecDeque;
 use std::fs;
 use std::sync::{Arc, Wait};
 use std::thread::Threads;
-
-const NOON: Moment = Moment {
-    year: 26,
-    month: 3,
-    day: 1,
-    hour: 12,
-    minute: 0,
-    second: 0,
-};
+use worked_common::{NOON, decimal, joined, number_otherwise};
 
 /// The program serves so many sessions at a time.
 const PLACES: u16 = 16;
@@ -40,8 +32,8 @@ pub fn run_row<R: Threads + Wait + Copy + Send + Drop + 'static>(
     let meeting = Meeting::new(alloc, row.points, row.sessions.len(), row.workers as usize)?;
     let meeting = Arc::new(alloc, meeting)?;
     let status = serve(rt, threads, row, asking, &meeting)?;
-    if status != 0 {
-        return Ok(Some(format!(in alloc; "status {status}")?));
+    if let Some(why) = number_otherwise(alloc, "the status", status as u64, 0)? {
+        return Ok(Some(why));
     }
     fault_of(alloc, row, &meeting)
 }
@@ -63,9 +55,9 @@ fn serve<R: Threads + Wait + Copy + Send + Drop + 'static>(
         "anywhere",
         "lines",
     ] {
-        words.push(Name::of(word.to_string(alloc)?))?;
+        words.push(Name::of(joined(alloc, &[word])?))?;
     }
-    words.push(Name::of(row.workers.to_string(alloc)?))?;
+    words.push(Name::of(decimal(alloc, row.workers as u64)?))?;
     let crew = Crew {
         workers: row.workers,
         slots: row.size.slots,
@@ -107,7 +99,7 @@ fn files_of(rt: &HostRuntime, row: &Row) -> Result<MemOpener> {
     let shelf_name = Name::of(row.shelf.clone()?);
     let mut journals = Vec::new(alloc);
     for name in ["row.journal", "row.journal.users"] {
-        journals.push((Name::of(name.to_string(alloc)?), new_disk(alloc)?))?;
+        journals.push((Name::of(joined(alloc, &[name])?), new_disk(alloc)?))?;
     }
     let mut clocks = VecDeque::new(alloc);
     for _ in 0..PLACES {
@@ -158,7 +150,7 @@ fn caller_of(
 // What a session or the frames did otherwise than they must.
 fn fault_of(alloc: Global, row: &Row, meeting: &Meeting) -> Result<Option<String>> {
     if meeting.is_given_up() {
-        return Ok(Some("a thread was waited for in vain".to_string(alloc)?));
+        return Ok(Some(joined(alloc, &["a thread was waited for in vain"])?));
     }
     if let Some(equipped) = row.equipped {
         return match stands_after(alloc, row, equipped, meeting) {

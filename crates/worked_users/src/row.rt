@@ -1,5 +1,6 @@
 use anyhow::{Context, Result};
 use std::alloc::Global;
+use worked_common::{bytes_of, numbers_of, two};
 
 /// What is done with the users.
 #[derive(Drop)]
@@ -62,7 +63,7 @@ impl Run {
         match word {
             "ask" => self.add(alloc, Doing::Ask(rest.as_bytes().to_vec(alloc)?))?,
             "login" => {
-                let (uid, pid) = rest.split_once(' ').context("a name and a PID are wanted")?;
+                let (uid, pid) = two(rest)?;
                 let uid = uid.as_bytes().to_vec(alloc)?;
                 self.add(alloc, Doing::Login(uid, pid.as_bytes().to_vec(alloc)?))?;
             }
@@ -91,19 +92,15 @@ impl Run {
     }
 
     fn take_images(&mut self, alloc: Global, rest: &str) -> Result<()> {
-        let (from, apart) = rest.split_once(' ').context("two numbers are wanted")?;
+        let numbers = numbers_of(alloc, rest)?;
+        let [from, apart] = numbers.as_slice() else {
+            return None.context("two numbers are wanted");
+        };
         self.images.push(Images {
-            from: from.parse::<usize>()?,
-            apart: apart.parse::<usize>()?,
+            from: *from as usize,
+            apart: *apart as usize,
             users: Vec::new(alloc),
         })?;
         Ok(())
     }
-}
-
-/// The bytes that the hexadecimal digits spell.
-pub fn bytes_of(alloc: Global, text: &str) -> Result<Vec<u8>> {
-    hex::decode(alloc, text.as_bytes())
-        .ok()
-        .context("no hexadecimal bytes")
 }

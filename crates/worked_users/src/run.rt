@@ -12,6 +12,7 @@ use journal_core::JournalWhy;
 use shelf_file::Shelf;
 use std::alloc::Global;
 use user_admin::{UserOpenFault, UserState};
+use worked_common::{add_texts, decimal, hex_of, joined};
 
 const MEMORY: &str = "want of memory";
 
@@ -71,8 +72,8 @@ fn refusal_text<D: Disk>(alloc: Global, fault: &UserOpenFault<D>) -> Result<Vec<
             JournalWhy::Disk => text.extend_from_slice(b"disk")?,
         },
         UserOpenFault::BadRecord(i) => {
-            let line = format!(in alloc; "record {i}")?;
-            text.extend_from_slice(line.as_bytes())?;
+            let number = decimal(alloc, *i as u64)?;
+            add_texts(&["record ", number.as_str()], &mut text)?;
         }
         UserOpenFault::Disk(_) => text.extend_from_slice(b"disk")?,
         UserOpenFault::NoMemory => text.extend_from_slice(b"memory")?,
@@ -82,7 +83,7 @@ fn refusal_text<D: Disk>(alloc: Global, fault: &UserOpenFault<D>) -> Result<Vec<
 
 fn other(alloc: Global, what: &str, found: &[u8]) -> Result<String> {
     let found = String::from_utf8_lossy(alloc, found)?;
-    Ok(format!(in alloc; "{what} gave {found}")?)
+    joined(alloc, &[what, " gave ", found.as_str()])
 }
 
 fn run_on<D: Disk + Drop>(alloc: Global, shelf: &Shelf, disk: D, run: &Run) -> Result<Ran<D>> {
@@ -117,7 +118,8 @@ fn steps_fault<D: Disk>(
         let step = &steps[number];
         let found = outcome_of(alloc, shelf.sid(), state, step)?;
         if found != step.want {
-            let what = format!(in alloc; "step {number}")?;
+            let number = decimal(alloc, number as u64)?;
+            let what = joined(alloc, &["step ", number.as_str()])?;
             return Ok(Some(other(alloc, what.as_str(), &found)?));
         }
     }
@@ -128,10 +130,8 @@ fn steps_fault<D: Disk>(
 fn fault_behind(alloc: Global, shelf: &Shelf, disk: &MemDisk, run: &Run) -> Result<Option<String>> {
     if let Some(after) = &run.after {
         if disk.bytes() != after.as_slice() {
-            return Ok(Some(format!(in alloc;
-                "the journal was {}",
-                hex::encode(alloc, disk.bytes())?
-            )?));
+            let found = hex_of(alloc, disk.bytes())?;
+            return Ok(Some(joined(alloc, &["the journal was ", found.as_str()])?));
         }
     }
     for images in &run.images {
@@ -159,7 +159,8 @@ fn images_fault(
             let image = disk.image_at(alloc, moment, tear).ok().context(MEMORY)?;
             let found = found_in(alloc, shelf, disk_of(alloc, image)?)?;
             if !images.users.contains(&found) {
-                let what = format!(in alloc; "a crash in front of call {moment}")?;
+                let moment = decimal(alloc, moment as u64)?;
+                let what = joined(alloc, &["a crash in front of call ", moment.as_str()])?;
                 return Ok(Some(other(alloc, what.as_str(), &found)?));
             }
         }
