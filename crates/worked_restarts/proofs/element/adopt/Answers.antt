@@ -3,7 +3,7 @@ use Rattle.std.specs.Arc.{arc_value}
 use Rattle.fabric_words.specs.Seats.{FabricId}
 use Rattle.shelf_file.specs.Contents.{Contents}
 use Rattle.xc_core.specs.States.{opening_of}
-use Rattle.craft_server.specs.Places.{IsAtOpening}
+use Rattle.craft_session.specs.Places.{IsAtOpening}
 use Rattle.craft_server.proofs.Starting.{at_opening}
 use Rattle.worked_restarts.proofs.element.adopt.Goals as goal
 
