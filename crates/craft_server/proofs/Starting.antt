@@ -18,9 +18,9 @@ use Rattle.user_admin.specs.States.{opening_of as users_opening}
 use Rattle.xc_core.specs.declared.fault.OpenFault.{OpenFault}
 use Rattle.xc_core.specs.declared.fault.OpenFault.TheVariants as fault_of
 use Rattle.xc_core.specs.declared.state.State.{State}
-use Rattle.xc_core.specs.Openings.{Begins, IsOpening, Opens as OpensFile, disk_of}
+use Rattle.xc_core.specs.Openings.{Begins, IsOpening, disk_of}
 use Rattle.xc_core.specs.States.{Opening, opening_of}
-use Rattle.xc_recovery.proofs.LastWorks.{comes_shape}
+use Rattle.craft_session.proofs.FreshPlaces.{at_opening}
 use Rattle.craft_session.specs.Scripts.{opening_room}
 use Rattle.craft_session.specs.PlainUsers.{users_opening_room}
 use Rattle.craft_session.proofs.Scripts.{opening_of_disk, users_opening_of_disk}
@@ -124,13 +124,9 @@ module _ {D : Type 0} (disk_told : Type 0) (state : D → DiskState) where
   pub begun : (disk : D) (s : Contents) (workers : ℕ) (x : Controller D) → IsStarted disk_told state disk s workers x → HasOpening disk_told state disk s (opening_of state x.state)
   begun disk s workers x started = record { fabric = arc_value x.fabric; opening = started.opening }
 
-  -- an opening is on the fabric that it was made on, and of the shelf's shape
-  pub at_opening : {due : Bool} {number : ℕ} (file : List ℕ) (s : Contents) (i : FabricId) (o : Opening) → OpensFile disk_told file s i due number o → IsAtOpening o s i
-  at_opening file s i o is = record { fabric = is.fabric_is; shape = (comes_shape s.shape is.folded.head is.folded.read o.first.fold.table o.first.fold.colours o.first.fold.work is.folded.comes).0 }
-
   -- that of a controller
   pub opened_at : (disk : D) (s : Contents) (workers : ℕ) (x : Controller D) → IsStarted disk_told state disk s workers x → IsAtOpening (opening_of state x.state) (arc_value x.shelf) (arc_value x.fabric)
-  opened_at disk s workers x started = subst (λ (y : Contents). IsAtOpening (opening_of state x.state) y (arc_value x.fabric)) (sym started.shelf) (at_opening (state disk).reads_as s (arc_value x.fabric) (opening_of state x.state) started.opening)
+  opened_at disk s workers x started = subst (λ (y : Contents). IsAtOpening (opening_of state x.state) y (arc_value x.fabric)) (sym started.shelf) (at_opening disk_told (state disk).reads_as s (arc_value x.fabric) (opening_of state x.state) started.opening)
 
   -- what was opened by these names was by the line's, and what was done there is what the line asks for
   pub opens_for : (opener_told : Type 0) (names other : Named) → names ≡ other → (before after : Sources D) (untouched still : Type 0) (P Q : Contents → D → Opening → D → UsersOpening → Type 0) (status : Status) → (untouched → still) → ((s : Contents) (d : D) (o : Opening) (e : D) (p : UsersOpening) → P s d o e p → Q s d o e p)

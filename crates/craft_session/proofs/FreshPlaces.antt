@@ -1,5 +1,5 @@
 -- Passes of a new turnstile, and places that have seen nothing.
-use Rattle.std.proofs.Common.{◌≡◌, ◌<◌, ◌+◌, ℕ, suc, arith, true, List, [], ◌∷◌, ◌++◌, length, take, drop, slice_index_or, Some, refl, sym, ◌∙◌, ap, subst}
+use Rattle.std.proofs.Common.{◌≡◌, ◌<◌, ◌+◌, ℕ, Bool, suc, arith, true, List, [], ◌∷◌, ◌++◌, length, take, drop, slice_index_or, Some, refl, sym, ◌∙◌, ap, subst}
 use Rattle.std.specs.List.{slice_get}
 use Rattle.dxc_disk.specs.Disks.{DiskState}
 use Rattle.fabric_words.specs.Seats.{FabricId}
@@ -15,7 +15,13 @@ use Rattle.user_admin.specs.Openings.{Begins as UsersBegin}
 use Rattle.user_admin.specs.States.{opening_of as users_opening}
 use Rattle.user_admin.specs.Turns.{AreNumbered as AreUsersNumbered, Saw as SawUsers}
 use Rattle.craft_session.specs.Seats.{IsSeated, IsUserSeated, PlaceAt}
-use Rattle.craft_session.specs.Places.{AreFresh, ArePlaces, fresh_pass, place_at}
+use Rattle.xc_recovery.proofs.LastWorks.{comes_shape}
+use Rattle.xc_core.specs.Openings.{Opens as OpensFile}
+use Rattle.craft_session.specs.Places.{AreFresh, ArePlaces, IsAtOpening, fresh_pass, place_at}
+
+-- what a file opens is on the fabric that it was made on, and of the shelf's shape
+pub at_opening : (told : Type 0) {due : Bool} {number : ℕ} (file : List ℕ) (s : Contents) (i : FabricId) (o : Opening) → OpensFile told file s i due number o → IsAtOpening o s i
+at_opening told file s i o is = record { fabric = is.fabric_is; shape = (comes_shape s.shape is.folded.head is.folded.read o.first.fold.table o.first.fold.colours o.first.fold.work is.folded.comes).0 }
 
 abbrev fresh : Ident → ℕ → Token
 fresh id n = record { number = n; free = true; id = id; seen = [] }

@@ -4,7 +4,8 @@ use Rattle.std.specs.Arc.{arc_value}
 use Rattle.dxc_num.specs.Dimensions.{ports}
 use Rattle.shelf_file.specs.Contents.{Contents}
 use Rattle.xc_core.specs.States.{opening_of}
-use Rattle.craft_server.proofs.Starting.{at_opening, begun, users_began}
+use Rattle.craft_session.proofs.FreshPlaces.{at_opening}
+use Rattle.craft_server.proofs.Starting.{begun, users_began}
 use Rattle.craft_server.proofs.Audits.{listed_first, of_shape}
 use Rattle.craft_server.proofs.check.run_check.Goals as goal
 
@@ -15,7 +16,7 @@ check-requires-clause-room g c =
     let st = c.in-Ok.ensures.opened.0.1 in
     let told = g.O.Journal.Disk.told in
     let state = g.O.Journal.Disk.state in
-    let at = at_opening told state _ f.shelf _ (opening_of state x.state) st.opening in
+    let at = at_opening told _ f.shelf _ (opening_of state x.state) st.opening in
     let size : ports x.state.table.shape ≡ ports (arc_value x.shelf).shape = ap ports (of_shape told state f.shelf x.state st.begins at.shape ∙ ap (λ (s : Contents). s.shape) (sym st.shelf)) in
     subst (λ (n : ℕ). n ≤ vec_capacity c.in-Ok-with_capacity.listed) (sym size) (search rules)
 
@@ -29,7 +30,7 @@ returns g c =
     let st = c.in-Ok.ensures.opened.0.1 in
     let told = g.O.Journal.Disk.told in
     let state = g.O.Journal.Disk.state in
-    let at = at_opening told state _ f.shelf _ (opening_of state x.state) st.opening in
+    let at = at_opening told _ f.shelf _ (opening_of state x.state) st.opening in
     inr (
       f,
       opening_of state x.state,
