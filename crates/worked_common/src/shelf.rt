@@ -4,7 +4,10 @@ use std::alloc::Global;
 
 /// A shelf file of an element DXC1 of this shape, all of whose modules are equipped, with a user ANNA of class S, whose PID is bc.
 pub fn shelf_text(alloc: Global, modules: u16, slots: u16) -> Result<String> {
-    let (modules, slots) = (decimal(alloc, modules as u64)?, decimal(alloc, slots as u64)?);
+    let (modules, slots) = (
+        decimal(alloc, modules as u64)?,
+        decimal(alloc, slots as u64)?,
+    );
     joined(
         alloc,
         &[

@@ -58,7 +58,15 @@ fn add_denied(sid: &str, rest: &str, into: &mut Vec<u8>) -> Result<()> {
     let (code, text) = two(rest)?;
     add_header(sid, into)?;
     add_texts(
-        &["M  ", tag, " DENY\r\n   ", code, "\r\n   /* ", text, " */\r\n;"],
+        &[
+            "M  ",
+            tag,
+            " DENY\r\n   ",
+            code,
+            "\r\n   /* ",
+            text,
+            " */\r\n;",
+        ],
         into,
     )
 }
@@ -66,7 +74,10 @@ fn add_denied(sid: &str, rest: &str, into: &mut Vec<u8>) -> Result<()> {
 /// Appends a report of this number.
 pub fn add_report(sid: &str, number: &str, text: &str, into: &mut Vec<u8>) -> Result<()> {
     add_header(sid, into)?;
-    add_texts(&["A  ", number, " REPT DBCHG\r\n   \"", text, "\"\r\n;"], into)
+    add_texts(
+        &["A  ", number, " REPT DBCHG\r\n   \"", text, "\"\r\n;"],
+        into,
+    )
 }
 
 // Appends a response COMPLD with rows, which stand behind its tag.

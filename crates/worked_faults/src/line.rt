@@ -52,7 +52,10 @@ fn take_of_run(alloc: Global, run: &mut Run, number: u64, word: &str, rest: &str
         }
         "lines" => run.workers.push(worker_of(alloc, rest)?)?,
         "carried" => {
-            let Line { word: count, rest: frames } = Line::of(rest);
+            let Line {
+                word: count,
+                rest: frames,
+            } = Line::of(rest);
             let count = number_in(count, number)?;
             run.worker()?.output = frames_of(alloc, frames, count)?;
         }

@@ -29,8 +29,14 @@ fn main(rt: HostRuntime) -> Result<()> {
             tally.count(alloc, form.name, number, why)?;
         }
     }
-    let (runs, count) = (decimal(alloc, tally.runs)?, decimal(alloc, forms.len() as u64)?);
-    let counted = joined(alloc, &[runs.as_str(), " runs of ", count.as_str(), " rows"])?;
+    let (runs, count) = (
+        decimal(alloc, tally.runs)?,
+        decimal(alloc, forms.len() as u64)?,
+    );
+    let counted = joined(
+        alloc,
+        &[runs.as_str(), " runs of ", count.as_str(), " rows"],
+    )?;
     let told = tally.told(alloc, counted.as_str())?;
     print!(rt; "{told}")?;
     Ok(())

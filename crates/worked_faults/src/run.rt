@@ -7,9 +7,7 @@ use std::alloc::Global;
 use std::fs;
 use std::sync::{Arc, Wait};
 use std::thread::Threads;
-use worked_common::{
-    Levers, NOON, RowDisk, hex_of, joined, number_otherwise, written_otherwise,
-};
+use worked_common::{Levers, NOON, RowDisk, hex_of, joined, number_otherwise, written_otherwise};
 
 /// Runs the row's runs, one behind the other. None where they did what they must, else what didn't hold.
 pub fn run_row<R: Threads + Wait + Copy + Send + 'static>(

@@ -62,7 +62,9 @@ impl Row {
         match word {
             "shelf" => (self.modules, self.slots) = shape_of(rest)?,
             "each" => self.each = Each::of(rest)?,
-            "old" => self.journal.extend_from_slice(&bytes_with_zeros(alloc, rest)?)?,
+            "old" => self
+                .journal
+                .extend_from_slice(&bytes_with_zeros(alloc, rest)?)?,
             "again" => self.take_again(alloc, rest)?,
             "from" => fill_to(&mut self.journal, number_of(rest)? as usize)?,
             "script" | "check" => self.runs.push(Run::new(alloc, word)?)?,
@@ -128,7 +130,10 @@ impl Run {
     fn enter(&mut self, alloc: Global, entries: Entries) -> Result<()> {
         for port in 0..entries.count {
             let pair = entries.pair(alloc, port)?;
-            add_texts(&["ENT-CRS-T0::", pair.as_str(), ":1;"], &mut self.exchange.input)?;
+            add_texts(
+                &["ENT-CRS-T0::", pair.as_str(), ":1;"],
+                &mut self.exchange.input,
+            )?;
             add_completed(SID, "1", &mut self.exchange.output)?;
         }
         Ok(())

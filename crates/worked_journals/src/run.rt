@@ -104,7 +104,9 @@ fn served<R: Threads + Wait + Copy + Send + 'static>(
         Name::of(joined(alloc, &["j"])?),
     ]?;
     let mut terminal = MemLink::new(
-        copy_of(alloc, &run.exchange.input).ok().context("no memory")?,
+        copy_of(alloc, &run.exchange.input)
+            .ok()
+            .context("no memory")?,
         Vec::new(alloc),
         Vec::new(alloc),
         Vec::new(alloc),

@@ -57,7 +57,10 @@ fn add_joined(
 ) -> Result<()> {
     let (from, to) = (joined.from.name(alloc)?, joined.to.name(alloc)?);
     let cct = if joined.both { "::2WAY;" } else { "::1WAY;" };
-    add_texts(&[code, from.as_str(), ",", to.as_str(), ":", tag, cct], into)
+    add_texts(
+        &[code, from.as_str(), ",", to.as_str(), ":", tag, cct],
+        into,
+    )
 }
 
 fn add_module(alloc: Global, code: &str, module: u16, tag: &str, into: &mut Vec<u8>) -> Result<()> {

@@ -170,7 +170,12 @@ fn teller_of(
             },
             both: false,
         };
-        add_next(alloc, &mut session, Ask::Change(Change::Enter(joined)), &mut units)?;
+        add_next(
+            alloc,
+            &mut session,
+            Ask::Change(Change::Enter(joined)),
+            &mut units,
+        )?;
         carried.push(Carried::from_point(0, size.port(joined.from)?, size.port(joined.to)?))?;
     }
     session.cues.push(Cue::Send(units))?;

@@ -36,7 +36,8 @@ fn take_line(alloc: Global, row: &mut Row, word: &str, rest: &str) -> Result<()>
         "stands" => {
             let (input, output) = two(rest)?;
             let input = row.size.port(Spot::of(alloc, input)?)?;
-            row.stands.push((input, row.size.port(Spot::of(alloc, output)?)?))?;
+            row.stands
+                .push((input, row.size.port(Spot::of(alloc, output)?)?))?;
         }
         "random" => take_plan(alloc, row, rest)?,
         "session" => row.sessions.push(Session::new(alloc, rest)?)?,
