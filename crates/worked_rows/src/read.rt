@@ -1,4 +1,4 @@
-use crate::row::{Row, Run};
+use crate::row::{Edit, Row, Run};
 use anyhow::{Context, Result};
 use std::alloc::Global;
 use worked_common::bytes_of;
@@ -26,6 +26,13 @@ pub fn rows_of(alloc: Global, text: &str) -> Result<Vec<Row>> {
 fn take_line(alloc: Global, row: &mut Row, word: &str, rest: &str) -> Result<()> {
     match word {
         "shelf" => row.shelf = rest.to_string(alloc)?,
+        "swap" => {
+            let (old, new) = rest.split_once('|').context("two texts are wanted")?;
+            let old = old.replace(alloc, "~", "\n")?;
+            let new = new.replace(alloc, "~", "\n")?;
+            row.edit(alloc, Edit::Swap { old, new })?;
+        }
+        "pad" => row.edit(alloc, Edit::Pad(rest.parse::<usize>()?))?,
         "sid" => row.sid = rest.to_string(alloc)?,
         "old" => row.journal = bytes_of(alloc, rest)?,
         "people" => row.users = bytes_of(alloc, rest)?,

@@ -1,4 +1,4 @@
-use crate::row::{Row, Run};
+use crate::row::{Edit, MADE, Row, Run};
 use anyhow::Result;
 use craft_server::dxc_run;
 use dxc_outside::{AlwaysGo, HostOpener, MemClock, MemLink, MemSpawner, Name};
@@ -18,6 +18,7 @@ pub fn run_row<R: Threads + Wait + Copy + Send + 'static>(
     waits: &R,
     row: &Row,
 ) -> Result<Option<String>> {
+    write_shelf(rt, row)?;
     fs::write(rt, JOURNAL, row.journal.as_slice())?;
     fs::write(rt, USERS, row.users.as_slice())?;
     for run in &row.runs {
@@ -26,6 +27,28 @@ pub fn run_row<R: Threads + Wait + Copy + Send + 'static>(
         }
     }
     Ok(None)
+}
+
+// Writes the shelf file that is made of another.
+fn write_shelf(rt: &HostRuntime, row: &Row) -> Result<()> {
+    let Some((file, edit)) = &row.made else {
+        return Ok(());
+    };
+    let mut text = fs::read_to_string(rt, file.as_str())?;
+    match edit {
+        Edit::Swap { old, new } => {
+            text = text
+                .as_str()
+                .replace(rt.alloc(), old.as_str(), new.as_str())?;
+        }
+        Edit::Pad(length) => {
+            for _ in text.len()..*length {
+                text.push('\n')?;
+            }
+        }
+    }
+    fs::write(rt, MADE, text.as_bytes())?;
+    Ok(())
 }
 
 // What a run did otherwise than it must.
@@ -58,8 +81,13 @@ fn fault_of<R: Threads + Wait + Copy + Send + 'static>(
         &mut spawner,
         waits,
     );
-    if status.number() != run.status {
-        return Ok(Some(format!(in alloc; "status {}", status.number())?));
+    let ended = format!(in alloc; "{status:?}")?;
+    let is_wanted = match &run.end {
+        Some(end) => ended.as_str() == end.as_str(),
+        None => status.number() == run.status,
+    };
+    if !is_wanted {
+        return Ok(Some(ended));
     }
     if terminal.output() != run.terminal.output.as_slice() {
         let written = String::from_utf8_lossy(alloc, terminal.output())?;
