@@ -12,6 +12,7 @@ import sys
 
 import journal
 from journal import AREAS, File, header, record
+from paths import COLUMN, DIRECT, ROW
 from plain import Conn
 
 TOP = os.path.dirname(os.path.dirname(os.path.abspath(__file__)))
@@ -211,6 +212,60 @@ def middles():
     yield Row("names of ports of the largest shape", 64, 96).script(enter("DS0-64-96,DS0-1-1"), enter("DS0-65-1,DS0-1-1"), enter("DS0-1-97,DS0-1-1"), "RTRV-CRS-T0::MOD-64:2", "DLT-EQPT::MOD-63:3", "DLT-EQPT::MOD-64:4").file()
 
 
+def chains():
+    four = [enter("DS0-2-1,DS0-2-2"), enter("DS0-1-1,DS0-2-1"), enter("DS0-3-1,DS0-1-2"), enter("DS0-3-2,DS0-3-1")]
+    two = Row("a chain of two legs", 3, 2).script(*four, enter("DS0-1-2,DS0-1-1"))
+    assert two.content.endswith(entry(((1, 2), (1, 1)), choices=((1, ROW, 0),), modules=3, slots=2) + b"\0")
+    yield two.file().check()
+    three = [enter("DS0-1-1,DS0-1-2"), enter("DS0-2-1,DS0-2-2"), enter("DS0-2-2,DS0-2-1")]
+    one = Row("the row's chain of two that are as long", 2, 2).script(*three, delete("DS0-2-1,DS0-2-2"), enter("DS0-1-2,DS0-2-2"))
+    assert one.content.endswith(entry(((1, 2), (2, 2)), choices=((0, ROW, 1),), modules=2, slots=2) + b"\0")
+    yield one.file().check()
+
+
+def given_choices():
+    """A circuit entered two way on middles 1 and 0, narrowed, widened on middle 1, and deleted; then a module comes and another goes."""
+    records = [
+        [1, 0, 0, 0, 2, 1, 2, 1, 0, 0, 0],
+        [3, 0, 0, 0, 2, 0, 1, 0],
+        [3, 0, 0, 0, 2, 1, 1, 1],
+        [2, 0, 0, 0, 2, 1, 2, 1, 0, 0, 1],
+        [4, 0, 2],
+        [5],
+    ]
+    element = journal.element_of(3, 2)
+    element.equipped = {1, 2}
+    for count in range(1, len(records) + 1):
+        old = header(1, 0, element) + b"".join(bytes([0xA5, *each]).ljust(32, b"\0") for each in records[:count]) + b"\0"
+        yield Row(f"{count} records with choices that aren't the lowest", 3, 2, old).check()
+    yield Row("a session behind these records", 3, 2, old).script("RTRV-CRS-T0:::1", "ENT-EQPT::MOD-3:2", "ENT-EQPT::MOD-2:3", "ENT-EQPT::MOD-1:4").check()
+
+
+def choices_while_out():
+    """Legs on given middles of three modules of two slots, whose first middle is out; then a leg from module 1 to module 1."""
+    port = lambda number: (number // 2 + 1, number % 2 + 1)
+    element = journal.element_of(3, 2)
+
+    def begun(legs, *choices):
+        records = [record(element, "RMV-MID", 1, ())]
+        records += [entry((port(from_port), port(to)), choices=((middle, DIRECT, 0),), modules=3, slots=2) for from_port, to, middle in legs]
+        records += [entry((port(0), port(1)), choices=(choice,), modules=3, slots=2) for choice in choices]
+        return area(2, 0, records, 3, 2)
+
+    for legs, choice in [
+        ([(1, 2, 1), (4, 0, 2), (5, 4, 1)], (1, ROW, 2)),
+        ([(1, 2, 2), (4, 0, 1), (5, 4, 2)], (2, ROW, 1)),
+        ([(1, 2, 1), (4, 5, 2), (3, 4, 1)], (2, DIRECT, 0)),
+        ([(1, 2, 1), (2, 3, 2), (4, 0, 2)], (2, COLUMN, 1)),
+    ]:
+        row = Row(f"a choice while a middle is out: {choice}", 3, 2, begun(legs)).script(enter("DS0-1-1,DS0-1-2"))
+        assert row.content == begun(legs, choice)
+        yield row.file().check()
+    two = [(1, 2, 1), (4, 0, 2)]
+    for choice in [(2, COLUMN, 1), (2, ROW, 1), (0, DIRECT, 0), (0, ROW, 2), (3, DIRECT, 0)]:
+        yield Row(f"a given choice while a middle is out: {choice}", 3, 2, begun(two, choice)).check()
+
+
 def versions():
     yield Row("a journal of version 1 moves over", old=OLD).script(enter(TWO)).file((0, 65), (AREAS[1], AREAS[1] + 161)).check()
     yield Row("a journal of version 1 that nothing changes", old=OLD).script("RTRV-CRS-T0:::2").file().check()
@@ -382,12 +437,33 @@ def largest():
     ]
 
 
+def blocks_of(lines, head):
+    """How many lines, each with its ending, and how many bytes go into each block of a response."""
+    blocks = [[0, len(head) + 1]]
+    for line in lines:
+        if blocks[-1][1] + len(line) > 4_096:
+            blocks.append([0, len(head) + 1])
+        blocks[-1][0] += 1
+        blocks[-1][1] += len(line)
+    return blocks
+
+
+def eight_blocks():
+    """A full table of 32 modules of 32 slots, which a retrieval tells in eight blocks."""
+    name = lambda port: f"DS0-{port // 32 % 32 + 1}-{port % 32 + 1}"
+    lines = [f'   "{name(port)},{name(port + 32)}:1WAY"\r\n' for port in range(1_024)]
+    blocks = blocks_of(lines, "\r\n\n   DXC1 26-03-01 12:00:00\r\nM  1 COMPLD\r\n")
+    assert [count for count, _ in blocks] == [142, 141, 133, 133, 133, 133, 133, 76]
+    assert sum(length for _, length in blocks) == 30_944
+    return ["row 1024 rows in eight blocks", "shelf 32 32", "script", f"send {LOGIN};", "answer 1 COMPLD", "enters 1024 32", "retrieves 1024 32", ""]
+
+
 def rows():
-    return itertools.chain(labels(), middles(), versions(), full_journals(), torn(), crashes(), faults())
+    return itertools.chain(labels(), middles(), chains(), given_choices(), choices_while_out(), versions(), full_journals(), torn(), crashes(), faults())
 
 
 def main():
-    text = "\n".join([HEAD, *(row.text() for row in rows()), *largest(), ""])
+    text = "\n".join([HEAD, *(row.text() for row in rows()), *eight_blocks(), *largest(), ""])
     if sys.argv[1:] == ["--check"]:
         with open(ROWS, encoding="ascii") as file:
             sys.exit(file.read() != text)

@@ -1,7 +1,7 @@
-use crate::row::{Row, Run};
+use crate::row::{Edit, Row, Run};
 use anyhow::{Context, Result};
 use std::alloc::Global;
-use worked_common::{bytes_of, joined, lines_of};
+use worked_common::{bytes_of, joined, lines_of, number_of};
 
 /// The rows that the text describes, line by line.
 pub fn rows_of(alloc: Global, text: &str) -> Result<Vec<Row>> {
@@ -22,6 +22,13 @@ pub fn rows_of(alloc: Global, text: &str) -> Result<Vec<Row>> {
 fn take_line(alloc: Global, row: &mut Row, word: &str, rest: &str) -> Result<()> {
     match word {
         "shelf" => row.shelf = joined(alloc, &[rest])?,
+        "swap" => {
+            let (old, new) = rest.split_once('|').context("two texts are wanted")?;
+            let old = old.replace(alloc, "~", "\n")?;
+            let new = new.replace(alloc, "~", "\n")?;
+            row.edit(alloc, Edit::Swap { old, new })?;
+        }
+        "pad" => row.edit(alloc, Edit::Pad(number_of(rest)? as usize))?,
         "sid" => row.sid = joined(alloc, &[rest])?,
         "old" => row.journal = bytes_of(alloc, rest)?,
         "people" => row.users = bytes_of(alloc, rest)?,

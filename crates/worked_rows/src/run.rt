@@ -1,4 +1,4 @@
-use crate::row::{Row, Run};
+use crate::row::{Edit, MADE, Row, Run};
 use anyhow::Result;
 use craft_server::dxc_run;
 use dxc_host::HostOpener;
@@ -19,6 +19,7 @@ pub fn run_row<R: Threads + Wait + Copy + Send + 'static>(
     waits: &R,
     row: &Row,
 ) -> Result<Option<String>> {
+    write_shelf(rt, row)?;
     fs::write(rt, JOURNAL, row.journal.as_slice())?;
     fs::write(rt, USERS, row.users.as_slice())?;
     for run in &row.runs {
@@ -27,6 +28,28 @@ pub fn run_row<R: Threads + Wait + Copy + Send + 'static>(
         }
     }
     Ok(None)
+}
+
+// Writes the shelf file that is made of another.
+fn write_shelf(rt: &HostRuntime, row: &Row) -> Result<()> {
+    let Some((file, edit)) = &row.made else {
+        return Ok(());
+    };
+    let mut text = fs::read_to_string(rt, file.as_str())?;
+    match edit {
+        Edit::Swap { old, new } => {
+            text = text
+                .as_str()
+                .replace(rt.alloc(), old.as_str(), new.as_str())?;
+        }
+        Edit::Pad(length) => {
+            for _ in text.len()..*length {
+                text.push('\n')?;
+            }
+        }
+    }
+    fs::write(rt, MADE, text.as_bytes())?;
+    Ok(())
 }
 
 // What a run did otherwise than it must.
@@ -59,9 +82,16 @@ fn fault_of<R: Threads + Wait + Copy + Send + 'static>(
         &mut spawner,
         waits,
     );
-    let status = status.number() as u64;
-    if let Some(why) = number_otherwise(alloc, "the status", status, run.status)? {
-        return Ok(Some(why));
+    if let Some(end) = &run.end {
+        let ended = format!(in alloc; "{status:?}")?;
+        if ended.as_str() != end.as_str() {
+            return Ok(Some(ended));
+        }
+    } else {
+        let status = status.number() as u64;
+        if let Some(why) = number_otherwise(alloc, "the status", status, run.status)? {
+            return Ok(Some(why));
+        }
     }
     let (written, wanted) = (terminal.output(), &run.terminal.output);
     if let Some(why) = written_otherwise(alloc, "the terminal", written, wanted)? {

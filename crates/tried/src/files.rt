@@ -1,0 +1,44 @@
+use dxc_disk::{CountedDisk, Disk, DiskFault, FileDisk, write_and_sync};
+use dxc_host::HostOpener;
+use dxc_outside::{Frame, Lines, Opened, Opener, Put};
+use std::fs;
+use std::test::Fail;
+
+const NAME: &str = "disk_test.jnl";
+
+#[test]
+fn a_file_keeps_what_was_written(rt: HostRuntime) -> Result<(), Fail> {
+    let mut disk = CountedDisk::new(FileDisk::open(&rt, NAME)?);
+    assert!(rt; write_and_sync(&mut disk, 0, b"abcdef") == Ok(()));
+    assert!(rt; disk.length() == Ok(6));
+    assert!(rt; disk.reads() == 0 && disk.writes() == 1 && disk.syncs() == 1);
+    assert!(rt; FileDisk::open(&rt, NAME).is_err(), "it has one owner");
+    drop(disk);
+    let mut again = FileDisk::open(&rt, NAME)?;
+    let mut two = [0; 2];
+    assert!(rt; again.read(2, &mut two) == Ok(()) && two == *b"cd");
+    assert!(rt; again.read(5, &mut two) == Err(DiskFault));
+    Ok(())
+}
+
+#[test]
+fn frames_go_from_file_to_file(rt: HostRuntime) -> Result<(), Fail> {
+    let alloc = rt.alloc();
+    fs::write(&rt, "lines_test.in", b"abcdefgh")?;
+    let mut opener = HostOpener::new(rt, Vec::new(alloc));
+    let Opened::Open(mut lines) = opener.lines(alloc, "lines_test", 3) else {
+        return Err("not opened".into());
+    };
+    let mut frame = [0u8; 3];
+    assert!(rt; lines.read_frame(&mut frame) == Frame::Whole && frame == *b"abc");
+    assert!(rt; lines.write_frame(&frame) == Put::Took(3));
+    assert!(rt; lines.read_frame(&mut frame) == Frame::Whole);
+    assert!(rt; lines.write_frame(&frame) == Put::Took(3));
+    assert!(rt;
+        lines.read_frame(&mut frame) == Frame::Failed,
+        "a rest of two bytes"
+    );
+    let written = fs::read(&rt, "lines_test.3.out")?;
+    assert!(rt; written.as_slice() == b"abcdef".as_slice());
+    Ok(())
+}

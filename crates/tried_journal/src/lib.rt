@@ -1,7 +1,0 @@
-//! Records and replays, by worked examples.
-#![tactic(auto)]
-
-#[cfg(test)]
-mod records;
-#[cfg(test)]
-mod replays;
