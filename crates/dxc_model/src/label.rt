@@ -7,7 +7,8 @@ use std::marker::Model;
 #[derive(Clone, Copy, Debug)]
 pub struct Label {
     bytes: [u8; 24],
-    count: u8,
+    // Two bytes, so that a connection has 32: it then is copied by two moves.
+    count: u16,
 }
 
 impl Model for Label {
@@ -44,7 +45,7 @@ impl Label {
         bytes[..text.len()].copy_from_slice(text);
         Some(Label {
             bytes,
-            count: text.len() as u8,
+            count: text.len() as u16,
         })
     }
 

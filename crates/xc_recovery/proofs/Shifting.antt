@@ -1,6 +1,7 @@
 -- A change of a middle moves legs, and any other joins and parts them.
-use Rattle.std.proofs.Common.{◌≡◌, List, [], ◌∷◌, length, get_or, Option, Some, None, refl, sym, ◌∙◌, ap, subst, arith}
+use Rattle.std.proofs.Common.{Bool, true, false, ◌≡◌, List, [], ◌∷◌, length, get_or, Option, Some, None, refl, sym, subst, arith}
 use Rattle.std.specs.Prelude.{MatchOption}
+use Rattle.dxc_num.specs.declared.port.Middle.{Middle}
 use Rattle.dxc_model.specs.declared.op.Change.{Change}
 use Rattle.dxc_model.specs.declared.op.Change.TheVariants.{Enter, Delete, Edit, EnterModule, DeleteModule, TakeOut, PutBack}
 use Rattle.dxc_model.specs.Tables.{Board}
@@ -10,7 +11,9 @@ use Rattle.roll_plan.specs.declared.work.Work.{Work}
 use Rattle.paull_matrix.specs.Colourings.{Colouring}
 use Rattle.xc_recovery.specs.declared.leg_task.LegTask.{LegTask}
 use Rattle.xc_recovery.specs.LegTasks.{tasks}
-use Rattle.xc_recovery.specs.ChangeWorks.{ChangesBy, ChangesPlanned, DoesPlanned, IsOfLegs, Shifts, WorksBy, WorksPlanned}
+use Rattle.xc_recovery.specs.ChangeWorks.{ChangesBy, ChangesPlanned, DoesBy, DoesPlanned, IsOfLegs, Shifts, WorksBy, WorksPlanned}
+use Rattle.xc_recovery.specs.Straight.{IsMade, IsTried}
+use Rattle.xc_recovery.proofs.Spelled.{works_length}
 
 legs_by : (t : Board) (c : Colouring) (change : Change) (hs : List Choice) (os : List LegOp) → IsOfLegs change → WorksBy t.out c (tasks t change) hs os → ChangesBy t c change hs os
 legs_by t c (Enter k) hs os is w = w
@@ -107,7 +110,30 @@ none_planned t c change k is none ops w = stuck ops (subst (λ (ts : List LegTas
     stuck (o ∷ os) x = none o x.0
 
 -- a list of one has its first alone
-pub first_alone : (ts : List LegTask) (d : LegTask) → length ts ≡ 1 → ts ≡ get_or ts 0 d ∷ []
+pub first_alone : {T : Type 0} (ts : List T) (d : T) → length ts ≡ 1 → ts ≡ get_or ts 0 d ∷ []
 first_alone [] d one = absurd (let z : ⊥ = omega arith in z)
 first_alone (k ∷ []) d one = refl
 first_alone (k ∷ j ∷ ts) d one = absurd (let z : ⊥ = omega arith in z)
+
+-- the same by a given choice
+module _ (t : Board) (c : Colouring) (change : Change) (k : LegTask) (is : tasks t change ≡ k ∷ []) (hs : List Choice) where
+  legs_done : (ops : List LegOp) → ChangesBy t c change hs ops → WorksBy t.out c (k ∷ []) hs ops
+  legs_done ops w = subst (λ (ts : List LegTask). WorksBy t.out c ts hs ops) is (by_legs t c change hs ops (of_legs t change k is) w)
+
+  pub not_one : (length hs ≡ 1 → ⊥) → (ops : List LegOp) → ¬ ChangesBy t c change hs ops
+  not_one more ops w = more (works_length t.out c (k ∷ []) hs ops (legs_done ops w))
+
+  module _ (h : Choice) (one : hs ≡ h ∷ []) where
+    one_by : (o : LegOp) → DoesBy t.out c k h o → ChangesBy t c change hs (o ∷ [])
+    one_by o does = legs_by t c change hs (o ∷ []) (of_legs t change k is) (subst (λ (w : List LegTask × List Choice). WorksBy t.out c w.0 w.1 (o ∷ [])) (λ i. (sym is i, sym one i)) (does, tt))
+
+    stuck : ((o : LegOp) → ¬ DoesBy t.out c k h o) → (os : List LegOp) → WorksBy t.out c (k ∷ []) (h ∷ []) os → ⊥
+    stuck none [] x = x
+    stuck none (o ∷ os) x = none o x.0
+
+    done : (r : Bool) (d : Colouring) → IsTried r t.out c k h d → IsMade r t c change hs d
+    done true d made = (made.0 ∷ [], one_by made.0 made.1, made.2)
+    done false d none = ((λ ops w. stuck none.0 ops (subst (λ (xs : List Choice). WorksBy t.out c (k ∷ []) xs ops) one (legs_done ops w))), none.1)
+
+  pub one_tried : (length hs ≡ 1) → (h : Choice) (out : Option Middle) → out ≡ t.out → (r : Bool) (d : Colouring) → IsTried r out c k (get_or hs 0 h) d → IsMade r t c change hs d
+  one_tried one h out same r d tried = done (get_or hs 0 h) (first_alone hs h one) r d (subst (λ (o : Option Middle). IsTried r o c k (get_or hs 0 h) d) same tried)
