@@ -19,6 +19,7 @@ use dxc_outside::Gate;
 use std::sync::Wait;
 
 /// Does what was asked; the rows of a listing stand in `rows` then. None: the gate stopped.
+#[inline(always)]
 pub fn act<D: Disk + Drop, G: Gate, R: Wait>(
     seat: &mut Seat<D>,
     attending: &mut Attending,

@@ -106,6 +106,7 @@ fn carry_out<D: Disk + Drop, G: Gate, R: Wait>(
 
 /// Makes a change of the table, and of the registers before it. It tries again while another place has the Provisioner, and makes a restart first
 /// where one is due.
+#[inline(never)]
 pub fn change<D: Disk + Drop, G: Gate, R: Wait>(
     pass: &mut Pass,
     turns: &Turnstile<State<D>>,

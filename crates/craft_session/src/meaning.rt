@@ -118,6 +118,8 @@ fn served<U: Disk + Drop, R: Wait>(
 }
 
 /// Looks whom name and PID log in. A name that is too long for a user's is nobody's.
+// Apart, since the users' entries are large, and a unit that has none pays for no room of theirs.
+#[inline(never)]
 fn act_user<U: Disk + Drop, R: Wait>(
     users: &mut UserDesk<U>,
     user: &SessionUser,
@@ -181,6 +183,8 @@ fn on_table(op: Op) -> Ask
 }
 
 /// What a unit asks that may be a command of the users. The blocks are the unit's.
+// Apart, as `act_user` is.
+#[inline(never)]
 fn ask_users<U: Disk + Drop, G: Gate, R: Wait>(
     shelf: &Shelf,
     users: &mut UserDesk<U>,

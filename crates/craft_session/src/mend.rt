@@ -99,6 +99,7 @@ pub fn mend<D: Disk + Drop, G: Gate, R: Wait>(
 }
 
 /// Makes the restart of INIT-SYS. It tries again while another place has the Provisioner.
+#[inline(never)]
 pub fn warm_restart<D: Disk + Drop, G: Gate, R: Wait>(
     pass: &mut Pass,
     turns: &Turnstile<State<D>>,

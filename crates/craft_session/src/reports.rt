@@ -27,6 +27,7 @@ use tl1_answer::change_text;
 use xc_core::turns::Looked;
 
 /// Looks for changes where reports are allowed, and writes a report of each, with the next moments.
+#[inline(always)]
 pub fn report<K: Link, C: Clock, D: Disk + Drop, U: Disk + Drop, R: Wait>(
     desk: &mut Desk<D, U>,
     link: &mut K,
@@ -51,6 +52,7 @@ pub fn report<K: Link, C: Clock, D: Disk + Drop, U: Disk + Drop, R: Wait>(
 }
 
 /// Writes the reports of what a look found, each with the next moment.
+#[inline(never)]
 fn tell<K: Link, C: Clock, D: Disk + Drop, U: Disk + Drop>(
     desk: &mut Desk<D, U>,
     link: &mut K,

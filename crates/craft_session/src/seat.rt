@@ -72,6 +72,7 @@ impl<D: Disk + Drop> Seat<D> {
     }
 
     /// Gives the connections of a selection. It waits for the turn alone.
+    #[inline(never)]
     pub fn rows<R: Wait>(&mut self, selection: Selection, into: &mut Vec<Conn>, rt: &R)
         requires room { ports self.old.opening.first.fold.table.shape ≤ vec_capacity into.old }
         ensures same { IsSameSeat self.old self.new }

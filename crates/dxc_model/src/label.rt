@@ -38,6 +38,9 @@ impl Label {
     pub fn of(text: &[u8]) -> Option<Label>
         ensures { result ≡ as_label text.now }
     {
+        if text.is_empty() {
+            return Some(Label::default());
+        }
         if !is_label(text) {
             return None;
         }

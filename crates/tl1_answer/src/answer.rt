@@ -75,6 +75,7 @@ impl Answer {
     }
 
     /// Clears the block, and writes header and M line; without a CTAG it bears `0`.
+    #[inline(always)]
     pub fn begin(&mut self, sid: &Sid, moment: Moment, ctag: Option<&Ctag>, code: Code)
         requires { IsMoment moment }
         ensures begun { self.new ≡ begun (head sid.now moment (option_map (λ t. t.now) ctag.entry) code) }

@@ -11,6 +11,7 @@ use arrayvec::ArrayVec;
 use dxc_model::Cause;
 use tl1_text::{Ctag, Sid};
 
+#[inline(always)]
 fn append_header(out: &mut ArrayVec<u8, 4096>, sid: &Sid, stamp: &Stamp)
     requires empty { array_vec_len out.old ≡ 0 }
     ensures items { out.new.items ≡ header sid.now stamp.now }
@@ -21,6 +22,7 @@ fn append_header(out: &mut ArrayVec<u8, 4096>, sid: &Sid, stamp: &Stamp)
     append(out, stamp.bytes());
 }
 
+#[inline(always)]
 pub fn append_head(
     out: &mut ArrayVec<u8, 4096>,
     sid: &Sid,

@@ -35,6 +35,7 @@ impl Stamp {
     }
 
     /// Shows a moment; its text is written anew only where it is another one.
+    #[inline(always)]
     pub fn show(&mut self, moment: Moment)
         requires { IsMoment moment }
         ensures { self.new ≡ moment }
@@ -53,6 +54,7 @@ impl Stamp {
     }
 }
 
+#[inline(never)]
 fn text_of(moment: Moment) -> [u8; 20]
     requires { IsMoment moment }
     ensures { result ≡ stamp_text moment }

@@ -9,7 +9,7 @@ use crate::asked::asked;
 use crate::checks::refusal;
 use crate::code::code_of;
 use crate::command::Command;
-use crate::parts::{block_text, parts_of};
+use crate::parts::{Parts, block_text};
 use dxc_model::{Cause, CommandCode, SessionUser};
 use dxc_num::Shape;
 use tl1_text::{Blocks, Sid};
@@ -39,7 +39,8 @@ pub fn command_of(
     ensures apt { IfOk result (IsAptCommand shape unit.now) }
 {
     let code = code_in(unit, blocks).ok_or(Cause::UnknownCommand)?;
-    let parts = parts_of(unit, blocks);
+    let mut parts = Parts::none();
+    parts.read(unit, blocks);
     match refusal(sid, &user, code, unit, blocks, &parts) {
         Some(cause) => Err(cause),
         None => asked(shape, code, unit, parts.named),

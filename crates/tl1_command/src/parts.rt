@@ -8,7 +8,7 @@ use arrayvec::ArrayVec;
 use tl1_text::{Blocks, Span, params};
 
 /// The parameters that a command may name: two AIDs, and of the first payload block a value and a label.
-#[derive(Clone, Copy)]
+#[derive(Clone, Copy, Default)]
 pub struct Named {
     pub first: Span,
     pub second: Span,
@@ -76,22 +76,39 @@ pub struct Parts {
     pub named: Named,
 }
 
+impl Parts {
+    /// No parameters.
+    pub fn none() -> Parts {
+        Parts {
+            aids: ArrayVec::new(),
+            payload: ArrayVec::new(),
+            named: Named::default(),
+        }
+    }
+
+    /// Reads the parts of a unit in place, since they are large.
+    pub fn read(&mut self, unit: &[u8], blocks: &Blocks)
+        requires short { length unit.now ≤ 2047 }
+        requires blocks { AreBlocksOf unit.now blocks.now.block.items }
+        ensures { AreParts unit.now (map (block_at unit.now) blocks.now.block.items) self.new }
+    {
+        self.aids = values_at(unit, blocks, 2);
+        self.payload = values_at(unit, blocks, 5);
+        self.named = Named {
+            first: value_at(unit, &self.aids, 0),
+            second: value_at(unit, &self.aids, 1),
+            value: value_at(unit, &self.payload, 0),
+            label: value_at(unit, &self.payload, 1),
+        };
+    }
+}
+
 pub fn parts_of(unit: &[u8], blocks: &Blocks) -> Parts
     requires short { length unit.now ≤ 2047 }
     requires blocks { AreBlocksOf unit.now blocks.now.block.items }
     ensures { AreParts unit.now (map (block_at unit.now) blocks.now.block.items) result }
 {
-    let aids = values_at(unit, blocks, 2);
-    let payload = values_at(unit, blocks, 5);
-    let named = Named {
-        first: value_at(unit, &aids, 0),
-        second: value_at(unit, &aids, 1),
-        value: value_at(unit, &payload, 0),
-        label: value_at(unit, &payload, 1),
-    };
-    Parts {
-        aids,
-        payload,
-        named,
-    }
+    let mut parts = Parts::none();
+    parts.read(unit, blocks);
+    parts
 }

@@ -52,6 +52,7 @@ impl Ctag {
     }
 }
 
+#[inline(never)]
 fn is_ctag(bytes: &[u8]) -> bool
     ensures { result ≡ reads_as_ctag bytes.now }
 {
