@@ -15,12 +15,7 @@ pub fn bytes_fault(
 }
 
 /// What is wrong with a word that must be the wanted one.
-pub fn word_fault(
-    alloc: Global,
-    what: &str,
-    found: &str,
-    wanted: &str,
-) -> Result<Option<String>> {
+pub fn word_fault(alloc: Global, what: &str, found: &str, wanted: &str) -> Result<Option<String>> {
     if found == wanted {
         return Ok(None);
     }
