@@ -10,7 +10,7 @@ ghost use Rattle.fabric_words.specs.declared.table.View.TheVariants.{AsMover};
 ghost use Rattle.fabric_words.specs.Places.{IsRegInside, reg_word};
 
 use crate::fabric::Fabric;
-use crate::path::{in_of, mid_of, middle_of, path_of, phase_after, seen_after};
+use crate::path::{forget, in_of, mid_of, middle_of, path_of, phase_after};
 use crate::place;
 use crate::plays::{ClearsIn, ClearsMid, ClearsOut, Looks, Reads, SetsIn, SetsMid, Switches};
 use crate::table::{Aim, Token};
@@ -130,7 +130,7 @@ impl MoverSeat {
         let found = shared.swap::<Switches>(&mut self.token, word, value);
         self.switches = number;
         self.phase = phase_after(leg, found);
-        self.seen = seen_after(found, self.seen);
+        forget(found, &mut self.seen);
     }
 
     /// Clears OUT of an established leg: it is parted.

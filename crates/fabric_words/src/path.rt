@@ -61,9 +61,11 @@ pub(crate) fn phase_after(leg: Leg, found: u64) -> Phase
     }
 }
 
-/// What is kept of the looks after a switch of a leg whose OUT word was this one: nothing, where the phase Old begins.
-pub(crate) fn seen_after(found: u64, seen: [Seen; 8]) -> [Seen; 8]
-    ensures { result ≡ (if found == 0 then seen else replicate 8 (seen_of [])) }
+/// Forgets the looks after a switch of a leg whose OUT word was this one, where the phase Old begins.
+pub(crate) fn forget(found: u64, seen: &mut [Seen; 8])
+    ensures { seen.new ≡ (if found == 0 then seen.old else replicate 8 (seen_of [])) }
 {
-    if found == 0 { seen } else { [Seen::NOTHING; 8] }
+    if found != 0 {
+        *seen = [Seen::NOTHING; 8];
+    }
 }

@@ -1,8 +1,11 @@
 -- The write at a place.
-use Rattle.std.proofs.Common.{◌≡◌, ℕ, zero, suc, ◌+◌, ◌*◌, ◌<◌, List, [], ◌∷◌, ◌++◌, length, sym, refl, ap, ◌∙◌, arith, slice_get, get_or}
+use Rattle.std.proofs.Common.{◌≡◌, ℕ, Option, Some, None, zero, suc, ◌+◌, ◌*◌, ◌<◌, List, [], ◌∷◌, ◌++◌, length, sym, refl, ap, ◌∙◌, arith, slice_get, get_or}
+use Rattle.std.specs.Prelude.{IfSome}
+use Rattle.std.proofs.lemmas.Option.{slice_get_within}
 use Rattle.dxc_num.specs.declared.register.RegWrite.{RegWrite}
 use Rattle.roll_plan.specs.declared.op.Move.{Move}
-use Rattle.roll_plan.specs.Works.{move_writes, moves_writes, switches_in}
+use Rattle.roll_plan.specs.declared.op.LegOp.{LegOp}
+use Rattle.roll_plan.specs.Works.{move_writes, moves_writes, op_writes, ops_writes, switches_in}
 
 pub moves_length : (vs : List Move) → length (moves_writes vs) ≡ 5 * length vs
 moves_length [] = refl
@@ -23,6 +26,14 @@ pub moves_at : (vs : List Move) (v : Move) (i r t : ℕ) → t ≡ 5 * i + r →
 moves_at [] v i r t e low room is = absurd (omega arith)
 moves_at (u ∷ vs) v zero r t e low room is = let h : t ≡ r = omega arith in ap (slice_get (moves_writes (u ∷ vs))) h ∙ (at_front (move_writes u) (moves_writes vs) r low ∙ ap (λ (w : Move). slice_get (move_writes w) r) (sym is))
 moves_at (u ∷ vs) v (suc i) r t e low room is = at_back (move_writes u) (moves_writes vs) t (5 * i + r) (omega arith) ∙ moves_at vs v i r (5 * i + r) refl low (omega arith) is
+
+-- a write of the first op is one of the work's
+pub at_first : (ops : List LegOp) (op : LegOp) (t : ℕ) (r : Option RegWrite) → op ≡ get_or ops 0 op → 0 < length ops → r ≡ slice_get (op_writes op) t → IfSome r (λ w. slice_get (ops_writes ops) t ≡ Some w)
+at_first [] op t r is low e = absurd (omega arith)
+at_first (o ∷ os) op t None is low e = tt
+at_first (o ∷ os) op t (Some w) is low e =
+    let here : slice_get (op_writes o) t ≡ Some w = ap (λ (x : LegOp). slice_get (op_writes x) t) (sym is) ∙ sym e in
+    at_front (op_writes o) (ops_writes os) t (slice_get_within (op_writes o) t w here) ∙ here
 
 pub switches_on : (xs ys : List RegWrite) → switches_in (xs ++ ys) ≡ switches_in xs + switches_in ys
 switches_on [] ys = omega arith

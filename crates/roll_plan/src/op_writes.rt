@@ -8,6 +8,7 @@ use dxc_num::{Leg, Middle, RegWrite, WriteKind};
 // The writes of a move.
 const MOVE: usize = 5;
 
+#[inline(always)]
 fn move_write(step: Move, place: usize) -> RegWrite
     requires { place < 5 }
     ensures { slice_get (move_writes step) place ≡ Some result }
@@ -26,6 +27,7 @@ fn move_write(step: Move, place: usize) -> RegWrite
     }
 }
 
+#[inline(always)]
 fn moves_write(moves: &[Move], place: usize) -> Option<RegWrite>
     ensures { result ≡ slice_get (moves_writes moves.now) place }
 {
@@ -70,6 +72,7 @@ pub fn op_count(op: &LegOp) -> usize
 }
 
 /// The write at a place of an op, from 0.
+#[inline(always)]
 pub fn op_write(op: &LegOp, place: usize) -> Option<RegWrite>
     ensures { result ≡ slice_get (op_writes op.now) place }
 {

@@ -1,4 +1,4 @@
-ghost use Rattle.std.specs.Prelude.{◌≡◌, ◌<◌, ◌≤◌, length, slice_get, IfSome, [], ◌∷◌};
+ghost use Rattle.std.specs.Prelude.{◌≡◌, ◌<◌, ◌≤◌, length, slice_get, IfSome, Some, [], ◌∷◌};
 ghost use Rattle.roll_plan.specs.Works.{switches_in, writes_of};
 
 use crate::op::LegOp;
@@ -35,8 +35,22 @@ pub fn writes(work: &Work) -> usize
     count
 }
 
-/// The register write at a place of a work, from 0. None exactly where the work has no more than so many writes.
-pub fn write_at_step(work: &Work, t: usize) -> Option<RegWrite>
+// The write at a place, where it is one of the first op. Most works have one op, and no other is asked for then.
+#[inline(always)]
+fn write_of_first(work: &Work, t: usize) -> Option<RegWrite>
+    ensures write { IfSome result (λ w. slice_get (writes_of work.now) t ≡ Some w) }
+    ensures few { IfSome result (λ _. t < 946) }
+{
+    // So many writes an op has at most.
+    if t >= 473 {
+        return None;
+    }
+    let first = work.ops.as_slice().get(0)?;
+    op_write(first, t)
+}
+
+// The write at a place, sought op by op.
+fn write_in_order(work: &Work, t: usize) -> Option<RegWrite>
     ensures write { result ≡ slice_get (writes_of work.now) t }
     ensures few { IfSome result (λ _. t < 946) }
 {
@@ -49,6 +63,18 @@ pub fn write_at_step(work: &Work, t: usize) -> Option<RegWrite>
         place -= count;
     }
     None
+}
+
+/// The register write at a place of a work, from 0. None exactly where the work has no more than so many writes.
+#[inline(always)]
+pub fn write_at_step(work: &Work, t: usize) -> Option<RegWrite>
+    ensures write { result ≡ slice_get (writes_of work.now) t }
+    ensures few { IfSome result (λ _. t < 946) }
+{
+    match write_of_first(work, t) {
+        Some(write) => Some(write),
+        None => write_in_order(work, t),
+    }
 }
 
 /// How many switches the writes of a work make: its joins and moves.

@@ -23,7 +23,7 @@ swap-found-requires c = let s = c.self.inside in let f = c.fabric.inside in let 
 pub invariant_of-self : goal.invariant_of-self
 invariant_of-self c = let s = c.self.inside in let f = c.fabric.inside in let r = c.self.invariant in
     let t = switch_told f.board.shared.table_id.slots s.size s.token.me c.swap-found.new.seat.me c.of_out-word.result s.phase s.switches s.seen r c.in-MidSet.leg c.in-MidSet.to ((s.switches + 1) * 256 + c.in-MidSet.to.0 + 1) c.swap-found.result c.in-MidSet.is (subst (λ (v : MoverAt). MayMove v.fabric.size v.mover (SwitchOut)) (sym c.self.view_is) c.requires.allowed).3 c.swap-found.ensures.2 in
-    subst (λ (u : Phase × List Seen). IsMoverSeat s.size c.swap-found.new.seat.me u.0 (s.switches + 1) u.1) (λ i. (sym c.phase_after-self-inside.ensures i, sym c.seen_after-self-inside.ensures i)) t.0
+    subst (λ (u : Phase × List Seen). IsMoverSeat s.size c.swap-found.new.seat.me u.0 (s.switches + 1) u.1) (λ i. (sym c.phase_after-self-inside.ensures i, sym c.forget.ensures i)) t.0
 
 pub returns-clause-event : goal.returns-clause-event
 returns-clause-event c = let s = c.self.inside in let f = c.fabric.inside in let r = c.self.invariant in

@@ -3,7 +3,7 @@ use Rattle.std.proofs.lemmas.List.{at_drop_more}
 use Rattle.roll_plan.specs.declared.op.LegOp.{LegOp}
 use Rattle.roll_plan.specs.Works.{op_writes, ops_writes}
 use Rattle.roll_plan.proofs.Places.{at_front, at_back}
-use Rattle.roll_plan.proofs.work.write_at_step.Goals as goal
+use Rattle.roll_plan.proofs.work.write_in_order.Goals as goal
 
 -- what is left begins with the op in hand
 pub left : (ops : List LegOp) (i t : ℕ) (op : LegOp) → op ≡ get_or ops i op → i < length ops → slice_get (ops_writes (drop i ops)) t ≡ slice_get (op_writes op ++ ops_writes (drop (i + 1) ops)) t

@@ -1,6 +1,6 @@
 use Rattle.std.proofs.Common.{◌≡◌, ◌≤◌, ◌+◌, ◌*◌, drop, slice_get}
 use Rattle.roll_plan.specs.Works.{ops_writes}
-use Rattle.roll_plan.proofs.work.write_at_step.Given as goal
+use Rattle.roll_plan.proofs.work.write_in_order.Given as goal
 
 abbrev pub invariant-loop-op : goal.invariant-loop-op
 invariant-loop-op l = record {
