@@ -1,5 +1,7 @@
 pub mod Crossing
 pub mod Seating
+pub mod Faulting
+pub mod Serves
 pub mod Starting
 pub mod Checking
 pub mod Audits
