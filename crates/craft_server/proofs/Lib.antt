@@ -1,4 +1,6 @@
 pub mod Crossing
+pub mod Faulting
+pub mod Serves
 pub mod Starting
 pub mod Checking
 pub mod Audits

@@ -28,6 +28,7 @@ use Rattle.craft_server.specs.declared.opening.Controller.{Controller}
 use Rattle.craft_words.specs.declared.status.Status.{Status}
 use Rattle.craft_words.specs.declared.status.Status.TheVariants.{CannotOpen, Disk, NoMemory}
 use Rattle.craft_server.specs.Statuses.{status_of_users_fault, status_of_users_why}
+use Rattle.craft_server.proofs.Serves.{rose_behind}
 use Rattle.craft_session.specs.Places.{IsAtOpening}
 use Rattle.craft_server.specs.Openings.{AreUsersNotStarted, AreUsersStarted, Began, Found, HasController, HasOpening, HasUsers, IsStarted, Named, NoController, NoUsers, NotStarted, Opens, Sources, users_name}
 
@@ -41,10 +42,6 @@ disk_error (users_fault.Journal f) was = why_disk f.why was
 disk_error (users_fault.BadRecord i) was = cc
 disk_error (users_fault.Disk d) was = tt
 disk_error users_fault.NoMemory was = cc
-
--- a fault behind what was opened before
-pub rose_behind : (a b c : ℕ) → a ≤ b → Rose b c → Rose a c
-rose_behind a b c later rose = omega (arith, later, rose)
 
 -- the name of a users' journal isn't that of the journal beside it
 users_apart : (n : List ℕ) → users_name n ≢ n

@@ -1,11 +1,9 @@
 //! Sessions and frame workers, side by side.
-ghost use Rattle.std.specs.Prelude.{◌≡◌, ◌≢◌, ◌≤◌, ◌+◌, ◌⊎◌, length, vec_len, true, None, IsSome};
+ghost use Rattle.std.specs.Prelude.{◌≡◌, ◌≤◌, ◌+◌, ℕ, length, vec_len, None, IsSome};
 ghost use Rattle.std.specs.Arc.{arc_value};
-ghost use Rattle.dxc_causes.specs.Causes.{HasCause, Rose};
 ghost use Rattle.fabric_words.specs.New.{AreNew};
 ghost use Rattle.craft_server.specs.Openings.{Opens, named, sources};
 ghost use Rattle.craft_server.specs.Peers.{Mirrors};
-ghost use Rattle.craft_jobs.specs.Counts.{RoseBy};
 ghost use Rattle.craft_server.specs.Serving.{IsServe, IsServing, named_in, peer_of, workers_in};
 
 use crate::jobs::{frame_jobs, session_jobs};
@@ -40,11 +38,7 @@ fn run_jobs<
 ) -> Status
 where
     L::Link: Send + 'static,
-    ensures done { result ≡ Status.Done → RoseBy (vec_len workers + vec_len sessions) (P.state spawner.old).starts (P.state spawner.new).starts }
-    ensures no_more { (P.state spawner.new).starts ≤ (P.state spawner.old).starts + (vec_len workers + vec_len sessions) }
-    ensures cause { HasCause (P.state spawner.old).faults (P.state spawner.new).faults (result ≡ Status.NoThread) }
-    ensures waited { (P.state spawner.new).waited ≡ true }
-    ensures only { (result ≡ Status.Done) ⊎ (result ≡ Status.NoThread) }
+    ensures { (faults : ℕ) → (later : ℕ) → IsServing (vec_len workers + vec_len sessions) faults later (P.state spawner.old) (P.state spawner.new) result }
 {
     match run_all(spawner, workers, sessions, rt) {
         Started::Running => Status::Done,
@@ -81,13 +75,7 @@ where
     <O::Listener as Listener>::Link: Send + 'static,
     requires seats { AreNew (arc_value fabric.now) 0 seats.items }
     requires each { length seats.items ≡ site.workers }
-    ensures done { result ≡ Status.Done → RoseBy (site.entry.workers + vec_len places) (P.state spawner.old).starts (P.state spawner.new).starts }
-    ensures no_more { (P.state spawner.new).starts ≤ (P.state spawner.old).starts + (site.entry.workers + vec_len places) }
-    ensures waited { (result ≡ Status.Done) ⊎ (result ≡ Status.NoThread) → (P.state spawner.new).waited ≡ true }
-    ensures no_thread { result ≡ Status.NoThread → Rose (P.state spawner.old).faults (P.state spawner.new).faults }
-    ensures cannot_open { result ≡ Status.CannotOpen → Rose (O.state opener.old).faults (O.state opener.new).faults }
-    ensures not_started { (result ≡ Status.CannotOpen) ⊎ (result ≡ Status.NoMemory) → P.state spawner.new ≡ P.state spawner.old }
-    ensures only { result ≢ Status.Done → result ≢ Status.NoThread → result ≢ Status.CannotOpen → result ≡ Status.NoMemory }
+    ensures { IsServing (site.entry.workers + vec_len places) (O.state opener.old).faults (O.state opener.new).faults (P.state spawner.old) (P.state spawner.new) result }
 {
     let workers = match frame_jobs(alloc, opener, site.lines, site.workers, fabric, seats) {
         Ok(jobs) => jobs,

@@ -3,15 +3,15 @@ use Rattle.craft_jobs.proofs.Counting.{rose_more}
 use Rattle.craft_server.proofs.links.serve_links.Goals as goal
 
 pub loop-preserved : goal.loop-preserved
-loop-preserved g c = record {
-  shelf = search rules;
-  seat = search rules;
-  users = search rules;
-  risen = rose_more c.loop.failures _ _ _ c.loop.invariant.risen (c.accept.ensures.cause.cause (search rules));
-  later = search rules;
+loop-preserved g c = let i = c.loop.invariant in record {
+  shelf = i.shelf;
+  seat = i.seat;
+  users = i.users;
+  risen = rose_more c.loop.failures _ _ _ i.risen (c.accept.ensures.cause.cause c.in-Failed.is);
+  later = let up = c.accept.ensures.cause.later in omega (arith, i.later, up);
   few = search rules;
   not_ended = search rules;
-  gate = search rules;
+  gate = i.gate;
 }
 
 pub loop-preserved-in-Link : goal.loop-preserved-in-Link

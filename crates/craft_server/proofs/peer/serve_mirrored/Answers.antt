@@ -1,10 +1,10 @@
 use Rattle.std.proofs.Common.{◌≡◌, ◌+◌, ℕ, inl, refl, ap, subst}
-use Rattle.std.specs.Prelude.{vec_len}
 use Rattle.craft_server.specs.Openings.{named, sources}
 use Rattle.craft_server.specs.Peers.{mirror_state}
 use Rattle.craft_server.specs.Serving.{IsServing}
 use Rattle.craft_server.proofs.Mirroring.{serves}
-use Rattle.craft_server.proofs.Starting.{opened_at, rose_behind}
+use Rattle.craft_server.proofs.Serves.{serving_behind}
+use Rattle.craft_server.proofs.Starting.{opened_at}
 use Rattle.craft_server.proofs.peer.serve_mirrored.Goals as goal
 
 pub returns-in-Err : goal.returns-in-Err
@@ -19,15 +19,5 @@ returns g c =
     let after = sources (g.O.Opener.state c.serve_on.new.opener) (g.O.Opener.journal_at c.serve_on.new.opener) (g.G.Gate.stops c.open_mirrored.new.gate) in
     let p = g.P.Spawner.state c.args.spawner.now in
     let q = g.P.Spawner.state c.serve_on.new.spawner in
-    let e = c.serve_on.ensures in
-    let serving : IsServing (c.args.site.workers + vec_len c.in-Ok-open_places.places) before.opener.faults after.opener.faults p q c.serve_on.result = record {
-      done = e.done;
-      no_more = e.no_more;
-      waited = e.waited;
-      no_thread = e.no_thread;
-      cannot_open = λ is. rose_behind _ _ _ c.in-Ok.ensures.later (e.cannot_open is);
-      not_started = e.not_started;
-      only = e.only;
-    } in
-    let jobs = subst (λ (n : ℕ). IsServing n before.opener.faults after.opener.faults p q c.serve_on.result) (ap (λ (n : ℕ). c.args.site.workers + n) c.in-Ok-open_places.ensures.each) serving in
+    let jobs = subst (λ (n : ℕ). IsServing n before.opener.faults after.opener.faults p q c.serve_on.result) (ap (λ (n : ℕ). c.args.site.workers + n) c.in-Ok-open_places.ensures.each) (serving_behind _ _ _ _ p q c.serve_on.result c.in-Ok.ensures.later c.serve_on.ensures) in
     serves g.O.Journal.Disk.told g.O.Peer.Link.told g.O.Journal.Disk.state g.O.Peer.Link.state g.O.Opener.told (named c.args.names.shelf.now c.args.names.journal.now) c.args.site.workers before after (q ≡ p) ((after.stops ≡ before.stops) × IsServing (c.args.site.workers + 16) before.opener.faults after.opener.faults p q c.serve_on.result) c.serve_on.result c.in-Ok.element c.in-Ok.ensures.opened (c.in-Ok.ensures.unstopped, jobs)

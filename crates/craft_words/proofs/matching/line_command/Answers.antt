@@ -19,7 +19,7 @@ pub returns : goal.returns
 returns c =
     let needed : rule_of c.required.result ≡ record (rule_of c.new.result) { required = true } = ap rule_of c.required.ensures in
     let mode_is : rule_of c.trailing_var_arg-mode.result ≡ mode_rule =
-        ap rule_of c.trailing_var_arg-mode.ensures ∙ ap (λ (r : Rule). record r { trailing_var_arg = true }) (needed ∙ ap (λ (r : Rule). record r { required = true }) c.new.ensures.rule) in
+    ap rule_of c.trailing_var_arg-mode.ensures ∙ ap (λ (r : Rule). record r { trailing_var_arg = true }) (needed ∙ ap (λ (r : Rule). record r { required = true }) c.new.ensures.rule) in
     let mode_local = ap (λ (a : Arg). a.global) c.trailing_var_arg-mode.ensures ∙ ap (λ (a : Arg). a.global) c.required.ensures ∙ c.new.ensures.optional.1 in
     let every : ValueRange = record { start_inclusive = 0; end_inclusive = usize_max } in
     let range_is = some_is c.num_args-rest.result.num_vals every c.num_args-rest.ensures.1 in

@@ -1,0 +1,64 @@
+-- What became of the jobs of a controller that is served.
+use Rattle.std.proofs.Common.{◌≡◌, ◌≢◌, ◌≤◌, ◌+◌, ◌∙◌, ℕ, arith, true, inl, inr, refl, sym}
+use Rattle.dxc_causes.specs.Causes.{Rose}
+use Rattle.dxc_outside.specs.Threads.{SpawnerState}
+use Rattle.craft_jobs.specs.Counts.{RoseBy}
+use Rattle.craft_words.specs.declared.status.Status.{Status}
+use Rattle.craft_words.specs.declared.status.Status.TheVariants.{Done, CannotOpen, NoThread, NoMemory}
+use Rattle.craft_server.specs.Serving.{IsServing}
+
+-- a fault behind what was opened before
+pub rose_behind : (a b c : ℕ) → a ≤ b → Rose b c → Rose a c
+rose_behind a b c later rose = omega (arith, later, rose)
+
+module _ (jobs faults later : ℕ) (old new : SpawnerState) where
+  -- all were started
+  pub all_started : RoseBy jobs old.starts new.starts → new.starts ≤ old.starts + jobs → new.waited ≡ true → IsServing jobs faults later old new Done
+  all_started risen no_more waited = record {
+    done = λ is. risen;
+    no_more = no_more;
+    waited = λ is. waited;
+    no_thread = λ is. cc;
+    cannot_open = λ is. cc;
+    not_started = λ is. elim is [ inl bad ↦ cc | inr bad ↦ cc ];
+    only = λ not. absurd (not refl);
+  }
+
+  -- one wasn't
+  pub not_all_started : Rose old.faults new.faults → new.starts ≤ old.starts + jobs → new.waited ≡ true → IsServing jobs faults later old new NoThread
+  not_all_started rose no_more waited = record {
+    done = λ is. cc;
+    no_more = no_more;
+    waited = λ is. waited;
+    no_thread = λ is. rose;
+    cannot_open = λ is. cc;
+    not_started = λ is. elim is [ inl bad ↦ cc | inr bad ↦ cc ];
+    only = λ a not. absurd (not refl);
+  }
+
+-- none was, since something couldn't be opened, or memory was wanting
+pub none_started : (jobs faults later : ℕ) (old : SpawnerState) (status : Status) → (status ≡ CannotOpen → Rose faults later) → (status ≢ CannotOpen → status ≡ NoMemory) → IsServing jobs faults later old old status
+none_started jobs faults later old status closed other = record {
+  done = λ is. let memory = other (λ e. let no = sym is ∙ e in cc) in let no = sym is ∙ memory in cc;
+  no_more = omega arith;
+  waited = λ was. elim was [
+    | inl is ↦ (let memory = other (λ e. let no = sym is ∙ e in cc) in let no = sym is ∙ memory in cc)
+    | inr is ↦ (let memory = other (λ e. let no = sym is ∙ e in cc) in let no = sym is ∙ memory in cc)
+  ];
+  no_thread = λ is. let memory = other (λ e. let no = sym is ∙ e in cc) in let no = sym is ∙ memory in cc;
+  cannot_open = closed;
+  not_started = λ is. refl;
+  only = λ a b not. other not;
+}
+
+-- on what was opened behind other things
+pub serving_behind : (jobs faults mid later : ℕ) (old new : SpawnerState) (status : Status) → faults ≤ mid → IsServing jobs mid later old new status → IsServing jobs faults later old new status
+serving_behind jobs faults mid later old new status more s = record {
+  done = s.done;
+  no_more = s.no_more;
+  waited = s.waited;
+  no_thread = s.no_thread;
+  cannot_open = λ is. rose_behind faults mid later more (s.cannot_open is);
+  not_started = s.not_started;
+  only = s.only;
+}
