@@ -40,7 +40,7 @@ use Rattle.craft_server.specs.Loads.{IsLoad, IsLoadController, NotLoaded}
 use Rattle.craft_server.specs.Openings.{AreUsersNotStarted, IsStarted, NotStarted}
 use Rattle.craft_server.specs.Statuses.{status_of_fault, status_of_users_fault, status_of_users_why, status_of_why}
 use Rattle.craft_server.specs.Stocks.{IsStock, IsStockAfter}
-use Rattle.craft_server.proofs.Wording.{memory_words, sent_words}
+use Rattle.craft_server.proofs.Wording.{sent_words}
 
 -- the first of a fabric's new seats
 pub first_new : (f : FabricId) (n : ℕ) (seats : List WorkerSeat) (d : WorkerSeat) → AreNew f n seats → 0 < length seats → (slice_index_or seats 0 d).reader ≡ record { fabric = f; worker = new_worker n }
@@ -122,13 +122,10 @@ module _ {D : Type 0} (told : Type 0) (state : D → DiskState) where
     switches = λ not. elim (subst (λ (y : Home D). HomeIs told state o st.now h y) is.is_home st.home).1.stage [ inl home ↦ is.switches ∙ home.0.switches | inr halted ↦ absurd (not halted.1) ];
   }
 
-stopped_words : (s : Status) → s ≡ Status_of.Stopped → s ≡ BadWords → ⊥
-stopped_words s stopped is = let bad = sym stopped ∙ is in cc
-
 -- no status of the load is that of words which aren't understood
 pub load_words : (number : ℕ) (told : Type 0) (k l : LinkState) (stops later : ℕ) (status : Status) → IsLoad number told k l stops later status → status ≢ BadWords
 load_words number told k l stops later status is = λ bad. elim is [
-  | inl not ↦ (elim not.1 [ inl memory ↦ memory_words status memory bad | inr stopped ↦ stopped_words status stopped.0 bad ])
+  | inl not ↦ (elim not.1 [ inl memory ↦ (let no : Status_of.NoMemory ≡ BadWords = sym memory ∙ bad in cc) | inr stopped ↦ (let no : Status_of.Stopped ≡ BadWords = sym stopped.0 ∙ bad in cc) ])
   | inr ran ↦ sent_words ran.3.0 (sym ran.3.2 ∙ bad)
 ]
 

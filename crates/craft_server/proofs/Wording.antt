@@ -20,26 +20,13 @@ use Rattle.xc_core.specs.States.{Opening}
 use Rattle.craft_session.specs.declared.end.SessionEnd.{SessionEnd}
 use Rattle.craft_session.specs.declared.end.SessionEnd.TheVariants as session
 use Rattle.craft_words.specs.declared.status.Status.{Status}
-use Rattle.craft_words.specs.declared.status.Status.TheVariants.{Done, BadWords, CannotOpen, NoThread, NoMemory}
+use Rattle.craft_words.specs.declared.status.Status.TheVariants.{BadWords}
 use Rattle.craft_server.specs.Openings.{Began, Found, Named, NoShelf, NotStarted, NoUsers, Opens, Sources}
 use Rattle.craft_server.specs.Peers.{Mirrors, mirror_state}
 use Rattle.craft_server.specs.Serving.{IsServing}
 use Rattle.craft_words.specs.Statuses.{status_of_sent}
 use Rattle.craft_jobs.specs.Standbys.{StandsBy, status_of_standby}
 use Rattle.craft_server.specs.Statuses.{status_of, status_of_fault, status_of_users_fault, status_of_users_why, status_of_why}
-
--- want of memory and a failed opening have other ones
-pub memory_words : (s : Status) → s ≡ NoMemory → s ≡ BadWords → ⊥
-memory_words s memory is = let bad = sym memory ∙ is in cc
-
-closed_words : (s : Status) → s ≡ CannotOpen → s ≡ BadWords → ⊥
-closed_words s closed is = let bad = sym closed ∙ is in cc
-
-done_words : (s : Status) → s ≡ Done → s ≡ BadWords → ⊥
-done_words s done is = let bad = sym done ∙ is in cc
-
-thread_words : (s : Status) → s ≡ NoThread → s ≡ BadWords → ⊥
-thread_words s none is = let bad = sym none ∙ is in cc
 
 why_words : (w : JournalWhy) → status_of_why w ≡ BadWords → ⊥
 why_words (why.BadHeader bytes) is = cc
@@ -76,14 +63,15 @@ users_fault_words users_fault.NoMemory is = cc
 
 no_users_words : {D : Type 0} (opener_told told : Type 0) (state : D → DiskState) (names : Named) (before after : Sources D) (s : Contents) (status : Status) → NoUsers opener_told told state names before after s status → status ≡ BadWords → ⊥
 no_users_words opener_told told state names before after s status none is = elim none [
-  | inl no_disk ↦ (elim no_disk [ inl e ↦ memory_words status e is | inr e ↦ closed_words status e.0 is ])
+  | inl no_disk ↦ (elim no_disk [ inl e ↦ (let no = sym e ∙ is in cc) | inr e ↦ (let no = sym e.0 ∙ is in cc) ])
   | inr not ↦ users_fault_words not.1.fault (sym not.1.is ∙ is)
 ]
 
 -- none of serving, of a session or of lines that were written
 pub serving_words : (jobs faults later : ℕ) (old new : SpawnerState) (status : Status) → IsServing jobs faults later old new status → status ≡ BadWords → ⊥
 serving_words jobs faults later old new status is bad =
-    memory_words status (is.only (λ done. done_words status done bad) (λ none. thread_words status none bad) (λ closed. closed_words status closed bad)) bad
+    let e = is.only (λ done. let no = sym done ∙ bad in cc) (λ none. let no = sym none ∙ bad in cc) (λ closed. let no = sym closed ∙ bad in cc) in
+    let no = sym e ∙ bad in cc
 
 pub end_words : (end : SessionEnd) → status_of end ≡ BadWords → ⊥
 end_words session.End is = cc
@@ -104,7 +92,7 @@ opens_words opener_told told state names before after untouched done status othe
     | inl no_controller ↦ (elim no_controller [
       | inl no_shelf ↦ subst (λ (s : Status). NoShelf opener_told before.opener after.opener names.shelf s) is no_shelf.1
       | inr further ↦ (elim further [
-        | inl no_disk ↦ (elim no_disk.2.1 [ inl e ↦ memory_words status e is | inr e ↦ closed_words status e.0 is ])
+        | inl no_disk ↦ (elim no_disk.2.1 [ inl e ↦ (let no = sym e ∙ is in cc) | inr e ↦ (let no = sym e.0 ∙ is in cc) ])
         | inr not_on ↦ not_started_words told state not_on.0.disk not_on.0.shelf before.stops after.stops (subst (λ (s : Status). NotStarted told state not_on.0.disk not_on.0.shelf before.stops after.stops s) is not_on.1)
       ])
     ])
@@ -121,7 +109,7 @@ mirrors_words told link_told state link opener_told names before after untouched
     | inl no_controller ↦ (elim no_controller [
       | inl no_shelf ↦ subst (λ (s : Status). NoShelf opener_told before.opener after.opener names.shelf s) is no_shelf.1
       | inr further ↦ (elim further [
-        | inl no_disk ↦ (elim no_disk.2.1 [ inl e ↦ memory_words status e is | inr e ↦ closed_words status e.0 is ])
+        | inl no_disk ↦ (elim no_disk.2.1 [ inl e ↦ (let no = sym e ∙ is in cc) | inr e ↦ (let no = sym e.0 ∙ is in cc) ])
         | inr not_on ↦ not_started_words told (mirror_state state) not_on.0.mirror not_on.0.shelf before.stops after.stops (subst (λ (s : Status). NotStarted told (mirror_state state) not_on.0.mirror not_on.0.shelf before.stops after.stops s) is not_on.1)
       ])
     ])
@@ -134,13 +122,13 @@ mirrors_words told link_told state link opener_told names before after untouched
 pub stands_words : (opener_told told listener_told link_told : Type 0) {D L K : Type 0} (state : D → DiskState) (listener : L → ListenerState K) (link : K → LinkState) (journal_at : List ℕ → Option D) (listener_at : List ℕ → Option L) (faults later : ℕ) (journal address : List ℕ) (status : Status)
     → StandsBy opener_told told listener_told link_told state listener link journal_at listener_at faults later journal address status → status ≡ BadWords → ⊥
 stands_words opener_told told listener_told link_told state listener link journal_at listener_at faults later journal address status stands is = elim stands [
-  | inl memory ↦ memory_words status memory is
+  | inl memory ↦ (let no = sym memory ∙ is in cc)
   | inr further ↦ (elim further [
-    | inl closed ↦ closed_words status closed.0 is
+    | inl closed ↦ (let no = sym closed.0 ∙ is in cc)
     | inr both ↦ (elim both.1 [
-      | inl nobody ↦ done_words status nobody.status_is is
+      | inl nobody ↦ (let no = sym nobody.status_is ∙ is in cc)
       | inr came ↦ (elim came [
-        | inl none ↦ closed_words status none.status_is is
+        | inl none ↦ (let no = sym none.status_is ∙ is in cc)
         | inr one ↦ standby_words one.end (sym one.status_is ∙ is)
       ])
     ])

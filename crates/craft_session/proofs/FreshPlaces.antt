@@ -41,16 +41,10 @@ pub next_fresh : (id : Ident) (n : ℕ) (ps rest : List Token) (p d : Token) →
 next_fresh id n [] rest p d all some is more = absurd (omega arith)
 next_fresh id n (q ∷ ps) rest p d all some is more = (is ∙ all.0, subst (λ (l : List Token). AreFresh id (n + 1) l) (sym more) all.1)
 
-no_more : (n : ℕ) → n + 0 ≡ n
-no_more n = omega arith
-
-one_more : (n k : ℕ) → n + suc k ≡ n + 1 + k
-one_more n k = omega arith
-
 -- one place more behind them
 pub places_more : (s : Contents) (o : Opening) (u : UsersOpening) (places n : ℕ) (ps : List PlaceAt) (p : PlaceAt) → ArePlaces s o u places n ps → p ≡ place_at s o u places (n + length ps) → ArePlaces s o u places n (ps ++ p ∷ [])
-places_more s o u places n [] p all is = (is ∙ ap (place_at s o u places) (no_more n), tt)
-places_more s o u places n (x ∷ xs) p all is = (all.0, places_more s o u places (n + 1) xs p all.1 (is ∙ ap (place_at s o u places) (one_more n (length xs))))
+places_more s o u places n [] p all is = let same : n + 0 ≡ n = omega arith in (is ∙ ap (place_at s o u places) same, tt)
+places_more s o u places n (x ∷ xs) p all is = let same : n + suc (length xs) ≡ n + 1 + length xs = omega arith in (all.0, places_more s o u places (n + 1) xs p all.1 (is ∙ ap (place_at s o u places) same))
 
 -- who has seen nothing has seen no number
 none_numbered : (passes : ℕ) → AreNumbered passes []
