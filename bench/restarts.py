@@ -1,5 +1,6 @@
 #!/usr/bin/env python3
-"""Writes rows of crates/worked_restarts: an entry that needs three moves is stopped at each of its gate places, and restarts come behind it.
+"""Writes rows of crates/worked_restarts: an entry that needs three moves, and a middle that goes out of service and comes back, are stopped at each
+of their gate places, and restarts come behind.
 
 usage: bench/restarts.py            writes crates/worked_restarts/data/stops.txt and points.txt
        bench/restarts.py --check    ends with an error where one of these files is another one
@@ -33,44 +34,81 @@ IN 1 2 0
 IN 0 1 2
 MID 1 0 1
 OUT 0 0 2050"""
+# A middle with two circuits goes out of service: each is moved to the spare, in order of their outputs. Then it comes back.
+TAKEN = """IN 0 2 1
+MID 2 1 1
+OUT 1 0 1283
+MID 1 1 0
+IN 0 1 0
+IN 2 2 2
+MID 2 2 3
+OUT 2 0 1539
+MID 1 2 0
+IN 2 1 0"""
+BACK = """IN 0 1 1
+MID 1 1 1
+OUT 1 0 1794
+MID 2 1 0
+IN 0 2 0
+IN 2 1 2
+MID 1 2 3
+OUT 2 0 2050
+MID 2 2 0
+IN 2 2 0"""
 FIRST = {"IN": (0, MIDDLES), "MID": (MODULES * MIDDLES, MODULES), "OUT": (2 * MODULES * MIDDLES, SLOTS)}
-COUNT = len(WRITES.splitlines())
-# Before the journal, before each write, and before the end.
-PLACES = COUNT + 2
 
 
-def words_after(made):
-    words = WORDS.split()
-    for write in WRITES.splitlines()[:made]:
-        kind, first, second, word = write.split()
-        start, each = FIRST[kind]
-        words[start + each * int(first) + int(second)] = word
-    return " ".join(words)
+class Work:
+    """The writes of a change, by what the registers hold and what a frame is before it and behind its last write."""
+
+    def __init__(self, part, words, writes, before, behind):
+        self.part, self.words, self.writes = part, words, writes.splitlines()
+        self.before, self.behind = before, behind
+        self.count = len(self.writes)
+        # Before the journal, before each write, and before the end.
+        self.places = self.count + 2
+
+    def words_after(self, made):
+        words = self.words.split()
+        for write in self.writes[:made]:
+            kind, first, second, word = write.split()
+            start, each = FIRST[kind]
+            words[start + each * int(first) + int(second)] = word
+        return " ".join(words)
+
+    def frame(self, made):
+        return self.behind if made == self.count else self.before
+
+    def parts(self):
+        for made in range(self.count + 1):
+            yield f"part {self.part}-{made}\nlast {self.frame(made)}\nwords {self.words_after(made)}\n"
 
 
-def frame(made):
-    return "beacf." if made == COUNT else ".eacf."
+ENTRY = Work("made", WORDS, WRITES, ".eacf.", "beacf.")
+TAKE = Work("taken", WORDS, TAKEN, ".eacf.", ".eacf.")
+PUT = Work("back", TAKE.words_after(TAKE.count), BACK, ".eacf.", ".eacf.")
+COUNT, PLACES, frame = ENTRY.count, ENTRY.places, ENTRY.frame
 
 
 class Point:
-    """How far the entry came: whether the journal holds it, and how many of its writes are made."""
+    """How far a change came: whether the journal holds it, and how many of its writes are made."""
 
-    def __init__(self, held, made):
-        self.held, self.made = held, made
+    def __init__(self, held, made, work=ENTRY):
+        self.held, self.made, self.work = held, made, work
 
     @staticmethod
-    def at(asking):
-        return Point(asking > 0, min(max(asking - 1, 0), COUNT))
+    def at(asking, work=ENTRY):
+        return Point(asking > 0, min(max(asking - 1, 0), work.count), work)
 
     def left(self):
-        return COUNT - self.made if self.held else 0
+        return self.work.count - self.made if self.held else 0
 
     def behind(self, asking):
         """A restart was stopped at its asking of that number."""
-        return Point(self.held, self.made + min(max(asking - 1, 0), self.left()))
+        return Point(self.held, self.made + min(max(asking - 1, 0), self.left()), self.work)
 
     def ended(self):
-        return Point(self.held, self.made + self.left())
+        return Point(self.held, self.made + self.left(), self.work)
 
 
 def fifth(asking):
@@ -104,6 +142,34 @@ def adoptions():
         point = Point.at(asking)
         found = ["session", "adopts", "login ANNA 1", "asked 0 0 0", f"use made-{point.made}"]
         yield f"a stop at place {asking}, and another controller", fifth(asking) + found + restart(point)
+
+
+def stopped_at(asking, work):
+    """The end of a session whose change was stopped at that asking."""
+    made = Point.at(asking, work).made
+    asked = f"asked 1 {min(asking, work.count)} {int(asking == work.places - 1)}"
+    return [f"stop {asking}", asked, f"frames {work.before}", f"use {work.part}-{made}"]
+
+
+def restarted(point):
+    """A restart behind it, which moves no more than what is left."""
+    work, made = point.work, point.ended().made
+    return ["use restart", "use completed", "use four-listed", f"asked 1 {point.left()} 1", f"frames {work.before}", f"use {work.part}-{made}"]
+
+
+def middles():
+    """A middle goes out of service and comes back, with a stop at each place; the fifth entry has no middle just while it is out."""
+    denied = ["use fifth", "use no-middle", "asked 0 0 0", "frames .eacf."]
+    entered = ["use fifth", "compld 2", f"asked 1 {COUNT} 1", "frames .eacf. beacf.", "last beacf."]
+    taken = ["use taking", "compld 2", f"asked 1 {TAKE.count} 1", "frames .eacf.", f"use taken-{TAKE.count}"]
+    for asking in range(TAKE.places):
+        point = Point.at(asking, TAKE)
+        lines = ["use four", "use taking"] + stopped_at(asking, TAKE) + restarted(point)
+        yield f"a middle goes out, stopped at place {asking}", lines + (denied if point.held else entered)
+    for asking in range(PUT.places):
+        point = Point.at(asking, PUT)
+        lines = ["use four"] + taken + denied + ["use putting"] + stopped_at(asking, PUT) + restarted(point)
+        yield f"a middle comes back, stopped at place {asking}", lines + (entered if point.held else denied)
 
 
 def second_stops():
@@ -154,13 +220,13 @@ def seals():
 
 
 def texts():
-    points = [f"part made-{made}\nlast {frame(made)}\nwords {words_after(made)}\n" for made in range(COUNT + 1)]
+    points = [part for work in (ENTRY, TAKE, PUT) for part in work.parts()]
     rows = [
         "\n".join([f"row {name}", *lines]) + "\n"
-        for rows in (restarts(), adoptions(), second_stops(), changes(), faults(), seals())
+        for rows in (restarts(), adoptions(), second_stops(), changes(), middles(), faults(), seals())
         for name, lines in rows
     ]
-    head = "# Stops at each place of an entry that needs three moves, and restarts. `bench/restarts.py` writes them.\n\n"
+    head = "# Stops at each place of an entry that needs three moves and of a middle that goes out and comes back, and restarts. `bench/restarts.py` writes them.\n\n"
     return {"points.txt": "\n".join(points), "stops.txt": head + "\n".join(rows)}
 
 
