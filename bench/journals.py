@@ -428,7 +428,7 @@ def largest():
         "script",
         *login,
         f"fill {more // 2 + 1} {delete(ONE)};{enter(ONE)};",
-        f"compldx {more + 2} 1",
+        f"compldx {2 * (more // 2 + 1)} 1",
         f"calls {1 + 4 * more + 3 + ports - 1 + 3 + 4}",
         f"length {AREAS[1] + 33 + 64 * ports}",
         "check",
@@ -455,7 +455,7 @@ def eight_blocks():
     blocks = blocks_of(lines, "\r\n\n   DXC1 26-03-01 12:00:00\r\nM  1 COMPLD\r\n")
     assert [count for count, _ in blocks] == [142, 141, 133, 133, 133, 133, 133, 76]
     assert sum(length for _, length in blocks) == 30_944
-    return ["row 1024 rows in eight blocks", "shelf 32 32", "script", f"send {LOGIN};", "answer 1 COMPLD", "enters 1024 32", "retrieves 1024 32", ""]
+    return ["row 1024 rows in eight blocks", "shelf 32 32", "script", f"send {LOGIN};", "compld 1", "enters 1024 32", "retrieves 1024 32", ""]
 
 
 def rows():
