@@ -21,6 +21,6 @@ returns g c =
     let is : x.home ≡ In d = sym (ap (λ (s : State g.row.D.Denot). s.home) c.state_mut.ensures.value) ∙ c.in-Some.ensures.found in
     let was = found_in told state o x (w.0 ++ f.later) f.stands d is in
     ap (λ (m : MoverAt). m.fabric) c.release.ensures.mover
-    ∙ ap (λ (v : Driver g.row.D.Denot). v.p.mover.fabric) c.into_inner.ensures
+    ∙ ap (λ (v : Driver g.row.D.Denot). v.p.mover.fabric) c.into_inner-p.ensures
     ∙ ap (λ (s : Ground). s.fabric) was.ground
     ∙ c.requires.1
