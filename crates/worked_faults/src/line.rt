@@ -22,8 +22,15 @@ pub fn take_line(alloc: Global, row: &mut Row, number: u64, word: &str, rest: &s
             row.runs.push(Run::new(alloc, line.as_str())?)?;
         }
         "serve" => {
-            let behind = " row.journal anywhere lines ";
-            let line = joined(alloc, &["serve ", row.shelf.as_str(), behind, rest])?;
+            let line = joined(
+                alloc,
+                &[
+                    "serve ",
+                    row.shelf.as_str(),
+                    " row.journal anywhere lines ",
+                    rest,
+                ],
+            )?;
             row.runs.push(Run::new(alloc, line.as_str())?)?;
         }
         _ => take_of_run(alloc, row.run()?, number, word, rest)?,
