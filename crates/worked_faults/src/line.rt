@@ -22,15 +22,9 @@ pub fn take_line(alloc: Global, row: &mut Row, number: u64, word: &str, rest: &s
             row.runs.push(Run::new(alloc, line.as_str())?)?;
         }
         "serve" => {
-            let line = joined(
-                alloc,
-                &[
-                    "serve ",
-                    row.shelf.as_str(),
-                    " row.journal anywhere lines ",
-                    rest,
-                ],
-            )?;
+            let shelf = row.shelf.as_str();
+            let mut line = joined(alloc, &["serve ", shelf, " row.journal anywhere lines "])?;
+            line.push_str(rest)?;
             row.runs.push(Run::new(alloc, line.as_str())?)?;
         }
         _ => take_of_run(alloc, row.run()?, number, word, rest)?,
