@@ -34,7 +34,10 @@ fn take_line(alloc: Global, row: &mut Row, word: &str, rest: &str) -> Result<()>
         "people" => row.users = bytes_of(alloc, rest)?,
         "words" => row.runs.push(Run::new(alloc, rest)?)?,
         "script" | "check" => {
-            let line = joined(alloc, &[word, " ", row.shelf.as_str(), " row.journal"])?;
+            let mut line = joined(alloc, &[word])?;
+            line.push_str(" ")?;
+            line.push_str(row.shelf.as_str())?;
+            line.push_str(" row.journal")?;
             row.runs.push(Run::new(alloc, line.as_str())?)?;
         }
         _ => {
