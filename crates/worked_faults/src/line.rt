@@ -25,8 +25,9 @@ pub fn take_line(alloc: Global, row: &mut Row, number: u64, word: &str, rest: &s
             row.runs.push(Run::new(alloc, line.as_str())?)?;
         }
         "serve" => {
-            let shelf = row.shelf.as_str();
-            let mut line = joined(alloc, &["serve ", shelf, " row.journal anywhere lines "])?;
+            let mut line = joined(alloc, &["serve "])?;
+            line.push_str(row.shelf.as_str())?;
+            line.push_str(" row.journal anywhere lines ")?;
             line.push_str(rest)?;
             row.runs.push(Run::new(alloc, line.as_str())?)?;
         }

@@ -113,6 +113,8 @@ fn journal_fault(rt: &HostRuntime, name: &str, wanted: &Option<Vec<u8>>) -> Resu
     if journal.as_slice() == wanted.as_slice() {
         return Ok(None);
     }
-    let journal = hex_of(alloc, &journal)?;
-    Ok(Some(joined(alloc, &[name, " was ", journal.as_str()])?))
+    let mut why = joined(alloc, &[name])?;
+    why.push_str(" was ")?;
+    why.push_str(hex_of(alloc, &journal)?.as_str())?;
+    Ok(Some(why))
 }
