@@ -11,7 +11,7 @@ fn a_file_keeps_what_was_written(rt: HostRuntime) -> Result<(), Fail> {
     let mut disk = CountedDisk::new(FileDisk::open(&rt, NAME)?);
     assert!(rt; write_and_sync(&mut disk, 0, b"abcdef") == Ok(()));
     assert!(rt; disk.length() == Ok(6));
-    assert!(rt; disk.reads() == 0 && disk.writes() == 1 && disk.syncs() == 1);
+    assert!(rt; disk.reads() == 1 && disk.writes() == 1 && disk.syncs() == 1);
     assert!(rt; FileDisk::open(&rt, NAME).is_err(), "it has one owner");
     drop(disk);
     let mut again = FileDisk::open(&rt, NAME)?;
