@@ -24,7 +24,6 @@ pub fn fault_of_session(
 pub fn fault_of_frames(
     alloc: Global,
     row: &Row,
-    stands: &[(u16, u16)],
     meeting: &Meeting,
 ) -> Result<Option<String>> {
     if let Some(why) = number_otherwise(alloc, "the bytes that went astray", meeting.astray(), 0)? {
@@ -34,7 +33,7 @@ pub fn fault_of_frames(
         let Some(frames) = meeting.last_frames(worker as usize) else {
             return Ok(Some(joined(alloc, &["a worker has no end"])?));
         };
-        if let Some(port) = wrong_output(row, stands, worker, frames) {
+        if let Some(port) = wrong_output(row, worker, frames) {
             let port = decimal(alloc, port as u64)?;
             let texts = ["a worker carried otherwise port ", port.as_str()];
             return Ok(Some(joined(alloc, &texts)?));
@@ -43,16 +42,16 @@ pub fn fault_of_frames(
     Ok(None)
 }
 
-// The first output that the worker's last two frames carry otherwise than these connections.
-fn wrong_output(row: &Row, stands: &[(u16, u16)], worker: u16, frames: &[u8]) -> Option<u16> {
+// The first output that the worker's last two frames carry otherwise than the row's connections.
+fn wrong_output(row: &Row, worker: u16, frames: &[u8]) -> Option<u16> {
     let ports = row.size.ports();
     if frames.len() != 2 * ports as usize {
         return Some(ports);
     }
     let (even, odd) = frames.split_at(ports as usize);
     for port in 0..ports {
-        if even.get(port as usize).copied() != Some(wanted_byte(row, stands, worker, port, 0))
-            || odd.get(port as usize).copied() != Some(wanted_byte(row, stands, worker, port, 1))
+        if even.get(port as usize).copied() != Some(wanted_byte(row, worker, port, 0))
+            || odd.get(port as usize).copied() != Some(wanted_byte(row, worker, port, 1))
         {
             return Some(port);
         }
@@ -61,11 +60,11 @@ fn wrong_output(row: &Row, stands: &[(u16, u16)], worker: u16, frames: &[u8]) ->
 }
 
 // What the worker must write for the output in a frame of this number.
-fn wanted_byte(row: &Row, stands: &[(u16, u16)], worker: u16, output: u16, frame: u8) -> u8 {
+fn wanted_byte(row: &Row, worker: u16, output: u16, frame: u8) -> u8 {
     if !is_of_worker(output, row.size.slots, worker, row.workers) {
         return IDLE;
     }
-    match stands.iter().find(|(_, to)| *to == output) {
+    match row.stands.iter().find(|(_, to)| *to == output) {
         Some((input, _)) => byte_of(*input, frame),
         None => IDLE,
     }

@@ -2,19 +2,14 @@
 //! each frame worker on a thread of its own. It compares what each session was written and what the frames carried with what they say.
 #![tactic(auto)]
 
-mod asked;
-mod audit;
 mod compare;
 mod cue;
 mod gate;
-mod heard;
 mod lines;
 mod link;
 mod listener;
 mod meeting;
 mod opener;
-mod plain;
-mod random;
 mod read;
 mod row;
 mod run;

@@ -1,13 +1,11 @@
 use crate::cue::Cue;
 use crate::gate::Act;
-use crate::plain::Spot;
-use crate::random::{Plan, take_random};
 use crate::row::{Carried, NEVER, POINTS, Row, Session, Size};
 use anyhow::{Context, Result, ensure};
 use std::alloc::Global;
 use worked_common::{
     add_completed, add_report, add_texts, add_wanted, decimal, joined, lines_of, number_of,
-    numbers_of, shape_of, small, small_of, two,
+    numbers_of, shape_of, small_of, two,
 };
 
 /// The rows that the text describes, line by line.
@@ -32,14 +30,12 @@ fn take_line(alloc: Global, row: &mut Row, word: &str, rest: &str) -> Result<()>
         "sid" => row.sid = joined(alloc, &[rest])?,
         "workers" => row.workers = small_of(rest)?,
         "each" => take_numbers(alloc, row, rest)?,
-        "carried" => take_carried(alloc, row, rest)?,
+        "carried" => take_carried(row, rest)?,
         "stands" => {
             let (input, output) = two(rest)?;
-            let input = row.size.port(Spot::of(alloc, input)?)?;
             row.stands
-                .push((input, row.size.port(Spot::of(alloc, output)?)?))?;
+                .push((row.size.port(input)?, row.size.port(output)?))?;
         }
-        "random" => take_plan(alloc, row, rest)?,
         "session" => row.sessions.push(Session::new(alloc, rest)?)?,
         _ => {
             let session = row
@@ -75,36 +71,18 @@ fn take_shelf(alloc: Global, row: &mut Row, rest: &str) -> Result<()> {
     Ok(())
 }
 
-fn take_carried(alloc: Global, row: &mut Row, rest: &str) -> Result<()> {
+fn take_carried(row: &mut Row, rest: &str) -> Result<()> {
     let (from, rest) = two(rest)?;
     let (until, rest) = two(rest)?;
     let (input, output) = two(rest)?;
     row.carried.push(Carried {
         from: point(from)?,
         until: if until == "-" { NEVER } else { point(until)? },
-        input: row.size.port(Spot::of(alloc, input)?)?,
-        output: row.size.port(Spot::of(alloc, output)?)?,
+        input: row.size.port(input)?,
+        output: row.size.port(output)?,
         stands: false,
     })?;
     Ok(())
-}
-
-// A user, and numbers.
-fn take_plan(alloc: Global, row: &mut Row, rest: &str) -> Result<()> {
-    let (uid, rest) = two(rest)?;
-    let numbers = numbers_of(alloc, rest)?;
-    let [seed, sessions, rounds, units, equipped] = numbers.as_slice() else {
-        return None.context("five numbers are wanted");
-    };
-    let plan = Plan {
-        seed: *seed,
-        sessions: *sessions as usize,
-        rounds: *rounds as usize,
-        units: *units as usize,
-        equipped: small(*equipped)?,
-        uid,
-    };
-    take_random(alloc, row, plan)
 }
 
 fn take_step(

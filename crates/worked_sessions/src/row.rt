@@ -1,11 +1,9 @@
-use crate::asked::Ask;
 use crate::cue::Cue;
 use crate::gate::Act;
 use crate::meeting::Meeting;
-use crate::plain::Spot;
 use anyhow::{Context, Result, ensure};
 use std::alloc::Global;
-use worked_common::{add_texts, joined};
+use worked_common::{add_texts, joined, small_of};
 
 /// The points that a row's text may name are below this number.
 pub const POINTS: usize = 64;
@@ -27,17 +25,6 @@ pub struct Carried {
 }
 
 impl Carried {
-    /// It stands for good when the point was come to.
-    pub fn from_point(from: usize, input: u16, output: u16) -> Carried {
-        Carried {
-            from,
-            until: NEVER,
-            input,
-            output,
-            stands: false,
-        }
-    }
-
     /// Looks whether it stands, where a frame begins.
     pub fn look(&mut self, meeting: &Meeting) {
         self.stands = meeting.was_reached(self.from);
@@ -55,8 +42,6 @@ pub struct Session {
     pub name: String,
     pub cues: Vec<Cue>,
     pub wanted: Vec<u8>,
-    /// In place of that, what its units ask: they are tagged by their numbers, from 1.
-    pub asked: Vec<Ask>,
     /// The point that is come to where it is over.
     pub over: Option<usize>,
     /// What its gate does at the asking of the row's number.
@@ -69,7 +54,6 @@ impl Session {
             name: joined(alloc, &[name])?,
             cues: Vec::new(alloc),
             wanted: Vec::new(alloc),
-            asked: Vec::new(alloc),
             over: None,
             act: None,
         })
@@ -96,18 +80,16 @@ impl Size {
         self.modules.saturating_mul(self.slots)
     }
 
-    /// The number of the port, from 0.
-    pub fn port(self, spot: Spot) -> Result<u16> {
-        let module = spot.module.checked_sub(1).context("modules begin at 1")?;
-        let slot = spot.slot.checked_sub(1).context("slots begin at 1")?;
-        ensure!(
-            module < self.modules && slot < self.slots,
-            "the element has no such port"
-        );
-        module
-            .checked_mul(self.slots)
-            .and_then(|first| first.checked_add(slot))
-            .context("too many ports")
+    /// The number of the port of this name, from 0.
+    pub fn port(self, name: &str) -> Result<u16> {
+        let rest = name.strip_prefix("DS0-").context("a port is wanted")?;
+        let (module, slot) = rest.split_once('-').context("a slot is wanted")?;
+        let port = small_of(module)?
+            .saturating_sub(1)
+            .saturating_mul(self.slots)
+            .saturating_add(small_of(slot)?.saturating_sub(1));
+        ensure!(port < self.ports(), "the element has no such port");
+        Ok(port)
     }
 }
 
@@ -120,10 +102,6 @@ pub struct Row {
     pub sid: String,
     pub size: Size,
     pub workers: u16,
-    /// Its points are below this number.
-    pub points: usize,
-    /// Where its sessions are random: up to which module it is equipped at first.
-    pub equipped: Option<u16>,
     /// It is run for each number from the first to the last.
     pub first: u64,
     pub last: u64,
@@ -144,8 +122,6 @@ impl Row {
                 slots: 1,
             },
             workers: 1,
-            points: POINTS,
-            equipped: None,
             first: 0,
             last: 0,
             carried: Vec::new(alloc),

@@ -1,11 +1,10 @@
-use crate::audit::stands_after;
 use crate::compare::{fault_of_frames, fault_of_session};
 use crate::cue::Script;
 use crate::gate::Cued;
 use crate::link::CueLink;
 use crate::meeting::Meeting;
 use crate::opener::{Caller, Crew, RowOpener};
-use crate::row::{Row, Session};
+use crate::row::{POINTS, Row, Session};
 use anyhow::{Context, Result};
 use craft_server::dxc_run;
 use dxc_disk::MemDisk;
@@ -29,7 +28,7 @@ pub fn run_row<R: Threads + Wait + Copy + Send + Drop + 'static>(
     asking: u64,
 ) -> Result<Option<String>> {
     let alloc = rt.alloc();
-    let meeting = Meeting::new(alloc, row.points, row.sessions.len(), row.workers as usize)?;
+    let meeting = Meeting::new(alloc, POINTS, row.sessions.len(), row.workers as usize)?;
     let meeting = Arc::new(alloc, meeting)?;
     let status = serve(rt, threads, row, asking, &meeting)?;
     if let Some(why) = number_otherwise(alloc, "the status", status as u64, 0)? {
@@ -152,16 +151,10 @@ fn fault_of(alloc: Global, row: &Row, meeting: &Meeting) -> Result<Option<String
     if meeting.is_given_up() {
         return Ok(Some(joined(alloc, &["a thread was waited for in vain"])?));
     }
-    if let Some(equipped) = row.equipped {
-        return match stands_after(alloc, row, equipped, meeting) {
-            Ok(stands) => fault_of_frames(alloc, row, &stands, meeting),
-            Err(why) => Ok(Some(why.to_string(alloc)?)),
-        };
-    }
     for (number, session) in row.sessions.iter().enumerate() {
         if let Some(why) = fault_of_session(alloc, session, meeting.output(number))? {
             return Ok(Some(why));
         }
     }
-    fault_of_frames(alloc, row, &row.stands, meeting)
+    fault_of_frames(alloc, row, meeting)
 }
