@@ -23,22 +23,29 @@ use worked_common::{Tally, decimal, joined, lines_of, sections_of};
 fn main(rt: HostRuntime) -> Result<()> {
     let alloc = rt.alloc();
     let text = text_of(&rt)?;
-    let lines = lines_of(alloc, text.as_str())?;
-    let parts = sections_of(alloc, &lines, "part")?;
-    let mut tally = Tally::new(alloc);
-    for row in &sections_of(alloc, &lines, "row")? {
-        let lines = spelled_out(alloc, &row.lines, &parts)?;
-        let why = match run_row(alloc, &rt, &lines) {
-            Ok(()) => None,
-            Err(why) => Some(why.to_string(alloc)?),
-        };
-        tally.count(alloc, row.name, 0, why)?;
-    }
+    let tally = run_all(&rt, text.as_str())?;
     let count = decimal(alloc, tally.runs)?;
     let counted = joined(alloc, &[count.as_str(), " rows"])?;
     let told = tally.told(alloc, counted.as_str())?;
     print!(rt; "{told}")?;
     Ok(())
+}
+
+// Runs the rows of the text.
+fn run_all(rt: &HostRuntime, text: &str) -> Result<Tally> {
+    let alloc = rt.alloc();
+    let lines = lines_of(alloc, text)?;
+    let parts = sections_of(alloc, &lines, "part")?;
+    let mut tally = Tally::new(alloc);
+    for row in &sections_of(alloc, &lines, "row")? {
+        let lines = spelled_out(alloc, &row.lines, &parts)?;
+        let why = match run_row(alloc, rt, &lines) {
+            Ok(()) => None,
+            Err(why) => Some(why.to_string(alloc)?),
+        };
+        tally.count(alloc, row.name, 0, why)?;
+    }
+    Ok(tally)
 }
 
 // All parts and then all rows. A part without a name stands between them, so that no other has lines of rows.

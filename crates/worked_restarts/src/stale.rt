@@ -64,22 +64,20 @@ pub fn run_stale<R: Wait>(
         seats,
         state,
     } = start(alloc, row, disk_of(alloc, row, &levers)?)?;
-    let late = second_seat(alloc, &fabric, seats)?;
-    let Seated { turns, place, pass } = seat_two(
-        alloc,
-        &shelf,
-        &fabric,
-        state,
-        users_disk(alloc)?,
-    )?;
+    let mut late = second_seat(alloc, &fabric, seats)?;
+    let Seated {
+        turns,
+        mut place,
+        mut pass,
+    } = seat_two(alloc, &shelf, &fabric, state, users_disk(alloc)?)?;
     between(
         alloc,
         rt,
         &turns,
         &fabric,
-        place,
-        pass,
-        late,
+        &mut place,
+        &mut pass,
+        &mut late,
         &before.lines,
         &behind.lines,
     )
@@ -147,31 +145,22 @@ fn between<D: Disk + Drop, U: Disk + Drop, R: Wait>(
     rt: &R,
     turns: &Turnstile<State<D>>,
     fabric: &Fabric,
-    mut place: Place<D, U>,
-    mut pass: Pass,
-    mut late: WorkerSeat,
+    place: &mut Place<D, U>,
+    pass: &mut Pass,
+    late: &mut WorkerSeat,
     before: &[Line<'_>],
     behind: &[Line<'_>],
 ) -> Result<()>
-    requires seated { IsSeated D.told D.state pass turns.now fabric.now }
+    requires seated { IsSeated D.told D.state pass.old turns.now fabric.now }
     requires ports { 1 < ports (opening_of D.state turns.now.first).first.fold.table.shape }
-    requires own { late.reader.fabric ≡ fabric.now }
-    requires rests { CanBegin late.reader.worker }
+    requires own { late.old.reader.fabric ≡ fabric.now }
+    requires rests { CanBegin late.old.reader.worker }
 {
-    serve_at(alloc, rt, &mut place, before, &mut AlwaysGo)?;
-    let beside = change_beside(
-        alloc,
-        &mut pass,
-        turns,
-        fabric,
-        &entry(),
-        &mut late,
-        OUTPUT,
-        rt,
-    )?;
+    serve_at(alloc, rt, place, before, &mut AlwaysGo)?;
+    let beside = change_beside(alloc, pass, turns, fabric, &entry(), late, OUTPUT, rt)?;
     ensure!(beside == WANTED, "the entry came otherwise");
-    let words = words_in_turn(alloc, &mut pass, turns, fabric, rt)?;
+    let words = words_in_turn(alloc, pass, turns, fabric, rt)?;
     same_as_said(alloc, behind, "words", &words)?;
-    serve_at(alloc, rt, &mut place, behind, &mut AlwaysGo)?;
+    serve_at(alloc, rt, place, behind, &mut AlwaysGo)?;
     Ok(())
 }
