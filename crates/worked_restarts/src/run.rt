@@ -58,8 +58,7 @@ fn serve<R: Wait>(
     session: &[Line<'_>],
 ) -> Result<()> {
     gate.set(alloc, session)?;
-    let mut place = element.places.pop().context("no place is left")?;
-    let end = serve_at(alloc, rt, &mut place, session, gate)?;
+    let end = serve_next(alloc, rt, element, session, gate)?;
     match (end, is_said(session, "stop")) {
         (SessionEnd::Stopped, true) | (SessionEnd::End, false) => {}
         _ => bail!("it ended otherwise"),
@@ -76,6 +75,18 @@ fn serve<R: Wait>(
         same_as_said(alloc, session, "words", &words)?;
     }
     Ok(())
+}
+
+// Serves the session at the next place. It alone owns the place, since a place is dear to drop at each failure.
+fn serve_next<R: Wait>(
+    alloc: Global,
+    rt: &R,
+    element: &mut RowElement,
+    session: &[Line<'_>],
+    gate: &mut Carrier,
+) -> Result<SessionEnd> {
+    let mut place = element.places.pop().context("no place is left")?;
+    serve_at(alloc, rt, &mut place, session, gate)
 }
 
 /// Serves the session at the place, and compares what it was written. How it ended.
