@@ -40,14 +40,20 @@ impl<D: Disk> Model for Audit<D> {
 }
 
 impl<D: Disk + Drop> Audit<D> {
-    pub fn new(pass: Pass, turns: Arc<Turnstile<State<D>>>, fabric: Arc<Fabric>) -> Audit<D>
-        requires { IsSeated D.told D.state pass (arc_value turns) (arc_value fabric) }
+    pub fn new(
+        pass: Pass,
+        turns: &Arc<Turnstile<State<D>>>,
+        fabric: &Arc<Fabric>,
+    ) -> Result<Audit<D>>
+        requires { IsSeated D.told D.state pass (arc_value turns.now) (arc_value fabric.now) }
     {
-        Audit {
+        let turns = Arc::try_clone(turns)?;
+        let fabric = Arc::try_clone(fabric)?;
+        Ok(Audit {
             pass,
             turns,
             fabric,
-        }
+        })
     }
 
     /// All register words: IN by module and middle, MID by middle and module, OUT by port.

@@ -1,7 +1,7 @@
 //! The opening of an element on a disk, with a place for each session of a row.
 ghost use Rattle.std.specs.Prelude.{◌≡◌, ◌<◌, ◌+◌, IfOk, IfSome, ℕ, [], length, true};
 ghost use Rattle.std.specs.Arc.{arc_value};
-ghost use Rattle.fabric_core.specs.State.{new_worker};
+ghost use Rattle.fabric_core.specs.State.{new_mover, new_worker};
 ghost use Rattle.fabric_words.specs.New.{AreNew};
 ghost use Rattle.fabric_words.specs.Seats.{FabricId};
 ghost use Rattle.turnstile.specs.Passing.{Ident};
@@ -18,6 +18,7 @@ use crate::users::{Users, users_disk, users_of};
 use anyhow::{Context, Result, bail, ensure};
 use craft_session::Place;
 use dxc_disk::{Disk, MemDisk};
+use dxc_num::Shape;
 use dxc_outside::AlwaysGo;
 use fabric_words::{Fabric, MoverSeat, WorkerSeat};
 use shelf_file::{Shelf, shelf_of};
@@ -67,11 +68,12 @@ impl Element<RowDisk, MemDisk> {
     /// the journal.
     pub fn handed_on<R: Wait>(self, alloc: Global, rt: &R) -> Result<Option<RowElement>> {
         let Element {
-            places: _,
+            places,
             audit,
             shelf,
             count,
         } = self;
+        drop(places);
         let Released { disk, seat, fabric } = audit.release(rt)?;
         let Some(state) = adopt(alloc, &shelf, &fabric, disk, seat)? else {
             return Ok(None);
@@ -123,10 +125,59 @@ pub fn disk_of(alloc: Global, row: &[Line<'_>], levers: &Arc<Levers>) -> Result<
 }
 
 // The shelf of the shape that the row says.
-fn shelf_said(alloc: Global, row: &[Line<'_>]) -> Result<Shelf> {
+fn shelf_said(alloc: Global, row: &[Line<'_>]) -> Result<Arc<Shelf>> {
     let (modules, slots) = shape_of(said(row, "shelf").context("no shape")?)?;
     let text = shelf_text(alloc, modules, slots)?;
-    shelf_of(alloc, text.as_bytes()).ok().context("no shelf")
+    let Ok(shelf) = shelf_of(alloc, text.as_bytes()) else {
+        bail!("no shelf");
+    };
+    Ok(Arc::new(alloc, shelf)?)
+}
+
+// A new fabric with the seats at it.
+#[derive(Drop)]
+struct Laid {
+    fabric: Arc<Fabric>,
+    mover: MoverSeat,
+    seats: Vec<WorkerSeat>,
+}
+
+// A fabric of the shape for the row's workers.
+fn lay(alloc: Global, row: &[Line<'_>], shape: Shape) -> Result<Laid>
+    ensures shape { IfOk result (λ l. (arc_value l.fabric).size.shape ≡ shape) }
+    ensures mover { IfOk result (λ l. l.mover ≡ record { fabric = arc_value l.fabric; mover = new_mover (arc_value l.fabric).size }) }
+    ensures seats { IfOk result (λ l. AreNew (arc_value l.fabric) 0 l.seats.items) }
+{
+    let workers = small(number_said(row, "workers")?.unwrap_or(1))?;
+    ensure!(1 <= workers && workers <= 8, "no such number of workers");
+    let Ok((fabric, mover, seats)) = Fabric::new(alloc, shape, workers) else {
+        bail!("no memory");
+    };
+    let fabric = Arc::new(alloc, fabric)?;
+    Ok(Laid {
+        fabric,
+        mover,
+        seats,
+    })
+}
+
+// The controller on what the disk's journal came to, which writes the registers.
+fn controller<D: Disk + Drop>(
+    alloc: Global,
+    shelf: &Shelf,
+    fabric: &Fabric,
+    mover: MoverSeat,
+    disk: D,
+) -> Result<State<D>>
+    requires new { mover ≡ record { fabric = fabric.now; mover = new_mover fabric.now.size } }
+    requires shape { fabric.now.size.shape ≡ shelf.now.shape }
+    ensures begins { IfOk result (λ s. Begins D.told D.state s) }
+    ensures opening { IfOk result (λ s. IsAtOpening (opening_of D.state s) shelf.now fabric.now) }
+{
+    let Ok(state) = Core::open(alloc, shelf, disk, mover, fabric, &mut AlwaysGo) else {
+        bail!("not opened");
+    };
+    Ok(state)
 }
 
 /// A controller of the row's shelf and workers on what the disk's journal came to.
@@ -136,17 +187,15 @@ pub fn start<D: Disk + Drop>(alloc: Global, row: &[Line<'_>], disk: D) -> Result
     ensures seats { IfOk result (λ s. AreNew (arc_value s.fabric) 0 s.seats.items) }
 {
     let shelf = shelf_said(alloc, row)?;
-    let workers = small(number_said(row, "workers")?.unwrap_or(1))?;
-    ensure!(1 <= workers && workers <= 8, "no such number of workers");
-    let Ok((fabric, mover, seats)) = Fabric::new(alloc, shelf.shape(), workers) else {
-        bail!("no memory");
-    };
-    let Ok(state) = Core::open(alloc, &shelf, disk, mover, &fabric, &mut AlwaysGo) else {
-        bail!("not opened");
-    };
+    let Laid {
+        fabric,
+        mover,
+        seats,
+    } = lay(alloc, row, shelf.shape())?;
+    let state = controller(alloc, &shelf, &fabric, mover, disk)?;
     Ok(Started {
-        shelf: Arc::new(alloc, shelf)?,
-        fabric: Arc::new(alloc, fabric)?,
+        shelf,
+        fabric,
         seats,
         state,
     })
@@ -207,7 +256,7 @@ fn seat_all<D: Disk + Drop, U: Disk + Drop>(
     let mut users = users_of(alloc, &shelf, disk, count + 1)?;
     let pass = next_pass(&mut passes);
     let _ = next_pass(&mut users.passes);
-    let audit = Audit::new(pass, Arc::try_clone(&turns)?, Arc::try_clone(fabric)?);
+    let audit = Audit::new(pass, &turns, fabric)?;
     let places = places_of(alloc, count, passes, users, &shelf, fabric, &turns)?;
     Ok(Element {
         places,

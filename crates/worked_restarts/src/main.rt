@@ -17,13 +17,16 @@ mod users;
 use crate::row::spelled_out;
 use crate::run::run_row;
 use anyhow::Result;
+use std::alloc::Global;
 use std::fs;
-use worked_common::{Tally, decimal, joined, lines_of, sections_of};
+use std::sync::Wait;
+use worked_common::{Section, Tally, decimal, joined, lines_of, sections_of};
 
 fn main(rt: HostRuntime) -> Result<()> {
     let alloc = rt.alloc();
+    let mut tally = Tally::new(alloc);
     let text = text_of(&rt)?;
-    let tally = run_all(&rt, text.as_str())?;
+    run_all(alloc, &rt, text.as_str(), &mut tally)?;
     let count = decimal(alloc, tally.runs)?;
     let counted = joined(alloc, &[count.as_str(), " rows"])?;
     let told = tally.told(alloc, counted.as_str())?;
@@ -31,21 +34,30 @@ fn main(rt: HostRuntime) -> Result<()> {
     Ok(())
 }
 
-// Runs the rows of the text.
-fn run_all(rt: &HostRuntime, text: &str) -> Result<Tally> {
-    let alloc = rt.alloc();
+// Runs and counts the rows of the text.
+fn run_all<R: Wait>(alloc: Global, rt: &R, text: &str, tally: &mut Tally) -> Result<()> {
     let lines = lines_of(alloc, text)?;
     let parts = sections_of(alloc, &lines, "part")?;
-    let mut tally = Tally::new(alloc);
     for row in &sections_of(alloc, &lines, "row")? {
-        let lines = spelled_out(alloc, &row.lines, &parts)?;
-        let why = match run_row(alloc, rt, &lines) {
-            Ok(()) => None,
-            Err(why) => Some(why.to_string(alloc)?),
-        };
-        tally.count(alloc, row.name, 0, why)?;
+        count_row(alloc, rt, row, &parts, tally)?;
     }
-    Ok(tally)
+    Ok(())
+}
+
+// Runs and counts the row.
+fn count_row<'a, R: Wait>(
+    alloc: Global,
+    rt: &R,
+    row: &Section<'a>,
+    parts: &[Section<'a>],
+    tally: &mut Tally,
+) -> Result<()> {
+    let lines = spelled_out(alloc, &row.lines, parts)?;
+    let why = match run_row(alloc, rt, &lines) {
+        Ok(()) => None,
+        Err(why) => Some(why.to_string(alloc)?),
+    };
+    tally.count(alloc, row.name, 0, why)
 }
 
 // All parts and then all rows. A part without a name stands between them, so that no other has lines of rows.

@@ -1,44 +1,83 @@
+use crate::audit::Audit;
 use crate::carrier::Carrier;
+use crate::crew::Crew;
 use crate::element::{Element, RowElement, disk_of};
 use crate::row::{exchange_of, is_said, same_as_said};
 use crate::stale::run_stale;
-use anyhow::{Context, Result, bail, ensure};
+use anyhow::{Context, Result, ensure};
 use craft_session::{Place, SessionEnd, serve_session};
 use dxc_disk::Disk;
 use dxc_outside::{Gate, MemClock, MemLink};
 use std::alloc::Global;
 use std::sync::Wait;
 use worked_common::{
-    Levers, Line, NOON, frame_of, number_of, number_said, said, same_bytes, sections_of, two,
+    Levers, Line, NOON, Section, frame_of, number_of, number_said, said, same_bytes, sections_of,
+    two,
 };
 
 /// Opens an element for the row and serves its sessions. An error tells the first thing that isn't as it must be.
 pub fn run_row<R: Wait>(alloc: Global, rt: &R, row: &[Line<'_>]) -> Result<()> {
     let sessions = sections_of(alloc, row, "session")?;
-    if is_said(row, "held") {
-        return run_stale(alloc, rt, row, &sessions);
-    }
     let levers = Levers::new(alloc).ok().context("no memory")?;
     let disk = disk_of(alloc, row, &levers)?;
-    let (mut element, crew) = Element::open(alloc, row, disk, sessions.len())?;
+    if is_said(row, "held") {
+        return run_stale(alloc, rt, row, disk, &sessions);
+    }
+    let (element, crew) = Element::open(alloc, row, disk, sessions.len())?;
     let mut gate = Carrier::new(alloc, crew);
-    for session in &sessions {
-        let lines = session.lines.as_slice();
-        set(&levers, lines)?;
-        if is_said(lines, "strange") {
-            let heir = element.handed_on(alloc, rt)?;
-            ensure!(heir.is_none(), "the registers weren't strange");
-            return Ok(());
+    serve_all(alloc, rt, element, &mut gate, &levers, &sessions)
+}
+
+// Serves the sessions, each on what the one before it left.
+fn serve_all<R: Wait>(
+    alloc: Global,
+    rt: &R,
+    mut element: RowElement,
+    gate: &mut Carrier,
+    levers: &Levers,
+    sessions: &[Section<'_>],
+) -> Result<()> {
+    for session in sessions {
+        match serve_on(alloc, rt, element, gate, levers, &session.lines)? {
+            Some(left) => element = left,
+            None => return Ok(()),
         }
-        if is_said(lines, "adopts") {
-            element = element
-                .handed_on(alloc, rt)?
-                .context("the registers were strange")?;
-            set(&levers, lines)?;
-        }
-        serve(alloc, rt, &mut element, &mut gate, &levers, lines)?;
     }
     Ok(())
+}
+
+// Serves the session, by another controller where it says so; what it left. None: that one finds the registers strange, as is said.
+fn serve_on<R: Wait>(
+    alloc: Global,
+    rt: &R,
+    element: RowElement,
+    gate: &mut Carrier,
+    levers: &Levers,
+    session: &[Line<'_>],
+) -> Result<Option<RowElement>> {
+    set(levers, session)?;
+    let Some(mut element) = heir_of(alloc, rt, element, session)? else {
+        return Ok(None);
+    };
+    set(levers, session)?;
+    serve(alloc, rt, &mut element, gate, levers, session)?;
+    Ok(Some(element))
+}
+
+// The element, or what another controller makes of it. None: that one finds the registers strange.
+fn heir_of<R: Wait>(
+    alloc: Global,
+    rt: &R,
+    element: RowElement,
+    session: &[Line<'_>],
+) -> Result<Option<RowElement>> {
+    let strange = is_said(session, "strange");
+    if !strange && !is_said(session, "adopts") {
+        return Ok(Some(element));
+    }
+    let heir = element.handed_on(alloc, rt)?;
+    ensure!(heir.is_none() == strange, "the registers were otherwise");
+    Ok(heir)
 }
 
 // From now on the disk does what the session says.
@@ -49,43 +88,40 @@ fn set(levers: &Levers, session: &[Line<'_>]) -> Result<()> {
 }
 
 // Serves one session at the next place.
-fn serve<R: Wait>(
+fn serve<D: Disk + Drop, U: Disk + Drop, R: Wait>(
     alloc: Global,
     rt: &R,
-    element: &mut RowElement,
+    element: &mut Element<D, U>,
     gate: &mut Carrier,
     levers: &Levers,
     session: &[Line<'_>],
 ) -> Result<()> {
     gate.set(alloc, session)?;
-    let end = serve_next(alloc, rt, element, session, gate)?;
-    match (end, is_said(session, "stop")) {
-        (SessionEnd::Stopped, true) | (SessionEnd::End, false) => {}
-        _ => bail!("it ended otherwise"),
-    }
-    same_as_said(alloc, session, "asked", &gate.asked())?;
-    let calls = levers.calls();
-    same_as_said(alloc, session, "calls", &[calls])?;
-    if let Some(failing) = number_said(session, "fails")? {
-        ensure!(failing < calls, "no call of the disk failed");
-    }
+    let end = serve_next(alloc, rt, &mut element.places, session, gate)?;
+    ensure!(ends_so(end, is_said(session, "stop")), "it ended otherwise");
+    compare_counts(alloc, gate, levers, session)?;
     compare_frames(alloc, gate, session)?;
-    if is_said(session, "words") {
-        let words = element.audit.words(alloc, rt)?;
-        same_as_said(alloc, session, "words", &words)?;
+    compare_words(alloc, rt, &mut element.audit, session)
+}
+
+// Whether a session may end so where the gate stops, or doesn't.
+fn ends_so(end: SessionEnd, stops: bool) -> bool {
+    match end {
+        SessionEnd::Stopped => stops,
+        SessionEnd::End => !stops,
+        _ => false,
     }
-    Ok(())
 }
 
 // Serves the session at the next place. It alone owns the place, since a place is dear to drop at each failure.
-fn serve_next<R: Wait>(
+fn serve_next<D: Disk + Drop, U: Disk + Drop, R: Wait>(
     alloc: Global,
     rt: &R,
-    element: &mut RowElement,
+    places: &mut Vec<Place<D, U>>,
     session: &[Line<'_>],
     gate: &mut Carrier,
 ) -> Result<SessionEnd> {
-    let mut place = element.places.pop().context("no place is left")?;
+    let mut place = places.pop().context("no place is left")?;
     serve_at(alloc, rt, &mut place, session, gate)
 }
 
@@ -97,13 +133,43 @@ pub fn serve_at<D: Disk + Drop, U: Disk + Drop, G: Gate, R: Wait>(
     session: &[Line<'_>],
     gate: &mut G,
 ) -> Result<SessionEnd> {
+    let mut clock = MemClock::new(vec![in alloc; NOON]?);
     let exchange = exchange_of(alloc, session)?;
     let (input, wanted) = (exchange.input, exchange.output);
     let mut link = MemLink::new(input, Vec::new(alloc), Vec::new(alloc), Vec::new(alloc));
-    let mut clock = MemClock::new(vec![in alloc; NOON]?);
     let end = serve_session(place, &mut link, &mut clock, gate, rt);
     same_bytes(alloc, "it", link.output(), &wanted)?;
     Ok(end)
+}
+
+// Compares how often gate and disk were asked.
+fn compare_counts(
+    alloc: Global,
+    gate: &Carrier,
+    levers: &Levers,
+    session: &[Line<'_>],
+) -> Result<()> {
+    same_as_said(alloc, session, "asked", &gate.asked())?;
+    let calls = levers.calls();
+    same_as_said(alloc, session, "calls", &[calls])?;
+    if let Some(failing) = number_said(session, "fails")? {
+        ensure!(failing < calls, "no call of the disk failed");
+    }
+    Ok(())
+}
+
+// Compares the register words behind the session, where they are said.
+fn compare_words<D: Disk + Drop, R: Wait>(
+    alloc: Global,
+    rt: &R,
+    audit: &mut Audit<D>,
+    session: &[Line<'_>],
+) -> Result<()> {
+    if !is_said(session, "words") {
+        return Ok(());
+    }
+    let words = audit.words(alloc, rt)?;
+    same_as_said(alloc, session, "words", &words)
 }
 
 // Compares the frames, in the session and behind it.
@@ -116,12 +182,16 @@ fn compare_frames(alloc: Global, gate: &mut Carrier, session: &[Line<'_>]) -> Re
     }
     for line in session {
         if line.word == "by" {
-            let (worker, frame) = two(line.rest)?;
-            let output = crew
-                .frame_by(number_of(worker)? as usize)
-                .context("no such worker")?;
-            same_bytes(alloc, "a worker's line", output, &frame_of(alloc, frame)?)?;
+            compare_frame_by(alloc, crew, line.rest)?;
         }
     }
     Ok(())
+}
+
+// Compares what a worker wrote of the last frame: its number, and the frame.
+fn compare_frame_by(alloc: Global, crew: &Crew, said: &str) -> Result<()> {
+    let (worker, frame) = two(said)?;
+    let worker = number_of(worker)? as usize;
+    let output = crew.frame_by(worker).context("no such worker")?;
+    same_bytes(alloc, "a worker's line", output, &frame_of(alloc, frame)?)
 }

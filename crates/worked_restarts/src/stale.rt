@@ -13,12 +13,12 @@ ghost use Rattle.craft_session.specs.Places.{IsAtOpening};
 use crate::audit::words_in_turn;
 use crate::beside::{Beside, change_beside};
 use crate::element::{
-    Started, Turns, disk_of, next_pass, next_place, next_seat, next_worker, start, turns_of,
+    Started, Turns, next_pass, next_place, next_seat, next_worker, start, turns_of,
 };
 use crate::row::same_as_said;
 use crate::run::serve_at;
 use crate::users::{users_disk, users_of};
-use anyhow::{Context, Result, bail, ensure};
+use anyhow::{Result, bail, ensure};
 use craft_session::Place;
 use dxc_disk::Disk;
 use dxc_model::{Cct, Conn, Label, Op};
@@ -30,7 +30,7 @@ use shelf_file::Shelf;
 use std::alloc::Global;
 use std::sync::{Arc, Wait};
 use turnstile::{Pass, Turnstile};
-use worked_common::{Levers, Line, Section};
+use worked_common::{Line, RowDisk, Section};
 use xc_core::State;
 
 /// DS0-2-2.
@@ -52,35 +52,59 @@ pub fn run_stale<R: Wait>(
     alloc: Global,
     rt: &R,
     row: &[Line<'_>],
+    disk: RowDisk,
     sessions: &[Section<'_>],
 ) -> Result<()> {
     let [before, behind] = sessions else {
         bail!("two sessions are wanted");
     };
-    let levers = Levers::new(alloc).ok().context("no memory")?;
+    let mut held = seat_beside(alloc, row, disk, users_disk(alloc)?)?;
+    let seated = &mut held.seated;
+    between(
+        alloc,
+        rt,
+        &seated.turns,
+        &held.fabric,
+        &mut seated.place,
+        &mut seated.pass,
+        &mut held.late,
+        &before.lines,
+        &behind.lines,
+    )
+}
+
+/// What is seated on a fabric, and the second worker's seat.
+#[derive(Drop)]
+struct Held<D: Disk, U: Disk> {
+    fabric: Arc<Fabric>,
+    late: WorkerSeat,
+    seated: Seated<D, U>,
+}
+
+fn seat_beside<D: Disk + Drop, U: Disk + Drop>(
+    alloc: Global,
+    row: &[Line<'_>],
+    disk: D,
+    users: U,
+) -> Result<Held<D, U>>
+    ensures seated { IfOk result (λ h. IsSeated D.told D.state h.seated.pass (arc_value h.seated.turns) (arc_value h.fabric)) }
+    ensures ports { IfOk result (λ h. 1 < ports (opening_of D.state (arc_value h.seated.turns).first).first.fold.table.shape) }
+    ensures own { IfOk result (λ h. h.late.reader.fabric ≡ arc_value h.fabric) }
+    ensures rests { IfOk result (λ h. CanBegin h.late.reader.worker) }
+{
     let Started {
         shelf,
         fabric,
         seats,
         state,
-    } = start(alloc, row, disk_of(alloc, row, &levers)?)?;
-    let mut late = second_seat(alloc, &fabric, seats)?;
-    let Seated {
-        turns,
-        mut place,
-        mut pass,
-    } = seat_two(alloc, &shelf, &fabric, state, users_disk(alloc)?)?;
-    between(
-        alloc,
-        rt,
-        &turns,
-        &fabric,
-        &mut place,
-        &mut pass,
-        &mut late,
-        &before.lines,
-        &behind.lines,
-    )
+    } = start(alloc, row, disk)?;
+    let late = second_seat(alloc, &fabric, seats)?;
+    let seated = seat_two(alloc, &shelf, &fabric, state, users)?;
+    Ok(Held {
+        fabric,
+        late,
+        seated,
+    })
 }
 
 // Has the first of two workers carry a frame, and gives the seat of the second.
