@@ -1,7 +1,7 @@
 //! The opening of an element on a disk, with a place for each session of a row.
 ghost use Rattle.std.specs.Prelude.{◌≡◌, ◌<◌, ◌+◌, IfOk, IfSome, ℕ, [], length, true};
 ghost use Rattle.std.specs.Arc.{arc_value};
-ghost use Rattle.fabric_core.specs.State.{new_mover, new_worker};
+ghost use Rattle.fabric_core.specs.State.{new_worker};
 ghost use Rattle.fabric_words.specs.New.{AreNew};
 ghost use Rattle.fabric_words.specs.Seats.{FabricId};
 ghost use Rattle.turnstile.specs.Passing.{Ident};
@@ -13,19 +13,17 @@ ghost use Rattle.craft_session.specs.Places.{AreFresh, IsAtOpening};
 use crate::audit::{Audit, Released};
 use crate::carriage::Carriage;
 use crate::crew::Crew;
-use crate::row::bytes_said;
+use crate::start::{Started, start};
 use crate::users::{Users, users_disk, users_of};
 use anyhow::{Context, Result, bail, ensure};
 use craft_session::Place;
 use dxc_disk::{Disk, MemDisk};
-use dxc_num::Shape;
-use dxc_outside::AlwaysGo;
 use fabric_words::{Fabric, MoverSeat, WorkerSeat};
-use shelf_file::{Shelf, shelf_of};
+use shelf_file::Shelf;
 use std::alloc::Global;
 use std::sync::{Arc, Wait};
 use turnstile::{Pass, Sequential, Turnstile};
-use worked_common::{Levers, Line, RowDisk, Torn, number_said, said, shape_of, shelf_text, small};
+use worked_common::{Line, RowDisk, small};
 use xc_core::{Adopted, Core, State};
 
 /// The turnstile of an element.
@@ -105,100 +103,6 @@ fn adopt<D: Disk + Drop>(
         Adopted::Strange(_, _) => Ok(None),
         Adopted::Open(_) => bail!("not opened"),
     }
-}
-
-/// A controller that has started, on a new fabric with a seat for each worker.
-#[derive(Drop)]
-pub struct Started<D: Disk> {
-    pub shelf: Arc<Shelf>,
-    pub fabric: Arc<Fabric>,
-    pub seats: Vec<WorkerSeat>,
-    pub state: State<D>,
-}
-
-/// The disk of the row's journal, with these levers.
-pub fn disk_of(alloc: Global, row: &[Line<'_>], levers: &Arc<Levers>) -> Result<RowDisk> {
-    let held = bytes_said(alloc, row, "old")?;
-    let shown = bytes_said(alloc, row, "shown")?;
-    let torn = Torn::of(said(row, "torn").unwrap_or("lost"))?;
-    Ok(RowDisk::new(held, shown, torn, Arc::try_clone(levers)?))
-}
-
-// The shelf of the shape that the row says.
-fn shelf_said(alloc: Global, row: &[Line<'_>]) -> Result<Arc<Shelf>> {
-    let (modules, slots) = shape_of(said(row, "shelf").context("no shape")?)?;
-    let text = shelf_text(alloc, modules, slots)?;
-    let Ok(shelf) = shelf_of(alloc, text.as_bytes()) else {
-        bail!("no shelf");
-    };
-    Ok(Arc::new(alloc, shelf)?)
-}
-
-// A new fabric with the seats at it.
-#[derive(Drop)]
-struct Laid {
-    fabric: Arc<Fabric>,
-    mover: MoverSeat,
-    seats: Vec<WorkerSeat>,
-}
-
-// A fabric of the shape for the row's workers.
-fn lay(alloc: Global, row: &[Line<'_>], shape: Shape) -> Result<Laid>
-    ensures shape { IfOk result (λ l. (arc_value l.fabric).size.shape ≡ shape) }
-    ensures mover { IfOk result (λ l. l.mover ≡ record { fabric = arc_value l.fabric; mover = new_mover (arc_value l.fabric).size }) }
-    ensures seats { IfOk result (λ l. AreNew (arc_value l.fabric) 0 l.seats.items) }
-{
-    let workers = small(number_said(row, "workers")?.unwrap_or(1))?;
-    ensure!(1 <= workers && workers <= 8, "no such number of workers");
-    let Ok((fabric, mover, seats)) = Fabric::new(alloc, shape, workers) else {
-        bail!("no memory");
-    };
-    let fabric = Arc::new(alloc, fabric)?;
-    Ok(Laid {
-        fabric,
-        mover,
-        seats,
-    })
-}
-
-// The controller on what the disk's journal came to, which writes the registers.
-fn controller<D: Disk + Drop>(
-    alloc: Global,
-    shelf: &Shelf,
-    fabric: &Fabric,
-    mover: MoverSeat,
-    disk: D,
-) -> Result<State<D>>
-    requires new { mover ≡ record { fabric = fabric.now; mover = new_mover fabric.now.size } }
-    requires shape { fabric.now.size.shape ≡ shelf.now.shape }
-    ensures begins { IfOk result (λ s. Begins D.told D.state s) }
-    ensures opening { IfOk result (λ s. IsAtOpening (opening_of D.state s) shelf.now fabric.now) }
-{
-    let Ok(state) = Core::open(alloc, shelf, disk, mover, fabric, &mut AlwaysGo) else {
-        bail!("not opened");
-    };
-    Ok(state)
-}
-
-/// A controller of the row's shelf and workers on what the disk's journal came to.
-pub fn start<D: Disk + Drop>(alloc: Global, row: &[Line<'_>], disk: D) -> Result<Started<D>>
-    ensures begins { IfOk result (λ s. Begins D.told D.state s.state) }
-    ensures opening { IfOk result (λ s. IsAtOpening (opening_of D.state s.state) (arc_value s.shelf) (arc_value s.fabric)) }
-    ensures seats { IfOk result (λ s. AreNew (arc_value s.fabric) 0 s.seats.items) }
-{
-    let shelf = shelf_said(alloc, row)?;
-    let Laid {
-        fabric,
-        mover,
-        seats,
-    } = lay(alloc, row, shelf.shape())?;
-    let state = controller(alloc, &shelf, &fabric, mover, disk)?;
-    Ok(Started {
-        shelf,
-        fabric,
-        seats,
-        state,
-    })
 }
 
 // The workers of these seats.

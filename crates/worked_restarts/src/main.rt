@@ -12,6 +12,7 @@ mod reader;
 mod row;
 mod run;
 mod stale;
+mod start;
 mod users;
 
 use crate::row::spelled_out;

@@ -1,9 +1,11 @@
 use crate::audit::Audit;
 use crate::carrier::Carrier;
 use crate::crew::Crew;
-use crate::element::{Element, RowElement, disk_of};
+use crate::element::{Element, RowElement};
 use crate::row::{exchange_of, is_said, same_as_said};
 use crate::stale::run_stale;
+use crate::start::disk_of;
+use crate::users::users_disk;
 use anyhow::{Context, Result, ensure};
 use craft_session::{Place, SessionEnd, serve_session};
 use dxc_disk::Disk;
@@ -21,7 +23,7 @@ pub fn run_row<R: Wait>(alloc: Global, rt: &R, row: &[Line<'_>]) -> Result<()> {
     let levers = Levers::new(alloc).ok().context("no memory")?;
     let disk = disk_of(alloc, row, &levers)?;
     if is_said(row, "held") {
-        return run_stale(alloc, rt, row, disk, &sessions);
+        return run_stale(alloc, rt, row, disk, users_disk(alloc)?, &sessions);
     }
     let (element, crew) = Element::open(alloc, row, disk, sessions.len())?;
     let mut gate = Carrier::new(alloc, crew);

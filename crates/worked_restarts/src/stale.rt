@@ -12,12 +12,11 @@ ghost use Rattle.craft_session.specs.Places.{IsAtOpening};
 
 use crate::audit::words_in_turn;
 use crate::beside::{Beside, change_beside};
-use crate::element::{
-    Started, Turns, next_pass, next_place, next_seat, next_worker, start, turns_of,
-};
+use crate::element::{Turns, next_pass, next_place, next_seat, next_worker, turns_of};
 use crate::row::same_as_said;
 use crate::run::serve_at;
-use crate::users::{users_disk, users_of};
+use crate::start::{Started, start};
+use crate::users::users_of;
 use anyhow::{Result, bail, ensure};
 use craft_session::Place;
 use dxc_disk::Disk;
@@ -30,7 +29,7 @@ use shelf_file::Shelf;
 use std::alloc::Global;
 use std::sync::{Arc, Wait};
 use turnstile::{Pass, Turnstile};
-use worked_common::{Line, RowDisk, Section};
+use worked_common::{Line, Section};
 use xc_core::State;
 
 /// DS0-2-2.
@@ -48,17 +47,18 @@ const WANTED: Beside = Beside {
 };
 
 /// The row's first session, the entry by another place, and the row's second session. An error tells what isn't as it must be.
-pub fn run_stale<R: Wait>(
+pub fn run_stale<D: Disk + Drop, U: Disk + Drop, R: Wait>(
     alloc: Global,
     rt: &R,
     row: &[Line<'_>],
-    disk: RowDisk,
+    disk: D,
+    users: U,
     sessions: &[Section<'_>],
 ) -> Result<()> {
     let [before, behind] = sessions else {
         bail!("two sessions are wanted");
     };
-    let mut held = seat_beside(alloc, row, disk, users_disk(alloc)?)?;
+    let mut held = seat_beside(alloc, row, disk, users)?;
     let seated = &mut held.seated;
     between(
         alloc,
