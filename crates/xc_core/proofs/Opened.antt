@@ -366,7 +366,7 @@ module _ {D : Type 0} (told : Type 0) (state : D → DiskState) (shelf : Content
         )
 
 -- the state that was made of what was read
-pub state_is : {D : Type 0} (x : Start D) (h : Housed D) (d : Boxed D) (s : State D) → s ≡ record { table = h.table; reports = h.reports; home = In d; origin = s.origin } → IsHoused x h → s ≡ record { table = x.table; reports = x.reports; home = In d; origin = s.origin }
+pub state_is : {D : Type 0} (x : Start D) (h : Housed D) (d : Boxed D) (s : State D) → s ≡ record { table = h.beside.table; reports = h.beside.reports; home = In d; origin = s.origin } → IsHoused x h → s ≡ record { table = x.table; reports = x.reports; home = In d; origin = s.origin }
 state_is x h d s is kept = is ∙ (λ i. record { table = kept.table i; reports = kept.reports i; home = In d; origin = s.origin })
 
 -- what holds of the disk in its box holds of the disk that is home

@@ -10,7 +10,10 @@ use Rattle.journal_core.specs.Books.{IsKept, IsWhole, listed}
 use Rattle.journal_core.specs.Opens.{OpensNew, OpensOld, made_head}
 use Rattle.shelf_file.specs.Contents.{Contents}
 use Rattle.xc_recovery.specs.Replays.{ComesTo}
+use Rattle.xc_recovery.specs.declared.fault.ReplayFault.{ReplayFault}
+use Rattle.xc_recovery.specs.declared.fault.ReplayFault.TheVariants as replay
 use Rattle.xc_core.specs.declared.fault.OpenFault.{OpenFault}
+use Rattle.xc_core.specs.declared.fault.OpenFault.TheVariants as open_fault
 use Rattle.xc_core.specs.declared.start.Blank.{Blank}
 use Rattle.xc_core.specs.declared.start.Housed.{Housed}
 use Rattle.xc_core.specs.declared.start.Start.{Start}
@@ -21,6 +24,11 @@ use Rattle.xc_core.specs.Provisioners.{HasRoom}
 abbrev pub disk_started : {D : Type 0} → Result (Start D) (OpenFault D) → Option D
 disk_started (Ok x) = Some x.p.journal.0
 disk_started (Err e) = disk_of_fault e
+
+-- why a journal on this disk couldn't be read
+abbrev pub read_fault : {D : Type 0} → ReplayFault → D → OpenFault D
+read_fault (replay.BadRecord i) d = open_fault.BadRecord i
+read_fault replay.Disk d = open_fault.Disk d
 
 -- memory for a journal of this shape
 pub record IsBlank (d : Dimensions) (x : Blank) : Type 0 where
@@ -53,7 +61,7 @@ pub record IsStart {D : Type 0} (told : Type 0) (state : D → DiskState) (shelf
 
 -- the same, with its Provisioner behind a box
 pub record IsHoused {D : Type 0} (x : Start D) (h : Housed D) : Type 0 where
-  pub table : h.table ≡ x.table
-  pub reports : h.reports ≡ x.reports
-  pub last : h.last ≡ x.last
+  pub table : h.beside.table ≡ x.table
+  pub reports : h.beside.reports ≡ x.reports
+  pub last : h.beside.last ≡ x.last
   pub p : h.driver.value.p ≡ x.p

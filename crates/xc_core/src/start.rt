@@ -5,7 +5,7 @@ ghost use Rattle.dxc_disk.specs.Disks.{IsSound, Leaves, LeavesOnly, Spends};
 ghost use Rattle.journal_core.specs.declared.head.Head.{Head};
 ghost use Rattle.journal_core.specs.Turns.{Passing};
 ghost use Rattle.xc_core.specs.Openings.{Fails, IsDiskErr, LeavesOpened};
-ghost use Rattle.xc_core.specs.Starts.{IsBlank, IsHoused, IsStart, disk_started};
+ghost use Rattle.xc_core.specs.Starts.{IsBlank, IsHoused, IsStart, disk_started, read_fault};
 ghost use Rattle.xc_core.specs.declared.state.Home.TheVariants.{In};
 
 use crate::fault::OpenFault;
@@ -35,7 +35,8 @@ pub(crate) struct Start<D: Disk> {
     pub last: Work,
 }
 
-/// Memory for what a journal is read into, with nothing in it. In one place it costs one drop where a start fails.
+/// Memory for what a journal is read into, with nothing in it. What lies in one struct is dropped at once where a start fails: each drop takes
+/// the proof a second and more.
 #[derive(Drop)]
 pub(crate) struct Blank {
     pub table: Table,
@@ -61,15 +62,18 @@ fn memory_for(alloc: Global, shelf: &Shelf) -> Result<Blank, NoMemory>
     })
 }
 
-// What a journal was read into, with the journal and the seat of the one who writes the registers.
-fn start_of<D: Disk>(
-    blank: Blank,
-    journal: Journal<D>,
-    mover: MoverSeat,
-    last: Work,
-) -> Start<D>
-    ensures { result ≡ record { table = blank.table; reports = blank.reports; p = record { matrix = blank.matrix; journal = journal; mover = mover; doubt = None; changes = 0; halted = false; spent = 0; second = blank.second }; last = last } }
+/// With the seat of the one who writes the registers.
+#[derive(Drop)]
+pub(crate) struct Seated {
+    pub blank: Blank,
+    pub mover: MoverSeat,
+}
+
+// What a journal was read into, with the journal.
+fn start_of<D: Disk>(seated: Seated, journal: Journal<D>, last: Work) -> Start<D>
+    ensures { result ≡ record { table = seated.blank.table; reports = seated.blank.reports; p = record { matrix = seated.blank.matrix; journal = journal; mover = seated.mover; doubt = None; changes = 0; halted = false; spent = 0; second = seated.blank.second }; last = last } }
 {
+    let Seated { blank, mover } = seated;
     let Blank {
         table,
         matrix,
@@ -94,6 +98,16 @@ fn start_of<D: Disk>(
     }
 }
 
+// Why it couldn't be read.
+fn failed<D: Disk + Drop>(fault: ReplayFault, journal: Journal<D>) -> OpenFault<D>
+    ensures { result ≡ read_fault fault journal.0 }
+{
+    match fault {
+        ReplayFault::BadRecord(i) => OpenFault::BadRecord(i),
+        ReplayFault::Disk => OpenFault::Disk(journal.close()),
+    }
+}
+
 /// Opens the journal and reads it. In a new file one of the shelf's equipped modules is made.
 ///
 /// Memory is taken before the journal is opened. It takes at most 131,081 of the disk's room.
@@ -112,36 +126,43 @@ pub(crate) fn read_journal<D: Disk + Drop>(
     ensures sound { IsSound 131_081 (D.state disk) → IsDiskErr result → ⊥ }
     ensures unstopped { IfErr result (λ e. e ≢ OpenFault.Stopped) }
 {
-    let Ok(mut blank) = memory_for(alloc, shelf) else {
+    let Ok(blank) = memory_for(alloc, shelf) else {
         return Err(OpenFault::NoMemory);
     };
+    let mut seated = Seated { blank, mover };
     let shape = shelf.shape();
     let mut journal = match Journal::open(disk, shape, shelf.equipped()) {
         Ok(journal) => journal,
         Err(fault) => return Err(OpenFault::Journal(fault)),
     };
-    let last = match replay(&mut journal, &mut blank.matrix, &mut blank.table) {
+    let last = match replay(
+        &mut journal,
+        &mut seated.blank.matrix,
+        &mut seated.blank.table,
+    ) {
         Ok(last) => last,
-        Err(ReplayFault::BadRecord(i)) => return Err(OpenFault::BadRecord(i)),
-        Err(ReplayFault::Disk) => return Err(OpenFault::Disk(journal.close())),
+        Err(fault) => return Err(failed(fault, journal)),
     };
-    Ok(start_of(blank, journal, mover, last))
+    Ok(start_of(seated, journal, last))
+}
+
+/// What is beside the Provisioner.
+#[derive(Drop)]
+pub(crate) struct Beside {
+    pub table: Table,
+    pub reports: Reports,
+    pub last: Work,
 }
 
 /// What was read, with its Provisioner in the place that it has from here on.
 #[derive(Drop)]
 pub(crate) struct Housed<D: Disk> {
-    pub table: Table,
-    pub reports: Reports,
+    pub beside: Beside,
     pub driver: Box<Driver<D>>,
-    pub last: Work,
 }
 
 /// NoMemory is the only error.
-pub(crate) fn house<D: Disk + Drop>(
-    alloc: Global,
-    read: Start<D>,
-) -> Result<Housed<D>, NoMemory>
+pub(crate) fn house<D: Disk + Drop>(alloc: Global, read: Start<D>) -> Result<Housed<D>, NoMemory>
     ensures { IfOk result (IsHoused read) }
 {
     let Start {
@@ -150,31 +171,29 @@ pub(crate) fn house<D: Disk + Drop>(
         p,
         last,
     } = read;
-    let rolling = Rolling::cold();
-    let Ok(driver) = Box::new(alloc, Driver { p, rolling }) else {
-        return Err(NoMemory);
-    };
-    Ok(Housed {
+    let beside = Beside {
         table,
         reports,
-        driver,
         last,
-    })
+    };
+    let rolling = Rolling::cold();
+    let driver = Box::new(alloc, Driver { p, rolling })?;
+    Ok(Housed { beside, driver })
 }
 
 /// The state that begins with it, which keeps it as its origin.
 pub(crate) fn begun<D: Disk>(housed: Housed<D>) -> State<D>
-    ensures state { result ≡ record { table = housed.table; reports = housed.reports; home = In housed.driver; origin = result.origin } }
-    ensures table { result.origin.table.value ≡ housed.table }
+    ensures state { result ≡ record { table = housed.beside.table; reports = housed.beside.reports; home = In housed.driver; origin = result.origin } }
+    ensures table { result.origin.table.value ≡ housed.beside.table }
     ensures provisioner { result.origin.provisioner.value ≡ housed.driver.value.p }
-    ensures last { result.origin.last.value ≡ housed.last }
+    ensures last { result.origin.last.value ≡ housed.beside.last }
 {
-    let Housed {
+    let Housed { beside, driver } = housed;
+    let Beside {
         table,
         reports,
-        driver,
         last,
-    } = housed;
+    } = beside;
     let origin = Origin::of(&table, &driver.p, &last);
     State {
         table,

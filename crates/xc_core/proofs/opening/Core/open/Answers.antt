@@ -72,7 +72,7 @@ journal_is g c = ap (λ (p : Provisioner g.row.D.Denot). p.journal) (c.join_all.
 at_home : (g : given.Over) (c : goal.After-begun g) (P : g.row.D.Denot → Type 0) → P c.in-Ok.read.p.journal.0 → IfSome (disk_home c.begun.result.home) P
 at_home g c P is =
     let h = c.in-Ok-house.housed in
-    home_disk P c.begun.result h.table h.reports (joined_in g c) c.begun.result.origin c.begun.ensures.state (subst (λ (j : g.row.D.Denot × Book). P j.0) (sym (journal_is g c)) is)
+    home_disk P c.begun.result h.beside.table h.beside.reports (joined_in g c) c.begun.result.origin c.begun.ensures.state (subst (λ (j : g.row.D.Denot × Book). P j.0) (sym (journal_is g c)) is)
 
 pub returns-clause-passing : goal.returns-clause-passing
 returns-clause-passing g c told test begin = at_home g c (λ d. LeavesOnly (g.D.Disk.state c.args.disk) (g.D.Disk.state d) (Passing c.args.shelf.now.shape test)) (c.in-Ok.ensures.passing told test begin)
