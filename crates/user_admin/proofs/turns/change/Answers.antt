@@ -20,9 +20,11 @@ leave-requires-clause-stands g c =
     c.requires.seen c.change-done.new.self c.number-place.result c.args.op (Done c.in-Done.change) (c.number-place.ensures ∙ c.enter-turn.ensures.out.0) (c.change-done.ensures.origin ∙ ap (λ (s : UserState g.row.D.Denot). s.origin) c.state_mut.ensures.value) (λ l st. c.in-Done.ensures.changed (opening_of g.D.Disk.state c.args.turns.now.first) l c.args.pass.now.number (subst (λ (s : UserState g.row.D.Denot). StandsFor g.D.Disk.told g.D.Disk.state (opening_of g.D.Disk.state c.args.turns.now.first) s l) (sym c.state_mut.ensures.value) st))
 
 pub returns-in-Done-clause-took : goal.returns-in-Done-clause-took
-returns-in-Done-clause-took g c = λ h saw. (c.in-Done.change,
-    ended g.D.Disk.told g.D.Disk.state (opening_of g.D.Disk.state c.args.turns.now.first) c.args.pass.now.number c.enter-turn.result.own c.args.turns.now.passes c.args.pass.now.seen c.enter-turn.result.seen c.enter-turn.result.state c.enter-turn.ensures.turn.1 c.enter-turn.ensures.found
-    h saw c.change-done.new.self c.number-place.result c.args.op (Done c.in-Done.change) c.leave.new.pass.seen (c.number-place.ensures ∙ c.enter-turn.ensures.out.0) (λ l st. c.in-Done.ensures.changed (opening_of g.D.Disk.state c.args.turns.now.first) l c.args.pass.now.number (subst (λ (s : UserState g.row.D.Denot). StandsFor g.D.Disk.told g.D.Disk.state (opening_of g.D.Disk.state c.args.turns.now.first) s l) (sym c.state_mut.ensures.value) st)) c.leave.ensures.seen)
+returns-in-Done-clause-took g c = λ h saw. (
+  c.in-Done.change,
+  ended g.D.Disk.told g.D.Disk.state (opening_of g.D.Disk.state c.args.turns.now.first) c.args.pass.now.number c.enter-turn.result.own c.args.turns.now.passes c.args.pass.now.seen c.enter-turn.result.seen c.enter-turn.result.state c.enter-turn.ensures.turn.1 c.enter-turn.ensures.found
+      h saw c.change-done.new.self c.number-place.result c.args.op (Done c.in-Done.change) c.leave.new.pass.seen (c.number-place.ensures ∙ c.enter-turn.ensures.out.0) (λ l st. c.in-Done.ensures.changed (opening_of g.D.Disk.state c.args.turns.now.first) l c.args.pass.now.number (subst (λ (s : UserState g.row.D.Denot). StandsFor g.D.Disk.told g.D.Disk.state (opening_of g.D.Disk.state c.args.turns.now.first) s l) (sym c.state_mut.ensures.value) st)) c.leave.ensures.seen,
+)
 
 pub returns-in-Done-clause-pass : goal.returns-in-Done-clause-pass
 returns-in-Done-clause-pass g c =

@@ -22,9 +22,11 @@ returns-in-Ok-clause-pass g c =
 
 pub returns-in-Ok-clause-rows : goal.returns-in-Ok-clause-rows
 returns-in-Ok-clause-rows g c = λ h saw.
-    let given = c.in-Ok.ensures.1 ∙ ap (λ (m : Users). rows_in m c.args.which) ((ap (λ (s : UserState g.row.D.Denot). s.lists.value.users) c.state.ensures) ∙ (at_turn g.D.Disk.told g.D.Disk.state (opening_of g.D.Disk.state c.args.turns.now.first) c.args.pass.now.number c.enter-turn.result.own c.args.turns.now.passes c.args.pass.now.seen c.enter-turn.result.seen c.enter-turn.result.state c.enter-turn.ensures.turn.1 c.enter-turn.ensures.found h saw).stands.users) in
-    (ended g.D.Disk.told g.D.Disk.state (opening_of g.D.Disk.state c.args.turns.now.first) c.args.pass.now.number c.enter-turn.result.own c.args.turns.now.passes c.args.pass.now.seen c.enter-turn.result.seen c.enter-turn.result.state c.enter-turn.ensures.turn.1 c.enter-turn.ensures.found
-    h saw c.enter-turn.result.state c.number-place.result (Rows c.args.which) Answered c.leave.new.pass.seen (c.number-place.ensures ∙ c.enter-turn.ensures.out.0) (λ l st. read_stands g.D.Disk.told g.D.Disk.state (opening_of g.D.Disk.state c.args.turns.now.first) c.enter-turn.result.state l st (λ told. g.met.D.Disk.is_disk c.enter-turn.result.state.journal.0 told) (g.met.D.Disk.counts_on c.enter-turn.result.state.journal.0) c.args.pass.now.number (Rows c.args.which) tt (ap (refusal (Rows c.args.which)) (sym (ap (λ (s : UserState g.row.D.Denot). s.lists.value.users) c.state.ensures)) ∙ c.in-Ok.ensures.0)) c.leave.ensures.seen, given)
+    let given = c.in-Ok.ensures.1 ∙ ap (λ (m : Users). rows_in m c.args.which) ((ap (λ (s : UserState g.row.D.Denot). s.lists.value.users) c.state.ensures) ∙ (at_turn g.D.Disk.told g.D.Disk.state (opening_of g.D.Disk.state c.args.turns.now.first) c.args.pass.now.number c.enter-turn.result.own c.args.turns.now.passes c.args.pass.now.seen c.enter-turn.result.seen c.enter-turn.result.state c.enter-turn.ensures.turn.1 c.enter-turn.ensures.found h saw).stands.users) in (
+      ended g.D.Disk.told g.D.Disk.state (opening_of g.D.Disk.state c.args.turns.now.first) c.args.pass.now.number c.enter-turn.result.own c.args.turns.now.passes c.args.pass.now.seen c.enter-turn.result.seen c.enter-turn.result.state c.enter-turn.ensures.turn.1 c.enter-turn.ensures.found
+          h saw c.enter-turn.result.state c.number-place.result (Rows c.args.which) Answered c.leave.new.pass.seen (c.number-place.ensures ∙ c.enter-turn.ensures.out.0) (λ l st. read_stands g.D.Disk.told g.D.Disk.state (opening_of g.D.Disk.state c.args.turns.now.first) c.enter-turn.result.state l st (λ told. g.met.D.Disk.is_disk c.enter-turn.result.state.journal.0 told) (g.met.D.Disk.counts_on c.enter-turn.result.state.journal.0) c.args.pass.now.number (Rows c.args.which) tt (ap (refusal (Rows c.args.which)) (sym (ap (λ (s : UserState g.row.D.Denot). s.lists.value.users) c.state.ensures)) ∙ c.in-Ok.ensures.0)) c.leave.ensures.seen,
+      given,
+    )
 
 pub leave-requires-in-Err-clause-stands : goal.leave-requires-in-Err-clause-stands
 leave-requires-in-Err-clause-stands g c =
