@@ -19,10 +19,6 @@ use Rattle.user_admin.specs.States.{Stands, StandsFor, entry, opening_in, openin
 use Rattle.user_admin.specs.Turns.{AreNumbered, HasPass, IsHistory, Saw, Turned, TurnedBack, codes}
 use Rattle.user_admin.proofs.Standing.{was_denied, was_read}
 
--- what was seen is one history
-pub saw_once : (o p : Opening) (seen : List Gv) (h g : List UserEntry) → Saw o seen h → Saw p seen g → h ≡ g
-saw_once o p seen h g a b = map_once entry_coded.code entry_coded.inj h g (sym a.codes_are ∙ b.codes_are)
-
 -- a pass that comes back from a turn
 pub pass_back : {X : Type 0} (t : Gate X) (p q : Token) → HasPass t p → q.free ≡ true → q.id ≡ t.id → q.number ≡ p.number → AreNumbered t.passes q.seen → HasPass t q × (q.number ≡ p.number)
 pass_back t p q pass free id number numbered = ((free, id, subst (λ (n : ℕ). n < t.passes) (sym number) pass.2, numbered), number)
