@@ -1,8 +1,66 @@
-use crate::line::take_line;
-use crate::row::Row;
-use anyhow::{Context, Result};
+use crate::part::Part;
+use crate::words::{Line, lines_of, numbers_of};
+use anyhow::{Context, Result, ensure};
 use std::alloc::Global;
-use worked_common::{Line, lines_of, numbers_of};
+
+/// The words with which a line may begin.
+const WORDS: [&str; 55] = [
+    "shelf",
+    "shape",
+    "swap",
+    "pad",
+    "sid",
+    "torn",
+    "old",
+    "times",
+    "from",
+    "cut",
+    "change",
+    "people",
+    "run",
+    "status",
+    "end",
+    "any",
+    "after",
+    "users",
+    "length",
+    "piece",
+    "calls",
+    "crash",
+    "fails",
+    "lines",
+    "carried",
+    "place",
+    "caller",
+    "peer",
+    "login",
+    "send",
+    "hex",
+    "byte",
+    "fill",
+    "pieces",
+    "takes",
+    "list",
+    "enters",
+    "retrieves",
+    "lists",
+    "sent",
+    "messages",
+    "bytes",
+    "want",
+    "compld",
+    "compldx",
+    "deny",
+    "rows",
+    "report",
+    "standby",
+    "primary",
+    "joins",
+    "write",
+    "sync",
+    "copy",
+    "at",
+];
 
 /// A row as text, which is run for each number from the first to the last.
 #[derive(Drop)]
@@ -32,13 +90,12 @@ impl<'a> Form<'a> {
         Ok(())
     }
 
-    /// The row for that number.
-    pub fn row(&self, alloc: Global, number: u64) -> Result<Row> {
-        let mut row = Row::new(alloc)?;
-        for line in &self.lines {
-            take_line(alloc, &mut row, number, line.word, line.rest)?;
+    /// Its lines, for that number.
+    pub fn part(&self, number: u64) -> Part<'_, 'a> {
+        Part {
+            lines: &self.lines,
+            number,
         }
-        Ok(row)
     }
 }
 
@@ -56,6 +113,7 @@ pub fn forms_of<'a>(alloc: Global, text: &'a str) -> Result<Vec<Form<'a>>> {
         if line.word == "each" {
             form.take_numbers(alloc, line.rest)?;
         } else {
+            ensure!(WORDS.contains(&line.word), "a word isn't known");
             form.lines.push(*line)?;
         }
     }
