@@ -39,11 +39,11 @@ fn take_line(
         "enters" => enter(alloc, sid, line.rest, exchange)?,
         "retrieves" => {
             add_texts(&["RTRV-CRS-T0:::1;"], &mut exchange.input)?;
-            let pairs = Entries::of(alloc, line.rest)?.pairs(alloc)?;
+            let pairs = Entries::of(line.rest)?.pairs(alloc)?;
             add_blocks(alloc, sid, &pairs, &mut exchange.output)?;
         }
         "lists" => {
-            for pair in &Entries::of(alloc, line.rest)?.pairs(alloc)? {
+            for pair in &Entries::of(line.rest)?.pairs(alloc)? {
                 add_texts(&[pair.as_str(), ":1WAY\n"], &mut exchange.output)?;
             }
         }
@@ -56,7 +56,7 @@ fn take_line(
 
 // Enters the connections that the text tells.
 fn enter(alloc: Global, sid: &str, text: &str, exchange: &mut Exchange) -> Result<()> {
-    for pair in &Entries::of(alloc, text)?.pairs(alloc)? {
+    for pair in &Entries::of(text)?.pairs(alloc)? {
         add_texts(&["ENT-CRS-T0::", pair.as_str(), ":1;"], &mut exchange.input)?;
         add_completed(sid, "1", &mut exchange.output)?;
     }

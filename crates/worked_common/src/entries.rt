@@ -1,6 +1,6 @@
 //! Many connections: each port's to the one so many behind it.
-use crate::words::{decimal, joined, numbers_of, small};
-use anyhow::{Context, Result};
+use crate::words::{decimal, joined, shape_of, small_of, two};
+use anyhow::Result;
 use std::alloc::Global;
 
 /// The first so many ports of a shape, and how far each is connected.
@@ -14,16 +14,15 @@ pub struct Entries {
 
 impl Entries {
     /// The four numbers of the text.
-    pub fn of(alloc: Global, text: &str) -> Result<Entries> {
-        let numbers = numbers_of(alloc, text)?;
-        let [modules, slots, count, step] = numbers.as_slice() else {
-            return None.context("four numbers are wanted");
-        };
+    pub fn of(text: &str) -> Result<Entries> {
+        let (modules, rest) = two(text)?;
+        let (slots, rest) = two(rest)?;
+        let (count, step) = shape_of(rest)?;
         Ok(Entries {
-            modules: small(*modules)?,
-            slots: small(*slots)?,
-            count: small(*count)?,
-            step: small(*step)?,
+            modules: small_of(modules)?,
+            slots: small_of(slots)?,
+            count,
+            step,
         })
     }
 

@@ -1,6 +1,67 @@
 use crate::words::{Line, number_of, two, words_of};
-use anyhow::Result;
+use anyhow::{Result, ensure};
 use std::alloc::Global;
+
+/// The words with which a line may begin.
+const WORDS: [&str; 57] = [
+    "row",
+    "each",
+    "shelf",
+    "shape",
+    "swap",
+    "pad",
+    "sid",
+    "torn",
+    "old",
+    "times",
+    "from",
+    "cut",
+    "change",
+    "people",
+    "run",
+    "status",
+    "end",
+    "any",
+    "after",
+    "users",
+    "length",
+    "piece",
+    "calls",
+    "crash",
+    "fails",
+    "lines",
+    "carried",
+    "place",
+    "caller",
+    "peer",
+    "login",
+    "send",
+    "hex",
+    "byte",
+    "fill",
+    "pieces",
+    "takes",
+    "list",
+    "enters",
+    "retrieves",
+    "lists",
+    "sent",
+    "messages",
+    "bytes",
+    "want",
+    "compld",
+    "compldx",
+    "deny",
+    "rows",
+    "report",
+    "standby",
+    "primary",
+    "joins",
+    "write",
+    "sync",
+    "copy",
+    "at",
+];
 
 /// Lines of a row, one behind the other, and the number for which the row is run.
 #[derive(Clone, Copy)]
@@ -14,6 +75,34 @@ impl<'m, 'a> Part<'m, 'a> {
     pub fn last(&self, word: &str) -> Option<&'a str> {
         let line = self.lines.iter().rev().find(|line| line.word == word)?;
         Some(line.rest)
+    }
+
+    /// The rows of these lines, the last one first.
+    pub fn rows(self, alloc: Global) -> Result<Vec<Part<'m, 'a>>> {
+        for line in self.lines {
+            ensure!(WORDS.contains(&line.word), "a word isn't known");
+        }
+        let (head, rows) = self.split(alloc, &["row"])?;
+        ensure!(head.lines.is_empty(), "a line stands before the first row");
+        Ok(rows)
+    }
+
+    /// The name of the row.
+    pub fn name(&self) -> &'a str {
+        self.last("row").unwrap_or("")
+    }
+
+    /// The first and the last number for which the row is run.
+    pub fn each(&self) -> Result<(u64, u64)> {
+        let (first, last) = two(self.last("each").unwrap_or("0 0"))?;
+        Ok((number_of(first)?, number_of(last)?))
+    }
+
+    /// The row, run for that number.
+    pub fn at(self, number: u64) -> Part<'m, 'a> {
+        let mut part = self;
+        part.number = number;
+        part
     }
 
     /// Whether a line begins with the word.

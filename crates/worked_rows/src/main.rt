@@ -9,7 +9,7 @@ use anyhow::Result;
 use std::fs;
 use std::sync::Wait;
 use std::thread::Threads;
-use worked_common::{Tally, decimal, forms_of, joined};
+use worked_common::{Part, Tally, decimal, joined, lines_of};
 
 fn main(rt: HostRuntime) -> Result<()> {
     run_file(&rt, &rt, "rows.txt", true)?;
@@ -27,16 +27,22 @@ fn run_file<R: Threads + Wait + Copy + Send + 'static>(
 ) -> Result<()> {
     let alloc = rt.alloc();
     let text = fs::read_to_string(rt, name)?;
-    let forms = forms_of(alloc, text.as_str())?;
+    let lines = lines_of(alloc, text.as_str())?;
+    let all = Part {
+        lines: &lines,
+        number: 0,
+    };
+    let rows = all.rows(alloc)?;
     let mut tally = Tally::new(alloc);
-    for form in &forms {
-        for number in form.first..=form.last {
-            let why = run_row(rt, threads, form.part(number), on_files)?;
-            tally.count(alloc, form.name, number, why)?;
+    for row in rows.iter().rev() {
+        let (first, last) = row.each()?;
+        for number in first..=last {
+            let why = run_row(rt, threads, row.at(number), on_files)?;
+            tally.count(alloc, row.name(), number, why)?;
         }
     }
     let (rows, runs) = (
-        decimal(alloc, forms.len() as u64)?,
+        decimal(alloc, rows.len() as u64)?,
         decimal(alloc, tally.runs)?,
     );
     let counted = joined(

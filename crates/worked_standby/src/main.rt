@@ -9,23 +9,28 @@ use crate::primary::primary_otherwise;
 use crate::standby::standby_otherwise;
 use anyhow::Result;
 use std::fs;
-use worked_common::{Tally, decimal, forms_of, joined};
+use worked_common::{Part, Tally, decimal, joined, lines_of};
 
 fn main(rt: HostRuntime) -> Result<()> {
     let alloc = rt.alloc();
     let text = fs::read_to_string(&rt, "rows.txt")?;
+    let lines = lines_of(alloc, text.as_str())?;
+    let all = Part {
+        lines: &lines,
+        number: 0,
+    };
+    let rows = all.rows(alloc)?;
     let mut tally = Tally::new(alloc);
-    for form in &forms_of(alloc, text.as_str())? {
-        let row = form.part(0);
+    for row in rows.iter().rev() {
         let why = if row.has("standby") {
-            standby_otherwise(alloc, row)?
+            standby_otherwise(alloc, *row)?
         } else {
-            primary_otherwise(alloc, row)?
+            primary_otherwise(alloc, *row)?
         };
-        tally.count(alloc, form.name, 0, why)?;
+        tally.count(alloc, row.name(), 0, why)?;
     }
-    let rows = decimal(alloc, tally.runs)?;
-    let counted = joined(alloc, &[rows.as_str(), " rows"])?;
+    let count = decimal(alloc, tally.runs)?;
+    let counted = joined(alloc, &[count.as_str(), " rows"])?;
     let told = tally.told(alloc, counted.as_str())?;
     print!(rt; "{told}")?;
     Ok(())
