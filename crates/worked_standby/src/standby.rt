@@ -60,16 +60,15 @@ pub fn standby_otherwise(alloc: Global, row: Part<'_, '_>) -> Result<Option<Stri
 
 // What the last line says that is of so many bytes or fewer.
 fn mark_at<'a>(row: Part<'_, 'a>, cut: u64) -> Result<&'a str> {
-    let mut mark = "";
-    for line in row.lines {
+    for line in row.lines.iter().rev() {
         if line.word == "at" {
             let (from, rest) = two(line.rest)?;
             if number_of(from)? <= cut {
-                mark = rest;
+                return Ok(rest);
             }
         }
     }
-    Ok(mark)
+    None.context("no line tells")
 }
 
 // What isn't as the mark tells: `END FILE SENT`, where - stands for no bytes.
