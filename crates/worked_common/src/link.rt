@@ -7,6 +7,14 @@ use std::sync::{Arc, OnceLock};
 /// What was written somewhere, once nothing more will be.
 pub type Kept = Arc<OnceLock<Vec<u8>>>;
 
+/// Leaves a copy of what was written.
+pub fn leave(kept: &Kept, alloc: Global, written: &[u8]) {
+    let mut copy = Vec::new(alloc);
+    if copy.extend_from_slice(written).is_ok() {
+        let _ = kept.try_set(copy);
+    }
+}
+
 /// A link in memory, a write on which takes at most so many bytes. Where its session is over it is dropped, and leaves what was written to whoever
 /// compares it.
 pub struct RowLink {
@@ -50,8 +58,6 @@ impl Drop for RowLink {
             alloc,
             kept,
         } = self;
-        if let Ok(bytes) = held.output().to_vec(alloc) {
-            let _ = kept.try_set(bytes);
-        }
+        leave(&kept, alloc, held.output());
     }
 }

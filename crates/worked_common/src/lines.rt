@@ -1,6 +1,6 @@
 ghost use Rattle.dxc_outside.specs.Fakes.{lines_state};
 
-use crate::link::Kept;
+use crate::link::{Kept, leave};
 use dxc_outside::{Frame, Lines, MemLines, Put};
 use std::alloc::Global;
 
@@ -34,8 +34,6 @@ impl Lines for RowLines {
 impl Drop for RowLines {
     fn drop(self) {
         let RowLines { held, alloc, kept } = self;
-        if let Ok(bytes) = held.output().to_vec(alloc) {
-            let _ = kept.try_set(bytes);
-        }
+        leave(&kept, alloc, held.output());
     }
 }

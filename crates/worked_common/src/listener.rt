@@ -2,14 +2,13 @@ ghost use Rattle.std.specs.Prelude.{[], false};
 
 use crate::link::RowLink;
 use dxc_outside::{Came, Listener};
-use std::collections::VecDeque;
 use std::sync::Wait;
 
-/// Gives its links in turn, and then says End. Accepts are numbered from 0; those of the numbers in `failing` fail, and the link that would have
-/// come is given later.
+/// Gives its links, the last one first, and then says End. Accepts are numbered from 0; those of the numbers in `failing` fail, and the link that
+/// would have come is given later.
 #[derive(Drop)]
 pub struct RowListener {
-    links: VecDeque<RowLink>,
+    links: Vec<RowLink>,
     failing: Vec<u64>,
     accepts: u64,
     ended: bool,
@@ -17,7 +16,7 @@ pub struct RowListener {
 }
 
 impl RowListener {
-    pub fn new(links: VecDeque<RowLink>, failing: Vec<u64>) -> RowListener {
+    pub fn new(links: Vec<RowLink>, failing: Vec<u64>) -> RowListener {
         RowListener {
             links,
             failing,
@@ -42,7 +41,7 @@ impl Listener for RowListener {
             self.faults = self.faults.saturating_add(1);
             return Came::Failed;
         }
-        match self.links.pop_front() {
+        match self.links.pop() {
             Some(link) => Came::Link(link),
             None => {
                 self.ended = true;

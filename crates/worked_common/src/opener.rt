@@ -1,31 +1,34 @@
 ghost use Rattle.std.specs.Prelude.{◌≡◌};
 ghost use Rattle.dxc_causes.specs.Causes.{HasCause};
 
+use crate::disk::RowDisk;
 use crate::lines::RowLines;
+use crate::link::RowLink;
 use crate::listener::RowListener;
-use dxc_outside::{MemClock, MemGate, MemLink, MemOpener, Opened, Opener};
+use crate::noon::NOON;
+use dxc_outside::{MemClock, MemGate, MemOpener, Opened, Opener};
 use std::alloc::Global;
-use std::collections::VecDeque;
-use worked_common::{NOON, RowDisk};
 
-/// What a run of the program opens.
+/// What a run of the program opens, of lists the last one first.
 #[derive(Drop)]
 pub struct Holding {
     /// It has the shelf file.
     pub files: MemOpener,
-    pub disk: Option<RowDisk>,
+    pub journal: Option<RowDisk>,
     /// The disk of the users' journal.
     pub users: Option<RowDisk>,
-    /// The lines of the workers, in their order.
-    pub lines: VecDeque<RowLines>,
-    /// The listeners of the places, in their order.
-    pub listeners: VecDeque<RowListener>,
+    /// The lines of the workers.
+    pub lines: Vec<RowLines>,
+    /// The listeners of the places.
+    pub listeners: Vec<RowListener>,
     /// The gates of the workers, and then of the places.
-    pub gates: VecDeque<MemGate>,
+    pub gates: Vec<MemGate>,
+    /// The link to a standby.
+    pub peer: Option<RowLink>,
 }
 
-/// Hands out what it holds, all but the shelf file whatever the name. Calls of those that may fail are numbered from 0; those of the numbers in `failing`
-/// fail, and one for what it doesn't hold.
+/// Hands out what it holds, whatever the name. Calls of those that may fail are numbered from 0; those of the numbers in `failing` fail, and one for
+/// what it doesn't hold. It tells nothing of what it holds.
 #[derive(Drop)]
 pub struct RowOpener {
     holding: Holding,
@@ -75,7 +78,7 @@ impl Opener for RowOpener {
 
     type Gate = MemGate;
 
-    type Peer = MemLink;
+    type Peer = RowLink;
 
     ghost told = { ⊥ };
 
@@ -103,23 +106,24 @@ impl Opener for RowOpener {
         let disk = if name.ends_with(".users") {
             self.holding.users.take()
         } else {
-            self.holding.disk.take()
+            self.holding.journal.take()
         };
         self.opened(disk)
     }
 
     fn lines(&mut self, _alloc: Global, _name: &str, _worker: u16) -> Opened<RowLines> {
-        let lines = self.holding.lines.pop_front();
+        let lines = self.holding.lines.pop();
         self.opened(lines)
     }
 
     fn listener(&mut self, _alloc: Global, _address: &str) -> Opened<RowListener> {
-        let listener = self.holding.listeners.pop_front();
+        let listener = self.holding.listeners.pop();
         self.opened(listener)
     }
 
-    fn peer(&mut self, _alloc: Global, _address: &str) -> Opened<MemLink> {
-        self.opened(None)
+    fn peer(&mut self, _alloc: Global, _address: &str) -> Opened<RowLink> {
+        let peer = self.holding.peer.take();
+        self.opened(peer)
     }
 
     fn clock(&mut self) -> MemClock {
@@ -129,7 +133,7 @@ impl Opener for RowOpener {
     }
 
     fn gate(&mut self) -> MemGate {
-        match self.holding.gates.pop_front() {
+        match self.holding.gates.pop() {
             Some(gate) => gate,
             None => MemGate::new(Vec::new(self.alloc)),
         }
