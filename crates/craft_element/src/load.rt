@@ -44,7 +44,10 @@ fn load_controller<G: Gate>(alloc: Global, gate: &mut G) -> Result<Controller<Me
 }
 
 /// The element of the load: a controller with one worker, and its users, on new disks.
-pub fn load_element<G: Gate>(alloc: Global, gate: &mut G) -> Result<Element<MemDisk, MemDisk>, Status>
+pub fn load_element<G: Gate>(
+    alloc: Global,
+    gate: &mut G,
+) -> Result<Element<MemDisk, MemDisk>, Status>
     ensures started { MatchResult result IsLoadStarted (NotLoaded (G.stops gate.old) (G.stops gate.new)) }
     ensures unstopped { MatchResult result (λ x. G.stops gate.new ≡ G.stops gate.old) (λ s. G.stops gate.old ≤ G.stops gate.new) }
 {

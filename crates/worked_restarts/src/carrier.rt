@@ -1,34 +1,9 @@
 use crate::crew::Crew;
-use crate::row::Session;
+use crate::row::frames_said;
 use anyhow::Result;
 use dxc_outside::{Gate, GatePlace, Pass1};
 use std::alloc::Global;
-
-/// How often a gate was asked at each place.
-#[derive(Clone, Copy)]
-pub struct Asked {
-    pub journal: u64,
-    pub register: u64,
-    pub finish: u64,
-}
-
-impl Asked {
-    pub const NEVER: Asked = Asked {
-        journal: 0,
-        register: 0,
-        finish: 0,
-    };
-
-    fn count(&mut self, place: GatePlace) {
-        let number = match place {
-            GatePlace::Journal => &mut self.journal,
-            GatePlace::Register => &mut self.register,
-            GatePlace::Finish => &mut self.finish,
-            GatePlace::Frame => return,
-        };
-        *number = number.saturating_add(1);
-    }
-}
+use worked_common::{Line, number_said};
 
 /// A gate that stops at one asking, and at each asking has all workers carry a frame.
 #[derive(Drop)]
@@ -38,9 +13,11 @@ pub struct Carrier {
     frames: Vec<Vec<u8>>,
     stop: Option<u64>,
     askings: u64,
-    asked: Asked,
-    // The first asking at which another frame came.
-    wrong: Option<u64>,
+    // How many of the askings were before the journal, and how many before a register write.
+    journal: u64,
+    registers: u64,
+    // Whether another frame came at an asking.
+    astray: bool,
     stops: u64,
 }
 
@@ -52,42 +29,47 @@ impl Carrier {
             frames: Vec::new(alloc),
             stop: None,
             askings: 0,
-            asked: Asked::NEVER,
-            wrong: None,
+            journal: 0,
+            registers: 0,
+            astray: false,
             stops: 0,
         }
     }
 
     /// From now on askings are counted from 0, and it stops where the session says so.
-    pub fn set(&mut self, alloc: Global, session: &Session) -> Result<()> {
-        let mut frames = Vec::new(alloc);
-        for frame in &session.frames {
-            frames.push(frame.clone()?)?;
-        }
-        self.frames = frames;
-        self.stop = session.stop;
+    pub fn set(&mut self, alloc: Global, session: &[Line<'_>]) -> Result<()> {
+        self.frames = frames_said(alloc, session, "frames")?;
+        self.stop = number_said(session, "stop")?;
         self.askings = 0;
-        self.asked = Asked::NEVER;
-        self.wrong = None;
+        self.journal = 0;
+        self.registers = 0;
+        self.astray = false;
         Ok(())
     }
 
-    /// How often it was asked at each place.
-    pub fn asked(&self) -> Asked {
-        self.asked
+    /// How often it was asked before the journal, before a register write, and before the end.
+    pub fn asked(&self) -> [u64; 3] {
+        let counted = self.journal.saturating_add(self.registers);
+        [
+            self.journal,
+            self.registers,
+            self.askings.saturating_sub(counted),
+        ]
     }
 
-    /// The first asking at which a frame came that may not.
-    pub fn wrong(&self) -> Option<u64> {
-        self.wrong
+    /// Whether a frame came that may not.
+    pub fn went_astray(&self) -> bool {
+        self.astray
     }
 
+    // Whether the last frame may come.
     fn may_come(&self) -> bool {
+        for frame in &self.frames {
+            if frame.as_slice() == self.crew.frame() {
+                return true;
+            }
+        }
         self.frames.is_empty()
-            || self
-                .frames
-                .iter()
-                .any(|frame| frame.as_slice() == self.crew.frame())
     }
 }
 
@@ -104,11 +86,13 @@ impl Gate for Carrier {
 
     fn pass(&mut self, place: GatePlace) -> Pass1 {
         self.crew.carry();
-        if self.wrong.is_none() && !self.may_come() {
-            self.wrong = Some(self.askings);
+        self.astray = self.astray || !self.may_come();
+        match place {
+            GatePlace::Journal => self.journal = self.journal.saturating_add(1),
+            GatePlace::Register => self.registers = self.registers.saturating_add(1),
+            _ => {}
         }
         let stops = self.stop == Some(self.askings);
-        self.asked.count(place);
         self.askings = self.askings.saturating_add(1);
         if !stops {
             return Pass1::Go;

@@ -12,9 +12,8 @@ ghost use Rattle.craft_session.specs.Places.{AreFresh, IsAtOpening};
 
 use crate::audit::{Audit, Released};
 use crate::carriage::Carriage;
-use crate::carrier::Carrier;
 use crate::crew::Crew;
-use crate::row::Row;
+use crate::row::bytes_said;
 use crate::users::{Users, users_disk, users_of};
 use anyhow::{Context, Result, bail, ensure};
 use craft_session::Place;
@@ -25,7 +24,7 @@ use shelf_file::{Shelf, shelf_of};
 use std::alloc::Global;
 use std::sync::{Arc, Wait};
 use turnstile::{Pass, Sequential, Turnstile};
-use worked_common::{Levers, RowDisk, shelf_text};
+use worked_common::{Levers, Line, RowDisk, Torn, number_said, said, shape_of, shelf_text, small};
 use xc_core::{Adopted, Core, State};
 
 /// The turnstile of an element.
@@ -33,20 +32,26 @@ pub type Turns<D> = Arc<Turnstile<State<D>>>;
 
 /// An element on which a row's sessions are served.
 #[derive(Drop)]
-pub struct Element {
-    /// A place for each session, in their order.
-    pub places: Vec<Place<RowDisk, MemDisk>>,
-    pub audit: Audit<RowDisk>,
-    pub gate: Carrier,
-    pub levers: Arc<Levers>,
+pub struct Element<D: Disk, U: Disk> {
+    /// A place for each session that is still to come.
+    pub places: Vec<Place<D, U>>,
+    pub audit: Audit<D>,
     shelf: Arc<Shelf>,
+    count: u16,
 }
 
-impl Element {
-    /// The element that the row's shelf and journal describe.
-    pub fn open(alloc: Global, row: &Row) -> Result<Element> {
-        let levers = Levers::new(alloc).ok().context("no memory")?;
-        let disk = disk_of(row, &levers)?;
+/// An element on the disk of a row.
+pub type RowElement = Element<RowDisk, MemDisk>;
+
+impl Element<RowDisk, MemDisk> {
+    /// The element that the row's shelf and the disk's journal describe, for so many sessions, and its workers.
+    pub fn open(
+        alloc: Global,
+        row: &[Line<'_>],
+        disk: RowDisk,
+        sessions: usize,
+    ) -> Result<(RowElement, Crew)> {
+        let count = small(sessions as u64)?;
         let Started {
             shelf,
             fabric,
@@ -54,56 +59,25 @@ impl Element {
             state,
         } = start(alloc, row, disk)?;
         let crew = crew_of(alloc, &fabric, seats)?;
-        let sessions = row.sessions.len();
-        ensure!(sessions < 100, "too many sessions");
-        let (audit, places) = seat_all(
-            alloc,
-            &shelf,
-            &fabric,
-            state,
-            users_disk(alloc)?,
-            sessions as u16,
-        )?;
-        Ok(Element {
-            places,
-            audit,
-            gate: Carrier::new(alloc, crew),
-            levers,
-            shelf,
-        })
+        let element = seat_all(alloc, shelf, &fabric, state, users_disk(alloc)?, count)?;
+        Ok((element, crew))
     }
 
     /// Ends the controller, and another one goes on with its disk and its registers, with as many places. None: it finds the registers strange to
     /// the journal.
-    pub fn handed_on<R: Wait>(self, alloc: Global, rt: &R) -> Result<Option<Element>> {
+    pub fn handed_on<R: Wait>(self, alloc: Global, rt: &R) -> Result<Option<RowElement>> {
         let Element {
-            places,
+            places: _,
             audit,
-            gate,
-            levers,
             shelf,
+            count,
         } = self;
-        let sessions = places.len();
-        ensure!(sessions < 100, "too many sessions");
         let Released { disk, seat, fabric } = audit.release(rt)?;
         let Some(state) = adopt(alloc, &shelf, &fabric, disk, seat)? else {
             return Ok(None);
         };
-        let (audit, places) = seat_all(
-            alloc,
-            &shelf,
-            &fabric,
-            state,
-            users_disk(alloc)?,
-            sessions as u16,
-        )?;
-        Ok(Some(Element {
-            places,
-            audit,
-            gate,
-            levers,
-            shelf,
-        }))
+        let element = seat_all(alloc, shelf, &fabric, state, users_disk(alloc)?, count)?;
+        Ok(Some(element))
     }
 }
 
@@ -141,20 +115,28 @@ pub struct Started<D: Disk> {
 }
 
 /// The disk of the row's journal, with these levers.
-pub fn disk_of(row: &Row, levers: &Arc<Levers>) -> Result<RowDisk> {
-    let (held, shown) = (row.journal.clone()?, row.shown.clone()?);
-    Ok(RowDisk::new(held, shown, row.torn, Arc::try_clone(levers)?))
+pub fn disk_of(alloc: Global, row: &[Line<'_>], levers: &Arc<Levers>) -> Result<RowDisk> {
+    let held = bytes_said(alloc, row, "old")?;
+    let shown = bytes_said(alloc, row, "shown")?;
+    let torn = Torn::of(said(row, "torn").unwrap_or("lost"))?;
+    Ok(RowDisk::new(held, shown, torn, Arc::try_clone(levers)?))
+}
+
+// The shelf of the shape that the row says.
+fn shelf_said(alloc: Global, row: &[Line<'_>]) -> Result<Shelf> {
+    let (modules, slots) = shape_of(said(row, "shelf").context("no shape")?)?;
+    let text = shelf_text(alloc, modules, slots)?;
+    shelf_of(alloc, text.as_bytes()).ok().context("no shelf")
 }
 
 /// A controller of the row's shelf and workers on what the disk's journal came to.
-pub fn start<D: Disk + Drop>(alloc: Global, row: &Row, disk: D) -> Result<Started<D>>
+pub fn start<D: Disk + Drop>(alloc: Global, row: &[Line<'_>], disk: D) -> Result<Started<D>>
     ensures begins { IfOk result (λ s. Begins D.told D.state s.state) }
     ensures opening { IfOk result (λ s. IsAtOpening (opening_of D.state s.state) (arc_value s.shelf) (arc_value s.fabric)) }
     ensures seats { IfOk result (λ s. AreNew (arc_value s.fabric) 0 s.seats.items) }
 {
-    let text = shelf_text(alloc, row.modules, row.slots)?;
-    let shelf = shelf_of(alloc, text.as_bytes()).ok().context("no shelf")?;
-    let workers = row.workers;
+    let shelf = shelf_said(alloc, row)?;
+    let workers = small(number_said(row, "workers")?.unwrap_or(1))?;
     ensure!(1 <= workers && workers <= 8, "no such number of workers");
     let Ok((fabric, mover, seats)) = Fabric::new(alloc, shelf.shape(), workers) else {
         bail!("no memory");
@@ -162,12 +144,9 @@ pub fn start<D: Disk + Drop>(alloc: Global, row: &Row, disk: D) -> Result<Starte
     let Ok(state) = Core::open(alloc, &shelf, disk, mover, &fabric, &mut AlwaysGo) else {
         bail!("not opened");
     };
-    let (Ok(shelf), Ok(fabric)) = (Arc::new(alloc, shelf), Arc::new(alloc, fabric)) else {
-        bail!("no memory");
-    };
     Ok(Started {
-        shelf,
-        fabric,
+        shelf: Arc::new(alloc, shelf)?,
+        fabric: Arc::new(alloc, fabric)?,
         seats,
         state,
     })
@@ -214,34 +193,56 @@ pub fn next_seat(seats: &mut Vec<WorkerSeat>) -> WorkerSeat
 // One who looks at the registers, and so many places.
 fn seat_all<D: Disk + Drop, U: Disk + Drop>(
     alloc: Global,
-    shelf: &Arc<Shelf>,
+    shelf: Arc<Shelf>,
     fabric: &Arc<Fabric>,
     state: State<D>,
     disk: U,
     count: u16,
-) -> Result<(Audit<D>, Vec<Place<D, U>>)>
-    requires few { count < 100 }
+) -> Result<Element<D, U>>
     requires begins { Begins D.told D.state state }
-    requires opening { IsAtOpening (opening_of D.state state) (arc_value shelf.now) (arc_value fabric.now) }
+    requires opening { IsAtOpening (opening_of D.state state) (arc_value shelf) (arc_value fabric.now) }
 {
+    ensure!(count < 100, "too many sessions");
     let (turns, mut passes) = turns_of(alloc, state, count + 1)?;
-    let mut users = users_of(alloc, shelf, disk, count + 1)?;
+    let mut users = users_of(alloc, &shelf, disk, count + 1)?;
     let pass = next_pass(&mut passes);
     let _ = next_pass(&mut users.passes);
     let audit = Audit::new(pass, Arc::try_clone(&turns)?, Arc::try_clone(fabric)?);
+    let places = places_of(alloc, count, passes, users, &shelf, fabric, &turns)?;
+    Ok(Element {
+        places,
+        audit,
+        shelf,
+        count,
+    })
+}
+
+// So many places, by the passes from number 1 on.
+fn places_of<D: Disk + Drop, U: Disk + Drop>(
+    alloc: Global,
+    count: u16,
+    mut passes: Vec<Pass>,
+    mut users: Users<U>,
+    shelf: &Arc<Shelf>,
+    fabric: &Arc<Fabric>,
+    turns: &Turns<D>,
+) -> Result<Vec<Place<D, U>>>
+    requires few { count < 100 }
+    requires left { length passes.items + 1 ≡ count + 1 }
+    requires fresh { AreFresh (arc_value turns.now).id 1 passes.items }
+    requires within { (arc_value turns.now).passes ≡ count + 1 }
+    requires begins { Begins D.told D.state (arc_value turns.now).first }
+    requires opening { IsAtOpening (opening_of D.state (arc_value turns.now).first) (arc_value shelf.now) (arc_value fabric.now) }
+    requires users_left { length users.passes.items + 1 ≡ count + 1 }
+    requires users_fresh { AreFresh (arc_value users.turns).id 1 users.passes.items }
+    requires users_within { (arc_value users.turns).passes ≡ count + 1 }
+    requires users_begin { UsersBegin U.told U.state (arc_value users.turns).first }
+{
     let mut places = Vec::new(alloc);
     for number in 1..count + 1 {
-        places.push(next_place(
-            alloc,
-            number,
-            &mut passes,
-            &mut users,
-            shelf,
-            fabric,
-            &turns,
-        )?)?;
+        places.push(next_place(alloc, number, &mut passes, &mut users, shelf, fabric, turns)?)?;
     }
-    Ok((audit, places))
+    Ok(places)
 }
 
 /// A turnstile of the state, and its passes.

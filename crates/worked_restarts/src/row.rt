@@ -1,160 +1,88 @@
-use crate::carrier::Asked;
+//! What the lines of a row say.
+
 use anyhow::{Context, Result, ensure};
 use std::alloc::Global;
 use worked_common::{
-    Exchange, Torn, bytes_of, frame_of, joined, number_of, numbers_of, shape_of, small_of, two,
+    Exchange, Line, Section, add_texts, bytes_of, decimal, frame_of, is_among, said, same_bytes,
     words_of,
 };
 
 /// The element's name, as headers have it.
 const SID: &str = "DXC1";
 
-/// What a worker must have written of the frame behind a session.
-#[derive(Drop)]
-pub struct Share {
-    pub worker: usize,
-    pub output: Vec<u8>,
-}
+/// The words that no link's exchange has.
+const WORDS: &str =
+    "shelf workers old shown torn held session stop fails shows adopts strange asked calls frames last by words";
 
-/// One session, and what must come of it.
-#[derive(Drop)]
-pub struct Session {
-    /// Whether another controller takes over before it.
-    pub adopts: bool,
-    /// Whether one is to find the registers strange, and the row ends.
-    pub strange: bool,
-    pub exchange: Exchange,
-    /// The asking, from 0, at which the gate stops.
-    pub stop: Option<u64>,
-    /// The call of the disk, from 0, that fails.
-    pub failing: Option<u64>,
-    /// Whether the disk shows the other bytes.
-    pub shows: bool,
-    pub asked: Option<Asked>,
-    pub calls: Option<u64>,
-    /// The frames that may come at an asking; none: any.
-    pub frames: Vec<Vec<u8>>,
-    pub last: Option<Vec<u8>>,
-    pub shares: Vec<Share>,
-    /// All register words; none: any.
-    pub words: Vec<u64>,
-}
-
-/// Sessions at one element, one behind the other.
-#[derive(Drop)]
-pub struct Row {
-    pub name: String,
-    pub modules: u16,
-    pub slots: u16,
-    pub workers: u16,
-    /// What the journal's file is before the start.
-    pub journal: Vec<u8>,
-    pub shown: Vec<u8>,
-    pub torn: Torn,
-    /// Whether a worker holds its frame in an entry between its two sessions.
-    pub held: bool,
-    pub sessions: Vec<Session>,
-}
-
-impl Row {
-    pub fn new(alloc: Global, name: &str) -> Result<Row> {
-        Ok(Row {
-            name: joined(alloc, &[name])?,
-            modules: 0,
-            slots: 0,
-            workers: 1,
-            journal: Vec::new(alloc),
-            shown: Vec::new(alloc),
-            torn: Torn::Lost,
-            held: false,
-            sessions: Vec::new(alloc),
-        })
-    }
-
-    /// Takes a line.
-    pub fn take(&mut self, alloc: Global, word: &str, rest: &str) -> Result<()> {
-        match word {
-            "shelf" => (self.modules, self.slots) = shape_of(rest)?,
-            "workers" => self.workers = small_of(rest)?,
-            "old" => self.journal = bytes_of(alloc, rest)?,
-            "shown" => self.shown = bytes_of(alloc, rest)?,
-            "torn" => self.torn = Torn::of(rest)?,
-            "held" => self.held = true,
-            "session" => self.sessions.push(Session::new(alloc))?,
-            _ => self
-                .sessions
-                .last_mut()
-                .context("a line stands before the row's first session")?
-                .take(alloc, word, rest)?,
-        }
-        Ok(())
-    }
-}
-
-impl Session {
-    fn new(alloc: Global) -> Session {
-        Session {
-            adopts: false,
-            strange: false,
-            exchange: Exchange::new(alloc),
-            stop: None,
-            failing: None,
-            shows: false,
-            asked: None,
-            calls: None,
-            frames: Vec::new(alloc),
-            last: None,
-            shares: Vec::new(alloc),
-            words: Vec::new(alloc),
+/// The lines of a row, with those of a part in place of a line that uses it.
+pub fn spelled_out<'a>(
+    alloc: Global,
+    lines: &[Line<'a>],
+    parts: &[Section<'a>],
+) -> Result<Vec<Line<'a>>> {
+    let mut all = Vec::new(alloc);
+    for line in lines {
+        if line.word == "use" {
+            add_part(parts, line.rest, &mut all)?;
+        } else {
+            all.push(*line)?;
         }
     }
-
-    // Takes a line of the session's own.
-    fn take(&mut self, alloc: Global, word: &str, rest: &str) -> Result<()> {
-        match word {
-            "adopts" => self.adopts = true,
-            "strange" => self.strange = true,
-            "stop" => self.stop = Some(number_of(rest)?),
-            "fails" => self.failing = Some(number_of(rest)?),
-            "shows" => self.shows = true,
-            "asked" => self.asked = Some(asked_of(alloc, rest)?),
-            "calls" => self.calls = Some(number_of(rest)?),
-            "frames" => self.take_frames(alloc, rest)?,
-            "last" => self.last = Some(frame_of(alloc, rest)?),
-            "by" => self.shares.push(share_of(alloc, rest)?)?,
-            "words" => self.words = numbers_of(alloc, rest)?,
-            _ => ensure!(
-                self.exchange.take(alloc, SID, word, rest)?,
-                "a word isn't known"
-            ),
-        }
-        Ok(())
-    }
-
-    fn take_frames(&mut self, alloc: Global, rest: &str) -> Result<()> {
-        for frame in &words_of(alloc, rest)? {
-            self.frames.push(frame_of(alloc, frame)?)?;
-        }
-        Ok(())
-    }
+    Ok(all)
 }
 
-fn asked_of(alloc: Global, text: &str) -> Result<Asked> {
-    let numbers = numbers_of(alloc, text)?;
-    let [journal, register, finish] = numbers.as_slice() else {
-        return None.context("three numbers are wanted");
+fn add_part<'a>(parts: &[Section<'a>], name: &str, into: &mut Vec<Line<'a>>) -> Result<()> {
+    for part in parts {
+        if part.name == name {
+            into.extend_from_slice(&part.lines)?;
+            return Ok(());
+        }
+    }
+    None.context("no part has that name")
+}
+
+/// What is sent in a session and what must be written.
+pub fn exchange_of(alloc: Global, session: &[Line<'_>]) -> Result<Exchange> {
+    let mut exchange = Exchange::new(alloc);
+    for line in session {
+        let taken = exchange.take(alloc, SID, line.word, line.rest)?;
+        ensure!(taken || is_among(line.word, WORDS), "a word isn't known");
+    }
+    Ok(exchange)
+}
+
+/// Whether one of the lines begins with that word.
+pub fn is_said(lines: &[Line<'_>], word: &str) -> bool {
+    said(lines, word).is_some()
+}
+
+/// The bytes that stand behind the word, none where nothing is said.
+pub fn bytes_said(alloc: Global, lines: &[Line<'_>], word: &str) -> Result<Vec<u8>> {
+    bytes_of(alloc, said(lines, word).unwrap_or(""))
+}
+
+/// The frames that stand behind the word.
+pub fn frames_said(alloc: Global, lines: &[Line<'_>], word: &str) -> Result<Vec<Vec<u8>>> {
+    let mut frames = Vec::new(alloc);
+    if let Some(text) = said(lines, word) {
+        for frame in &words_of(alloc, text)? {
+            frames.push(frame_of(alloc, frame)?)?;
+        }
+    }
+    Ok(frames)
+}
+
+/// An error where other numbers stand behind the word.
+pub fn same_as_said(alloc: Global, lines: &[Line<'_>], word: &str, numbers: &[u64]) -> Result<()> {
+    let Some(wanted) = said(lines, word) else {
+        return Ok(());
     };
-    Ok(Asked {
-        journal: *journal,
-        register: *register,
-        finish: *finish,
-    })
-}
-
-fn share_of(alloc: Global, text: &str) -> Result<Share> {
-    let (worker, frame) = two(text)?;
-    Ok(Share {
-        worker: number_of(worker)? as usize,
-        output: frame_of(alloc, frame)?,
-    })
+    let mut text = Vec::new(alloc);
+    for number in numbers {
+        if !text.is_empty() {
+            add_texts(&[" "], &mut text)?;
+        }
+        add_texts(&[decimal(alloc, *number)?.as_str()], &mut text)?;
+    }
+    same_bytes(alloc, word, &text, wanted.as_bytes())
 }

@@ -15,8 +15,8 @@ use crate::beside::{Beside, change_beside};
 use crate::element::{
     Started, Turns, disk_of, next_pass, next_place, next_seat, next_worker, start, turns_of,
 };
-use crate::row::{Row, Session};
-use crate::run::{serve_at, words_otherwise};
+use crate::row::same_as_said;
+use crate::run::serve_at;
 use crate::users::{users_disk, users_of};
 use anyhow::{Context, Result, bail, ensure};
 use craft_session::Place;
@@ -30,7 +30,7 @@ use shelf_file::Shelf;
 use std::alloc::Global;
 use std::sync::{Arc, Wait};
 use turnstile::{Pass, Turnstile};
-use worked_common::{Levers, joined};
+use worked_common::{Levers, Line, Section};
 use xc_core::State;
 
 /// DS0-2-2.
@@ -47,9 +47,14 @@ const WANTED: Beside = Beside {
     asked_in_all: 19,
 };
 
-/// The row's first session, the entry by another place, and the row's second session. Some: what isn't as it must be.
-pub fn run_stale<R: Wait>(alloc: Global, rt: &R, row: &Row) -> Result<Option<String>> {
-    let (Some(before), Some(behind)) = (row.sessions.get(0), row.sessions.get(1)) else {
+/// The row's first session, the entry by another place, and the row's second session. An error tells what isn't as it must be.
+pub fn run_stale<R: Wait>(
+    alloc: Global,
+    rt: &R,
+    row: &[Line<'_>],
+    sessions: &[Section<'_>],
+) -> Result<()> {
+    let [before, behind] = sessions else {
         bail!("two sessions are wanted");
     };
     let levers = Levers::new(alloc).ok().context("no memory")?;
@@ -58,7 +63,7 @@ pub fn run_stale<R: Wait>(alloc: Global, rt: &R, row: &Row) -> Result<Option<Str
         fabric,
         seats,
         state,
-    } = start(alloc, row, disk_of(row, &levers)?)?;
+    } = start(alloc, row, disk_of(alloc, row, &levers)?)?;
     let late = second_seat(alloc, &fabric, seats)?;
     let Seated { turns, place, pass } = seat_two(
         alloc,
@@ -68,7 +73,15 @@ pub fn run_stale<R: Wait>(alloc: Global, rt: &R, row: &Row) -> Result<Option<Str
         users_disk(alloc)?,
     )?;
     between(
-        alloc, rt, &turns, &fabric, place, pass, late, before, behind,
+        alloc,
+        rt,
+        &turns,
+        &fabric,
+        place,
+        pass,
+        late,
+        &before.lines,
+        &behind.lines,
     )
 }
 
@@ -137,17 +150,15 @@ fn between<D: Disk + Drop, U: Disk + Drop, R: Wait>(
     mut place: Place<D, U>,
     mut pass: Pass,
     mut late: WorkerSeat,
-    before: &Session,
-    behind: &Session,
-) -> Result<Option<String>>
+    before: &[Line<'_>],
+    behind: &[Line<'_>],
+) -> Result<()>
     requires seated { IsSeated D.told D.state pass turns.now fabric.now }
     requires ports { 1 < ports (opening_of D.state turns.now.first).first.fold.table.shape }
     requires own { late.reader.fabric ≡ fabric.now }
     requires rests { CanBegin late.reader.worker }
 {
-    if let (_, Some(why)) = serve_at(alloc, rt, &mut place, before, &mut AlwaysGo)? {
-        return Ok(Some(why));
-    }
+    serve_at(alloc, rt, &mut place, before, &mut AlwaysGo)?;
     let beside = change_beside(
         alloc,
         &mut pass,
@@ -158,13 +169,9 @@ fn between<D: Disk + Drop, U: Disk + Drop, R: Wait>(
         OUTPUT,
         rt,
     )?;
-    if beside != WANTED {
-        return Ok(Some(joined(alloc, &["the entry came otherwise"])?));
-    }
+    ensure!(beside == WANTED, "the entry came otherwise");
     let words = words_in_turn(alloc, &mut pass, turns, fabric, rt)?;
-    if let Some(why) = words_otherwise(alloc, behind, &words)? {
-        return Ok(Some(why));
-    }
-    let (_, why) = serve_at(alloc, rt, &mut place, behind, &mut AlwaysGo)?;
-    Ok(why)
+    same_as_said(alloc, behind, "words", &words)?;
+    serve_at(alloc, rt, &mut place, behind, &mut AlwaysGo)?;
+    Ok(())
 }

@@ -1,15 +1,15 @@
-ghost use Rattle.std.specs.Prelude.{◌<◌, ◌≤◌, IfSome, length};
+ghost use Rattle.std.specs.Prelude.{◌<◌, ◌≤◌, length};
 ghost use Rattle.dxc_outside.specs.Items.{FitsBuffer};
 
 use crate::meeting::Meeting;
 use dxc_outside::Got;
 use std::sync::Arc;
 
-/// What a session's link does, one after another.
-#[derive(Clone, Drop)]
+/// What a session's link does when the bytes in front were given.
+#[derive(Clone, Copy)]
 pub enum Cue {
-    /// These bytes come.
-    Send(Vec<u8>),
+    /// It goes on with a piece of its own.
+    Next,
     /// Nothing comes for a time.
     Quiet,
     /// The session has come to this point.
@@ -20,83 +20,63 @@ pub enum Cue {
     Frames,
 }
 
-/// The cues of a session, and how far they have come.
+/// What comes from a session's caller.
 #[derive(Drop)]
 pub struct Script {
-    rt: HostRuntime,
+    pub rt: HostRuntime,
     pub meeting: Arc<Meeting>,
-    cues: Vec<Cue>,
-    at: usize,
-    /// How many bytes of the cue in hand were given.
-    given: usize,
+    pub input: Vec<u8>,
+    /// How many bytes stand in front of each cue.
+    pub cues: Vec<(usize, Cue)>,
+    /// How many of the cues were taken, and how many bytes given.
+    pub taken: usize,
+    pub given: usize,
 }
 
 impl Script {
-    pub fn new(rt: HostRuntime, meeting: Arc<Meeting>, cues: Vec<Cue>) -> Script {
-        Script {
-            rt,
-            meeting,
-            cues,
-            at: 0,
-            given: 0,
-        }
-    }
-
     /// What comes next. It waits where a cue says so; `Failed` where it waited in vain.
     pub fn read(&mut self, into: &mut [u8]) -> Got
         requires { 0 < length into.old }
         ensures { FitsBuffer result (length into.new) }
     {
         for _ in 0..self.cues.len() {
-            if let Some(got) = self.give(into) {
-                return got;
+            let Some((front, cue)) = self.cues.get(self.taken).copied() else {
+                break;
+            };
+            let count = self.give(front, into);
+            if count != 0 {
+                return Got::Bytes(count);
+            }
+            self.taken = self.taken.saturating_add(1);
+            if let Cue::Quiet = cue {
+                return Got::Quiet;
+            }
+            if !self.does(cue) {
+                return Got::Failed;
             }
         }
         Got::End
     }
 
-    // What the cue in hand gives; None where the next one is to be looked at.
-    fn give(&mut self, into: &mut [u8]) -> Option<Got>
-        ensures { IfSome result (λ got. FitsBuffer got (length into.new)) }
-    {
-        let Some(cue) = self.cues.get(self.at) else {
-            return Some(Got::End);
-        };
-        let held = match cue {
-            Cue::Send(bytes) => {
-                let count = copy_part(bytes, self.given, into);
-                if count != 0 {
-                    self.given = self.given.saturating_add(count);
-                    return Some(Got::Bytes(count));
-                }
-                true
-            }
-            Cue::Quiet => {
-                self.at += 1;
-                return Some(Got::Quiet);
-            }
-            Cue::Reach(point) => {
-                self.meeting.reach(*point);
-                true
-            }
-            Cue::Await(point) => self.meeting.wait_for(&self.rt, *point),
-            Cue::Frames => self.meeting.wait_for_frames(&self.rt),
-        };
-        if !held {
-            return Some(Got::Failed);
+    // Does what a cue says; false where it waited in vain.
+    fn does(&self, cue: Cue) -> bool {
+        match cue {
+            Cue::Reach(point) => self.meeting.reach(point),
+            Cue::Await(point) => return self.meeting.wait_for(&self.rt, point),
+            Cue::Frames => return self.meeting.wait_for_frames(&self.rt),
+            Cue::Next | Cue::Quiet => {}
         }
-        self.at += 1;
-        self.given = 0;
-        None
+        true
     }
-}
 
-// Copies what is left of the bytes behind so many, as far as it fits; how many those were.
-fn copy_part(bytes: &[u8], given: usize, into: &mut [u8]) -> usize
-    ensures { result ≤ length into.new }
-{
-    let left = &bytes[given.min(bytes.len())..];
-    let count = left.len().min(into.len());
-    into[..count].copy_from_slice(&left[..count]);
-    count
+    // Gives of the bytes up to that place what fits; how many those were.
+    fn give(&mut self, front: usize, into: &mut [u8]) -> usize
+        ensures { result ≤ length into.new }
+    {
+        let left = self.input.get(self.given..front).unwrap_or(&[]);
+        let count = left.len().min(into.len());
+        into[..count].copy_from_slice(&left[..count]);
+        self.given = self.given.saturating_add(count);
+        count
+    }
 }

@@ -19,6 +19,19 @@ pub struct Cued {
     pub act: Act,
 }
 
+impl Cued {
+    // Whether the gate goes on there. It stops too where a hold was in vain.
+    fn goes_on(&self) -> bool {
+        match self.act {
+            Act::Stop => false,
+            Act::Hold { here, there } => {
+                self.meeting.reach(here);
+                self.meeting.wait_for(&self.rt, there)
+            }
+        }
+    }
+}
+
 /// The gate of a session or a worker, which goes on but where it is cued otherwise.
 #[derive(Drop)]
 pub struct CuedGate {
@@ -37,22 +50,6 @@ impl CuedGate {
     }
 }
 
-impl Cued {
-    // Whether the gate goes on at the asking of this number.
-    fn goes_on(&self, asking: u64) -> bool {
-        if asking != self.asking {
-            return true;
-        }
-        match self.act {
-            Act::Stop => false,
-            Act::Hold { here, there } => {
-                self.meeting.reach(here);
-                self.meeting.wait_for(&self.rt, there)
-            }
-        }
-    }
-}
-
 impl Gate for CuedGate {
     ghost stops = { λ g. g.stops };
 
@@ -62,18 +59,15 @@ impl Gate for CuedGate {
 
     ghost asked_on = { λ _ _ _ _ _ _ _. tt };
 
-    /// It stops too where a hold was in vain.
     fn pass(&mut self, _place: GatePlace) -> Pass1 {
         let asking = self.asked;
         self.asked = self.asked.saturating_add(1);
-        let goes_on = match &self.cued {
-            Some(cued) => cued.goes_on(asking),
-            None => true,
-        };
-        if goes_on {
-            return Pass1::Go;
+        if let Some(cued) = &self.cued {
+            if cued.asking == asking && !cued.goes_on() {
+                self.stops = self.stops.saturating_add(1);
+                return Pass1::Stop;
+            }
         }
-        self.stops = self.stops.saturating_add(1);
-        Pass1::Stop
+        Pass1::Go
     }
 }

@@ -16,17 +16,20 @@ pub fn byte_of(port: u16, frame: u8) -> u8 {
     ((port as u32 + turned as u32 + frame as u32) % IDLE as u32) as u8
 }
 
-/// Whether the port's output is the worker's, with so many slots in a module.
-pub fn is_of_worker(port: u16, slots: u16, worker: u16, workers: u16) -> bool {
-    slots != 0 && workers != 0 && port / slots % workers == worker
-}
-
 /// One of the workers.
 #[derive(Clone, Copy)]
 pub struct Worker {
     pub number: u16,
     pub workers: u16,
+    /// The slots of a module.
     pub slots: u16,
+}
+
+impl Worker {
+    /// Whether the port's output is the worker's.
+    pub fn has(self, port: u16) -> bool {
+        self.slots != 0 && self.workers != 0 && port / self.slots % self.workers == self.number
+    }
 }
 
 /// The number of the frame in hand, and how many come behind it.
@@ -96,13 +99,8 @@ impl WatchedLines {
     fn astray(&self, frame: &[u8]) -> u64 {
         let mut astray = 0u64;
         for known in &self.known {
-            let Worker {
-                number,
-                workers,
-                slots,
-            } = self.worker;
             if known.stood(&self.meeting)
-                && is_of_worker(known.output, slots, number, workers)
+                && self.worker.has(known.output)
                 && frame.get(known.output as usize).copied()
                     != Some(byte_of(known.input, self.count.frame))
             {

@@ -10,7 +10,7 @@ pub struct CueLink {
     /// The session's number in its row.
     number: usize,
     /// The point that is come to where the session is over.
-    over: Option<usize>,
+    over: Option<u64>,
     output: Vec<u8>,
     ended: bool,
     reads: u64,
@@ -20,7 +20,7 @@ pub struct CueLink {
 
 impl CueLink {
     /// What is written comes behind what `output` holds.
-    pub fn new(script: Script, number: usize, over: Option<usize>, output: Vec<u8>) -> CueLink {
+    pub fn new(script: Script, number: usize, over: Option<u64>, output: Vec<u8>) -> CueLink {
         CueLink {
             script,
             number,
@@ -80,7 +80,7 @@ impl Drop for CueLink {
         } = self;
         script.meeting.note_output(number, output);
         if let Some(point) = over {
-            script.meeting.reach(point);
+            script.meeting.reach(point as usize);
         }
     }
 }

@@ -1,61 +1,49 @@
-ghost use Rattle.std.specs.Prelude.{None};
+ghost use Rattle.std.specs.Prelude.{None, ◌≢◌};
 ghost use Rattle.dxc_outside.specs.Holdings.{opener_state};
 
-use crate::gate::{Cued, CuedGate};
-use crate::lines::{WatchedLines, Worker};
+use crate::gate::CuedGate;
+use crate::lines::WatchedLines;
 use crate::link::CueLink;
 use crate::listener::OneCaller;
-use crate::meeting::Meeting;
-use crate::row::Carried;
 use dxc_disk::MemDisk;
 use dxc_outside::{MemClock, MemLink, MemOpener, Opened, Opener};
 use std::alloc::Global;
-use std::collections::VecDeque;
-use std::sync::Arc;
+use worked_common::NOON;
 
-/// The caller of a session, and what its gate is cued for.
-#[derive(Drop)]
-pub struct Caller {
-    pub link: CueLink,
-    pub cued: Option<Cued>,
-}
-
-/// The frame workers of a row.
-#[derive(Drop)]
-pub struct Crew {
-    pub workers: u16,
-    /// The slots of a module.
-    pub slots: u16,
-    /// The connections that they look for.
-    pub known: Vec<Carried>,
-}
-
-/// Opens the shelf file and the journal of a row, a listener for each of its sessions, in their order, and the lines of its workers.
+/// Hands out what a row has, all but the shelf file whatever the name, of lists the last one first.
 #[derive(Drop)]
 pub struct RowOpener {
+    alloc: Global,
     files: MemOpener,
-    meeting: Arc<Meeting>,
-    crew: Crew,
-    callers: VecDeque<Caller>,
-    /// What the gate is cued for of the session whose listener was opened last.
-    cued: Option<Cued>,
+    /// The disks of the journal and of the users' journal.
+    pub disks: Vec<MemDisk>,
+    pub lines: Vec<WatchedLines>,
+    /// The callers of the sessions. Nobody calls at the listeners that are left.
+    pub callers: Vec<CueLink>,
+    /// The gates of the workers, and then of the sessions.
+    pub gates: Vec<CuedGate>,
 }
 
 impl RowOpener {
-    /// `files` holds the shelf file and the journal, and a clock for each session.
-    pub fn new(
-        files: MemOpener,
-        meeting: Arc<Meeting>,
-        crew: Crew,
-        callers: VecDeque<Caller>,
-    ) -> RowOpener {
+    /// `files` holds the shelf file.
+    pub fn new(alloc: Global, files: MemOpener) -> RowOpener {
         RowOpener {
+            alloc,
             files,
-            meeting,
-            crew,
-            callers,
-            cued: None,
+            disks: Vec::new(alloc),
+            lines: Vec::new(alloc),
+            callers: Vec::new(alloc),
+            gates: Vec::new(alloc),
         }
+    }
+}
+
+fn opened<X: Drop>(held: Option<X>) -> Opened<X>
+    ensures { result ≢ Opened.Failed }
+{
+    match held {
+        Some(held) => Opened::Open(held),
+        None => Opened::NoMemory,
     }
 }
 
@@ -84,45 +72,29 @@ impl Opener for RowOpener {
         self.files.shelf(alloc, name, into)
     }
 
-    fn journal(&mut self, alloc: Global, name: &str) -> Opened<MemDisk> {
-        self.files.journal(alloc, name)
+    fn journal(&mut self, _alloc: Global, _name: &str) -> Opened<MemDisk> {
+        opened(self.disks.pop())
     }
 
-    fn lines(&mut self, alloc: Global, _name: &str, worker: u16) -> Opened<WatchedLines> {
-        let Ok(meeting) = Arc::try_clone(&self.meeting) else {
-            return Opened::NoMemory;
-        };
-        let Ok(known) = self.crew.known.to_vec(alloc) else {
-            return Opened::NoMemory;
-        };
-        let worker = Worker {
-            number: worker,
-            workers: self.crew.workers,
-            slots: self.crew.slots,
-        };
-        Opened::Open(WatchedLines::new(meeting, worker, known, Vec::new(alloc)))
+    fn lines(&mut self, _alloc: Global, _name: &str, _worker: u16) -> Opened<WatchedLines> {
+        opened(self.lines.pop())
     }
 
-    /// Nobody calls at the listeners behind those of the row's sessions.
     fn listener(&mut self, _alloc: Global, _address: &str) -> Opened<OneCaller> {
-        match self.callers.pop_front() {
-            Some(Caller { link, cued }) => {
-                self.cued = cued;
-                Opened::Open(OneCaller::new(Some(link)))
-            }
-            None => Opened::Open(OneCaller::new(None)),
-        }
+        Opened::Open(OneCaller::new(self.callers.pop()))
     }
 
-    fn peer(&mut self, alloc: Global, address: &str) -> Opened<MemLink> {
-        self.files.peer(alloc, address)
+    fn peer(&mut self, _alloc: Global, _address: &str) -> Opened<MemLink> {
+        Opened::NoMemory
     }
 
     fn clock(&mut self) -> MemClock {
-        self.files.clock()
+        let mut moments = Vec::new(self.alloc);
+        let _ = moments.push(NOON);
+        MemClock::new(moments)
     }
 
     fn gate(&mut self) -> CuedGate {
-        CuedGate::new(self.cued.take())
+        self.gates.pop().unwrap_or(CuedGate::new(None))
     }
 }

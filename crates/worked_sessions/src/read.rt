@@ -1,179 +1,54 @@
+//! What the lines of a session say.
+
 use crate::cue::Cue;
 use crate::gate::Act;
-use crate::plain::Spot;
-use crate::random::{Plan, take_random};
-use crate::row::{Carried, NEVER, POINTS, Row, Session, Size};
-use anyhow::{Context, Result, ensure};
+use anyhow::{Result, ensure};
 use std::alloc::Global;
-use worked_common::{
-    add_completed, add_report, add_texts, add_wanted, decimal, joined, lines_of, number_of,
-    numbers_of, shape_of, small, small_of, two,
-};
+use worked_common::{Exchange, Line, add_report, decimal, is_among, number_of, said, two};
 
-/// The rows that the text describes, line by line.
-pub fn rows_of(alloc: Global, text: &str) -> Result<Vec<Row>> {
-    let mut rows = Vec::new(alloc);
-    for line in &lines_of(alloc, text)? {
-        if line.word == "row" {
-            rows.push(Row::new(alloc, line.rest)?)?;
-        } else {
-            let row = rows
-                .last_mut()
-                .context("a line stands before the first row")?;
-            take_line(alloc, row, line.word, line.rest)?;
+/// The words that no link's exchange has.
+const WORDS: &str =
+    "quiet point after frames over stop hold reports shelf sid workers each carried stands";
+
+/// What comes from a session's caller, with how many bytes stand in front of each cue, and what must be written.
+#[derive(Drop)]
+pub struct Session {
+    pub input: Vec<u8>,
+    pub cues: Vec<(usize, Cue)>,
+    pub wanted: Vec<u8>,
+}
+
+/// The session of these lines, at an element of this name.
+pub fn session_of(alloc: Global, sid: &str, lines: &[Line<'_>]) -> Result<Session> {
+    let mut exchange = Exchange::new(alloc);
+    let mut cues = Vec::new(alloc);
+    for line in lines {
+        let taken = exchange.take(alloc, sid, line.word, line.rest)?;
+        ensure!(taken || is_among(line.word, WORDS), "a word isn't known");
+        if line.word == "reports" {
+            add_reports(alloc, sid, line.rest, &mut exchange.output)?;
         }
+        cues.push((exchange.input.len(), cue_of(*line)?))?;
     }
-    Ok(rows)
+    Ok(Session {
+        input: exchange.input,
+        cues,
+        wanted: exchange.output,
+    })
 }
 
-fn take_line(alloc: Global, row: &mut Row, word: &str, rest: &str) -> Result<()> {
-    match word {
-        "shelf" => take_shelf(alloc, row, rest)?,
-        "sid" => row.sid = joined(alloc, &[rest])?,
-        "workers" => row.workers = small_of(rest)?,
-        "each" => take_numbers(alloc, row, rest)?,
-        "carried" => take_carried(alloc, row, rest)?,
-        "stands" => {
-            let (input, output) = two(rest)?;
-            let input = row.size.port(Spot::of(alloc, input)?)?;
-            row.stands
-                .push((input, row.size.port(Spot::of(alloc, output)?)?))?;
-        }
-        "random" => take_plan(alloc, row, rest)?,
-        "session" => row.sessions.push(Session::new(alloc, rest)?)?,
-        _ => {
-            let session = row
-                .sessions
-                .last_mut()
-                .context("a line stands before the row's first session")?;
-            take_step(alloc, session, row.sid.as_str(), word, rest)?;
-        }
-    }
-    Ok(())
-}
-
-fn point(text: &str) -> Result<usize> {
-    let point = number_of(text)? as usize;
-    ensure!(point < POINTS, "no such point");
-    Ok(point)
-}
-
-fn take_numbers(alloc: Global, row: &mut Row, rest: &str) -> Result<()> {
-    let numbers = numbers_of(alloc, rest)?;
-    let [first, last] = numbers.as_slice() else {
-        return None.context("two numbers are wanted");
-    };
-    (row.first, row.last) = (*first, *last);
-    Ok(())
-}
-
-fn take_shelf(alloc: Global, row: &mut Row, rest: &str) -> Result<()> {
-    let (file, size) = two(rest)?;
-    let (modules, slots) = shape_of(size)?;
-    row.shelf = joined(alloc, &[file])?;
-    row.size = Size { modules, slots };
-    Ok(())
-}
-
-fn take_carried(alloc: Global, row: &mut Row, rest: &str) -> Result<()> {
-    let (from, rest) = two(rest)?;
-    let (until, rest) = two(rest)?;
-    let (input, output) = two(rest)?;
-    row.carried.push(Carried {
-        from: point(from)?,
-        until: if until == "-" { NEVER } else { point(until)? },
-        input: row.size.port(Spot::of(alloc, input)?)?,
-        output: row.size.port(Spot::of(alloc, output)?)?,
-        stands: false,
-    })?;
-    Ok(())
-}
-
-// A user, and numbers.
-fn take_plan(alloc: Global, row: &mut Row, rest: &str) -> Result<()> {
-    let (uid, rest) = two(rest)?;
-    let numbers = numbers_of(alloc, rest)?;
-    let [seed, sessions, rounds, units, equipped] = numbers.as_slice() else {
-        return None.context("five numbers are wanted");
-    };
-    let plan = Plan {
-        seed: *seed,
-        sessions: *sessions as usize,
-        rounds: *rounds as usize,
-        units: *units as usize,
-        equipped: small(*equipped)?,
-        uid,
-    };
-    take_random(alloc, row, plan)
-}
-
-fn take_step(
-    alloc: Global,
-    session: &mut Session,
-    sid: &str,
-    word: &str,
-    rest: &str,
-) -> Result<()> {
-    match word {
-        "send" => session.send(alloc, &[rest])?,
-        "times" => take_times(alloc, session, rest)?,
-        "quiet" => session.cues.push(Cue::Quiet)?,
-        "point" => session.cues.push(Cue::Reach(point(rest)?))?,
-        "after" => session.cues.push(Cue::Await(point(rest)?))?,
-        "frames" => session.cues.push(Cue::Frames)?,
-        "over" => session.over = Some(point(rest)?),
-        "stop" => session.act = Some(Act::Stop),
-        "hold" => {
-            let (here, there) = two(rest)?;
-            session.act = Some(Act::Hold {
-                here: point(here)?,
-                there: point(there)?,
-            });
-        }
-        _ => take_wanted(alloc, session, sid, word, rest)?,
-    }
-    Ok(())
-}
-
-fn take_times(alloc: Global, session: &mut Session, rest: &str) -> Result<()> {
-    let (count, text) = two(rest)?;
-    let mut bytes = Vec::new(alloc);
-    for _ in 0..number_of(count)? {
-        add_texts(&[text], &mut bytes)?;
-    }
-    session.cues.push(Cue::Send(bytes))?;
-    Ok(())
-}
-
-fn take_wanted(
-    alloc: Global,
-    session: &mut Session,
-    sid: &str,
-    word: &str,
-    rest: &str,
-) -> Result<()> {
-    let wanted = &mut session.wanted;
-    match word {
-        "reports" => take_reports(alloc, sid, rest, wanted),
-        "login" => take_login(alloc, session, sid, rest),
-        _ => {
-            ensure!(
-                add_wanted(alloc, sid, word, rest, wanted)?,
-                "a word isn't known"
-            );
-            Ok(())
-        }
-    }
-}
-
-fn take_login(alloc: Global, session: &mut Session, sid: &str, rest: &str) -> Result<()> {
-    let (uid, tag) = two(rest)?;
-    session.send(alloc, &["ACT-USER::", uid, ":", tag, "::bc;"])?;
-    add_completed(sid, tag, &mut session.wanted)
+fn cue_of(line: Line<'_>) -> Result<Cue> {
+    Ok(match line.word {
+        "quiet" => Cue::Quiet,
+        "point" => Cue::Reach(number_of(line.rest)? as usize),
+        "after" => Cue::Await(number_of(line.rest)? as usize),
+        "frames" => Cue::Frames,
+        _ => Cue::Next,
+    })
 }
 
 // Reports from the one number to the other, which have the two texts in turn.
-fn take_reports(alloc: Global, sid: &str, rest: &str, into: &mut Vec<u8>) -> Result<()> {
+fn add_reports(alloc: Global, sid: &str, rest: &str, into: &mut Vec<u8>) -> Result<()> {
     let (first, rest) = two(rest)?;
     let (last, texts) = two(rest)?;
     let (one, other) = two(texts)?;
@@ -183,4 +58,25 @@ fn take_reports(alloc: Global, sid: &str, rest: &str, into: &mut Vec<u8>) -> Res
         text = (text.1, text.0);
     }
     Ok(())
+}
+
+/// What the gate of the session of these lines does at the row's asking.
+pub fn act_of(lines: &[Line<'_>]) -> Result<Option<Act>> {
+    if let Some(points) = said(lines, "hold") {
+        let (here, there) = two(points)?;
+        return Ok(Some(Act::Hold {
+            here: number_of(here)? as usize,
+            there: number_of(there)? as usize,
+        }));
+    }
+    if said(lines, "stop").is_some() {
+        return Ok(Some(Act::Stop));
+    }
+    Ok(None)
+}
+
+/// The first and the last number for which the row is run.
+pub fn askings(row: &[Line<'_>]) -> Result<(u64, u64)> {
+    let (first, last) = two(said(row, "each").unwrap_or("0 0"))?;
+    Ok((number_of(first)?, number_of(last)?))
 }

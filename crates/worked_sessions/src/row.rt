@@ -1,41 +1,88 @@
-use crate::asked::Ask;
-use crate::cue::Cue;
-use crate::gate::Act;
+//! The element of a row, and the connections that its frames are to carry.
+
+use crate::lines::{Worker, byte_of};
 use crate::meeting::Meeting;
-use crate::plain::Spot;
 use anyhow::{Context, Result, ensure};
 use std::alloc::Global;
-use worked_common::{add_texts, joined};
+use worked_common::{IDLE, Line, number_of, said, shape_of, small_of, two};
 
-/// The points that a row's text may name are below this number.
-pub const POINTS: usize = 64;
+/// The modules of an element and the slots of each.
+#[derive(Clone, Copy)]
+pub struct Size {
+    modules: u16,
+    slots: u16,
+}
 
-/// No point has this number.
-pub const NEVER: usize = usize::MAX;
+impl Size {
+    /// The shelf file of the row, and its size.
+    pub fn of<'a>(row: &[Line<'a>]) -> Result<(&'a str, Size)> {
+        let (shelf, size) = two(said(row, "shelf").context("a shelf is wanted")?)?;
+        let (modules, slots) = shape_of(size)?;
+        Ok((shelf, Size { modules, slots }))
+    }
+
+    /// The worker of this number, of so many.
+    pub fn worker(self, number: u16, workers: u16) -> Worker {
+        Worker {
+            number,
+            workers,
+            slots: self.slots,
+        }
+    }
+
+    fn ports(self) -> u16 {
+        self.modules.saturating_mul(self.slots)
+    }
+
+    // The number of the port of this name, from 0.
+    fn port(self, name: &str) -> Result<u16> {
+        let rest = name.strip_prefix("DS0-").context("a port is wanted")?;
+        let (module, slot) = rest.split_once('-').context("a slot is wanted")?;
+        let first = small_of(module)?
+            .saturating_sub(1)
+            .saturating_mul(self.slots);
+        let port = first.saturating_add(small_of(slot)?.saturating_sub(1));
+        ensure!(port < self.ports(), "the element has no such port");
+        Ok(port)
+    }
+
+    // Two ports.
+    fn leg(self, names: &str) -> Result<(u16, u16)> {
+        let (input, output) = two(names)?;
+        Ok((self.port(input)?, self.port(output)?))
+    }
+}
 
 /// A connection that is known to stand for a time: each frame that begins and ends within it carries the input's byte.
 #[derive(Clone, Copy)]
 pub struct Carried {
     /// It stands when this point was come to,
-    pub from: usize,
-    /// and until this one is.
-    pub until: usize,
+    from: usize,
+    /// and until this one is, if any is.
+    until: usize,
     pub input: u16,
     pub output: u16,
     /// Whether it stood when the frame in hand began.
-    pub stands: bool,
+    stands: bool,
 }
 
 impl Carried {
-    /// It stands for good when the point was come to.
-    pub fn from_point(from: usize, input: u16, output: u16) -> Carried {
-        Carried {
-            from,
-            until: NEVER,
+    // By the points and ports that the text tells.
+    fn of(size: Size, text: &str) -> Result<Carried> {
+        let (from, rest) = two(text)?;
+        let (until, names) = two(rest)?;
+        let (input, output) = size.leg(names)?;
+        Ok(Carried {
+            from: number_of(from)? as usize,
+            until: if until == "-" {
+                usize::MAX
+            } else {
+                number_of(until)? as usize
+            },
             input,
             output,
             stands: false,
-        }
+        })
     }
 
     /// Looks whether it stands, where a frame begins.
@@ -49,108 +96,54 @@ impl Carried {
     }
 }
 
-/// A technician's session: what comes from him, and what he must be written.
-#[derive(Drop)]
-pub struct Session {
-    pub name: String,
-    pub cues: Vec<Cue>,
-    pub wanted: Vec<u8>,
-    /// In place of that, what its units ask: they are tagged by their numbers, from 1.
-    pub asked: Vec<Ask>,
-    /// The point that is come to where it is over.
-    pub over: Option<usize>,
-    /// What its gate does at the asking of the row's number.
-    pub act: Option<Act>,
+/// The connections that are known to stand while the row's sessions are served.
+pub fn carried_of(alloc: Global, size: Size, row: &[Line<'_>]) -> Result<Vec<Carried>> {
+    let mut carried = Vec::new(alloc);
+    for line in row {
+        if line.word == "carried" {
+            carried.push(Carried::of(size, line.rest)?)?;
+        }
+    }
+    Ok(carried)
 }
 
-impl Session {
-    pub fn new(alloc: Global, name: &str) -> Result<Session> {
-        Ok(Session {
-            name: joined(alloc, &[name])?,
-            cues: Vec::new(alloc),
-            wanted: Vec::new(alloc),
-            asked: Vec::new(alloc),
-            over: None,
-            act: None,
-        })
+/// The connections that stand when all sessions are over.
+pub fn stands_of(alloc: Global, size: Size, row: &[Line<'_>]) -> Result<Vec<(u16, u16)>> {
+    let mut stands = Vec::new(alloc);
+    for line in row {
+        if line.word == "stands" {
+            stands.push(size.leg(line.rest)?)?;
+        }
     }
-
-    /// The texts come next, one behind the other.
-    pub fn send(&mut self, alloc: Global, texts: &[&str]) -> Result<()> {
-        let mut bytes = Vec::new(alloc);
-        add_texts(texts, &mut bytes)?;
-        self.cues.push(Cue::Send(bytes))?;
-        Ok(())
-    }
+    Ok(stands)
 }
 
-/// The modules of an element and the slots of each.
-#[derive(Clone, Copy)]
-pub struct Size {
-    pub modules: u16,
-    pub slots: u16,
+/// What the worker must carry in the last two frames, where these connections stand.
+pub fn last_frames(
+    alloc: Global,
+    size: Size,
+    worker: Worker,
+    stands: &[(u16, u16)],
+) -> Result<Vec<u8>> {
+    let mut frames = Vec::new(alloc);
+    for frame in 0..2 {
+        for port in 0..size.ports() {
+            frames.push(if worker.has(port) {
+                carried_to(port, stands, frame)
+            } else {
+                IDLE
+            })?;
+        }
+    }
+    Ok(frames)
 }
 
-impl Size {
-    pub fn ports(self) -> u16 {
-        self.modules.saturating_mul(self.slots)
+// The byte that goes out at the port in the frame of this number.
+fn carried_to(port: u16, stands: &[(u16, u16)], frame: u8) -> u8 {
+    for (input, output) in stands {
+        if *output == port {
+            return byte_of(*input, frame);
+        }
     }
-
-    /// The number of the port, from 0.
-    pub fn port(self, spot: Spot) -> Result<u16> {
-        let module = spot.module.checked_sub(1).context("modules begin at 1")?;
-        let slot = spot.slot.checked_sub(1).context("slots begin at 1")?;
-        ensure!(
-            module < self.modules && slot < self.slots,
-            "the element has no such port"
-        );
-        module
-            .checked_mul(self.slots)
-            .and_then(|first| first.checked_add(slot))
-            .context("too many ports")
-    }
-}
-
-/// Sessions side by side on one new journal, and frame workers beside them.
-#[derive(Drop)]
-pub struct Row {
-    pub name: String,
-    pub shelf: String,
-    /// The element's name, as headers have it.
-    pub sid: String,
-    pub size: Size,
-    pub workers: u16,
-    /// Its points are below this number.
-    pub points: usize,
-    /// Where its sessions are random: up to which module it is equipped at first.
-    pub equipped: Option<u16>,
-    /// It is run for each number from the first to the last.
-    pub first: u64,
-    pub last: u64,
-    pub carried: Vec<Carried>,
-    /// Which input each output carries when all sessions are over, of those that carry one.
-    pub stands: Vec<(u16, u16)>,
-    pub sessions: Vec<Session>,
-}
-
-impl Row {
-    pub fn new(alloc: Global, name: &str) -> Result<Row> {
-        Ok(Row {
-            name: joined(alloc, &[name])?,
-            shelf: String::new(alloc),
-            sid: joined(alloc, &["DXC1"])?,
-            size: Size {
-                modules: 2,
-                slots: 1,
-            },
-            workers: 1,
-            points: POINTS,
-            equipped: None,
-            first: 0,
-            last: 0,
-            carried: Vec::new(alloc),
-            stands: Vec::new(alloc),
-            sessions: Vec::new(alloc),
-        })
-    }
+    IDLE
 }

@@ -1,71 +1,61 @@
-use crate::audit::stands_after;
-use crate::compare::{fault_of_frames, fault_of_session};
 use crate::cue::Script;
-use crate::gate::Cued;
+use crate::gate::{Cued, CuedGate};
+use crate::lines::WatchedLines;
 use crate::link::CueLink;
 use crate::meeting::Meeting;
-use crate::opener::{Caller, Crew, RowOpener};
-use crate::row::{Row, Session};
-use anyhow::{Context, Result};
+use crate::opener::RowOpener;
+use crate::read::{Session, act_of, session_of};
+use crate::row::{Size, carried_of, last_frames, stands_of};
+use anyhow::{Context, Result, ensure};
 use craft_server::dxc_run;
 use dxc_disk::MemDisk;
 use dxc_host::ThreadSpawner;
 use dxc_outside::{MemClock, MemGate, MemLink, MemOpener, Name};
 use std::alloc::Global;
-use std::collections::VecDeque;
 use std::fs;
 use std::sync::{Arc, Wait};
 use std::thread::Threads;
-use worked_common::{NOON, decimal, joined, number_otherwise};
+use worked_common::{
+    Line, Section, decimal, joined, number_said, said, same_bytes, same_number, sections_of, small,
+    words_of,
+};
 
-/// The program serves so many sessions at a time.
-const PLACES: u16 = 16;
-
-/// Runs the row on a new journal, with its gates cued for that asking. None where it did what it must, else what didn't hold.
+/// Serves the row's sessions and workers on a new journal, with its gates cued for that asking. An error tells what isn't as it must be.
 pub fn run_row<R: Threads + Wait + Copy + Send + Drop + 'static>(
     rt: &HostRuntime,
     threads: &R,
-    row: &Row,
+    row: &[Line<'_>],
     asking: u64,
-) -> Result<Option<String>> {
+) -> Result<()> {
     let alloc = rt.alloc();
-    let meeting = Meeting::new(alloc, row.points, row.sessions.len(), row.workers as usize)?;
+    let sessions = sections_of(alloc, row, "session")?;
+    let workers = small(number_said(row, "workers")?.unwrap_or(1))?;
+    let meeting = Meeting::new(alloc, sessions.len(), workers as usize)?;
     let meeting = Arc::new(alloc, meeting)?;
-    let status = serve(rt, threads, row, asking, &meeting)?;
-    if let Some(why) = number_otherwise(alloc, "the status", status as u64, 0)? {
-        return Ok(Some(why));
-    }
-    fault_of(alloc, row, &meeting)
+    let opener = opener_of(rt, row, &sessions, workers, asking, &meeting)?;
+    let status = serve(alloc, threads, opener, workers)?;
+    same_number(alloc, "the status", status as u64, 0)?;
+    ensure!(!meeting.is_given_up(), "a thread was waited for in vain");
+    compare_sessions(alloc, row, &sessions, &meeting)?;
+    compare_frames(alloc, row, workers, &meeting)
 }
 
-// Serves the row's sessions and its workers; the status that the program ends with.
+// Serves what the opener has, with so many workers; the status that the program ends with.
 fn serve<R: Threads + Wait + Copy + Send + Drop + 'static>(
-    rt: &HostRuntime,
+    alloc: Global,
     threads: &R,
-    row: &Row,
-    asking: u64,
-    meeting: &Arc<Meeting>,
+    mut opener: RowOpener,
+    workers: u16,
 ) -> Result<u8> {
-    let alloc = rt.alloc();
+    let count = decimal(alloc, workers as u64)?;
+    let line = joined(
+        alloc,
+        &["serve shelf journal address lines ", count.as_str()],
+    )?;
     let mut words = Vec::new(alloc);
-    for word in [
-        "serve",
-        row.shelf.as_str(),
-        "row.journal",
-        "anywhere",
-        "lines",
-    ] {
+    for word in &words_of(alloc, line.as_str())? {
         words.push(Name::of(joined(alloc, &[word])?))?;
     }
-    words.push(Name::of(decimal(alloc, row.workers as u64)?))?;
-    let crew = Crew {
-        workers: row.workers,
-        slots: row.size.slots,
-        known: row.carried.clone()?,
-    };
-    let callers = callers_of(rt, row, asking, meeting)?;
-    let files = files_of(rt, row)?;
-    let mut opener = RowOpener::new(files, Arc::try_clone(meeting)?, crew, callers);
     // Nobody reads or writes at the terminal, and the gate that is asked while the controller starts goes on.
     let mut terminal = MemLink::new(
         Vec::new(alloc),
@@ -86,82 +76,116 @@ fn serve<R: Threads + Wait + Copy + Send + Drop + 'static>(
     Ok(status.number())
 }
 
+// What the row's run opens.
+fn opener_of(
+    rt: &HostRuntime,
+    row: &[Line<'_>],
+    sessions: &[Section<'_>],
+    workers: u16,
+    asking: u64,
+    meeting: &Arc<Meeting>,
+) -> Result<RowOpener> {
+    let alloc = rt.alloc();
+    let (shelf, size) = Size::of(row)?;
+    let shelf = (Name::of(joined(alloc, &["shelf"])?), fs::read(rt, shelf)?);
+    let files = MemOpener::new(alloc, Vec::new(alloc)).with_shelves(vec![in alloc; shelf]?);
+    let mut opener = RowOpener::new(alloc, files);
+    for _ in 0..2 {
+        opener.disks.push(new_disk(alloc)?)?;
+    }
+    for (number, session) in sessions.iter().enumerate().rev() {
+        let script = script_of(rt, row, &session.lines, meeting)?;
+        let over = number_said(&session.lines, "over")?;
+        let link = CueLink::new(script, number, over, Vec::new(alloc));
+        opener.callers.push(link)?;
+        opener
+            .gates
+            .push(gate_of(rt, &session.lines, asking, meeting)?)?;
+    }
+    for number in (0..workers).rev() {
+        let worker = size.worker(number, workers);
+        let known = carried_of(alloc, size, row)?;
+        let meeting = Arc::try_clone(meeting)?;
+        let lines = WatchedLines::new(meeting, worker, known, Vec::new(alloc));
+        opener.lines.push(lines)?;
+        opener.gates.push(CuedGate::new(None))?;
+    }
+    Ok(opener)
+}
+
 fn new_disk(alloc: Global) -> Result<MemDisk> {
     MemDisk::new(alloc, Vec::new(alloc), Vec::new(alloc))
         .ok()
         .context("no memory for a disk")
 }
 
-// The row's shelf file, new journals, and a clock for each session, which stands at noon.
-fn files_of(rt: &HostRuntime, row: &Row) -> Result<MemOpener> {
-    let alloc = rt.alloc();
-    let shelf = fs::read(rt, row.shelf.as_str())?;
-    let shelf_name = Name::of(row.shelf.clone()?);
-    let mut journals = Vec::new(alloc);
-    for name in ["row.journal", "row.journal.users"] {
-        journals.push((Name::of(joined(alloc, &[name])?), new_disk(alloc)?))?;
-    }
-    let mut clocks = VecDeque::new(alloc);
-    for _ in 0..PLACES {
-        clocks.push_back(MemClock::new(vec![in alloc; NOON]?))?;
-    }
-    Ok(
-        MemOpener::new(alloc, Vec::new(alloc))
-            .with_shelves(vec![in alloc; (shelf_name, shelf)]?)
-            .with_journals(journals)
-            .with_clocks(clocks),
-    )
+// The session of these lines, of the row's element.
+fn session_in(alloc: Global, row: &[Line<'_>], lines: &[Line<'_>]) -> Result<Session> {
+    session_of(alloc, said(row, "sid").unwrap_or("DXC1"), lines)
 }
 
-fn callers_of(
+fn script_of(
     rt: &HostRuntime,
-    row: &Row,
-    asking: u64,
+    row: &[Line<'_>],
+    lines: &[Line<'_>],
     meeting: &Arc<Meeting>,
-) -> Result<VecDeque<Caller>> {
-    let mut callers = VecDeque::new(rt.alloc());
-    for (number, session) in row.sessions.iter().enumerate() {
-        callers.push_back(caller_of(rt, session, number, asking, meeting)?)?;
-    }
-    Ok(callers)
+) -> Result<Script> {
+    let Session {
+        input,
+        cues,
+        wanted: _,
+    } = session_in(rt.alloc(), row, lines)?;
+    Ok(Script {
+        rt: *rt,
+        meeting: Arc::try_clone(meeting)?,
+        input,
+        cues,
+        taken: 0,
+        given: 0,
+    })
 }
 
-fn caller_of(
+fn gate_of(
     rt: &HostRuntime,
-    session: &Session,
-    number: usize,
+    lines: &[Line<'_>],
     asking: u64,
     meeting: &Arc<Meeting>,
-) -> Result<Caller> {
-    let script = Script::new(*rt, Arc::try_clone(meeting)?, session.cues.clone()?);
-    let link = CueLink::new(script, number, session.over, Vec::new(rt.alloc()));
-    let cued = match session.act {
-        Some(act) => Some(Cued {
-            rt: *rt,
-            meeting: Arc::try_clone(meeting)?,
-            asking,
-            act,
-        }),
-        None => None,
+) -> Result<CuedGate> {
+    let Some(act) = act_of(lines)? else {
+        return Ok(CuedGate::new(None));
     };
-    Ok(Caller { link, cued })
+    Ok(CuedGate::new(Some(Cued {
+        rt: *rt,
+        meeting: Arc::try_clone(meeting)?,
+        asking,
+        act,
+    })))
 }
 
-// What a session or the frames did otherwise than they must.
-fn fault_of(alloc: Global, row: &Row, meeting: &Meeting) -> Result<Option<String>> {
-    if meeting.is_given_up() {
-        return Ok(Some(joined(alloc, &["a thread was waited for in vain"])?));
+fn compare_sessions(
+    alloc: Global,
+    row: &[Line<'_>],
+    sessions: &[Section<'_>],
+    meeting: &Meeting,
+) -> Result<()> {
+    for (number, session) in sessions.iter().enumerate() {
+        let wanted = session_in(alloc, row, &session.lines)?.wanted;
+        let output = meeting.output(number).context("a session has no end")?;
+        same_bytes(alloc, session.name, output, &wanted)?;
     }
-    if let Some(equipped) = row.equipped {
-        return match stands_after(alloc, row, equipped, meeting) {
-            Ok(stands) => fault_of_frames(alloc, row, &stands, meeting),
-            Err(why) => Ok(Some(why.to_string(alloc)?)),
-        };
+    Ok(())
+}
+
+fn compare_frames(alloc: Global, row: &[Line<'_>], workers: u16, meeting: &Meeting) -> Result<()> {
+    same_number(alloc, "the bytes that went astray", meeting.astray(), 0)?;
+    let (_, size) = Size::of(row)?;
+    let stands = stands_of(alloc, size, row)?;
+    for number in 0..workers {
+        let wanted = last_frames(alloc, size, size.worker(number, workers), &stands)?;
+        let frames = meeting
+            .last_frames(number as usize)
+            .context("a worker has no end")?;
+        same_bytes(alloc, "a worker's line", frames, &wanted)?;
     }
-    for (number, session) in row.sessions.iter().enumerate() {
-        if let Some(why) = fault_of_session(alloc, session, meeting.output(number))? {
-            return Ok(Some(why));
-        }
-    }
-    fault_of_frames(alloc, row, &row.stands, meeting)
+    Ok(())
 }

@@ -2,7 +2,7 @@ use Rattle.std.proofs.Common.{◌≡◌, ◌+◌, length}
 use Rattle.std.specs.Arc.{arc_value}
 use Rattle.user_admin.specs.Openings.{Begins as UsersBegin}
 use Rattle.craft_session.specs.Places.{AreFresh}
-use Rattle.worked_restarts.proofs.element.seat_all.Given as goal
+use Rattle.worked_restarts.proofs.element.places_of.Given as goal
 
 abbrev pub invariant-loop-number : goal.invariant-loop-number
 invariant-loop-number g l = record {
