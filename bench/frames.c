@@ -1,4 +1,4 @@
-/* A frame by the same words in plain C: three loads an output, and nothing proved. The network is that of crates/bench_frames. */
+/* A frame by the same words in plain C: three loads an output, and nothing proved. The network is that of crates/bench_core. */
 #include <stdint.h>
 #include <stdio.h>
 #include <stdlib.h>
@@ -50,10 +50,10 @@ static struct network full_network(size_t modules, size_t slots)
     uint64_t number = 0;
     for (size_t slot = 0; slot < slots; ++slot)
         for (size_t module = 0; module < modules; ++module) {
-            size_t output_module = (module + slot) % modules, row = (slot + 1) * modules;
+            size_t output_module = (module + slot) % modules, output_slot = (slot + 1) % slots, row = (slot + 1) * modules;
             n.words[row + module + 1] = slot + 1;
             n.words[n.mids + row + output_module] = module + 1;
-            n.words[n.outs + output_module * slots + slot] = ++number * 256 + slot + 1;
+            n.words[n.outs + output_module * slots + output_slot] = ++number * 256 + slot + 1;
         }
     return n;
 }
@@ -73,10 +73,10 @@ static void measure(size_t modules, size_t slots, long count)
     uint64_t sum = 0;
     for (size_t port = 0; port < ports; ++port)
         sum = sum * 31 + output[port];
-    printf("%2zu by %2zu: sum %016llx", modules, slots, (unsigned long long)sum);
+    printf("%zu by %zu: sum %llu", modules, slots, (unsigned long long)sum);
     double nanos = (end.tv_sec - start.tv_sec) * 1e9 + (end.tv_nsec - start.tv_nsec);
     if (count)
-        printf(", %6.0f picoseconds a byte", nanos * 1e3 / ((double)count * ports));
+        printf(", %.0f nanoseconds", nanos);
     putchar('\n');
     free(input), free(output), free(network.words);
 }

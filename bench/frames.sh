@@ -5,26 +5,36 @@ cd "$(dirname "$0")/.." || exit 1
 frames=${1:-50000}
 made=$(mktemp -d) && trap 'rm -r "$made"' EXIT
 "${CC:-clang}" -O2 -o "$made/plain" bench/frames.c || exit 1
-(cd crates/bench_frames && rt run) >"$made/proved.txt" || exit 1
-cp crates/bench_frames/out/bench_frames "$made/proved" || exit 1
-"$made/plain" | cmp - "$made/proved.txt" || exit 1
+(cd crates/bench_core && rt run) >"$made/once.txt" || exit 1
+cmp "$made/once.txt" crates/bench_core/stdout || exit 1
+cp crates/bench_core/out/bench_core "$made/proved" || exit 1
+"$made/plain" >"$made/plain.txt" || exit 1
+grep sum "$made/once.txt" | cmp - "$made/plain.txt" || exit 1
 
-# Instructions of a program that carries so many frames of a network with so many modules.
-total() {
-    valgrind --tool=callgrind --callgrind-out-file=/dev/null "$made/$1" "$2" "$3" 2>&1 | awk '/Collected/ { print $4 }'
+# Runs the one or the other: so many frames of a network with so many modules, or of each.
+carry() {
+    case $1 in
+    plain) shift && $valgrind "$made/plain" "$@" ;;
+    proved) shift && $valgrind "$made/proved" frames "$@" ;;
+    esac
 }
 
-# Those of one output byte: what two hundred frames more cost.
+# Instructions of one output byte: what two hundred frames more cost.
 instructions() {
-    few=$(total "$1" 100 "$2")
-    many=$(total "$1" 300 "$2")
+    few=$(carry "$1" 100 "$2" 2>&1 | awk '/Collected/ { print $4 }')
+    many=$(carry "$1" 300 "$2" 2>&1 | awk '/Collected/ { print $4 }')
     awk -v few="$few" -v many="$many" -v bytes="$3" 'BEGIN { printf "%.2f", (many - few) / 200 / bytes }'
 }
 
 for program in proved plain; do
     echo "$program:"
-    "$made/$program" "$frames"
+    valgrind=
+    carry $program "$frames" | awk -v frames="$frames" '{
+        nanos = $(NF - 1)
+        printf "%s by %d: %.0f picoseconds a byte\n", $1, $3, nanos * 1000 / frames / ($1 * $3)
+    }'
     command -v valgrind >/dev/null || continue
-    echo " 8 by 24: $(instructions $program 8 192) instructions a byte"
+    valgrind="valgrind --tool=callgrind --callgrind-out-file=/dev/null"
+    echo "8 by 24: $(instructions $program 8 192) instructions a byte"
     echo "32 by 32: $(instructions $program 32 1024) instructions a byte"
 done

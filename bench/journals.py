@@ -1,7 +1,7 @@
 #!/usr/bin/env python3
-"""Writes the rows of crates/worked_journals: journals that are old, torn, changed or left behind by a crash, and what comes of them.
+"""Writes crates/worked_rows/data/journals.txt: rows of journals that are old, torn, changed or left behind by a crash, and what comes of them.
 
-usage: bench/journals.py            writes crates/worked_journals/data/rows.txt
+usage: bench/journals.py            writes that file
        bench/journals.py --check    ends with an error where that file is another one
 
 What comes of a row is reckoned by the plain element (bench/plain.py) over a plain journal (bench/journal.py).
@@ -16,24 +16,20 @@ from paths import COLUMN, DIRECT, ROW
 from plain import Conn
 
 TOP = os.path.dirname(os.path.dirname(os.path.abspath(__file__)))
-ROWS = os.path.join(TOP, "crates", "worked_journals", "data", "rows.txt")
-HEAD = """# Worked rows of journals. `bench/journals.py` writes them. Each has a shelf and a journal of its own, and one or more runs of the program.
+ROWS = os.path.join(TOP, "crates", "worked_rows", "data", "journals.txt")
+HEAD = """# Worked rows of journals, over fakes in memory. `bench/journals.py` writes them; `faults.txt` tells what a line says, and these say more.
 #
-#   row TEXT       begins a row            shelf M N      its modules and slots, 2 and 1 where nothing is said
-#   old HEX        bytes behind those of the old journal so far; 00*N stands for N zeros
-#   again N HEX    these bytes N times      from N         zeros up to this place
-#   each A B WHAT  the row is made again for each place from A to B: `cut`, the old journal ends there; `change N`, its byte there has the bits
-#                  of N turned; `fail LEFT`, that write or sync of the first run fails; `crash LEFT`, that one and all later ones do, and the
-#                  file is what such a crash leaves. LEFT is what is left of the write that failed, or of those that no sync came behind:
-#                  lost, whole, front (its first half), sealed (filled with A5)
-#   script, check  begin a run             any            whatever is written and however it ends
-#   send TEXT      what is sent            compld TAG     a response without text that must come
-#   rows TAG ROW ..    one with these rows     deny TAG CODE TEXT    a denial     want TEXT    a line; H is a header, ; the end
-#   list TEXT      a line that must come   status N       how the run must end, 0 where nothing is said
-#   enters N S     enters the first N ports, each to the one S behind it; retrieves, lists: wants them so
+#   shape M N      a shelf file of so many modules and slots, 2 and 1 where nothing is said
+#   old HEX        bytes behind those of the old journal so far; 00*N stands for N zeros        times N HEX    these bytes N times
+#   from N         zeros up to this place            cut        it ends at N, the number for which the row is run
+#   change BITS    its byte at N has these bits turned
+#   torn HOW       what is left of a write that fails: lost, whole, front (its first half), sealed (filled with A5)
+#   fails writes N     that write or sync of the run fails
+#   crash HOW      all writes and syncs from N on fail, and the journal is then what such a crash leaves: this of those that no sync came behind
+#   any            whatever is written and however the run ends
+#   enters M N C S     enters the first C ports of M modules of N slots, each to the one S behind it; retrieves, lists: wants them so
 #   calls N        how many writes and syncs the journal must see
 #   length N       how many bytes the journal must then have            piece N HEX    which bytes it must have there
-#   fill N TEXT    is sent N times         compldx N TAG      N responses without text
 """
 LOGIN = "ACT-USER::ANNA:1::bc"
 LEFTS = ("lost", "whole", "front", "sealed")
@@ -59,8 +55,20 @@ class Row:
         self.old_lines = list(old_lines(self.content)) if old else []
 
     def text(self):
-        head = [f"row {self.name}", f"shelf {self.shape[0]} {self.shape[1]}"] + ([f"each {self.each}"] if self.each else [])
-        return "\n".join(head + self.old_lines + self.lines) + "\n"
+        head, lines = [f"row {self.name}"], self.lines
+        head += [f"shape {self.shape[0]} {self.shape[1]}"] if self.shape != (2, 1) else []
+        old, kind, more = self.old_lines, "", ""
+        if self.each:
+            first, last, what = self.each.split(" ", 2)
+            head += [f"each {first} {last}"]
+            kind, _, more = what.partition(" ")
+        if kind in ("cut", "change"):
+            old = [*old, what]
+        if kind == "fail":
+            head, lines = [*head, f"torn {more}"], [lines[0], "fails writes N", *lines[1:]]
+        if kind == "crash":
+            lines = [lines[0], what, *lines[1:]]
+        return "\n".join(head + old + lines) + "\n"
 
     def script(self, *units, failing=None, calls=True):
         """A session that is sent these units behind a log-in."""
@@ -68,7 +76,7 @@ class Row:
         units = (LOGIN, *units)
         answers = journal.script(file, *self.shape, units)
         self.content = bytes(file.content)
-        self.lines += ["script"] + [f"send {unit};" for unit in units]
+        self.lines += ["run script s j"] + [f"send {unit};" for unit in units]
         self.lines += self.refusal(file) if answers is None else [answer_line(*answer) for answer in answers]
         self.lines += [f"calls {len(file.calls)}"] if calls else []
         return self
@@ -77,7 +85,7 @@ class Row:
         file = File(self.content)
         rows = journal.check(file, *self.shape)
         self.content = bytes(file.content)
-        self.lines += ["check"] + (self.refusal(file) if rows is None else [f"list {line}" for line in rows])
+        self.lines += ["run check s j"] + (self.refusal(file) if rows is None else [f"list {line}" for line in rows])
         return self
 
     def refusal(self, file):
@@ -114,7 +122,7 @@ def repeated(content, size):
         yield f"old {spelled(content)}"
         return
     yield f"old {spelled(content[:32])}"
-    yield f"again {times} {spelled(two)}"
+    yield f"times {times} {spelled(two)}"
     if rest := content[32 + 2 * size * times :]:
         yield f"old {spelled(rest)}"
 
@@ -349,7 +357,7 @@ def changed(old, at, bits):
 
 def crash(old, at, left, unit, calls, then=True):
     row = like(Row("", each=f"crash {left}"), old, journal.crashed(old, calls, at, left))
-    row.lines += ["script", "any", f"send {LOGIN};", f"send {unit};"]
+    row.lines += ["run script s j", "any", f"send {LOGIN};", f"send {unit};"]
     row.check()
     return row.script("RTRV-CRS-T0:::2", enter(TWO, 3), delete(ONE, 4), calls=False).check() if then else row
 
@@ -415,24 +423,24 @@ def largest():
     more = journal.MOST[2] - ports
     return [
         "row a full table of 64 modules of 96 slots",
-        "shelf 64 96",
-        "script",
+        "shape 64 96",
+        "run script s j",
         *login,
-        f"enters {ports} 96",
-        f"retrieves {ports} 96",
+        f"enters 64 96 {ports} 96",
+        f"retrieves 64 96 {ports} 96",
         f"calls {6 + 4 * ports}",
         f"length {33 + 64 * ports}",
-        "check",
-        f"lists {ports} 96",
+        "run check s j",
+        f"lists 64 96 {ports} 96",
         f"list RECORDS {ports}",
-        "script",
+        "run script s j",
         *login,
         f"fill {more // 2 + 1} {delete(ONE)};{enter(ONE)};",
         f"compldx {2 * (more // 2 + 1)} 1",
         f"calls {1 + 4 * more + 3 + ports - 1 + 3 + 4}",
         f"length {AREAS[1] + 33 + 64 * ports}",
-        "check",
-        f"lists {ports} 96",
+        "run check s j",
+        f"lists 64 96 {ports} 96",
         f"list RECORDS {ports}",
     ]
 
@@ -455,7 +463,7 @@ def eight_blocks():
     blocks = blocks_of(lines, "\r\n\n   DXC1 26-03-01 12:00:00\r\nM  1 COMPLD\r\n")
     assert [count for count, _ in blocks] == [142, 141, 133, 133, 133, 133, 133, 76]
     assert sum(length for _, length in blocks) == 30_944
-    return ["row 1024 rows in eight blocks", "shelf 32 32", "script", f"send {LOGIN};", "compld 1", "enters 1024 32", "retrieves 1024 32", ""]
+    return ["row 1024 rows in eight blocks", "shape 32 32", "run script s j", f"send {LOGIN};", "compld 1", "enters 32 32 1024 32", "retrieves 32 32 1024 32", ""]
 
 
 def rows():

@@ -55,16 +55,22 @@ MID 1 2 3
 OUT 2 0 2050
 MID 2 2 0
 IN 2 2 0"""
+# The fifth circuit of the shelf is parted, its output first.
+GONE = """OUT 2 0 0
+MID 1 2 0
+IN 2 1 0"""
 FIRST = {"IN": (0, MIDDLES), "MID": (MODULES * MIDDLES, MODULES), "OUT": (2 * MODULES * MIDDLES, SLOTS)}
 
 
 class Work:
-    """The writes of a change, by what the registers hold and what a frame is before it and behind its last write."""
+    """The writes of a change, by what the registers hold, and what a frame is before it and behind the write that it turns at, its last where nothing
+    is said."""
 
-    def __init__(self, part, words, writes, before, behind):
+    def __init__(self, part, words, writes, before, behind, turns=None):
         self.part, self.words, self.writes = part, words, writes.splitlines()
         self.before, self.behind = before, behind
         self.count = len(self.writes)
+        self.turns = self.count if turns is None else turns
         # Before the journal, before each write, and before the end.
         self.places = self.count + 2
 
@@ -77,7 +83,7 @@ class Work:
         return " ".join(words)
 
     def frame(self, made):
-        return self.behind if made == self.count else self.before
+        return self.behind if made >= self.turns else self.before
 
     def parts(self):
         for made in range(self.count + 1):
@@ -87,6 +93,11 @@ class Work:
 ENTRY = Work("made", WORDS, WRITES, ".eacf.", "beacf.")
 TAKE = Work("taken", WORDS, TAKEN, ".eacf.", ".eacf.")
 PUT = Work("back", TAKE.words_after(TAKE.count), BACK, ".eacf.", ".eacf.")
+# By whether the entry stands when the circuit is parted.
+PART = {
+    True: Work("gone-of-five", ENTRY.words_after(ENTRY.count), GONE, "beacf.", "beac..", 1),
+    False: Work("gone-of-four", WORDS, GONE, ".eacf.", ".eac..", 1),
+}
 COUNT, PLACES, frame = ENTRY.count, ENTRY.places, ENTRY.frame
 
 
@@ -118,10 +129,10 @@ def fifth(asking):
     return ["use four", "use fifth", f"stop {asking}", asked, f"frames .eacf. {frame(made)}", f"use made-{made}"]
 
 
-def restart_stopped(point, asking):
+def restart_stopped(point, asking, unit="restart"):
     made = point.behind(asking).made
     asked = f"asked 1 {min(asking, point.left())} {int(asking > point.left())}"
-    return ["use restart", f"stop {asking}", asked, f"frames {frame(point.made)} {frame(made)}", f"use made-{made}"]
+    return [f"use {unit}", f"stop {asking}", asked, f"frames {frame(point.made)} {frame(made)}", f"use made-{made}"]
 
 
 def restart(point):
@@ -180,6 +191,35 @@ def second_stops():
             yield f"stops at place {asking} and at place {then} of the restart", lines
 
 
+def stops_of_deletions():
+    """A deletion finds that a restart is due, and is stopped in that restart, or behind it at one of its own places."""
+    for asking in range(PLACES):
+        point = Point.at(asking)
+        for then in range(point.left() + 2):
+            lines = fifth(asking) + restart_stopped(point, then, "deletion") + restart(point.behind(then))
+            yield f"stops at place {asking} and at place {then} of the restart before a deletion", lines
+        for own in range(PART[point.held].places):
+            lines = fifth(asking) + deletion_stopped(point, own) + behind_deletion(point, own)
+            yield f"stops at place {asking} and, the restart made, at place {own} of a deletion", lines
+
+
+def deletion_stopped(point, own):
+    """Its restart was made, and it is stopped at its own asking of that number."""
+    work, made = PART[point.held], Point.at(own, PART[point.held]).made
+    asked = f"asked 2 {point.left() + min(own, work.count)} {1 + int(own > work.count)}"
+    seen = f"frames {frame(point.made)} {work.before} {work.frame(made)}"
+    return ["use deletion", f"stop {point.left() + 2 + own}", asked, seen, f"use {work.part}-{made}"]
+
+
+def behind_deletion(point, own):
+    """The restart behind a deletion that was stopped."""
+    work, cut = PART[point.held], Point.at(own, PART[point.held])
+    stands = "five" if point.held else "four"
+    listed = f"{stands}-less-listed" if cut.held else f"{stands}-listed"
+    seen = f"frames {work.frame(cut.made)} {work.frame(cut.ended().made)}"
+    return ["use restart", "use completed", f"use {listed}", f"asked 1 {cut.left()} 1", seen, f"use {work.part}-{cut.ended().made}"]
+
+
 def changes():
     """A change finds that a restart is due, and makes it first. Without the fifth entry, the one it enters needs three moves."""
     for name in ("deletes", "enters"):
@@ -220,10 +260,10 @@ def seals():
 
 
 def texts():
-    points = [part for work in (ENTRY, TAKE, PUT) for part in work.parts()]
+    points = [part for work in (ENTRY, TAKE, PUT, *PART.values()) for part in work.parts()]
     rows = [
         "\n".join([f"row {name}", *lines]) + "\n"
-        for rows in (restarts(), adoptions(), second_stops(), changes(), middles(), faults(), seals())
+        for rows in (restarts(), adoptions(), second_stops(), stops_of_deletions(), changes(), middles(), faults(), seals())
         for name, lines in rows
     ]
     head = "# Stops at each place of an entry that needs three moves and of a middle that goes out and comes back, and restarts. `bench/restarts.py` writes them.\n\n"

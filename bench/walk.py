@@ -1,5 +1,5 @@
 #!/usr/bin/env python3
-"""Reckons anew the lines of the random walks of crates/bench_changes, by the plain paths (bench/paths.py).
+"""Reckons anew the lines of the random walks of crates/bench_core, by the plain paths (bench/paths.py).
 
 usage: bench/walk.py     writes the lines with which that program's output begins
 """
@@ -95,7 +95,7 @@ def main():
         for _ in range(TURNS):
             walk.turn()
         print(
-            f"{modules:>2} by {slots:>2}: {TURNS} turns, {walk.entries} of them entries, {walk.refused} more without a middle; {walk.moves} moves; "
+            f"{modules} by {slots}: {walk.entries} entries, {walk.refused} more without a middle; {walk.moves} moves; "
             f"{walk.arrived} bytes of legs arrived in {walk.frames} frames"
         )
 

@@ -6,10 +6,8 @@ use crate::kind::Kind;
 use anyhow::Result;
 use craft_session::{Place, SessionEnd, serve_session};
 use dxc_disk::Disk;
-use dxc_host::HostClock;
-use dxc_outside::{AlwaysGo, Clock, MemLink};
+use dxc_outside::{AlwaysGo, Clock, MemClock, MemLink};
 use std::alloc::Global;
-use std::rt::Clock as SystemClock;
 use std::sync::Wait;
 use std::thread::{Threads, for_each_mut};
 
@@ -53,13 +51,12 @@ pub fn serve_all<
 }
 
 /// A caller at each place, who is to ask so many units of the kind.
-pub fn callers_at<D: Disk + Drop, U: Disk + Drop, R: SystemClock + Copy + Drop>(
+pub fn callers_at<D: Disk + Drop, U: Disk + Drop>(
     alloc: Global,
     places: Vec<Place<D, U>>,
     kind: Kind,
     units: u32,
-    rt: R,
-) -> Result<Vec<Caller<D, U, HostClock<R>>>> {
+) -> Result<Vec<Caller<D, U, MemClock>>> {
     let mut callers = Vec::new(alloc);
     let mut number = 0u16;
     for place in places {
@@ -73,7 +70,7 @@ pub fn callers_at<D: Disk + Drop, U: Disk + Drop, R: SystemClock + Copy + Drop>(
         callers.push(Caller {
             place,
             link,
-            clock: HostClock::new(rt),
+            clock: MemClock::new(Vec::new(alloc)),
         })?;
         number = number.saturating_add(1);
     }

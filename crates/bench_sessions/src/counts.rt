@@ -2,8 +2,12 @@ ghost use Rattle.std.specs.Prelude.{◌≡◌, ◌≤◌, nat_eq, if◌then◌el
 ghost use Rattle.std.specs.List.{starts_with};
 ghost use Rattle.bench_sessions.specs.Texts.{times};
 
+use anyhow::Result;
+use std::alloc::Global;
+use worked_common::{decimal, joined};
+
 /// How many responses say that a command was completed, and how many that it was denied.
-#[derive(Clone, Copy, Debug, PartialEq, Eq)]
+#[derive(Clone, Copy)]
 pub struct Counts {
     pub completed: u64,
     pub denied: u64,
@@ -42,5 +46,20 @@ impl Counts {
                 .saturating_add(times_in(b"COMPLD", output) as u64),
             denied: self.denied.saturating_add(times_in(b"DENY", output) as u64),
         }
+    }
+
+    /// Both in words.
+    pub fn text(self, alloc: Global) -> Result<String> {
+        let completed = decimal(alloc, self.completed)?;
+        let denied = decimal(alloc, self.denied)?;
+        joined(
+            alloc,
+            &[
+                completed.as_str(),
+                " completed, ",
+                denied.as_str(),
+                " denied",
+            ],
+        )
     }
 }

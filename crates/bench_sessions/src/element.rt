@@ -19,17 +19,8 @@ use std::alloc::Global;
 use std::sync::{Arc, Wait};
 use turnstile::{Pass, Sequential, Turnstile};
 use user_admin::UserState;
+use worked_common::{add_texts, decimal, shelf_text};
 use xc_core::{Core, State};
-
-const SHELF: &str = "sid = \"DXC1\"
-modules = 8
-slots = 24
-[[user]]
-uid = \"ANNA\"
-class = \"S\"
-salt = \"61\"
-digest = \"ba7816bf8f01cfea414140de5dae2223b00361a396177a9cb410ff61f20015ad\"
-";
 
 /// What the opening of a journal takes of its disk's room, and the most that 65,536 records and the rows of a checkpoint take.
 const ROOM: usize = 131_081 + 65_536 * 72 + 405_570;
@@ -37,23 +28,32 @@ const ROOM: usize = 131_081 + 65_536 * 72 + 405_570;
 /// From each module to the next one, on each slot but the last.
 const CIRCUITS: u64 = 8 * 23;
 
-/// So many places at the state of an element on which 184 circuits stand.
-pub fn open_places<R: Wait>(
+/// A shelf of 8 modules of 24 slots.
+pub fn shelf(alloc: Global) -> Result<Arc<Shelf>> {
+    let text = shelf_text(alloc, 8, 24)?;
+    let shelf = shelf_of(alloc, text.as_bytes()).ok().context("no shelf")?;
+    Ok(Arc::new(alloc, shelf)?)
+}
+
+/// A new disk in memory, with the room for as many changes as a journal takes.
+pub fn disk_of(alloc: Global) -> Result<MemDisk> {
+    MemDisk::with_room(alloc, Vec::new(alloc), Vec::new(alloc), ROOM)
+        .ok()
+        .context("no memory")
+}
+
+/// So many places at the state of an element on which 184 circuits stand, over new disks.
+pub fn open_places<D: Disk + Drop, U: Disk + Drop, R: Wait>(
     alloc: Global,
+    disk: D,
+    users_disk: U,
     count: u16,
     rt: &R,
-) -> Result<Vec<Place<MemDisk, MemDisk>>>
+) -> Result<Vec<Place<D, U>>>
     ensures { IfOk result (λ ps. vec_len ps ≡ count) }
 {
     ensure!(count > 0, "no session");
-    let shelf = shelf_of(alloc, SHELF.as_bytes()).ok().context("no shelf")?;
-    let shelf = Arc::new(alloc, shelf)?;
-    let Ok(disk) = MemDisk::with_room(alloc, Vec::new(alloc), Vec::new(alloc), ROOM) else {
-        bail!("no memory");
-    };
-    let Ok(users_disk) = MemDisk::new(alloc, Vec::new(alloc), Vec::new(alloc)) else {
-        bail!("no memory");
-    };
+    let shelf = shelf(alloc)?;
     let mut places = start(alloc, &shelf, disk, users_disk, count)?;
     fill(alloc, &mut places[0], rt)?;
     Ok(places)
@@ -167,13 +167,24 @@ fn place_of<D: Disk + Drop, U: Disk + Drop>(
 // The units that enter the circuits, behind a log-in.
 fn fill_units(alloc: Global) -> Result<Vec<u8>> {
     let mut units = Vec::from_slice(alloc, LOG_IN)?;
-    for module in 1..9u16 {
-        for slot in 1..24u16 {
-            let unit = format!(in alloc;
-                "ENT-CRS-T0::DS0-{module}-{slot},DS0-{}-{slot}:T1;",
-                module % 8 + 1
+    for module in 1..9 {
+        let (from, to) = (decimal(alloc, module)?, decimal(alloc, module % 8 + 1)?);
+        for slot in 1..24 {
+            let slot = decimal(alloc, slot)?;
+            add_texts(
+                &[
+                    "ENT-CRS-T0::DS0-",
+                    from.as_str(),
+                    "-",
+                    slot.as_str(),
+                    ",DS0-",
+                    to.as_str(),
+                    "-",
+                    slot.as_str(),
+                    ":T1;",
+                ],
+                &mut units,
             )?;
-            units.extend_from_slice(unit.as_bytes())?;
         }
     }
     Ok(units)

@@ -4,10 +4,9 @@ ghost use Rattle.bench_sessions.specs.Streams.{in_turn};
 
 use anyhow::Result;
 use std::alloc::Global;
-use std::fmt;
 
 /// What the sessions ask for.
-#[derive(Clone, Copy, Debug, PartialEq, Eq)]
+#[derive(Clone, Copy)]
 pub enum Kind {
     /// Each asks for the circuits of a port.
     Rows,
@@ -15,12 +14,6 @@ pub enum Kind {
     Denials,
     /// The first one enters and deletes a circuit in turn; the others ask for the circuits of another port.
     Changes,
-}
-
-impl fmt::Display for Kind {
-    fn fmt<W: fmt::Write>(&self, f: &mut fmt::Formatter<W>) -> fmt::Result {
-        write!(f, "{}", self.name())
-    }
 }
 
 const ROWS: &[u8] = b"RTRV-CRS-T0::DS0-1-1:T1;";
@@ -54,7 +47,7 @@ fn stream_of(alloc: Global, first: &[u8], second: &[u8], units: u32) -> Result<V
 }
 
 impl Kind {
-    fn name(self) -> &'static str {
+    pub fn name(self) -> &'static str {
         match self {
             Kind::Rows => "rows",
             Kind::Denials => "denials",

@@ -1,3 +1,5 @@
 pub mod Counting
+pub mod Faulting
 pub mod Handing
 pub mod StandingBy
+pub mod Wording

@@ -5,7 +5,9 @@
 mod frames;
 mod standby;
 mod threads;
+mod workers;
 
 pub use frames::FrameJob;
 pub use standby::run_standby;
 pub use threads::run_all;
+pub use workers::frame_jobs;

@@ -1,9 +1,6 @@
 pub mod Crossing
-pub mod Faulting
 pub mod Serves
 pub mod Starting
-pub mod Checking
-pub mod Audits
 pub mod Scripting
 pub mod Loading
 pub mod Mirroring

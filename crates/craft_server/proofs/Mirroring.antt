@@ -1,48 +1,15 @@
--- A controller that is served, its journal mirrored or alone.
-use Rattle.std.proofs.Common.{◌≡◌, ◌∙◌, ℕ, List, Option, Some, None, Result, Ok, Err, inl, inr, refl, sym, subst}
-use Rattle.std.specs.Prelude.{IsSome, MatchResult}
+-- A line of the mode serve, its journal mirrored or alone.
+use Rattle.std.proofs.Common.{◌≡◌, ℕ, List, Option, Some, None, refl}
+use Rattle.std.specs.Prelude.{IsSome}
 use Rattle.dxc_disk.specs.Disks.{DiskState}
 use Rattle.dxc_outside.specs.Callers.{ListenerState}
 use Rattle.dxc_outside.specs.Links.{LinkState}
-use Rattle.standby_link.specs.declared.mirror_disk.MirrorDisk.{MirrorDisk}
-use Rattle.xc_core.specs.States.{opening_of}
 use Rattle.craft_words.specs.declared.line.Line.TheVariants.{Serve}
-use Rattle.craft_server.specs.declared.opening.Controller.{Controller}
-use Rattle.craft_server.specs.declared.opening.Element.{Element}
 use Rattle.craft_words.specs.declared.status.Status.{Status}
-use Rattle.craft_server.specs.Openings.{IsStarted, Named, NotStarted, Sources, named}
-use Rattle.craft_server.specs.Peers.{FoundMirror, HasMirrored, IsMirrorOf, IsOpenedOn, Mirrors, NoMirrored, mirror_state}
+use Rattle.craft_element.specs.Openings.{named}
 use Rattle.craft_server.specs.Runs.{IsRunOf, Lent, MirrorsFor, OpensFor, Told}
-use Rattle.craft_server.proofs.Starting.{begun, users_began}
 
-module _ {D K : Type 0} (told link_told : Type 0) (state : D → DiskState) (link : K → LinkState) (opener_told : Type 0) where
-  -- a mirror of what is handed out behind the reading of a shelf file
-  pub mirror_behind : (old_at mid_at : List ℕ → Option D) (journal : List ℕ) (m : MirrorDisk D K) → (opener_told → (n : List ℕ) → mid_at n ≡ old_at n) → IsMirrorOf told link_told state link opener_told mid_at journal m → IsMirrorOf told link_told state link opener_told old_at journal m
-  mirror_behind old_at mid_at journal m same is = record { disk = is.disk; handed = λ t. sym (same t journal) ∙ is.handed t; is_mirror = is.is_mirror }
-
-  -- started or not, on the mirror that was found
-  pub mirrored : (names : Named) (workers : ℕ) (before after : Sources D) (f : FoundMirror told link_told state link opener_told names before) (r : Result (Controller (MirrorDisk D K)) Status)
-      → MatchResult r (IsStarted told (mirror_state state) f.mirror f.shelf workers) (NotStarted told (mirror_state state) f.mirror f.shelf before.stops after.stops)
-      → MatchResult r (HasMirrored told link_told state link opener_told names workers before) (NoMirrored told link_told state link opener_told names before after)
-  mirrored names workers before after f (Ok x) is = (f, is)
-  mirrored names workers before after f (Err e) not = inr (inr (f, not))
-
-  -- what was served on what was started
-  pub serves : (names : Named) (workers : ℕ) (before after : Sources D) (untouched P : Type 0) (status : Status) (x : Element (MirrorDisk D K) D) → IsOpenedOn told link_told state link opener_told names workers before x → P → Mirrors told link_told state link opener_told names before after untouched (λ f o u. P) status
-  serves names workers before after untouched P status x opened ran =
-      let h = opened.0 in
-      inr (h.0, opening_of (mirror_state state) x.controller.state, begun told (mirror_state state) h.0.mirror h.0.shelf workers x.controller h.1, users_began told state opener_told names before h.0.shelf x.users opened.1, ran)
-
-  -- by the names of a line, and what came of it
-  pub mirrors_for : (names other : Named) → names ≡ other → (before after : Sources D) (untouched still P Q : Type 0) (status : Status) → (untouched → still) → (P → Q)
-      → Mirrors told link_told state link opener_told names before after untouched (λ f o u. P) status → Mirrors told link_told state link opener_told other before after still (λ f o u. Q) status
-  mirrors_for names other same before after untouched still P Q status keep on mirrors =
-      subst (λ (n : Named). Mirrors told link_told state link opener_told n before after still (λ f o u. Q) status) same (elim mirrors [
-        | inl not ↦ inl (not.0, keep not.1)
-        | inr ran ↦ inr (ran.0, ran.1, ran.2, ran.3, on ran.4)
-      ])
-
--- a line of the mode serve, without a peer and with one
+-- without a peer and with one
 pub serves_for : (told : Told) {D K L J : Type 0} (state : D → DiskState) (peer_state : K → LinkState) (listener : L → ListenerState J) (link : J → LinkState) (listener_at : List ℕ → Option L) (shelf journal address lines : List ℕ) (workers : ℕ) (before after : Lent D) (status : Status) (peer : Option (List ℕ))
     → (peer ≡ None → OpensFor told state (Serve shelf journal address lines workers None) before after status)
     → (IsSome peer → MirrorsFor told state peer_state listener link listener_at (named shelf journal) workers before after status)

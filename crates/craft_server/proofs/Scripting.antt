@@ -18,13 +18,14 @@ use Rattle.craft_session.specs.Meanings.{language}
 use Rattle.craft_session.specs.Seats.{IsSameSeat, IsSameUserSeat, PlaceAt}
 use Rattle.craft_session.specs.Sessions.{IsServed}
 use Rattle.craft_session.proofs.Scripts.{script_of}
-use Rattle.craft_server.specs.declared.opening.Controller.{Controller}
+use Rattle.craft_element.specs.declared.opening.Controller.{Controller}
 use Rattle.craft_words.specs.declared.status.Status.{Status}
 use Rattle.craft_words.specs.declared.status.Status.TheVariants.{Done, Link, Stopped as Was_stopped, Spent as Ran_out}
-use Rattle.craft_server.specs.Openings.{AreUsersStarted, IsStarted}
+use Rattle.craft_element.specs.Openings.{AreUsersStarted, IsStarted}
 use Rattle.craft_session.specs.Places.{ArePlaces, place_at}
 use Rattle.craft_server.specs.Scripts.{RanSession}
 use Rattle.craft_server.specs.Statuses.{status_of}
+use Rattle.craft_server.proofs.Starting.{of_disk, users_of_disk}
 
 -- what the session's clauses tell of its end
 pub record IsEnd (k l : LinkState) (stops later : ℕ) (end : SessionEnd) : Type 0 where
@@ -83,7 +84,7 @@ module _ {D : Type 0} (disk_told : Type 0) (state : D → DiskState) (told clock
       record {
         end = end;
         status_is = status_is;
-        wrote = script_of disk_told told clock_told (state disk) (state users_disk) k l c d s (place_at s o p 1 0).seat new.seat (place_at s o p 1 0).users new.users end started.of_disk users_started.of_disk refl refl refl refl one users_one numbers users_numbers astray ran;
+        wrote = script_of disk_told told clock_told (state disk) (state users_disk) k l c d s (place_at s o p 1 0).seat new.seat (place_at s o p 1 0).users new.users end (of_disk disk_told state disk s workers x started) (users_of_disk disk_told state users_disk s u users_started) refl refl refl refl one users_one numbers users_numbers astray ran;
         ended = (λ done. e.ended.0 (done_at end (sym status_is ∙ done)), λ ended. status_is ∙ ap status_of (e.ended.1 ended));
         cause = λ link. link_at k l stops later end e (sym status_is ∙ link);
         stopped = λ was. e.stopped (stopped_at end (sym status_is ∙ was));

@@ -3,13 +3,10 @@ use Rattle.std.proofs.Common.{◌≡◌, ◌≢◌, ◌≤◌, ◌+◌, ◌∙�
 use Rattle.dxc_causes.specs.Causes.{Rose}
 use Rattle.dxc_outside.specs.Threads.{SpawnerState}
 use Rattle.craft_jobs.specs.Counts.{RoseBy}
+use Rattle.craft_jobs.proofs.Counting.{rose_behind}
 use Rattle.craft_words.specs.declared.status.Status.{Status}
 use Rattle.craft_words.specs.declared.status.Status.TheVariants.{Done, CannotOpen, NoThread, NoMemory}
 use Rattle.craft_server.specs.Serving.{IsServing}
-
--- a fault behind what was opened before
-pub rose_behind : (a b c : ℕ) → a ≤ b → Rose b c → Rose a c
-rose_behind a b c later rose = omega (arith, later, rose)
 
 module _ (jobs faults later : ℕ) (old new : SpawnerState) where
   -- all were started

@@ -1,73 +1,15 @@
 -- No mode ends with the status of words that are no line.
-use Rattle.std.proofs.Common.{◌≡◌, ℕ, List, Option, Some, None, inl, inr, refl, sym, ◌∙◌, subst}
+use Rattle.std.proofs.Common.{◌≡◌, ℕ, List, Option, Some, None, refl, sym, ◌∙◌}
 use Rattle.std.specs.Prelude.{IsSome}
-use Rattle.dxc_disk.specs.Disks.{DiskState}
-use Rattle.dxc_outside.specs.Callers.{ListenerState}
-use Rattle.dxc_outside.specs.Links.{LinkState}
 use Rattle.dxc_outside.specs.Threads.{SpawnerState}
-use Rattle.dxc_outside.specs.declared.send.Sent.{Sent}
-use Rattle.dxc_outside.specs.declared.send.Sent.TheVariants as sent
-use Rattle.journal_core.specs.declared.fault.JournalWhy.{JournalWhy}
-use Rattle.journal_core.specs.declared.fault.JournalWhy.TheVariants as why
-use Rattle.shelf_file.specs.Contents.{Contents}
-use Rattle.standby_link.specs.declared.end.StandbyEnd.{StandbyEnd}
-use Rattle.standby_link.specs.declared.end.StandbyEnd.TheVariants as standby
-use Rattle.user_admin.specs.declared.fault.UserOpenFault.{UserOpenFault}
-use Rattle.user_admin.specs.declared.fault.UserOpenFault.TheVariants as users_fault
-use Rattle.xc_core.specs.declared.fault.OpenFault.{OpenFault}
-use Rattle.xc_core.specs.declared.fault.OpenFault.TheVariants as fault
-use Rattle.xc_core.specs.States.{Opening}
 use Rattle.craft_session.specs.declared.end.SessionEnd.{SessionEnd}
 use Rattle.craft_session.specs.declared.end.SessionEnd.TheVariants as session
 use Rattle.craft_words.specs.declared.status.Status.{Status}
 use Rattle.craft_words.specs.declared.status.Status.TheVariants.{BadWords}
-use Rattle.craft_server.specs.Openings.{Began, Found, Named, NoShelf, NotStarted, NoUsers, Opens, Sources}
-use Rattle.craft_server.specs.Peers.{Mirrors, mirror_state}
 use Rattle.craft_server.specs.Serving.{IsServing}
-use Rattle.craft_words.specs.Statuses.{status_of_sent}
-use Rattle.craft_jobs.specs.Standbys.{StandsBy, status_of_standby}
-use Rattle.craft_server.specs.Statuses.{status_of, status_of_fault, status_of_users_fault, status_of_users_why, status_of_why}
+use Rattle.craft_server.specs.Statuses.{status_of}
 
-why_words : (w : JournalWhy) → status_of_why w ≡ BadWords → ⊥
-why_words (why.BadHeader bytes) is = cc
-why_words why.Disk is = cc
-
-fault_words : {D : Type 0} (f : OpenFault D) → status_of_fault f ≡ BadWords → ⊥
-fault_words (fault.Journal f) is = why_words f.why is
-fault_words (fault.BadRecord i) is = cc
-fault_words (fault.Disk d) is = cc
-fault_words fault.NoMemory is = cc
-fault_words fault.Stopped is = cc
-
-standby_words : (end : StandbyEnd) → status_of_standby end ≡ BadWords → ⊥
-standby_words standby.End is = cc
-standby_words standby.ReadFault is = cc
-standby_words standby.WriteFault is = cc
-standby_words standby.DiskFault is = cc
-standby_words standby.BadMessage is = cc
-standby_words standby.NotEmpty is = cc
-standby_words standby.Spent is = cc
-
-not_started_words : {D : Type 0} (told : Type 0) (state : D → DiskState) (d : D) (s : Contents) (stops later : ℕ) → NotStarted told state d s stops later BadWords → ⊥
-not_started_words told state d s stops later not = fault_words not.fault (sym not.is)
-
-users_why_words : (w : JournalWhy) → status_of_users_why w ≡ BadWords → ⊥
-users_why_words (why.BadHeader bytes) is = cc
-users_why_words why.Disk is = cc
-
-users_fault_words : {D : Type 0} (f : UserOpenFault D) → status_of_users_fault f ≡ BadWords → ⊥
-users_fault_words (users_fault.Journal f) is = users_why_words f.why is
-users_fault_words (users_fault.BadRecord i) is = cc
-users_fault_words (users_fault.Disk d) is = cc
-users_fault_words users_fault.NoMemory is = cc
-
-no_users_words : {D : Type 0} (opener_told told : Type 0) (state : D → DiskState) (names : Named) (before after : Sources D) (s : Contents) (status : Status) → NoUsers opener_told told state names before after s status → status ≡ BadWords → ⊥
-no_users_words opener_told told state names before after s status none is = elim none [
-  | inl no_disk ↦ (elim no_disk [ inl e ↦ (let no = sym e ∙ is in cc) | inr e ↦ (let no = sym e.0 ∙ is in cc) ])
-  | inr not ↦ users_fault_words not.1.fault (sym not.1.is ∙ is)
-]
-
--- none of serving, of a session or of lines that were written
+-- none of serving or of a session
 pub serving_words : (jobs faults later : ℕ) (old new : SpawnerState) (status : Status) → IsServing jobs faults later old new status → status ≡ BadWords → ⊥
 serving_words jobs faults later old new status is bad =
     let e = is.only (λ done. let no = sym done ∙ bad in cc) (λ none. let no = sym none ∙ bad in cc) (λ closed. let no = sym closed ∙ bad in cc) in
@@ -79,61 +21,6 @@ end_words session.ReadFault is = cc
 end_words session.WriteFault is = cc
 end_words session.Stopped is = cc
 end_words session.Spent is = cc
-
-pub sent_words : (sent : Sent) → status_of_sent sent ≡ BadWords → ⊥
-sent_words sent.Whole is = cc
-sent_words sent.Cut is = cc
-
--- what was opened by these names, and what was done there
-pub opens_words : (opener_told : Type 0) {D : Type 0} (told : Type 0) (state : D → DiskState) (names : Named) (before after : Sources D) (untouched : Type 0) (done : (f : Found opener_told names before) → Opening → Began opener_told told state names before f.shelf → Type 0) (status : Status)
-    → ((f : Found opener_told names before) (o : Opening) (u : Began opener_told told state names before f.shelf) → done f o u → status ≡ BadWords → ⊥) → Opens opener_told told state names before after untouched done status → status ≡ BadWords → ⊥
-opens_words opener_told told state names before after untouched done status other opens is = elim opens [
-  | inl not ↦ (elim not.0 [
-    | inl no_controller ↦ (elim no_controller [
-      | inl no_shelf ↦ subst (λ (s : Status). NoShelf opener_told before.opener after.opener names.shelf s) is no_shelf.1
-      | inr further ↦ (elim further [
-        | inl no_disk ↦ (elim no_disk.2.1 [ inl e ↦ (let no = sym e ∙ is in cc) | inr e ↦ (let no = sym e.0 ∙ is in cc) ])
-        | inr not_on ↦ not_started_words told state not_on.0.disk not_on.0.shelf before.stops after.stops (subst (λ (s : Status). NotStarted told state not_on.0.disk not_on.0.shelf before.stops after.stops s) is not_on.1)
-      ])
-    ])
-    | inr no_users ↦ no_users_words opener_told told state names before after no_users.0.shelf status no_users.4 is
-  ])
-  | inr ran ↦ other ran.0 ran.1 ran.3 ran.4 is
-]
-
--- and by these with a peer
-pub mirrors_words : {D K : Type 0} (told link_told : Type 0) (state : D → DiskState) (link : K → LinkState) (opener_told : Type 0) (names : Named) (before after : Sources D) (untouched P : Type 0) (status : Status) → (P → status ≡ BadWords → ⊥)
-    → Mirrors told link_told state link opener_told names before after untouched (λ f o u. P) status → status ≡ BadWords → ⊥
-mirrors_words told link_told state link opener_told names before after untouched P status other mirrors is = elim mirrors [
-  | inl not ↦ (elim not.0 [
-    | inl no_controller ↦ (elim no_controller [
-      | inl no_shelf ↦ subst (λ (s : Status). NoShelf opener_told before.opener after.opener names.shelf s) is no_shelf.1
-      | inr further ↦ (elim further [
-        | inl no_disk ↦ (elim no_disk.2.1 [ inl e ↦ (let no = sym e ∙ is in cc) | inr e ↦ (let no = sym e.0 ∙ is in cc) ])
-        | inr not_on ↦ not_started_words told (mirror_state state) not_on.0.mirror not_on.0.shelf before.stops after.stops (subst (λ (s : Status). NotStarted told (mirror_state state) not_on.0.mirror not_on.0.shelf before.stops after.stops s) is not_on.1)
-      ])
-    ])
-    | inr no_users ↦ no_users_words opener_told told state names before after no_users.0.shelf status no_users.4 is
-  ])
-  | inr ran ↦ other ran.4 is
-]
-
--- a standby
-pub stands_words : (opener_told told listener_told link_told : Type 0) {D L K : Type 0} (state : D → DiskState) (listener : L → ListenerState K) (link : K → LinkState) (journal_at : List ℕ → Option D) (listener_at : List ℕ → Option L) (faults later : ℕ) (journal address : List ℕ) (status : Status)
-    → StandsBy opener_told told listener_told link_told state listener link journal_at listener_at faults later journal address status → status ≡ BadWords → ⊥
-stands_words opener_told told listener_told link_told state listener link journal_at listener_at faults later journal address status stands is = elim stands [
-  | inl memory ↦ (let no = sym memory ∙ is in cc)
-  | inr further ↦ (elim further [
-    | inl closed ↦ (let no = sym closed.0 ∙ is in cc)
-    | inr both ↦ (elim both.1 [
-      | inl nobody ↦ (let no = sym nobody.status_is ∙ is in cc)
-      | inr came ↦ (elim came [
-        | inl none ↦ (let no = sym none.status_is ∙ is in cc)
-        | inr one ↦ standby_words one.end (sym one.status_is ∙ is)
-      ])
-    ])
-  ])
-]
 
 -- serving, without a peer and with one
 pub serve_words : {P : Type 0} (peer : Option (List ℕ)) → (peer ≡ None → P) → (IsSome peer → P) → P

@@ -1,9 +1,5 @@
 pub mod Statuses
-pub mod Stocks
-pub mod Openings
 pub mod Loads
-pub mod Listings
 pub mod Serving
 pub mod Scripts
-pub mod Peers
 pub mod Runs

@@ -1,7 +1,5 @@
 -- What the load mode does.
 use Rattle.std.specs.Prelude.{◌≡◌, ◌⊎◌, ◌*◌, ℕ, [], ◌∷◌}
-use Rattle.dxc_causes.specs.Causes.{Rose}
-use Rattle.dxc_disk.specs.declared.mem_disk.MemDisk.{MemDisk}
 use Rattle.dxc_disk.specs.MemView.{mem_state}
 use Rattle.dxc_outside.specs.declared.send.Sent.{Sent}
 use Rattle.dxc_outside.specs.Links.{LinkState, IsSent}
@@ -23,14 +21,11 @@ use Rattle.dxc_load.specs.LoadShelf.{IsLoadShelf}
 use Rattle.dxc_load.specs.Script.{load_moment}
 use Rattle.dxc_load.specs.Sending.{unread}
 use Rattle.dxc_load.specs.Summaries.{summary_line}
-use Rattle.craft_server.specs.declared.opening.Controller.{Controller}
-use Rattle.craft_server.specs.declared.opening.Element.{Element}
 use Rattle.craft_words.specs.declared.status.Status.{Status}
-use Rattle.craft_words.specs.declared.status.Status.TheVariants.{NoMemory, Stopped}
-use Rattle.craft_server.specs.Openings.{AreUsersStarted, IsStarted}
+use Rattle.craft_element.specs.Loads.{NotLoaded}
 use Rattle.craft_session.specs.Places.{place_at}
 use Rattle.craft_words.specs.Statuses.{status_of_sent}
-use Rattle.craft_server.specs.Stocks.{IsLeft}
+use Rattle.craft_element.specs.Stocks.{IsLeft}
 
 -- The script was sent to a session on new journals, and all of it was read. The codes are those of its responses, connections and switches are what
 -- it left, and the bytes are those that a worker noted in 10,000 frames.
@@ -53,18 +48,6 @@ pub record IsLoaded (number : ℕ) (v : Summary) : Type 0 where
   pub worker : Worker
   pub frames : worker.frame ≡ 2 * 10000
   pub carried : v.carried ≡ carried_in worker.notes
-
--- a controller of the load
-abbrev pub IsLoadController : Controller MemDisk → Type 0
-IsLoadController x = (disk : MemDisk) × ((mem_state disk).reads_as ≡ []) × ((s : Contents) × IsLoadShelf s × IsStarted (Unit {0}) mem_state disk s 1 x)
-
--- with its users
-abbrev pub IsLoadStarted : Element MemDisk MemDisk → Type 0
-IsLoadStarted x = (c : IsLoadController x.controller) × ((disk : MemDisk) × ((mem_state disk).reads_as ≡ []) × AreUsersStarted (Unit {0}) mem_state disk c.2.0 x.users)
-
--- memory was wanting, or the gate stopped
-abbrev pub NotLoaded : (stops later : ℕ) → Status → Type 0
-NotLoaded stops later status = (status ≡ NoMemory) ⊎ ((status ≡ Stopped) × Rose stops later)
 
 -- the summary was written to the link, or a part of it where a write failed; or nothing was, and why
 abbrev pub IsLoad : (number : ℕ) (told : Type 0) (k l : LinkState) (stops later : ℕ) → Status → Type 0

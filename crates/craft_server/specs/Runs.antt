@@ -1,13 +1,10 @@
 -- What the program does, by its words.
-use Rattle.std.specs.Prelude.{◌≡◌, ◌⊎◌, ◌+◌, ℕ, List, Option, Some, None, length}
+use Rattle.std.specs.Prelude.{◌≡◌, ◌⊎◌, ◌+◌, ℕ, List, Option, Some, None}
 use Rattle.dxc_disk.specs.Disks.{DiskState}
 use Rattle.dxc_outside.specs.declared.clock.Moment.{Moment}
-use Rattle.dxc_outside.specs.declared.send.Sent.{Sent}
 use Rattle.dxc_outside.specs.Callers.{ListenerState}
-use Rattle.dxc_outside.specs.Links.{LinkState, IsSent}
+use Rattle.dxc_outside.specs.Links.{LinkState}
 use Rattle.dxc_outside.specs.Threads.{SpawnerState}
-use Rattle.dxc_model.specs.declared.op.Selection.TheVariants.{All}
-use Rattle.dxc_model.specs.Tables.{rows}
 use Rattle.shelf_file.specs.Contents.{Contents}
 use Rattle.user_admin.specs.Histories.{Opening as UsersOpening}
 use Rattle.xc_core.specs.States.{Opening}
@@ -16,14 +13,13 @@ use Rattle.craft_words.specs.declared.line.Line.TheVariants.{Script, Check, Serv
 use Rattle.craft_words.specs.declared.status.Status.{Status}
 use Rattle.craft_words.specs.declared.status.Status.TheVariants.{BadWords, NoMemory}
 use Rattle.craft_words.specs.Lines.{IsLine}
-use Rattle.craft_server.specs.Listings.{listing}
+use Rattle.craft_element.specs.Listings.{IsCheck}
 use Rattle.craft_server.specs.Loads.{IsLoad}
-use Rattle.craft_server.specs.Openings.{Began, Found, Named, Opens, Sources, named}
-use Rattle.craft_server.specs.Peers.{Mirrors}
+use Rattle.craft_element.specs.Openings.{Began, Found, Named, Opens, Sources, named}
+use Rattle.craft_element.specs.Peers.{Mirrors}
 use Rattle.craft_server.specs.Scripts.{RanSession}
 use Rattle.craft_server.specs.Serving.{IsServing, named_in}
 use Rattle.craft_jobs.specs.Standbys.{StandsBy}
-use Rattle.craft_words.specs.Statuses.{status_of_sent}
 
 -- whether opener, disk, terminal, clock, peer, listener and the listener's links tell what they hold
 pub record Told : Type 1 where
@@ -47,12 +43,6 @@ pub record Lent (D : Type 0) : Type 0 where
 
 abbrev pub lent : {D : Type 0} → Sources D → LinkState → List Moment → SpawnerState → Lent D
 lent s k c p = record { sources = s; terminal = k; clock = c; spawner = p }
-
--- the rows of the table were written with the number of records, or a part of them where a write failed
-pub record IsCheck (told : Type 0) (s : Contents) (o : Opening) (k l : LinkState) (status : Status) : Type 0 where
-  pub sent : Sent
-  pub wrote : IsSent told k l sent (listing s.shape (rows o.first.fold.table All) (length o.records))
-  pub status_is : status ≡ status_of_sent sent
 
 -- nothing was read, written or started
 pub record IsUntouched {D : Type 0} (before after : Lent D) : Type 0 where

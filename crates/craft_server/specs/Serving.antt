@@ -7,7 +7,7 @@ use Rattle.craft_words.specs.declared.line.Line.TheVariants.{Script, Check, Serv
 use Rattle.craft_words.specs.declared.status.Status.{Status}
 use Rattle.craft_words.specs.declared.status.Status.TheVariants.{Done, CannotOpen, NoThread, NoMemory}
 use Rattle.craft_jobs.specs.Counts.{RoseBy}
-use Rattle.craft_server.specs.Openings.{Named, named}
+use Rattle.craft_element.specs.Openings.{Named, named}
 
 -- a line of the mode serve, with 1 to 8 workers
 abbrev pub IsServe : Line → Type 0

@@ -1,15 +1,8 @@
--- How the program ends, by how its parts did.
-use Rattle.journal_core.specs.declared.fault.JournalWhy.{JournalWhy}
-use Rattle.journal_core.specs.declared.fault.JournalWhy.TheVariants as why
-use Rattle.xc_core.specs.declared.fault.OpenFault.{OpenFault}
-use Rattle.xc_core.specs.declared.fault.OpenFault.TheVariants as fault
-use Rattle.user_admin.specs.declared.fault.UserOpenFault.{UserOpenFault}
-use Rattle.user_admin.specs.declared.fault.UserOpenFault.TheVariants as users
+-- How the program ends after a session.
 use Rattle.craft_session.specs.declared.end.SessionEnd.{SessionEnd}
 use Rattle.craft_session.specs.declared.end.SessionEnd.TheVariants as end
-use Rattle.craft_words.specs.declared.status.JournalBad.TheVariants.{Header, Record, UsersHeader, UsersRecord}
 use Rattle.craft_words.specs.declared.status.Status.{Status}
-use Rattle.craft_words.specs.declared.status.Status.TheVariants.{Done, BadJournal, Disk, NoMemory, Link, Stopped, Spent}
+use Rattle.craft_words.specs.declared.status.Status.TheVariants.{Done, Link, Stopped, Spent}
 
 -- after a session over the terminal
 abbrev pub status_of : SessionEnd → Status
@@ -18,26 +11,3 @@ status_of end.ReadFault = Link
 status_of end.WriteFault = Link
 status_of end.Stopped = Stopped
 status_of end.Spent = Spent
-
-abbrev pub status_of_why : JournalWhy → Status
-status_of_why (why.BadHeader bytes) = BadJournal (Header bytes)
-status_of_why why.Disk = Disk
-
--- the status of a controller that didn't start
-abbrev pub status_of_fault : {D : Type 0} → OpenFault D → Status
-status_of_fault (fault.Journal f) = status_of_why f.why
-status_of_fault (fault.BadRecord i) = BadJournal (Record i)
-status_of_fault (fault.Disk d) = Disk
-status_of_fault fault.NoMemory = NoMemory
-status_of_fault fault.Stopped = Stopped
-
-abbrev pub status_of_users_why : JournalWhy → Status
-status_of_users_why (why.BadHeader bytes) = BadJournal (UsersHeader bytes)
-status_of_users_why why.Disk = Disk
-
--- the status of users that weren't taken up
-abbrev pub status_of_users_fault : {D : Type 0} → UserOpenFault D → Status
-status_of_users_fault (users.Journal f) = status_of_users_why f.why
-status_of_users_fault (users.BadRecord i) = BadJournal (UsersRecord i)
-status_of_users_fault (users.Disk d) = Disk
-status_of_users_fault users.NoMemory = NoMemory

@@ -1,68 +1,17 @@
 //! The load script, run by one session on journals in memory.
-ghost use Rattle.std.specs.Prelude.{◌≡◌, ◌≤◌, ◌⊎◌, ◌^◌, [], IfOk, MatchResult};
-ghost use Rattle.dxc_disk.specs.Fresh.{IsFresh};
-ghost use Rattle.dxc_disk.specs.MemView.{mem_state};
-ghost use Rattle.craft_server.specs.Loads.{IsLoad, IsLoadController, IsLoadStarted, IsLoaded, NotLoaded};
+ghost use Rattle.std.specs.Prelude.{◌≡◌, ◌≤◌, MatchResult};
+ghost use Rattle.craft_element.specs.Loads.{NotLoaded};
+ghost use Rattle.craft_server.specs.Loads.{IsLoad, IsLoaded};
 
-use crate::opening::{Controller, Element, start, start_users};
 use crate::places::open_place;
-use crate::stock::stock_of;
 use arrayvec::ArrayVec;
+use craft_element::{Controller, Element, load_element, stock_of};
 use craft_session::{SessionEnd, serve_session};
 use craft_words::Status;
-use dxc_causes::NoMemory;
-use dxc_disk::MemDisk;
-use dxc_load::{LoadClock, LoadLink, Summary, codes_in, load_shelf};
-use dxc_model::Conn;
+use dxc_load::{LoadClock, LoadLink, Summary, codes_in};
 use dxc_outside::{Gate, Link, write_all};
 use std::alloc::Global;
 use std::sync::Wait;
-
-/// How many calls and bytes the journal's disk has room for.
-const DISK_ROOM: usize = 1 << 21;
-
-// A new disk, none of whose calls is to fail.
-fn load_disk(alloc: Global) -> Result<MemDisk, NoMemory>
-    ensures { IfOk result (λ d. IsFresh (mem_state d) [] [] (2 ^ 21)) }
-{
-    MemDisk::with_room(alloc, Vec::new(alloc), Vec::new(alloc), DISK_ROOM)
-}
-
-/// The same of the users' disk, which is called while it is opened alone.
-const USERS_ROOM: usize = 1 << 18;
-
-// Such a disk for the users.
-fn load_users_disk(alloc: Global) -> Result<MemDisk, NoMemory>
-    ensures { IfOk result (λ d. IsFresh (mem_state d) [] [] (2 ^ 18)) }
-{
-    MemDisk::with_room(alloc, Vec::new(alloc), Vec::new(alloc), USERS_ROOM)
-}
-
-// The controller of the load, with one worker.
-fn load_controller<G: Gate>(alloc: Global, gate: &mut G) -> Result<Controller<MemDisk>, Status>
-    ensures started { MatchResult result IsLoadController (NotLoaded (G.stops gate.old) (G.stops gate.new)) }
-    ensures unstopped { MatchResult result (λ x. G.stops gate.new ≡ G.stops gate.old) (λ s. G.stops gate.old ≤ G.stops gate.new) }
-{
-    let (Ok(shelf), Ok(disk)) = (load_shelf(alloc), load_disk(alloc)) else {
-        return Err(Status::NoMemory);
-    };
-    start(alloc, shelf, disk, 1, gate)
-}
-
-// The same with its users.
-fn load_element<G: Gate>(alloc: Global, gate: &mut G) -> Result<Element<MemDisk, MemDisk>, Status>
-    ensures started { MatchResult result IsLoadStarted (NotLoaded (G.stops gate.old) (G.stops gate.new)) }
-    ensures unstopped { MatchResult result (λ x. G.stops gate.new ≡ G.stops gate.old) (λ s. G.stops gate.old ≤ G.stops gate.new) }
-{
-    let controller = load_controller(alloc, gate)?;
-    let Ok(disk) = load_users_disk(alloc) else {
-        return Err(Status::NoMemory);
-    };
-    match start_users(alloc, &controller.shelf, disk) {
-        Ok(users) => Ok(Element { controller, users }),
-        Err(status) => Err(status),
-    }
-}
 
 /// How many bytes of responses are kept.
 const WRITTEN_ROOM: usize = 1 << 21;

@@ -1,14 +1,13 @@
 ghost use Rattle.std.specs.Prelude.{◌≡◌};
 ghost use Rattle.craft_words.specs.Lines.{IsLine};
 ghost use Rattle.craft_words.specs.declared.line.Line.{Line as ALine};
-ghost use Rattle.craft_server.specs.Openings.{sources};
+ghost use Rattle.craft_element.specs.Openings.{sources};
 ghost use Rattle.craft_server.specs.Runs.{IsRun, lent, told_by};
 
-use crate::check::run_check;
 use crate::load::run_load;
-use crate::opening::Names;
 use crate::script::run_script;
 use crate::serve_all;
+use craft_element::{Names, run_check};
 use craft_jobs::run_standby;
 use craft_words::{Line, Status, WordsFault, line_of};
 use dxc_outside::{Clock, Gate, Link, Listener, Name, Opener, Spawner};

@@ -1,18 +1,15 @@
 ghost use Rattle.std.specs.Prelude.{◌≡◌};
-ghost use Rattle.craft_server.specs.Openings.{Opens, named, sources};
+ghost use Rattle.craft_element.specs.Openings.{Opens, named, sources};
 ghost use Rattle.craft_server.specs.Scripts.{RanSession};
 ghost use Rattle.craft_server.specs.Statuses.{status_of};
 
-use crate::opening::{Controller, Element, Names, open};
 use crate::places::open_places;
+use craft_element::{Controller, Element, Names, WORKERS, open};
 use craft_session::{SessionEnd, serve_session};
 use craft_words::Status;
 use dxc_outside::{Clock, Gate, Link, Opener};
 use std::alloc::Global;
 use std::sync::Wait;
-
-/// No frames are carried, so the one worker has a seat, and none runs.
-pub(crate) const WORKERS: u16 = 1;
 
 /// Serves one session over the terminal, at the one place of a controller that is opened on these names.
 pub(crate) fn run_script<O: Opener, K: Link, C: Clock, G: Gate, R: Wait>(

@@ -2,23 +2,29 @@
 ghost use Rattle.std.specs.Prelude.{◌≡◌, ◌≤◌, ◌+◌, ℕ, length, vec_len, None, IsSome};
 ghost use Rattle.std.specs.Arc.{arc_value};
 ghost use Rattle.fabric_words.specs.New.{AreNew};
-ghost use Rattle.craft_server.specs.Openings.{Opens, named, sources};
-ghost use Rattle.craft_server.specs.Peers.{Mirrors};
+ghost use Rattle.user_admin.specs.Openings.{Begins as UsersBegin};
+ghost use Rattle.xc_core.specs.Openings.{Begins};
+ghost use Rattle.xc_core.specs.States.{opening_of};
+ghost use Rattle.craft_session.specs.Places.{IsAtOpening};
+ghost use Rattle.craft_element.specs.Openings.{Opens, named, sources};
+ghost use Rattle.craft_element.specs.Peers.{Mirrors};
 ghost use Rattle.craft_server.specs.Serving.{IsServe, IsServing, named_in, peer_of, workers_in};
 
-use crate::jobs::{frame_jobs, session_jobs};
-use crate::opening::{Controller, Element, Names, open};
-use crate::peer::serve_mirrored;
+use crate::jobs::session_jobs;
+use crate::mirrored::serve_mirrored;
 use crate::places::open_places;
 use crate::sessions::SessionJob;
-use craft_jobs::{FrameJob, run_all};
-use craft_session::Place;
+use craft_element::{Controller, Element, Names, open};
+use craft_jobs::{FrameJob, frame_jobs, run_all};
 use craft_words::{Line, Status};
 use dxc_disk::Disk;
 use dxc_outside::{Clock, Gate, Lines, Listener, Opener, Spawner, Started};
 use fabric_words::{Fabric, WorkerSeat};
+use shelf_file::Shelf;
 use std::alloc::Global;
 use std::sync::{Arc, Wait};
+use user_admin::UserState;
+use xc_core::State;
 
 /// Runs the workers' jobs and the sessions' jobs to their ends.
 fn run_jobs<
@@ -46,6 +52,9 @@ where
     }
 }
 
+/// The most sessions at a time.
+const SESSIONS: u16 = 16;
+
 /// Where the sessions and the workers of `serve` run.
 #[derive(Clone, Copy)]
 pub(crate) struct Site<'a> {
@@ -54,7 +63,7 @@ pub(crate) struct Site<'a> {
     pub(crate) workers: u16,
 }
 
-/// Opens the lines of each worker and a listener for each place, and runs their jobs to their ends.
+/// Opens the lines of each worker and a listener for each of 16 places at the state and the users, and runs their jobs to their ends.
 pub(crate) fn serve_on<
     O: Opener,
     D: Disk + Send + Drop + 'static,
@@ -65,9 +74,11 @@ pub(crate) fn serve_on<
     alloc: Global,
     opener: &mut O,
     site: Site<'_>,
+    shelf: &Arc<Shelf>,
     fabric: &Arc<Fabric>,
     seats: Vec<WorkerSeat>,
-    places: Vec<Place<D, U>>,
+    state: State<D>,
+    users: UserState<U>,
     spawner: &mut P,
     rt: &R,
 ) -> Status
@@ -75,8 +86,14 @@ where
     <O::Listener as Listener>::Link: Send + 'static,
     requires seats { AreNew (arc_value fabric.now) 0 seats.items }
     requires each { length seats.items ≡ site.workers }
-    ensures { IsServing (site.entry.workers + vec_len places) (O.state opener.old).faults (O.state opener.new).faults (P.state spawner.old) (P.state spawner.new) result }
+    requires begins { Begins D.told D.state state }
+    requires users_begin { UsersBegin U.told U.state users }
+    requires opening { IsAtOpening (opening_of D.state state) (arc_value shelf.now) (arc_value fabric.now) }
+    ensures { IsServing (site.entry.workers + 16) (O.state opener.old).faults (O.state opener.new).faults (P.state spawner.old) (P.state spawner.new) result }
 {
+    let Ok(places) = open_places(alloc, shelf, fabric, state, users, SESSIONS) else {
+        return Status::NoMemory;
+    };
     let workers = match frame_jobs(alloc, opener, site.lines, site.workers, fabric, seats) {
         Ok(jobs) => jobs,
         Err(status) => return status,
@@ -87,9 +104,6 @@ where
     };
     run_jobs(spawner, workers, sessions, rt)
 }
-
-/// The most sessions at a time.
-pub(crate) const SESSIONS: u16 = 16;
 
 // Serves the site with the controller that is opened on these names.
 fn serve_alone<O: Opener, G: Gate, P: Spawner, R: Wait>(
@@ -116,10 +130,9 @@ where
         seats,
         state,
     } = controller;
-    let Ok(places) = open_places(alloc, &shelf, &fabric, state, users, SESSIONS) else {
-        return Status::NoMemory;
-    };
-    serve_on(alloc, opener, site, &fabric, seats, places, spawner, rt)
+    serve_on(
+        alloc, opener, site, &shelf, &fabric, seats, state, users, spawner, rt,
+    )
 }
 
 /// Serves the line's address with 16 sessions at a time, and its lines with its workers. The line is one of `serve`.

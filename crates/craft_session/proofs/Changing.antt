@@ -78,14 +78,6 @@ module _ (o : Opening) (own : ℕ) (h : List Entry) where
   abbrev pub turned_passed : (e : Entry) (seen : List Gv) → Turned o own h e seen → Passed o own h e seen
   turned_passed e seen t = record { passed = t.later; unused = others_unused own t.later t.others; saw = t.saw }
 
-  -- one turn more that was given back
-  pub passed_back : (seen then_seen : List Gv) (b : PassedBy o own h seen) → TurnedBack o own (h ++ b.passed) then_seen → PassedBy o own h then_seen
-  passed_back seen then_seen b t = record {
-    passed = b.passed ++ t.later;
-    unused = each_append (IsUnused own) b.passed t.later b.unused (others_unused own t.later t.others);
-    saw = subst (λ (l : List Entry). Saw o then_seen l) (append_assoc h b.passed t.later) t.saw;
-  }
-
   -- an entry behind what was passed
   abbrev pub passed_on : (e : Entry) (seen then_seen : List Gv) (b : PassedBy o own h seen) → Passed o own (h ++ b.passed) e then_seen → Passed o own h e then_seen
   passed_on e seen then_seen b p = record {

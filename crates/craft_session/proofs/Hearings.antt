@@ -1,6 +1,6 @@
 -- What a session hears of the users that is alone.
 use Rattle.std.specs.List.{AllByRecursion}
-use Rattle.std.proofs.Common.{◌≡◌, ◌≢◌, ◌≤◌, ◌<◌, ◌+◌, ◌*◌, ℕ, length, length-append, List, [], ◌∷◌, ◌++◌, append-nil, Option, Some, None, refl, sym, ◌∙◌, ap, ap₂, subst, arith}
+use Rattle.std.proofs.Common.{◌≡◌, ◌≤◌, ◌<◌, ◌+◌, ◌*◌, ℕ, length, length-append, List, [], ◌∷◌, ◌++◌, append-nil, Some, None, refl, sym, ◌∙◌, ap, ap₂, subst, arith}
 use Rattle.dxc_disk.specs.Disks.{DiskState}
 use Rattle.dxc_model.specs.declared.cause.Cause.{Cause}
 use Rattle.dxc_outside.specs.declared.clock.Moment.{Moment}
@@ -28,7 +28,7 @@ use Rattle.craft_session.specs.Consulting.{Consults, consults_none, others_pass,
 use Rattle.craft_session.specs.Happenings.{Happening, Request, unit, quiet, units_in}
 use Rattle.craft_session.specs.Hearing.{Heard, Hears, Wanted, nothing, to_look, to_do, heard_of}
 use Rattle.craft_session.specs.Meanings.{language, wants}
-use Rattle.craft_session.specs.PlainUsers.{ConsultsAlone, HearsOf, IsExcusedBy, IsUsersOpeningOf, IsUsersUnsoundBy, PlaysUsers, bare, users_opening_room, users_room_of}
+use Rattle.craft_session.specs.PlainUsers.{ConsultsAlone, HearsOf, IsExcusedBy, IsUsersOpeningOf, IsUsersUnsoundBy, PlaysUsers, bare, users_room_of}
 use Rattle.craft_session.proofs.Streams.{units_in-append, units_in-quiet}
 
 split_front : {X : Type 0} (P : X → Type 0) (xs ys : List X) → AllByRecursion P (xs ++ ys) → AllByRecursion P xs

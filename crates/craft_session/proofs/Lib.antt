@@ -10,6 +10,7 @@ pub mod Acted
 pub mod Walking
 pub mod Seating
 pub mod Reporting
+pub mod Ends
 pub mod Consulted
 pub mod SessionSteps
 pub mod Answering

@@ -1,7 +1,7 @@
 use dxc_model::{Cause, Op, Selection, SessionUser};
 
 /// What a unit asks of a session: a cause that unit, user and shelf alone decide, else a command.
-#[derive(Clone, Copy, Debug, PartialEq, Eq)]
+#[derive(Clone, Copy)]
 pub enum Ask {
     Refused(Cause),
     /// ACT-USER of this user.
@@ -23,7 +23,7 @@ pub enum Ask {
 }
 
 /// What the session did of it. Listed rows stand beside it.
-#[derive(Clone, Copy, Debug, PartialEq, Eq)]
+#[derive(Clone, Copy)]
 pub enum Acted {
     Completed,
     Listed,

@@ -28,7 +28,7 @@ use xc_core::turns::{self, Took};
 use xc_core::{Driver, Provisioner, State, drive};
 
 /// What came of a changing command.
-#[derive(Clone, Copy, Debug, PartialEq, Eq)]
+#[derive(Clone, Copy)]
 pub enum Changed {
     /// All its register writes are made, and the table has it.
     Done,

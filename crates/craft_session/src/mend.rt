@@ -22,7 +22,7 @@ use xc_core::restarts::{Restarting, cut_restart, end_restart, restart};
 use xc_core::{Driver, State};
 
 /// What came of turns in which a restart was to be made.
-#[derive(Clone, Copy, Debug, PartialEq, Eq)]
+#[derive(Clone, Copy)]
 pub enum Mended {
     /// It was made. The Provisioner is home and ready.
     Ready,

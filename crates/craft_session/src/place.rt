@@ -1,4 +1,5 @@
-ghost use Rattle.std.specs.Prelude.{◌≡◌, IfOk};
+ghost use Rattle.std.specs.Prelude.{◌≡◌, ◌<◌, ◌≤◌, IfOk, vec_capacity, vec_len};
+ghost use Rattle.dxc_model.specs.Histories.{kept};
 ghost use Rattle.std.specs.Arc.{arc_value};
 ghost use Rattle.xc_core.specs.States.{opening_of};
 ghost use Rattle.craft_session.specs.Seats.{IsSeated, IsUserSeated, seat_at, user_seat_at};
@@ -10,7 +11,7 @@ use crate::users::{UserDesk, UserSeat};
 use arrayvec::ArrayVec;
 use dxc_causes::NoMemory;
 use dxc_disk::Disk;
-use dxc_model::SessionUser;
+use dxc_model::{Change, Conn, SessionUser};
 use fabric_words::Fabric;
 use shelf_file::Shelf;
 use std::alloc::Global;
@@ -50,6 +51,17 @@ impl<D: Disk, U: Disk> Model for Place<D, U> {
     ghost invariant = { λ p. 0 < vec_len p.piece };
 }
 
+/// Room for rows, for changes and for a read.
+// Apart, since each call that may fail here has no place's parts to drop.
+fn buffers(alloc: Global, ports: usize) -> Result<(Vec<Conn>, Vec<Change>, Vec<u8>), NoMemory>
+    ensures { IfOk result (λ b. (ports ≤ vec_capacity b.0) × (kept ≤ vec_capacity b.1) × (0 < vec_len b.2)) }
+{
+    let rows = Vec::with_capacity(alloc, ports)?;
+    let changes = Vec::with_capacity(alloc, KEPT)?;
+    let piece = Vec::from_elem(alloc, 0, PIECE)?;
+    Ok((rows, changes, piece))
+}
+
 impl<D: Disk + Drop, U: Disk + Drop> Place<D, U> {
     /// A place of the turnstiles of the state, whose Provisioner writes the fabric's registers, and of the users, on the shelf, which is of the
     /// same shape. Its passes have one number. It takes all memory that its sessions need.
@@ -71,9 +83,7 @@ impl<D: Disk + Drop, U: Disk + Drop> Place<D, U> {
         ensures { IfOk result (λ p. p ≡ record { shelf = arc_value shelf; seat = seat_at D.state pass (arc_value turns); users = user_seat_at U.state users_pass (arc_value users) }) }
     {
         let _ = number;
-        let rows = Vec::with_capacity(alloc, shelf.shape().ports() as usize)?;
-        let changes = Vec::with_capacity(alloc, KEPT)?;
-        let piece = Vec::from_elem(alloc, 0, PIECE)?;
+        let (rows, changes, piece) = buffers(alloc, shelf.shape().ports() as usize)?;
         let seat = Seat::new(pass, turns, fabric);
         let users = UserDesk {
             seat: UserSeat::new(users_pass, users),

@@ -1,4 +1,4 @@
-ghost use Rattle.std.specs.Prelude.{◌≡◌, ◌≢◌, ◌≤◌, ◌<◌, ◌^◌, ◌↔◌, false, ℕ, List, [], length, IsTrue, IfSome, None};
+ghost use Rattle.std.specs.Prelude.{◌≡◌, ◌≢◌, ◌≤◌, ◌<◌, ◌+◌, ◌^◌, ◌↔◌, false, ℕ, List, [], length, IsTrue, IfSome, None};
 ghost use Rattle.dxc_causes.specs.Causes.{Rose, Counted};
 ghost use Rattle.dxc_outside.specs.declared.clock.Moment.{Moment};
 ghost use Rattle.dxc_outside.specs.Links.{LinkState};
@@ -114,8 +114,7 @@ fn attend<K: Link, C: Clock, G: Gate, D: Disk + Drop, U: Disk + Drop, R: Wait>(
 {
     match answer(desk, link, clock, gate, rt, kind) {
         Progress::On => report(desk, link, clock, rt),
-        Progress::Cut => Progress::Cut,
-        Progress::Stopped => Progress::Stopped,
+        end => end,
     }
 }
 
@@ -248,6 +247,7 @@ pub fn serve_session<K: Link, C: Clock, G: Gate, D: Disk + Drop, U: Disk + Drop,
     ensures unstopped { result ≢ SessionEnd.Stopped → G.stops gate.new ≡ G.stops gate.old }
     ensures later { G.stops gate.old ≤ G.stops gate.new }
     ensures spent { result ≡ SessionEnd.Spent → Counted (K.state link.old).reads (K.state link.new).reads (2 ^ 32) }
+    ensures few { (K.state link.new).reads ≤ (K.state link.old).reads + 2 ^ 32 }
 {
     place.desk.begin();
     let end = serve(&mut place.desk, &mut place.piece, link, clock, gate, rt);
@@ -280,6 +280,7 @@ fn serve<K: Link, C: Clock, G: Gate, D: Disk + Drop, U: Disk + Drop, R: Wait>(
     ensures unstopped { result ≢ SessionEnd.Stopped → G.stops gate.new ≡ G.stops gate.old }
     ensures later { G.stops gate.old ≤ G.stops gate.new }
     ensures spent { result ≡ SessionEnd.Spent → Counted (K.state link.old).reads (K.state link.new).reads (2 ^ 32) }
+    ensures few { (K.state link.new).reads ≤ (K.state link.old).reads + 2 ^ 32 }
 {
     // Their clauses tell that the seats have seen histories.
     desk.seat.seen();

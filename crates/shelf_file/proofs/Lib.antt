@@ -3,7 +3,6 @@ pub mod Tables
 pub mod Faults
 pub mod Kept
 pub mod Growing
-pub mod Naming
 pub mod Shortness
 pub mod FirstFaults
 pub mod Describing

@@ -1,6 +1,5 @@
--- The users of a shelf, as they are kept by name.
+-- The users of a shelf, as they are kept.
 use Rattle.std.specs.Prelude.{◌≡◌, ◌⊎◌, ℕ, Option, Some, None, List, [], ◌∷◌, ◌++◌, map}
-use Rattle.arrayvec.specs.ArrayVec.{ArrayVec}
 use Rattle.shelf_file.specs.declared.user.User.{User}
 use Rattle.toml.specs.Data.{Members}
 use Rattle.shelf_file.specs.declared.fault.ShelfFault.{ShelfFault}
@@ -8,12 +7,12 @@ use Rattle.shelf_file.specs.declared.fault.ShelfFault.TheVariants.{NoMemory}
 use Rattle.shelf_file.specs.Checks.{checks_of, first_some}
 use Rattle.shelf_file.specs.Contents.{UserEntry, IsUser}
 
--- a user that is kept by name
-abbrev pub entry_of : ArrayVec ℕ × User → UserEntry
-entry_of p = record { name = p.0.items; class = p.1.class; salt = p.1.salt.items; digest = p.1.digest }
+-- a user that is kept
+abbrev pub entry_of : User → UserEntry
+entry_of u = record { name = u.uid.items; class = u.class; salt = u.salt.items; digest = u.digest }
 
-abbrev pub entries_of : List (ArrayVec ℕ × User) → List UserEntry
-entries_of ps = map entry_of ps
+abbrev pub entries_of : List User → List UserEntry
+entries_of us = map entry_of us
 
 -- the names of users
 abbrev pub names_in : List UserEntry → List (List ℕ)

@@ -1,13 +1,10 @@
-ghost use Rattle.std.specs.Prelude.{◌≡◌, ◌<◌, ◌≤◌, Some, IfSome, length, option_map, slice_get, position};
-ghost use Rattle.std.specs.Str.{bytes_eq};
-ghost use Rattle.indexmap.specs.IndexMap.{keys};
+ghost use Rattle.std.specs.Prelude.{◌≡◌, ◌<◌, ◌≤◌, Some, length, option_map, slice_get};
 ghost use Rattle.dxc_model.specs.Equipment.{IsEquipment};
-ghost use Rattle.shelf_file.specs.Shelves.{named, is_named, AreDescribed, PassesOnce};
+ghost use Rattle.shelf_file.specs.Shelves.{AreDescribed};
 
-use crate::user::{Uid, User, upper};
+use crate::user::User;
 use dxc_model::Class;
 use dxc_num::Shape;
-use indexmap::IndexMap;
 use std::marker::Model;
 use tl1_text::Sid;
 
@@ -18,7 +15,7 @@ pub struct Shelf {
     pub(crate) sid: Sid,
     pub(crate) shape: Shape,
     pub(crate) equipped: u64,
-    pub(crate) users: IndexMap<Uid, User>,
+    pub(crate) users: Vec<User>,
 }
 
 impl Model for Shelf {
@@ -28,9 +25,9 @@ impl Model for Shelf {
 
     ghost Value = { Contents };
 
-    ghost view = { λ s. record { sid = s.sid; shape = s.shape; equipped = s.equipped; users = entries_of s.users.entries } };
+    ghost view = { λ s. record { sid = s.sid; shape = s.shape; equipped = s.equipped; users = entries_of s.users.items } };
 
-    ghost invariant = { λ s. IsKept (record { sid = s.sid; shape = s.shape; equipped = s.equipped; users = entries_of s.users.entries }) };
+    ghost invariant = { λ s. IsKept (record { sid = s.sid; shape = s.shape; equipped = s.equipped; users = entries_of s.users.items }) };
 }
 
 impl Shelf {
@@ -69,12 +66,13 @@ impl Shelf {
 
     fn user(&self, user: u16) -> &User
         requires { user < length self.now.users }
+        ensures name { option_map (λ e. e.name) (slice_get self.now.users user) ≡ Some result.now.uid.items }
         ensures class { option_map (λ e. e.class) (slice_get self.now.users user) ≡ Some result.now.class }
         ensures salt { option_map (λ e. e.salt) (slice_get self.now.users user) ≡ Some result.now.salt.items }
         ensures digest { option_map (λ e. e.digest) (slice_get self.now.users user) ≡ Some result.now.digest }
     {
-        match self.users.get_index(user as usize) {
-            Some((_, kept)) => kept,
+        match self.users.get(user as usize) {
+            Some(kept) => kept,
             None => unreachable!(),
         }
     }
@@ -104,49 +102,12 @@ impl Shelf {
         &self.user(user).digest
     }
 
-    /// A user's name in upper case.
+    /// A user's name in upper case. No two users have one name.
     pub fn name(&self, user: u16) -> &[u8]
         requires { user < length self.now.users }
         ensures name { option_map (λ e. e.name) (slice_get self.now.users user) ≡ Some result.now }
         ensures short { length result.now ≤ 10 }
     {
-        match self.users.get_index(user as usize) {
-            Some((name, _)) => name.as_slice(),
-            None => unreachable!(),
-        }
+        self.user(user).uid.as_slice()
     }
-
-    /// Whether a user has the name, without regard to case.
-    pub fn is_named(&self, user: u16, uid: &[u8]) -> bool
-        requires { user < length self.now.users }
-        ensures { option_map (is_named uid.now) (slice_get self.now.users user) ≡ Some result }
-    {
-        let name = self.name(user);
-        match upper(uid) {
-            Some(uid) => name == uid.as_slice(),
-            None => false,
-        }
-    }
-
-    /// The user of that name, without regard to case; None exactly where there is none. No two users have one name.
-    pub fn find(&self, uid: &[u8]) -> Option<u16>
-        ensures found { result ≡ named self.now uid.now }
-        ensures within { IfSome result (λ user. user < length self.now.users) }
-        ensures once { PassesOnce (is_named uid.now) self.now.users }
-    {
-        let users = &self.users;
-        let name = upper(uid)?;
-        match place_of(users, &name) {
-            Some(place) => Some(place as u16),
-            None => None,
-        }
-    }
-}
-
-fn place_of(users: &IndexMap<Uid, User>, name: &Uid) -> Option<usize>
-    ensures found { result ≡ position (λ k. bytes_eq name.now.items k.items) (keys users.now) }
-    ensures within { IfSome result (λ place. place < length users.now.entries) }
-    ensures once { PassesOnce (λ k. bytes_eq name.now.items k.items) (keys users.now) }
-{
-    users.get_index_of(name)
 }

@@ -12,9 +12,10 @@ use toml::Value;
 /// A user's name in upper case: 1 to 10 ASCII letters and digits, the first a letter.
 pub type Uid = ArrayVec<u8, 10>;
 
-/// What is kept of a user beside the name: the class, and the secrets that know the PID. The PID itself is never kept.
+/// What is kept of a user: the name, the class, and the secrets that know the PID. The PID itself is never kept.
 #[derive(Drop)]
 pub struct User {
+    pub uid: Uid,
     pub class: Class,
     pub salt: ArrayVec<u8, 32>,
     pub digest: [u8; 32],

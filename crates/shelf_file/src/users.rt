@@ -1,6 +1,6 @@
-ghost use Rattle.std.specs.Prelude.{◌≡◌, ◌<◌, true, Some, None, is_some, MatchResult, map, length, slice_index_or};
+ghost use Rattle.std.specs.Prelude.{◌≡◌, ◌<◌, true, Some, None, MatchResult, map, length, slice_index_or};
+ghost use Rattle.std.specs.List.{list_any};
 ghost use Rattle.std.specs.Str.{bytes_eq};
-ghost use Rattle.indexmap.specs.IndexMap.{get_by};
 ghost use Rattle.toml.specs.Data.{no_members};
 ghost use Rattle.toml.specs.View.{view, table_view};
 ghost use Rattle.shelf_file.specs.Keys.{tables_in, are_tables};
@@ -11,43 +11,44 @@ ghost use Rattle.shelf_file.specs.Users.{entry_of, entries_of, names_in, Adds, I
 use crate::fault::ShelfFault;
 use crate::keys::{class_at, digest_at, salt_at, uid_at};
 use crate::user::{Uid, User};
-use indexmap::IndexMap;
 use std::alloc::Global;
 use toml::Table;
 use toml::value::Array;
 
 /// The user that a table describes.
-fn user_in(table: &Table, number: u16) -> Result<(Uid, User), ShelfFault>
-    ensures { MatchResult result (λ p. IsUser (table_view table.now) (entry_of p)) (λ f. first_some (key_checks number (table_view table.now)) ≡ Some f) }
+fn user_in(table: &Table, number: u16) -> Result<User, ShelfFault>
+    ensures { MatchResult result (λ u. IsUser (table_view table.now) (entry_of u)) (λ f. first_some (key_checks number (table_view table.now)) ≡ Some f) }
 {
     let uid = uid_at(table, number)?;
     let class = class_at(table, number)?;
     let salt = salt_at(table, number)?;
     let digest = digest_at(table, number)?;
-    let user = User {
+    Ok(User {
+        uid,
         class,
         salt,
         digest,
-    };
-    Ok((uid, user))
+    })
 }
 
 /// Whether a user has the name.
-fn has_name(users: &IndexMap<Uid, User>, name: &Uid) -> bool
-    ensures { result ≡ is_some (get_by (λ k. bytes_eq name.now.items k.items) users.now) }
+fn has_name(users: &[User], name: &Uid) -> bool
+    ensures { result ≡ list_any (λ u. bytes_eq name.now.items u.uid.items) users.now }
 {
-    users.contains_key(name)
+    users
+        .iter()
+        .any(|user| name.as_slice() == user.uid.as_slice())
 }
 
 /// Adds the user that a table describes.
-fn add_user(users: &mut IndexMap<Uid, User>, table: &Table, number: u16) -> Result<(), ShelfFault>
-    ensures { MatchResult result (λ _. Adds (table_view table.now) number (entries_of users.old.entries) (entries_of users.new.entries)) (IsFaultOf (checks_of (names_in (entries_of users.old.entries)) number (table_view table.now))) }
+fn add_user(users: &mut Vec<User>, table: &Table, number: u16) -> Result<(), ShelfFault>
+    ensures { MatchResult result (λ _. Adds (table_view table.now) number (entries_of users.old.items) (entries_of users.new.items)) (IsFaultOf (checks_of (names_in (entries_of users.old.items)) number (table_view table.now))) }
 {
-    let (uid, user) = user_in(table, number)?;
-    if has_name(users, &uid) {
+    let user = user_in(table, number)?;
+    if has_name(users.as_slice(), &user.uid) {
         return Err(ShelfFault::TwoUsers { user: number });
     }
-    match users.insert(uid, user) {
+    match users.push(user) {
         Ok(_) => Ok(()),
         Err(_) => Err(ShelfFault::NoMemory),
     }
@@ -66,11 +67,11 @@ fn table_in(list: &Array, place: usize) -> &Table
 }
 
 /// The users that the tables of a list describe, or the first fault of their checks.
-pub fn users_in(alloc: Global, list: &Array) -> Result<IndexMap<Uid, User>, ShelfFault>
+pub fn users_in(alloc: Global, list: &Array) -> Result<Vec<User>, ShelfFault>
     requires { are_tables (map view list.now.items) ≡ true }
-    ensures { MatchResult result (λ m. AreUsers (tables_in (map view list.now.items)) (entries_of m.entries) × (first_some (users_checks (tables_in (map view list.now.items))) ≡ None)) (IsFaultOf (users_checks (tables_in (map view list.now.items)))) }
+    ensures { MatchResult result (λ m. AreUsers (tables_in (map view list.now.items)) (entries_of m.items) × (first_some (users_checks (tables_in (map view list.now.items))) ≡ None)) (IsFaultOf (users_checks (tables_in (map view list.now.items)))) }
 {
-    let mut users = IndexMap::new(alloc);
+    let mut users = Vec::new(alloc);
     for place in 0..list.len() {
         add_user(&mut users, table_in(list, place), place as u16 + 1)?;
     }

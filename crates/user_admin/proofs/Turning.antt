@@ -19,10 +19,6 @@ use Rattle.user_admin.specs.States.{Stands, StandsFor, entry, opening_in, openin
 use Rattle.user_admin.specs.Turns.{AreNumbered, HasPass, IsHistory, Saw, Turned, TurnedBack, codes}
 use Rattle.user_admin.proofs.Standing.{was_denied, was_read}
 
--- what was seen is one history
-pub saw_once : (o p : Opening) (seen : List Gv) (h g : List UserEntry) → Saw o seen h → Saw p seen g → h ≡ g
-saw_once o p seen h g a b = map_once entry_coded.code entry_coded.inj h g (sym a.codes_are ∙ b.codes_are)
-
 -- a pass that comes back from a turn
 pub pass_back : {X : Type 0} (t : Gate X) (p q : Token) → HasPass t p → q.free ≡ true → q.id ≡ t.id → q.number ≡ p.number → AreNumbered t.passes q.seen → HasPass t q × (q.number ≡ p.number)
 pass_back t p q pass free id number numbered = ((free, id, subst (λ (n : ℕ). n < t.passes) (sym number) pass.2, numbered), number)
@@ -91,6 +87,32 @@ module _ {D : Type 0} (told : Type 0) (state : D → DiskState) where
 
     abbrev pub turned_back : (y : UserState D) (then_seen : List Gv) → StandsFor told state o y (h ++ f.later) → then_seen ≡ in_turn → TurnedBack o own h then_seen
     turned_back y then_seen st is = record { later = f.later; others = f.others; saw = record { codes_are = is ∙ f.codes_are; history = history_of o y (h ++ f.later) st } }
+
+  -- a turn of a place that had seen a history, by what its entering tells
+  module _ (o : Opening) (own by passes : ℕ) (seen in_turn : List Gv) (x : UserState D) (is : by ≡ own) (f : Found entry_coded.code (opening_of state) place_of (Stands told state) by passes o seen x in_turn) where
+    pub at_turn : (h : List UserEntry) → Saw o seen h → FoundAt o own h x in_turn
+    at_turn h saw = found_at o own by passes h seen in_turn x is f saw.codes_are
+
+    -- what leaving owes, where the state stands for one entry more
+    pub ends : (w : (h : List UserEntry) × Saw o seen h) (y : UserState D) (n : ℕ) (op : UserOp) (out : UserOutcome) → n ≡ own → y.origin ≡ x.origin → ((l : List UserEntry) → StandsFor told state o x l → StandsFor told state o y (l ++ entry own op out ∷ [])) → (l : List UserEntry) × (in_turn ≡ codes l) × Stands told state y (l ++ entry n op out ∷ [])
+    ends w y n op out number origin on = let t = at_turn w.0 w.1 in leave_stands o own w.0 x in_turn t y n op out number origin (on (w.0 ++ t.later) t.stands)
+
+    -- and giving the state back, where nothing was done
+    pub gives_back : (w : (h : List UserEntry) × Saw o seen h) (y : UserState D) → y.origin ≡ x.origin → ((l : List UserEntry) → StandsFor told state o x l → StandsFor told state o y l) → (l : List UserEntry) × (in_turn ≡ codes l) × Stands told state y l
+    gives_back w y origin on = let t = at_turn w.0 w.1 in back_stands o own w.0 x in_turn t y origin (on (w.0 ++ t.later) t.stands)
+
+    -- what the place knows behind its entry
+    abbrev pub ended : (h : List UserEntry) (saw : Saw o seen h) (y : UserState D) (n : ℕ) (op : UserOp) (out : UserOutcome) (then_seen : List Gv) → n ≡ own → ((l : List UserEntry) → StandsFor told state o x l → StandsFor told state o y (l ++ entry own op out ∷ [])) → then_seen ≡ in_turn ++ entry_coded.code (entry n op out) ∷ [] → Turned o own h (entry own op out) then_seen
+    ended h saw y n op out then_seen number on seen_is = turned o own h x in_turn (at_turn h saw) y (entry own op out) then_seen (on (h ++ (at_turn h saw).later) (at_turn h saw).stands) (seen_own o own h x in_turn (at_turn h saw) n op out then_seen number seen_is)
+
+    -- and where it gave the state back
+    pub given_back : (h : List UserEntry) (saw : Saw o seen h) (y : UserState D) (then_seen : List Gv) → ((l : List UserEntry) → StandsFor told state o x l → StandsFor told state o y l) → then_seen ≡ in_turn → TurnedBack o own h then_seen
+    given_back h saw y then_seen on seen_is = let t = at_turn h saw in turned_back o own h x in_turn t y then_seen (on (h ++ t.later) t.stands) seen_is
+
+    -- the pass behind it
+    pub ends_pass : {X : Type 0} (t : Gate X) (p q : Token) (n : ℕ) (op : UserOp) (out : UserOutcome) → passes ≡ t.passes → own ≡ p.number → HasPass t p → (q.free ≡ true) × (q.id ≡ t.id) × (q.number ≡ p.number) → n ≡ own → q.seen ≡ in_turn ++ entry_coded.code (entry n op out) ∷ [] → HasPass t q × (q.number ≡ p.number)
+    ends_pass t p q n op out all place pass back number seen_is =
+        pass_back t p q pass back.0 back.1 back.2 (subst (λ (k : ℕ). AreNumbered k q.seen) all (numbered_own o by passes seen in_turn x f own n op out q.seen number (subst (λ (k : ℕ). own < k) (sym all) (subst (λ (k : ℕ). k < t.passes) (sym place) pass.2)) seen_is))
 
 -- what only reads leaves the state as it is
 module _ {D : Type 0} (told : Type 0) (state : D → DiskState) (o : Opening) (s : UserState D) (h : List UserEntry) (st : StandsFor told state o s h) (disk : told → IsDisk (state s.journal.0)) (counts : CountsOn (state s.journal.0)) (n : ℕ) (op : UserOp) where

@@ -15,7 +15,7 @@ use dxc_disk::{Disk, DiskFault};
 use journal_core::Journal;
 
 /// Why not every record was taken.
-#[derive(Clone, Copy, Debug, PartialEq, Eq)]
+#[derive(Clone, Copy)]
 pub(crate) enum FoldFault {
     /// The record of this number is the first that means no change that fits.
     BadRecord(u32),

@@ -17,7 +17,7 @@ use std::sync::Wait;
 use turnstile::{Pass, Turnstile};
 
 /// What came of a turn in which the users were to be changed.
-#[derive(Clone, Copy, Debug, PartialEq, Eq)]
+#[derive(Clone, Copy)]
 pub enum UserTook {
     Done,
     Denied(Cause),

@@ -1,21 +1,20 @@
-ghost use Rattle.std.specs.Prelude.{IsErr};
+ghost use Rattle.std.specs.Prelude.{IsErr, ◌≡◌};
 ghost use Rattle.dxc_causes.specs.Causes.{HasCause};
 
+use crate::crash::Crash;
 use crate::levers::Levers;
-use crate::torn::Torn;
+use crate::torn::{Torn, overwrite};
 use dxc_disk::{Disk, DiskFault};
 use std::sync::Arc;
 
-/// A byte that no seal is.
-const OTHER: u8 = 0x5A;
-
 /// A disk in memory on which a row lets a call fail, and which reads as other bytes than it holds while the row says so. It tells nothing of its
-/// content. Where it is dropped it leaves its bytes with its levers.
+/// content. Where it is dropped it leaves its bytes, or what a crash leaves of them, with its levers.
 pub struct RowDisk {
     held: Vec<u8>,
     shown: Vec<u8>,
     torn: Torn,
     levers: Arc<Levers>,
+    crash: Option<Crash>,
     faults: u64,
 }
 
@@ -26,8 +25,16 @@ impl RowDisk {
             shown,
             torn,
             levers,
+            crash: None,
             faults: 0,
         }
+    }
+
+    /// A disk that crashes once it is dropped.
+    pub fn crashing(self, crash: Crash) -> RowDisk {
+        let mut disk = self;
+        disk.crash = Some(crash);
+        disk
     }
 
     // Counts a fault where the call failed.
@@ -60,31 +67,33 @@ impl RowDisk {
         into.copy_from_slice(from.get(..into.len())?);
         Some(())
     }
-}
 
-// Writes where a disk of these bytes can be written.
-fn write_within(held: &mut Vec<u8>, at: u64, from: &[u8]) -> Option<()> {
-    let at = at as usize;
-    if at > held.len() {
-        return None;
+    fn write(&mut self, at: usize, from: &[u8]) -> Option<()>
+        ensures { self.new.faults ≡ self.old.faults }
+    {
+        if self.levers.write_fails() {
+            let _ = self.torn.leave(&mut self.held, at, from);
+            return None;
+        }
+        if at > self.held.len() {
+            return None;
+        }
+        if let Some(crash) = &mut self.crash {
+            crash.note(&self.held, at, from).ok()?;
+        }
+        overwrite(&mut self.held, at, from).ok()
     }
-    let over = from.len().min(held.len() - at);
-    held[at..at + over].copy_from_slice(&from[..over]);
-    held.extend_from_slice(&from[over..]).ok()
-}
 
-// What a failed write leaves.
-fn tear(held: &mut Vec<u8>, torn: Torn, at: u64, from: &[u8]) {
-    match torn {
-        Torn::Lost => {}
-        Torn::Whole => {
-            let _ = write_within(held, at, from);
+    fn sync_all(&mut self) -> Option<()>
+        ensures { self.new.faults ≡ self.old.faults }
+    {
+        if self.levers.write_fails() {
+            return None;
         }
-        Torn::Other => {
-            for place in 0..from.len() as u64 {
-                let _ = write_within(held, at.saturating_add(place), &[OTHER]);
-            }
+        if let Some(crash) = &mut self.crash {
+            crash.sync();
         }
+        Some(())
     }
 }
 
@@ -120,29 +129,29 @@ impl Disk for RowDisk {
     }
 
     fn write_at(&mut self, at: u64, from: &[u8]) -> Result<(), DiskFault> {
-        if self.levers.fails() {
-            tear(&mut self.held, self.torn, at, from);
-            return RowDisk::counted(None, &mut self.faults);
-        }
-        let written = write_within(&mut self.held, at, from);
+        let written = self.write(at as usize, from);
         RowDisk::counted(written, &mut self.faults)
     }
 
     fn sync(&mut self) -> Result<(), DiskFault> {
-        let fails = self.levers.fails();
-        RowDisk::counted((!fails).then_some(()), &mut self.faults)
+        let synced = self.sync_all();
+        RowDisk::counted(synced, &mut self.faults)
     }
 }
 
 impl Drop for RowDisk {
     fn drop(self) {
         let RowDisk {
-            held,
+            mut held,
             shown: _,
             torn: _,
             levers,
+            crash,
             faults: _,
         } = self;
+        if let Some(crash) = &crash {
+            let _ = crash.come(&mut held);
+        }
         levers.note_left(held);
     }
 }

@@ -11,6 +11,9 @@ const NEVER: u64 = u64::MAX;
 pub struct Levers {
     calls: AtomicU64,
     failing: AtomicU64,
+    writes: AtomicU64,
+    first: AtomicU64,
+    last: AtomicU64,
     shows: AtomicU64,
     /// What the disk held when it was dropped.
     left: OnceLock<Vec<u8>>,
@@ -21,6 +24,9 @@ impl Levers {
         let levers = Levers {
             calls: AtomicU64::new(0),
             failing: AtomicU64::new(NEVER),
+            writes: AtomicU64::new(0),
+            first: AtomicU64::new(NEVER),
+            last: AtomicU64::new(0),
             shows: AtomicU64::new(0),
             left: OnceLock::new(),
         };
@@ -35,6 +41,17 @@ impl Levers {
         self.shows.store(shows as u64, Ordering::SeqCst);
     }
 
+    /// Writes and syncs of these numbers fail.
+    pub fn fail_writes(&self, first: u64, last: u64) {
+        self.first.store(first, Ordering::SeqCst);
+        self.last.store(last, Ordering::SeqCst);
+    }
+
+    /// How many writes and syncs there were.
+    pub fn writes(&self) -> u64 {
+        self.writes.load(Ordering::SeqCst)
+    }
+
     /// How many calls there were.
     pub fn calls(&self) -> u64 {
         self.calls.load(Ordering::SeqCst)
@@ -44,6 +61,17 @@ impl Levers {
     pub fn fails(&self) -> bool {
         let call = self.calls.fetch_add(1, Ordering::SeqCst);
         call == self.failing.load(Ordering::SeqCst)
+    }
+
+    /// Counts a write or a sync; whether it is one of those that fail.
+    pub fn write_fails(&self) -> bool {
+        let fails = self.fails();
+        let write = self.writes.fetch_add(1, Ordering::SeqCst);
+        let (first, last) = (
+            self.first.load(Ordering::SeqCst),
+            self.last.load(Ordering::SeqCst),
+        );
+        fails || (first <= write && write <= last)
     }
 
     /// Whether the other bytes are shown.

@@ -2,10 +2,22 @@
 //! file, a disk on which a row lets a call fail, and the count of what failed.
 #![tactic(auto)]
 
+mod blocks;
+mod caller;
+mod crash;
 mod disk;
+mod due;
+mod entries;
 mod exchange;
+mod lent;
 mod levers;
+mod lines;
+mod link;
+mod listener;
 mod noon;
+mod office;
+mod opener;
+mod part;
 mod same;
 mod sections;
 mod shelf;
@@ -15,10 +27,18 @@ mod wanted;
 mod words;
 mod written;
 
+pub use caller::exchange_of;
+pub use crash::copy_of;
 pub use disk::RowDisk;
+pub use due::{Due, left_by};
 pub use exchange::Exchange;
+pub use lent::{Lent, disk_of, lend, link_of};
 pub use levers::Levers;
+pub use link::{Kept, RowLink};
 pub use noon::NOON;
+pub use office::{Office, bytes_in, bytes_otherwise};
+pub use opener::RowOpener;
+pub use part::Part;
 pub use same::{same_bytes, same_number};
 pub use sections::{Section, is_among, number_said, said, sections_of};
 pub use shelf::shelf_text;
@@ -27,6 +47,6 @@ pub use torn::Torn;
 pub use wanted::{add_completed, add_header, add_report, add_wanted};
 pub use words::{
     IDLE, Line, add_texts, bytes_of, decimal, frame_of, hex_of, joined, lines_of, number_of,
-    numbers_of, shape_of, small, small_of, two, words_of,
+    numbers_of, shape_of, small, small_of, spelled, two, words_of,
 };
-pub use written::{number_otherwise, written_otherwise};
+pub use written::{number_otherwise, text_otherwise, written_otherwise};

@@ -2,6 +2,7 @@
 
 use anyhow::{Context, Result, ensure};
 use std::alloc::Global;
+use std::fmt::Debug;
 
 /// A line of a row: its first word and what stands behind it, which may be nothing.
 #[derive(Clone, Copy)]
@@ -51,6 +52,12 @@ pub fn number_of(text: &str) -> Result<u64> {
 pub fn small(number: u64) -> Result<u16> {
     ensure!(number < 65_536, "the number is too great");
     Ok(number as u16)
+}
+
+/// The number, where it is a byte.
+pub fn byte(number: u64) -> Result<u8> {
+    ensure!(number < 256, "a byte is wanted");
+    Ok(number as u8)
 }
 
 /// The number below 65,536 that the text spells.
@@ -123,4 +130,9 @@ pub fn frame_of(alloc: Global, text: &str) -> Result<Vec<u8>> {
         frame.push(if byte == b'.' { IDLE } else { byte })?;
     }
     Ok(frame)
+}
+
+/// The value as its type is spelled.
+pub fn spelled<T: Debug>(alloc: Global, value: &T) -> Result<String> {
+    Ok(format!(in alloc; "{value:?}")?)
 }

@@ -29,3 +29,16 @@ pub fn number_otherwise(
     let number = decimal(alloc, number)?;
     Ok(Some(joined(alloc, &[what, " was ", number.as_str()])?))
 }
+
+/// What a text is otherwise than it must be.
+pub fn text_otherwise(
+    alloc: Global,
+    what: &str,
+    text: &str,
+    wanted: &str,
+) -> Result<Option<String>> {
+    if text == wanted {
+        return Ok(None);
+    }
+    Ok(Some(joined(alloc, &[what, " was ", text])?))
+}

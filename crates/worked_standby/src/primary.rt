@@ -1,75 +1,72 @@
-use crate::compare::{bytes_fault, word_fault};
-use crate::outside::{disk_with, link_with};
-use crate::row::{Call, Primary, Row};
-use crate::standby::serve;
-use crate::tape::Tape;
-use anyhow::{Context, Result};
+use crate::standby::{disk_in, serve};
+use anyhow::Result;
 use dxc_disk::Disk;
+use dxc_outside::MemLink;
 use standby_link::{Mirror, MirrorDisk};
 use std::alloc::Global;
-use std::sync::{Arc, OnceLock};
-use worked_common::RowDisk;
+use worked_common::{
+    Due, Line, Part, RowDisk, RowLink, bytes_in, bytes_otherwise, joined, left_by, link_of,
+    number_of, spelled, text_otherwise, two,
+};
 
-/// What a primary did otherwise than it must.
-pub fn primary_fault(alloc: Global, row: &Row, primary: &Primary) -> Result<Option<String>> {
-    let written = Arc::new(alloc, OnceLock::new())?;
-    let link = row.link(alloc, row.input.clone()?)?;
-    let tape = Tape::new(link, alloc, Arc::try_clone(&written)?);
-    let (disk, levers) = disk_with(alloc, row.file.clone()?, row.fault)?;
-    let mut mirror = MirrorDisk::join(disk, tape);
-    if let Some(why) = mirror_fault(alloc, &mirror, primary.joins.as_str())? {
-        return Ok(Some(why));
-    }
-    for call in &primary.calls {
-        if let Some(why) = call_fault(alloc, &mut mirror, call)? {
+/// What a primary does otherwise than it must.
+pub fn primary_otherwise(alloc: Global, row: Part<'_, '_>) -> Result<Option<String>> {
+    let mut due = Due::new(alloc)?;
+    let link = link_of(alloc, "", row, "the standby", &mut due)?;
+    let mut mirror = MirrorDisk::join(disk_in(alloc, row, &due.journal)?, link);
+    for line in row.lines {
+        if let Some(why) = line_otherwise(alloc, &mut mirror, *line)? {
             return Ok(Some(why));
         }
     }
     let is_joined = mirror.mirror() == Mirror::Joined;
     // What is dropped leaves what it holds.
     drop(mirror);
-    let file = levers.left().context("the disk is held")?;
-    if is_joined && file != primary.copy.as_slice() {
-        return bytes_fault(alloc, "its own file is", file, &primary.copy);
+    let copy = bytes_in(alloc, row.last("copy").unwrap_or(""))?;
+    if is_joined {
+        let file = left_by(alloc, &due.journal)?;
+        if let Some(why) = bytes_otherwise(alloc, "its own file", &file, &copy)? {
+            return Ok(Some(why));
+        }
     }
-    let sent = written.get().context("the link is held")?;
-    sent_fault(alloc, sent, &primary.sent, &primary.copy)
-}
-
-/// What is wrong with what was sent, or with what a standby's file becomes by it.
-pub fn sent_fault(
-    alloc: Global,
-    sent: &[u8],
-    wanted: &[u8],
-    copy_wanted: &[u8],
-) -> Result<Option<String>> {
-    if let Some(why) = bytes_fault(alloc, "it sent", sent, wanted)? {
+    if let Some(why) = due.written_otherwise(alloc)? {
         return Ok(Some(why));
     }
-    let copy = serve(alloc, link_with(alloc, sent)?, Vec::new(alloc), None)?;
-    bytes_fault(alloc, "the copy is", &copy.file, copy_wanted)
+    let copied = copy_by(alloc, bytes_in(alloc, row.last("sent").unwrap_or(""))?)?;
+    bytes_otherwise(alloc, "the copy", &copied, &copy)
 }
 
-fn mirror_fault(
-    alloc: Global,
-    mirror: &MirrorDisk<RowDisk, Tape>,
-    wanted: &str,
-) -> Result<Option<String>> {
-    let stands = format!(in alloc; "{:?}", mirror.mirror())?;
-    word_fault(alloc, "it is", stands.as_str(), wanted)
-}
-
-fn call_fault(
-    alloc: Global,
-    mirror: &mut MirrorDisk<RowDisk, Tape>,
-    call: &Call,
-) -> Result<Option<String>> {
-    let answer = match call.place {
-        Some(place) => mirror.write_at(place, &call.bytes),
-        None => mirror.sync(),
+// What a new standby's file becomes by these bytes.
+fn copy_by(alloc: Global, sent: Vec<u8>) -> Result<Vec<u8>> {
+    let link = MemLink::new(sent, Vec::new(alloc), Vec::new(alloc), Vec::new(alloc));
+    let nothing = Part {
+        lines: &[],
+        number: 0,
     };
-    if answer.is_ok() != call.is_ok {
-        return Ok(Some("a call was answered otherwise".to_string(alloc)?));
+    Ok(serve(alloc, nothing, link)?.file)
+}
+
+// Makes the call that a line tells, and what comes of it otherwise.
+fn line_otherwise(
+    alloc: Global,
+    mirror: &mut MirrorDisk<RowDisk, RowLink>,
+    line: Line<'_>,
+) -> Result<Option<String>> {
+    let (is_ok, rest) = match line.word {
+        "joins" => (true, line.rest),
+        "write" => {
+            let (place, rest) = two(line.rest)?;
+            let (digits, rest) = two(rest)?;
+            let bytes = bytes_in(alloc, digits)?;
+            (mirror.write_at(number_of(place)?, &bytes).is_ok(), rest)
+        }
+        "sync" => (mirror.sync().is_ok(), line.rest),
+        _ => return Ok(None),
+    };
+    let (answer, stands) = two(rest)?;
+    if is_ok != (answer == "ok") {
+        return Ok(Some(joined(alloc, &["a call was answered otherwise"])?));
     }
-    mirror_fault(alloc, mirror, call.mirror.as_str())
+    let mirror = spelled(alloc, &mirror.mirror())?;
+    text_otherwise(alloc, "it", mirror.as_str(), stands)
 }

@@ -1,66 +1,87 @@
-use crate::compare::{bytes_fault, word_fault};
-use crate::outside::disk_with;
-use crate::row::{Mark, Row, Standby};
 use anyhow::{Context, Result};
 use dxc_outside::MemLink;
-use standby_link::{StandbyEnd, serve_standby};
+use standby_link::serve_standby;
 use std::alloc::Global;
+use std::sync::Arc;
+use worked_common::{
+    Levers, Part, RowDisk, Torn, bytes_in, bytes_otherwise, copy_of, decimal, disk_of, exchange_of,
+    joined, left_by, number_of, spelled, text_otherwise, two,
+};
 
 /// How a standby ended, its file, and what it sent.
 #[derive(Drop)]
 pub struct Served {
-    pub end: StandbyEnd,
+    pub end: String,
     pub file: Vec<u8>,
     pub sent: Vec<u8>,
 }
 
-/// Serves a standby over the link, on a disk with these bytes whose call of that number fails.
-pub fn serve(
-    alloc: Global,
-    mut link: MemLink,
-    file: Vec<u8>,
-    fault: Option<u64>,
-) -> Result<Served> {
-    let (mut disk, levers) = disk_with(alloc, file, fault)?;
+/// The disk that the lines tell.
+pub fn disk_in(alloc: Global, row: Part<'_, '_>, levers: &Arc<Levers>) -> Result<RowDisk> {
+    let held = bytes_in(alloc, row.last("old").unwrap_or(""))?;
+    disk_of(alloc, row, held, Torn::Lost, levers)
+}
+
+/// Serves a standby over the link, on that disk.
+pub fn serve(alloc: Global, row: Part<'_, '_>, link: MemLink) -> Result<Served> {
+    let mut link = link;
+    let levers = Levers::new(alloc).ok().context("no memory")?;
+    let mut disk = disk_in(alloc, row, &levers)?;
     let end = serve_standby(&mut link, &mut disk);
     // Where it is dropped the disk leaves what it holds.
     drop(disk);
-    let left = levers.left().context("the disk is held")?;
     Ok(Served {
-        end,
-        file: left.to_vec(alloc)?,
-        sent: link.output().to_vec(alloc)?,
+        end: spelled(alloc, &end)?,
+        file: left_by(alloc, &levers)?,
+        sent: copy_of(alloc, link.output())?,
     })
 }
 
-/// What a standby did otherwise than it must, with its input cut behind some byte or whole.
-pub fn standby_fault(alloc: Global, row: &Row, standby: &Standby) -> Result<Option<String>> {
-    for cut in 0..=row.input.len() {
-        let input = row.input.get(..cut).unwrap_or(&[]).to_vec(alloc)?;
-        let link = row.link(alloc, input)?;
-        let served = serve(alloc, link, row.file.clone()?, row.fault)?;
-        if let Some(why) = mark_fault(alloc, mark_at(&standby.marks, cut), &served)? {
-            return Ok(Some(format!(in alloc; "of {cut} bytes {why}")?));
+/// What a standby does otherwise than it must, with its input cut behind some byte or whole.
+pub fn standby_otherwise(alloc: Global, row: Part<'_, '_>) -> Result<Option<String>> {
+    let exchange = exchange_of(alloc, "", row)?;
+    let input = exchange.input.as_slice();
+    for cut in 0..=input.len() {
+        let link = MemLink::new(
+            copy_of(alloc, input.get(..cut).unwrap_or(input))?,
+            exchange.pieces.clone()?,
+            row.failing(alloc, "link")?,
+            Vec::new(alloc),
+        );
+        let served = serve(alloc, row, link)?;
+        if let Some(why) = served_otherwise(alloc, mark_at(row, cut as u64)?, &served)? {
+            let cut = decimal(alloc, cut as u64)?;
+            let texts = ["of ", cut.as_str(), " bytes ", why.as_str()];
+            return Ok(Some(joined(alloc, &texts)?));
         }
     }
     Ok(None)
 }
 
-// The last mark from which on there are so many bytes.
-fn mark_at(marks: &[Mark], cut: usize) -> Option<&Mark> {
-    marks.iter().rev().find(|mark| mark.from <= cut)
+// What the last line says that is of so many bytes or fewer.
+fn mark_at<'a>(row: Part<'_, 'a>, cut: u64) -> Result<&'a str> {
+    for line in row.lines.iter().rev() {
+        if line.word == "at" {
+            let (from, rest) = two(line.rest)?;
+            if number_of(from)? <= cut {
+                return Ok(rest);
+            }
+        }
+    }
+    None.context("no line tells")
 }
 
-fn mark_fault(alloc: Global, mark: Option<&Mark>, served: &Served) -> Result<Option<String>> {
-    let Some(mark) = mark else {
-        return Ok(Some("no mark tells".to_string(alloc)?));
-    };
-    let end = format!(in alloc; "{:?}", served.end)?;
-    if let Some(why) = word_fault(alloc, "the end is", end.as_str(), mark.end.as_str())? {
+// What isn't as the mark tells: `END FILE SENT`, where - stands for no bytes.
+fn served_otherwise(alloc: Global, mark: &str, served: &Served) -> Result<Option<String>> {
+    let (end, rest) = two(mark)?;
+    let (file, sent) = two(rest)?;
+    if let Some(why) = text_otherwise(alloc, "the end", served.end.as_str(), end)? {
         return Ok(Some(why));
     }
-    if let Some(why) = bytes_fault(alloc, "the file is", &served.file, &mark.file)? {
+    let file = bytes_in(alloc, file.strip_prefix("-").unwrap_or(file))?;
+    if let Some(why) = bytes_otherwise(alloc, "the file", &served.file, &file)? {
         return Ok(Some(why));
     }
-    bytes_fault(alloc, "it sent", &served.sent, &mark.sent)
+    let sent = bytes_in(alloc, sent.strip_prefix("-").unwrap_or(sent))?;
+    bytes_otherwise(alloc, "what it sent", &served.sent, &sent)
 }

@@ -6,15 +6,15 @@ ghost use Rattle.user_admin.specs.Spellable.{NamesUid};
 ghost use Rattle.user_admin.specs.States.{StandsFor};
 ghost use Rattle.user_admin.specs.Verdicts.{IsChanging};
 
-use crate::row::{Doing, Step};
-use anyhow::Result;
+use anyhow::{Context, Result};
 use dxc_disk::Disk;
 use dxc_model::{Cause, Class, SessionUser, Uid};
-use dxc_outside::MemGate;
+use dxc_outside::AlwaysGo;
 use std::alloc::Global;
 use tl1_text::Sid;
 use tl1_text::grammar::blocks;
 use user_admin::{UserDone, UserOp, UserState, user_command_of};
+use worked_common::{Line, two};
 
 fn letter_of(class: Class) -> u8 {
     match class {
@@ -35,7 +35,7 @@ fn push_user(text: &mut Vec<u8>, uid: Uid, class: Class) -> Result<()> {
 }
 
 /// All users in order of their names, as NAME:CLASS.
-pub fn list_of<D: Disk>(alloc: Global, state: &UserState<D>) -> Result<Vec<u8>> {
+pub fn all_rows<D: Disk>(alloc: Global, state: &UserState<D>) -> Result<Vec<u8>> {
     let mut text = Vec::new(alloc);
     for i in 0..64 {
         if let Some(user) = state.user(i) {
@@ -45,25 +45,28 @@ pub fn list_of<D: Disk>(alloc: Global, state: &UserState<D>) -> Result<Vec<u8>> 
     Ok(text)
 }
 
+fn text_of(alloc: Global, text: &str) -> Result<Vec<u8>> {
+    Ok(text.as_bytes().to_vec(alloc)?)
+}
+
 fn rows_text<D: Disk>(alloc: Global, state: &UserState<D>, which: &Option<Uid>) -> Result<Vec<u8>> {
+    let rows = match state.rows(which) {
+        Ok(rows) => rows,
+        Err(cause) => return text_of(alloc, cause.text()),
+    };
     let mut text = Vec::new(alloc);
-    match state.rows(which) {
-        Ok(rows) => {
-            for row in rows.as_slice() {
-                push_user(&mut text, row.uid, row.class)?;
-            }
-        }
-        Err(cause) => text.extend_from_slice(cause.text().as_bytes())?,
+    for row in rows.as_slice() {
+        push_user(&mut text, row.uid, row.class)?;
     }
     Ok(text)
 }
 
 fn class_text(alloc: Global, class: Option<Class>) -> Result<Vec<u8>> {
     let mut text = Vec::new(alloc);
-    match class {
-        Some(class) => text.push(letter_of(class))?,
-        None => text.push(b'-')?,
-    }
+    text.push(match class {
+        Some(class) => letter_of(class),
+        None => b'-',
+    })?;
     Ok(text)
 }
 
@@ -93,19 +96,22 @@ fn is_changing(op: &UserOp) -> bool
     }
 }
 
-fn change<D: Disk>(alloc: Global, state: &mut UserState<D>, op: &UserOp) -> Result<Vec<u8>>
+fn change<D: Disk>(state: &mut UserState<D>, op: &UserOp) -> &'static str
     requires changing { IsChanging op.now }
     requires named { NamesUid op.now }
     requires stands { (o : Opening) × (h : List Entry) × StandsFor D.told D.state o state.old h }
     ensures stands { (o : Opening) × (h : List Entry) × StandsFor D.told D.state o state.new h }
 {
-    let mut gate = MemGate::new(Vec::new(alloc));
-    let text = match state.change(op, &mut gate) {
+    let done = state.change(op, &mut AlwaysGo);
+    text_when(&done)
+}
+
+fn text_when(done: &UserDone) -> &'static str {
+    match done {
         UserDone::Done(_) => "COMPLD",
         UserDone::Denied(cause) => cause.text(),
         UserDone::Stopped => "STOPPED",
-    };
-    Ok(text.as_bytes().to_vec(alloc)?)
+    }
 }
 
 fn answer<D: Disk>(
@@ -119,10 +125,10 @@ fn answer<D: Disk>(
 {
     let op = match op_of(sid, unit) {
         Ok(op) => op,
-        Err(cause) => return Ok(cause.text().as_bytes().to_vec(alloc)?),
+        Err(cause) => return text_of(alloc, cause.text()),
     };
     if is_changing(&op) {
-        return change(alloc, state, &op);
+        return text_of(alloc, change(state, &op));
     }
     match &op {
         UserOp::Rows(which) => rows_text(alloc, state, which),
@@ -130,19 +136,23 @@ fn answer<D: Disk>(
     }
 }
 
-/// What comes of a step.
+/// What comes of a line's step.
 pub fn outcome_of<D: Disk>(
     alloc: Global,
     sid: &Sid,
     state: &mut UserState<D>,
-    step: &Step,
+    line: Line,
 ) -> Result<Vec<u8>>
     requires stands { (o : Opening) × (h : List Entry) × StandsFor D.told D.state o state.old h }
     ensures stands { (o : Opening) × (h : List Entry) × StandsFor D.told D.state o state.new h }
 {
-    match &step.doing {
-        Doing::Ask(unit) => answer(alloc, sid, state, unit),
-        Doing::Login(uid, pid) => class_text(alloc, state.login_now(uid, pid)),
-        Doing::List => list_of(alloc, state),
+    match line.word {
+        "ask" => answer(alloc, sid, state, line.rest.as_bytes()),
+        "login" => {
+            let (uid, pid) = two(line.rest)?;
+            class_text(alloc, state.login_now(uid.as_bytes(), pid.as_bytes()))
+        }
+        "list" => all_rows(alloc, state),
+        _ => None.context("the word isn't known"),
     }
 }

@@ -3,31 +3,73 @@
 #![tactic(auto)]
 
 mod ask;
-mod read;
-mod row;
+mod pair;
 mod run;
 
-use crate::read::rows_of;
-use crate::run::run_row;
-use anyhow::{Context, Result};
-use shelf_file::shelf_of;
+use crate::pair::pair_of;
+use crate::run::run_fault;
+use anyhow::{Context, Result, ensure};
+use shelf_file::{Shelf, shelf_of};
+use std::alloc::Global;
 use std::fs;
-use worked_common::{Tally, decimal, joined};
+use worked_common::{Line, Tally, bytes_of, decimal, joined, lines_of, number_of};
+
+fn change_byte(journal: &mut Vec<u8>, rest: &str) -> Result<()> {
+    let (at, byte) = pair_of(rest)?;
+    ensure!(at < journal.len(), "no such byte");
+    journal[at] = (byte % 256) as u8;
+    Ok(())
+}
+
+// What a line in front of an opening makes of the bytes with which each row begins, and of the journal.
+fn take_line(alloc: Global, line: Line, file: &mut Vec<u8>, journal: &mut Vec<u8>) -> Result<()> {
+    match line.word {
+        "file" => *file = bytes_of(alloc, line.rest)?,
+        "row" => *journal = file.clone()?,
+        "front" => journal.truncate(number_of(line.rest)? as usize),
+        "byte" => change_byte(journal, line.rest)?,
+        _ => {}
+    }
+    Ok(())
+}
+
+// Runs the openings of all rows. The lines behind an opening are read with it.
+fn run_rows(alloc: Global, shelf: &Shelf, lines: &[Line], tally: &mut Tally) -> Result<()> {
+    let mut name = "";
+    let (mut file, mut journal) = (Vec::new(alloc), Vec::new(alloc));
+    for at in 0..lines.len() {
+        let line = lines[at];
+        take_line(alloc, line, &mut file, &mut journal)?;
+        if line.word == "row" {
+            name = line.rest;
+        }
+        if line.word == "open" {
+            let why = run_fault(alloc, shelf, &mut journal, line.rest, &lines[at + 1..])?;
+            tally.count(alloc, name, at as u64, why)?;
+        }
+    }
+    Ok(())
+}
+
+fn summed(alloc: Global, tally: &Tally) -> Result<String> {
+    let count = decimal(alloc, tally.runs)?;
+    let counted = joined(alloc, &[count.as_str(), " openings"])?;
+    tally.told(alloc, counted.as_str())
+}
+
+// What comes of the rows of a text on a shelf that these bytes describe.
+fn told_of(alloc: Global, described: &[u8], text: &str) -> Result<String> {
+    let shelf = shelf_of(alloc, described).ok().context("no shelf file")?;
+    let mut tally = Tally::new(alloc);
+    let lines = lines_of(alloc, text)?;
+    run_rows(alloc, &shelf, &lines, &mut tally)?;
+    summed(alloc, &tally)
+}
 
 fn main(rt: HostRuntime) -> Result<()> {
-    let alloc = rt.alloc();
     let described = fs::read(&rt, "users.toml")?;
-    let shelf = shelf_of(alloc, &described).ok().context("no shelf file")?;
     let text = fs::read_to_string(&rt, "rows.txt")?;
-    let rows = rows_of(alloc, text.as_str())?;
-    let mut tally = Tally::new(alloc);
-    for row in &rows {
-        let why = run_row(alloc, &shelf, row)?;
-        tally.count(alloc, row.name.as_str(), 0, why)?;
-    }
-    let count = decimal(alloc, tally.runs)?;
-    let counted = joined(alloc, &[count.as_str(), " rows"])?;
-    let told = tally.told(alloc, counted.as_str())?;
+    let told = told_of(rt.alloc(), &described, text.as_str())?;
     print!(rt; "{told}")?;
     Ok(())
 }

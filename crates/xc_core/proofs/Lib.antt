@@ -26,6 +26,7 @@ pub mod Settling
 pub mod Staged
 pub mod Began
 pub mod Opened
+pub mod Unread
 pub mod Adoption
 pub mod Succeeding
 pub mod Asked

@@ -1,6 +1,6 @@
 -- A start of the controller: the disk's journal, its replay, and the joins of all legs.
 use Rattle.std.proofs.Common.{◌≡◌, ◌≢◌, ◌⊎◌, inl, inr, ⊎_elim, ℕ, ◌-◌, ◌<◌, ◌≤◌, ◌^◌, append-nil, Bool, true, length-append, false, List, [], ◌++◌, length, None, Some, Result, Ok, Err, refl, sym, ◌∙◌, ap, subst, arith}
-use Rattle.std.specs.Prelude.{replicate, slice_index}
+use Rattle.std.specs.Prelude.{IfSome, replicate, slice_index}
 use Rattle.std.proofs.lemmas.List.{length-replicate, length-take}
 use Rattle.std.proofs.lemmas.Bool.Decides.{leb_tells}
 use Rattle.dxc_num.specs.Dimensions.{Dimensions, IsInLimits, ports}
@@ -28,7 +28,7 @@ use Rattle.journal_core.proofs.StandSteps.{head_once, stands_once}
 use Rattle.paull_matrix.specs.Colourings.{Colouring, IsProperColouring, no_legs}
 use Rattle.roll_plan.specs.declared.op.LegOp.{LegOp}
 use Rattle.roll_plan.specs.declared.work.Work.{Work}
-use Rattle.dbchg_reports.specs.Recent.{recent_of}
+use Rattle.dbchg_reports.specs.Recent.{Recent, recent_of}
 use Rattle.roll_plan.specs.Works.{switches_in}
 use Rattle.roll_engine.specs.Rollings.{RollingAt}
 use Rattle.roll_engine.specs.Stages.{IsAtRestOn}
@@ -49,16 +49,17 @@ use Rattle.xc_core.specs.declared.provisioner.Provisioner.{Provisioner}
 use Rattle.xc_core.specs.declared.state.Home.TheVariants.{In}
 use Rattle.xc_core.specs.declared.origin.Origin.{Origin}
 use Rattle.xc_core.specs.declared.state.State.{State}
+use Rattle.xc_core.specs.declared.start.Housed.{Housed}
 use Rattle.xc_core.specs.declared.start.Start.{Start}
 use Rattle.xc_core.specs.Reckonings.{Past, ReckonsTo}
 use Rattle.xc_core.specs.Journals.{IsAtHome}
 use Rattle.xc_core.specs.Provisioners.{Boxed, HasRoom, IsHome, KeepsPast, ground_of}
 use Rattle.xc_core.specs.Restarts.{LastIs}
-use Rattle.xc_core.specs.Starts.{IsStart}
+use Rattle.xc_core.specs.Starts.{IsHoused, IsStart}
 use Rattle.roll_engine.proofs.Joining.{few_switches}
 use Rattle.xc_core.proofs.Pasts.{none_held}
 use Rattle.xc_core.specs.States.{IsHomeAfter, IsReadyOrHalted, Opening, StandsFor, began, opening_at, opening_of, recorded, rules_of}
-use Rattle.xc_core.specs.Openings.{Begins, HasBadRecord, IsFoldOf, IsOpening, LeavesOpened, Opens}
+use Rattle.xc_core.specs.Openings.{Begins, HasBadRecord, IsFoldOf, IsOpening, LeavesOpened, Opens, disk_home}
 use Rattle.xc_core.proofs.Began.{began_astray, began_changes, began_faults, began_holder, began_legal, began_paid, began_turns, began_unstopped}
 use Rattle.xc_core.proofs.Journalling.{looked_on, untried}
 use Rattle.xc_core.proofs.Staging.{comes_once}
@@ -363,6 +364,14 @@ module _ {D : Type 0} (told : Type 0) (state : D → DiskState) (shelf : Content
           subst (λ (w : FabricId × Opening). IsOpening told a.reads_as shelf w.0 w.1) (λ i. (own i, sym is i)) o,
           begins m false v origin d as_made table_kept provisioner_kept last_kept stage,
         )
+
+-- the state that was made of what was read
+pub state_is : {D : Type 0} (x : Start D) (h : Housed D) (d : Boxed D) (s : State D) → s ≡ record { table = h.beside.table; reports = h.beside.reports; home = In d; origin = s.origin } → IsHoused x h → s ≡ record { table = x.table; reports = x.reports; home = In d; origin = s.origin }
+state_is x h d s is kept = is ∙ (λ i. record { table = kept.table i; reports = kept.reports i; home = In d; origin = s.origin })
+
+-- what holds of the disk in its box holds of the disk that is home
+pub home_disk : {D : Type 0} (P : D → Type 0) (s : State D) (t : Board) (r : Recent) (d : Boxed D) (o : Origin D) → s ≡ record { table = t; reports = r; home = In d; origin = o } → P d.value.p.journal.0 → IfSome (disk_home s.home) P
+home_disk {D} P s t r d o is here = subst (λ (y : State D). IfSome (disk_home y.home) P) (sym is) here
 
 -- a file, a shelf and a fabric have one opening
 pub openings_once : (told : Type 0) → told → (file : List ℕ) (shelf : Contents) (fabric other : FabricId) (o p : Opening) → IsOpening told file shelf fabric o → IsOpening told file shelf other p → (o.records ≡ p.records) × (o.first ≡ p.first)

@@ -1,5 +1,6 @@
--- What a replay behind a call on the journal takes of the disk's room.
+-- What a replay behind a call on the journal takes of the disk's room, and counts of its faults.
 use Rattle.std.proofs.Common.{◌≤◌, ◌+◌, ℕ, arith}
+use Rattle.dxc_causes.specs.Causes.{HasCause, Rose}
 use Rattle.dxc_disk.specs.Disks.{DiskState, IsSound, Spends}
 use Rattle.dxc_disk.proofs.DiskSteps.{sound_on, spends_more, spends_on}
 use Rattle.journal_core.specs.declared.book.Book.{Book}
@@ -19,3 +20,10 @@ pub replay_sound : (n : ℕ) (a b : DiskState) (book : Book) → IsWhole book �
 replay_sound n a b book whole later called sound =
     let few = few_counted book whole in
     sound_on n book.count a b later (record { margin = sound.margin; enough = omega (arith, sound.enough, few) }) called
+
+later_rose : (a b c : ℕ) → a ≤ b → Rose b c → Rose a c
+later_rose a b c called rose = omega (arith, called, rose)
+
+-- a fault of the second of two calls
+pub fault_on : (a b c : ℕ) (failed : Type 0) → a ≤ b → b ≤ c → (failed → Rose b c) → HasCause a c failed
+fault_on a b c failed called looked rose = record { later = omega (arith, called, looked); cause = λ f. later_rose a b c called (rose f) }

@@ -2,6 +2,7 @@
 use Rattle.std.specs.Prelude.{◌≡◌, ℕ, false, List, length, Option, Some, None, Result, Ok, Err}
 use Rattle.dbchg_reports.specs.Recent.{no_changes}
 use Rattle.dxc_disk.specs.Disks.{DiskState, Looks}
+use Rattle.dxc_num.specs.Dimensions.{Dimensions}
 use Rattle.fabric_words.specs.Seats.{MoverAt}
 use Rattle.journal_core.specs.declared.book.Book.{Book}
 use Rattle.journal_core.specs.Headers.{IsNew}
@@ -9,7 +10,12 @@ use Rattle.journal_core.specs.Books.{IsKept, IsWhole, listed}
 use Rattle.journal_core.specs.Opens.{OpensNew, OpensOld, made_head}
 use Rattle.shelf_file.specs.Contents.{Contents}
 use Rattle.xc_recovery.specs.Replays.{ComesTo}
+use Rattle.xc_recovery.specs.declared.fault.ReplayFault.{ReplayFault}
+use Rattle.xc_recovery.specs.declared.fault.ReplayFault.TheVariants as replay
 use Rattle.xc_core.specs.declared.fault.OpenFault.{OpenFault}
+use Rattle.xc_core.specs.declared.fault.OpenFault.TheVariants as open_fault
+use Rattle.xc_core.specs.declared.start.Blank.{Blank}
+use Rattle.xc_core.specs.declared.start.Housed.{Housed}
 use Rattle.xc_core.specs.declared.start.Start.{Start}
 use Rattle.xc_core.specs.Openings.{disk_of_fault}
 use Rattle.xc_core.specs.Provisioners.{HasRoom}
@@ -18,6 +24,18 @@ use Rattle.xc_core.specs.Provisioners.{HasRoom}
 abbrev pub disk_started : {D : Type 0} → Result (Start D) (OpenFault D) → Option D
 disk_started (Ok x) = Some x.p.journal.0
 disk_started (Err e) = disk_of_fault e
+
+-- why a journal on this disk couldn't be read
+abbrev pub read_fault : {D : Type 0} → ReplayFault → D → OpenFault D
+read_fault (replay.BadRecord i) d = open_fault.BadRecord i
+read_fault replay.Disk d = open_fault.Disk d
+
+-- memory for a journal of this shape
+pub record IsBlank (d : Dimensions) (x : Blank) : Type 0 where
+  pub table : x.table.shape ≡ d
+  pub matrix : x.matrix.shape ≡ d
+  pub fresh : x.reports ≡ no_changes
+  pub room : HasRoom d x.second
 
 -- As many records were read as the journal counts that was opened, where the disk tells its content these; table and matrix are what they
 -- come to. The Provisioner is otherwise as nothing made it.
@@ -40,3 +58,10 @@ pub record IsStart {D : Type 0} (told : Type 0) (state : D → DiskState) (shelf
   pub read : told → records ≡ listed journal.1 (state journal.0).reads_as
   pub comes : ComesTo journal.1.shape journal.1.head records x.table x.p.matrix x.last.ops.items
   pub room : HasRoom shelf.shape x.p.second
+
+-- the same, with its Provisioner behind a box
+pub record IsHoused {D : Type 0} (x : Start D) (h : Housed D) : Type 0 where
+  pub table : h.beside.table ≡ x.table
+  pub reports : h.beside.reports ≡ x.reports
+  pub last : h.beside.last ≡ x.last
+  pub p : h.driver.value.p ≡ x.p

@@ -13,15 +13,13 @@ ghost use Rattle.xc_core.specs.States.{opening_of};
 
 use crate::fault::OpenFault;
 use crate::opening::Core;
-use crate::origin::Origin;
-use crate::provisioner::{Driver, Provisioner, release};
+use crate::provisioner::{Provisioner, release};
 use crate::recovery::stage_on;
-use crate::start::{Start, read_journal};
-use crate::state::{Home, State};
+use crate::start::{begun, house, read_journal};
+use crate::state::State;
 use dxc_disk::Disk;
 use fabric_words::{Fabric, MoverSeat};
 use paull_matrix::Matrix;
-use roll_engine::Rolling;
 use roll_plan::Work;
 use shelf_file::Shelf;
 use std::alloc::Global;
@@ -104,33 +102,19 @@ impl Core {
         ensures room { IfSome (disk_adopted result) (λ d. Spends 131_081 (D.state disk) (D.state d)) }
         ensures sound { IsSound 131_081 (D.state disk) → IsDiskOpen result → ⊥ }
     {
-        let read = match read_journal(alloc, shelf, disk, mover) {
+        let mut read = match read_journal(alloc, shelf, disk, mover) {
             Ok(read) => read,
             Err(fault) => return Adopted::Open(fault),
         };
-        let Start {
-            table,
-            reports,
-            p,
-            last,
-        } = read;
-        let mut p = p;
-        let found = switches_behind(&mut p.matrix, &mut p.mover, fabric, &last);
+        let found = switches_behind(&mut read.p.matrix, &mut read.p.mover, fabric, &read.last);
         let Some(switches) = found else {
-            let (disk, mover) = release(p);
+            let (disk, mover) = release(read.p);
             return Adopted::Strange(disk, mover);
         };
-        halt_at(&mut p, switches);
-        let rolling = Rolling::cold();
-        let Ok(driver) = Box::new(alloc, Driver { p, rolling }) else {
+        halt_at(&mut read.p, switches);
+        let Ok(housed) = house(alloc, read) else {
             return Adopted::Open(OpenFault::NoMemory);
         };
-        let origin = Origin::of(&table, &driver.p, &last);
-        Adopted::State(State {
-            table,
-            reports,
-            home: Home::In(driver),
-            origin,
-        })
+        Adopted::State(begun(housed))
     }
 }

@@ -15,10 +15,9 @@ ghost use Rattle.xc_core.specs.Openings.{Begins, Fails, IsDiskErr, IsOpening, Le
 ghost use Rattle.xc_core.specs.States.{opening_of};
 
 use crate::fault::OpenFault;
-use crate::origin::Origin;
-use crate::provisioner::{Driver, Provisioner};
-use crate::start::{Start, read_journal};
-use crate::state::{Home, State};
+use crate::provisioner::Provisioner;
+use crate::start::{begun, house, read_journal};
+use crate::state::State;
 use dxc_disk::Disk;
 use dxc_outside::{Gate, Pass1};
 use fabric_words::{Fabric, MoverSeat};
@@ -62,27 +61,14 @@ impl Core {
             Ok(read) => read,
             Err(fault) => return Err(fault),
         };
-        let Start {
-            table,
-            reports,
-            p,
-            last,
-        } = read;
-        let rolling = Rolling::cold();
-        let Ok(mut driver) = Box::new(alloc, Driver { p, rolling }) else {
+        let Ok(mut housed) = house(alloc, read) else {
             return Err(OpenFault::NoMemory);
         };
-        match join_all(&mut driver.p, fabric, gate) {
+        match join_all(&mut housed.driver.p, fabric, gate) {
             Pass1::Stop => return Err(OpenFault::Stopped),
             Pass1::Go => {}
         }
-        let origin = Origin::of(&table, &driver.p, &last);
-        Ok(State {
-            table,
-            reports,
-            home: Home::In(driver),
-            origin,
-        })
+        Ok(begun(housed))
     }
 }
 

@@ -1,21 +1,26 @@
 //! What a start of the controller reads of its journal.
-ghost use Rattle.std.specs.Prelude.{◌≡◌, ◌≢◌, Bool, List, ℕ, IfErr, IfOk, IfSome};
+ghost use Rattle.std.specs.Prelude.{◌≡◌, ◌≢◌, Bool, List, ℕ, false, None, IfErr, IfOk, IfSome};
 ghost use Rattle.dxc_causes.specs.Causes.{HasCause};
 ghost use Rattle.dxc_disk.specs.Disks.{IsSound, Leaves, LeavesOnly, Spends};
 ghost use Rattle.journal_core.specs.declared.head.Head.{Head};
 ghost use Rattle.journal_core.specs.Turns.{Passing};
 ghost use Rattle.xc_core.specs.Openings.{Fails, IsDiskErr, LeavesOpened};
-ghost use Rattle.xc_core.specs.Starts.{IsStart, disk_started};
+ghost use Rattle.xc_core.specs.Starts.{IsBlank, IsHoused, IsStart, disk_started, read_fault};
+ghost use Rattle.xc_core.specs.declared.state.Home.TheVariants.{In};
 
 use crate::fault::OpenFault;
-use crate::provisioner::Provisioner;
+use crate::origin::Origin;
+use crate::provisioner::{Driver, Provisioner};
 use crate::second::Second;
+use crate::state::{Home, State};
 use dbchg_reports::Reports;
+use dxc_causes::NoMemory;
 use dxc_disk::Disk;
 use dxc_model::Table;
 use fabric_words::MoverSeat;
 use journal_core::Journal;
 use paull_matrix::Matrix;
+use roll_engine::Rolling;
 use roll_plan::Work;
 use shelf_file::Shelf;
 use std::alloc::Global;
@@ -28,6 +33,79 @@ pub(crate) struct Start<D: Disk> {
     pub reports: Reports,
     pub p: Provisioner<D>,
     pub last: Work,
+}
+
+/// Memory for what a journal is read into, with nothing in it. What lies in one struct is dropped at once where a start fails: each drop takes
+/// the proof a second and more.
+#[derive(Drop)]
+pub(crate) struct Blank {
+    pub table: Table,
+    pub matrix: Matrix,
+    pub reports: Reports,
+    pub second: Second,
+}
+
+// NoMemory is the only error.
+fn memory_for(alloc: Global, shelf: &Shelf) -> Result<Blank, NoMemory>
+    ensures { IfOk result (IsBlank shelf.now.shape) }
+{
+    let shape = shelf.shape();
+    let table = Table::new(alloc, shape, shelf.equipped())?;
+    let matrix = Matrix::new(alloc, shape)?;
+    let reports = Reports::new(alloc)?;
+    let second = Second::new(alloc, shape, shelf.equipped())?;
+    Ok(Blank {
+        table,
+        matrix,
+        reports,
+        second,
+    })
+}
+
+/// With the seat of the one who writes the registers.
+#[derive(Drop)]
+pub(crate) struct Seated {
+    pub blank: Blank,
+    pub mover: MoverSeat,
+}
+
+// What a journal was read into, with the journal.
+fn start_of<D: Disk>(seated: Seated, journal: Journal<D>, last: Work) -> Start<D>
+    ensures { result ≡ record { table = seated.blank.table; reports = seated.blank.reports; p = record { matrix = seated.blank.matrix; journal = journal; mover = seated.mover; doubt = None; changes = 0; halted = false; spent = 0; second = seated.blank.second }; last = last } }
+{
+    let Seated { blank, mover } = seated;
+    let Blank {
+        table,
+        matrix,
+        reports,
+        second,
+    } = blank;
+    let p = Provisioner {
+        matrix,
+        journal,
+        mover,
+        doubt: None,
+        changes: 0,
+        halted: false,
+        spent: 0,
+        second,
+    };
+    Start {
+        table,
+        reports,
+        p,
+        last,
+    }
+}
+
+// Why it couldn't be read.
+fn failed<D: Disk + Drop>(fault: ReplayFault, journal: Journal<D>) -> OpenFault<D>
+    ensures { result ≡ read_fault fault journal.0 }
+{
+    match fault {
+        ReplayFault::BadRecord(i) => OpenFault::BadRecord(i),
+        ReplayFault::Disk => OpenFault::Disk(journal.close()),
+    }
 }
 
 /// Opens the journal and reads it. In a new file one of the shelf's equipped modules is made.
@@ -48,42 +126,79 @@ pub(crate) fn read_journal<D: Disk + Drop>(
     ensures sound { IsSound 131_081 (D.state disk) → IsDiskErr result → ⊥ }
     ensures unstopped { IfErr result (λ e. e ≢ OpenFault.Stopped) }
 {
+    let Ok(blank) = memory_for(alloc, shelf) else {
+        return Err(OpenFault::NoMemory);
+    };
+    let mut seated = Seated { blank, mover };
     let shape = shelf.shape();
-    let Ok(mut table) = Table::new(alloc, shape, shelf.equipped()) else {
-        return Err(OpenFault::NoMemory);
-    };
-    let Ok(mut matrix) = Matrix::new(alloc, shape) else {
-        return Err(OpenFault::NoMemory);
-    };
-    let Ok(reports) = Reports::new(alloc) else {
-        return Err(OpenFault::NoMemory);
-    };
-    let Ok(second) = Second::new(alloc, shape, shelf.equipped()) else {
-        return Err(OpenFault::NoMemory);
-    };
     let mut journal = match Journal::open(disk, shape, shelf.equipped()) {
         Ok(journal) => journal,
         Err(fault) => return Err(OpenFault::Journal(fault)),
     };
-    let last = match replay(&mut journal, &mut matrix, &mut table) {
+    let last = match replay(
+        &mut journal,
+        &mut seated.blank.matrix,
+        &mut seated.blank.table,
+    ) {
         Ok(last) => last,
-        Err(ReplayFault::BadRecord(i)) => return Err(OpenFault::BadRecord(i)),
-        Err(ReplayFault::Disk) => return Err(OpenFault::Disk(journal.close())),
+        Err(fault) => return Err(failed(fault, journal)),
     };
-    let p = Provisioner {
-        matrix,
-        journal,
-        mover,
-        doubt: None,
-        changes: 0,
-        halted: false,
-        spent: 0,
-        second,
-    };
-    Ok(Start {
+    Ok(start_of(seated, journal, last))
+}
+
+/// What is beside the Provisioner.
+#[derive(Drop)]
+pub(crate) struct Beside {
+    pub table: Table,
+    pub reports: Reports,
+    pub last: Work,
+}
+
+/// What was read, with its Provisioner in the place that it has from here on.
+#[derive(Drop)]
+pub(crate) struct Housed<D: Disk> {
+    pub beside: Beside,
+    pub driver: Box<Driver<D>>,
+}
+
+/// NoMemory is the only error.
+pub(crate) fn house<D: Disk + Drop>(alloc: Global, read: Start<D>) -> Result<Housed<D>, NoMemory>
+    ensures { IfOk result (IsHoused read) }
+{
+    let Start {
         table,
         reports,
         p,
         last,
-    })
+    } = read;
+    let beside = Beside {
+        table,
+        reports,
+        last,
+    };
+    let rolling = Rolling::cold();
+    let driver = Box::new(alloc, Driver { p, rolling })?;
+    Ok(Housed { beside, driver })
+}
+
+/// The state that begins with it, which keeps it as its origin.
+pub(crate) fn begun<D: Disk>(housed: Housed<D>) -> State<D>
+    ensures state { result ≡ record { table = housed.beside.table; reports = housed.beside.reports; home = In housed.driver; origin = result.origin } }
+    ensures table { result.origin.table.value ≡ housed.beside.table }
+    ensures provisioner { result.origin.provisioner.value ≡ housed.driver.value.p }
+    ensures last { result.origin.last.value ≡ housed.beside.last }
+{
+    let Housed { beside, driver } = housed;
+    let Beside {
+        table,
+        reports,
+        last,
+    } = beside;
+    let origin = Origin::of(&table, &driver.p, &last);
+    State {
+        table,
+        reports,
+        home: Home::In(driver),
+        origin,
+    }
 }

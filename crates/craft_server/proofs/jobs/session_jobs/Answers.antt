@@ -1,23 +1,13 @@
-use Rattle.std.proofs.Common.{◌≡◌, ◌∙◌, ap, Err, sym}
+use Rattle.std.proofs.Common.{arith}
 use Rattle.std.proofs.lemmas.Result.{err_from_is_err_and}
-use Rattle.craft_words.specs.declared.status.Status.{Status}
-use Rattle.craft_server.proofs.Faulting.{by_behind, err_same}
+use Rattle.craft_jobs.proofs.Faulting.{behind, is_made, no_memory}
 use Rattle.craft_server.proofs.jobs.session_jobs.Goals as goal
 
-pub returns-in_err-job-clause-cause : goal.returns-in_err-job-clause-cause
-returns-in_err-job-clause-cause g c = let p = err_from_is_err_and c.from_residual.result c.from_residual.ensures.1 in rw (p.1, p.2) (by_behind _ _ _ c.loop-place.invariant.later c.session_job.ensures.cause (λ is. c.in_err-job.was ∙ ap (λ (s : Status). Err s) (err_same _ _ is)))
+pub returns-in_err-job-clause-made : goal.returns-in_err-job-clause-made
+returns-in_err-job-clause-made g c = let p = err_from_is_err_and c.from_residual.result c.from_residual.ensures.1 in rw (p.1, p.2) (behind _ _ _ _ _ c.loop-place.invariant.later c.session_job.ensures c.in_err-job.was)
 
-pub returns-in_err-job-clause-only : goal.returns-in_err-job-clause-only
-returns-in_err-job-clause-only g c = let p = err_from_is_err_and c.from_residual.result c.from_residual.ensures.1 in rw (p.1, p.2) (λ s is not. c.session_job.ensures.only s (c.in_err-job.was ∙ ap (λ (t : Status). Err t) (err_same _ s is)) not)
+pub returns-then-is_err-clause-made : goal.returns-then-is_err-clause-made
+returns-then-is_err-clause-made g c = no_memory _ _ (let up = c.session_job.ensures.counted in omega (arith, c.loop-place.invariant.later, up))
 
-pub returns-then-is_err-clause-cause : goal.returns-then-is_err-clause-cause
-returns-then-is_err-clause-cause g c = by_behind _ _ _ c.loop-place.invariant.later c.session_job.ensures.cause (λ is. cc)
-
-pub returns-then-is_err-clause-only : goal.returns-then-is_err-clause-only
-returns-then-is_err-clause-only g c = λ s is not. sym (err_same _ s is)
-
-pub returns-clause-cause : goal.returns-clause-cause
-returns-clause-cause g c = record { later = c.loop-place.invariant.later; cause = λ is. cc }
-
-pub returns-clause-only : goal.returns-clause-only
-returns-clause-only g c = λ s is not. cc
+pub returns-clause-made : goal.returns-clause-made
+returns-clause-made g c = is_made _ _ c.loop-place.invariant.later _

@@ -28,7 +28,7 @@ use Rattle.dxc_load.specs.Codes.{coded_in, compld, deny}
 use Rattle.dxc_load.specs.Script.{load_moment}
 use Rattle.dxc_load.specs.Sending.{link_state, unread}
 use Rattle.craft_session.specs.Places.{place_at}
-use Rattle.craft_server.specs.Stocks.{IsLeft}
+use Rattle.craft_element.specs.Stocks.{IsLeft}
 use Rattle.craft_server.proofs.Loading.{first_new, no_read_fault, not_spent}
 use Rattle.craft_server.proofs.Starting.{opened_at}
 use Rattle.craft_server.proofs.load.loaded.Goals as goal

@@ -7,15 +7,19 @@ use Rattle.user_admin.specs.Histories.{Opening as UsersOpening}
 use Rattle.xc_core.specs.States.{Opening}
 use Rattle.craft_words.specs.declared.line.Line.{Line}
 use Rattle.craft_words.specs.declared.status.Status.TheVariants.{BadWords}
-use Rattle.craft_server.specs.Openings.{named, sources}
-use Rattle.craft_server.specs.Runs.{IsCheck, IsRunOf, IsUntouched, RanCheck, RanScript, RanServe, lent, told_by}
+use Rattle.craft_element.specs.Openings.{named, sources}
+use Rattle.craft_element.specs.Listings.{IsCheck}
+use Rattle.craft_server.specs.Runs.{IsRunOf, IsUntouched, RanCheck, RanScript, RanServe, lent, told_by}
 use Rattle.craft_server.specs.Scripts.{RanSession}
 use Rattle.craft_jobs.specs.Standbys.{StandsBy}
 use Rattle.craft_server.specs.Serving.{IsServing, named_in, peer_of, workers_in}
 use Rattle.craft_server.proofs.Loading.{load_words}
-use Rattle.craft_server.proofs.Mirroring.{mirrors_for, serves_for}
-use Rattle.craft_server.proofs.Starting.{opens_for}
-use Rattle.craft_server.proofs.Wording.{end_words, mirrors_words, opens_words, sent_words, serve_words, serving_words, stands_words}
+use Rattle.craft_element.proofs.Mirroring.{mirrors_for}
+use Rattle.craft_element.proofs.Starting.{opens_for}
+use Rattle.craft_element.proofs.Wording.{mirrors_words, opens_words, sent_words}
+use Rattle.craft_jobs.proofs.Wording.{stands_words}
+use Rattle.craft_server.proofs.Mirroring.{serves_for}
+use Rattle.craft_server.proofs.Wording.{end_words, serve_words, serving_words}
 use Rattle.craft_server.proofs.run.dxc_run.Goals as goal
 
 pub returns-in-Script-clause-run : goal.returns-in-Script-clause-run

@@ -3,7 +3,8 @@ use Rattle.std.specs.Arc.{arc_value}
 use Rattle.user_admin.specs.States.{opening_of as users_opening}
 use Rattle.xc_core.specs.States.{opening_of}
 use Rattle.craft_server.proofs.Scripting.{IsEnd, first_place, ran_session}
-use Rattle.craft_server.proofs.Starting.{begun, opened_at, users_began}
+use Rattle.craft_element.proofs.Starting.{begun, users_began}
+use Rattle.craft_server.proofs.Starting.{opened_at}
 use Rattle.craft_server.proofs.script.run_script.Goals as goal
 
 pub open_places-requires-clause-begins : goal.open_places-requires-clause-begins

@@ -3,10 +3,10 @@ use Rattle.std.specs.Prelude.{IsSome}
 use Rattle.shelf_file.specs.Contents.{Contents}
 use Rattle.user_admin.specs.Histories.{Opening as UsersOpening}
 use Rattle.xc_core.specs.States.{Opening}
-use Rattle.craft_server.specs.Openings.{named, sources}
+use Rattle.craft_element.specs.Openings.{named, sources}
 use Rattle.craft_server.specs.Serving.{IsServing, named_in, peer_of, workers_in}
-use Rattle.craft_server.proofs.Mirroring.{mirrors_for}
-use Rattle.craft_server.proofs.Starting.{opens_for}
+use Rattle.craft_element.proofs.Mirroring.{mirrors_for}
+use Rattle.craft_element.proofs.Starting.{opens_for}
 use Rattle.craft_server.proofs.serve.serve_all.Goals as goal
 
 pub returns-in-None-clause-alone : goal.returns-in-None-clause-alone

@@ -1,16 +1,28 @@
-use Rattle.std.proofs.Common.{◌+◌, ℕ, inl, inr, refl, ap, subst}
+use Rattle.std.proofs.Common.{inl, inr, refl}
 use Rattle.xc_core.specs.States.{opening_of}
-use Rattle.craft_server.specs.Openings.{named, sources}
-use Rattle.craft_server.specs.Serving.{IsServing}
+use Rattle.craft_element.specs.Openings.{named, sources}
 use Rattle.craft_server.proofs.Serves.{serving_behind}
-use Rattle.craft_server.proofs.Starting.{begun, opened_at, users_began}
+use Rattle.craft_element.proofs.Starting.{begun, users_began}
+use Rattle.craft_server.proofs.Starting.{opened_at}
 use Rattle.craft_server.proofs.serve.serve_alone.Goals as goal
 
 pub returns-in-Err : goal.returns-in-Err
 returns-in-Err g c = inl (c.in-Err.ensures.opened, refl)
 
-pub open_places-requires-clause-opening : goal.open_places-requires-clause-opening
-open_places-requires-clause-opening g c = let h = c.in-Ok.ensures.opened.0 in opened_at g.O.Journal.Disk.told g.O.Journal.Disk.state h.0.disk h.0.shelf _ c.in-Ok.element.controller h.1
+pub serve_on-requires-clause-seats : goal.serve_on-requires-clause-seats
+serve_on-requires-clause-seats g c κs within = c.in-Ok.ensures.opened.0.1.seats
+
+pub serve_on-requires-clause-each : goal.serve_on-requires-clause-each
+serve_on-requires-clause-each g c κs within = c.in-Ok.ensures.opened.0.1.each
+
+pub serve_on-requires-clause-begins : goal.serve_on-requires-clause-begins
+serve_on-requires-clause-begins g c κs within = c.in-Ok.ensures.opened.0.1.begins
+
+pub serve_on-requires-clause-users_begin : goal.serve_on-requires-clause-users_begin
+serve_on-requires-clause-users_begin g c κs within = c.in-Ok.ensures.opened.1.1.begins
+
+pub serve_on-requires-clause-opening : goal.serve_on-requires-clause-opening
+serve_on-requires-clause-opening g c κs within = let h = c.in-Ok.ensures.opened.0 in opened_at g.O.Journal.Disk.told g.O.Journal.Disk.state h.0.disk h.0.shelf _ c.in-Ok.element.controller h.1
 
 pub returns : goal.returns
 returns g c =
@@ -18,7 +30,7 @@ returns g c =
     let after = sources (g.O.Opener.state c.serve_on.new.opener) (g.O.Opener.journal_at c.serve_on.new.opener) (g.G.Gate.stops c.open.new.gate) in
     let p = g.P.Spawner.state c.args.spawner.now in
     let q = g.P.Spawner.state c.serve_on.new.spawner in
-    let jobs = subst (λ (n : ℕ). IsServing n before.opener.faults after.opener.faults p q c.serve_on.result) (ap (λ (n : ℕ). c.args.site.workers + n) c.in-Ok-open_places.ensures.each) (serving_behind _ _ _ _ p q c.serve_on.result c.in-Ok.ensures.later c.serve_on.ensures) in
+    let jobs = serving_behind _ _ _ _ p q c.serve_on.result c.in-Ok.ensures.later c.serve_on.ensures in
     let told = g.O.Journal.Disk.told in
     let state = g.O.Journal.Disk.state in
     let h = c.in-Ok.ensures.opened.0 in

@@ -1,48 +1,173 @@
-use Rattle.std.proofs.Common.{ℕ, Some, refl, sym, subst}
+use Rattle.std.proofs.Common.{ℕ, Bool, true, false, Option, Some, refl, sym, ap, subst}
 use Rattle.craft_session.specs.declared.ask.Ask.TheVariants.{Allows}
 use Rattle.craft_session.specs.Acting.{Acts}
-use Rattle.craft_session.specs.Asks.{completed}
+use Rattle.craft_session.specs.declared.ask.Acted.{Acted}
+use Rattle.craft_session.specs.declared.ask.Acted.TheVariants.{Completed, Listed, Restarted, Denied}
+use Rattle.craft_session.specs.Asks.{completed, user_after}
 use Rattle.craft_session.proofs.Acted.{acts_nothing, acts_listed, acts_marked, acts_cut, acts_done, acts_refused, acts_restarted, acts_stopped, acts_unrestarted}
+use Rattle.craft_session.proofs.Ends.{apart, changed_goes, some_there, stayed}
 use Rattle.craft_session.proofs.act.act.Goals as goal
 
-pub returns-in-Refused-clause-acts : goal.returns-in-Refused-clause-acts
-returns-in-Refused-clause-acts g c = λ h saw. rw c.in-Refused.is (acts_nothing _ _ h _ _ _ _ _ saw (refl, refl) refl)
+-- whether rows were listed
+abbrev lists : Option Acted → Bool
+lists (Some Listed) = true
+lists _ = false
 
-pub returns-in-LogsIn-clause-acts : goal.returns-in-LogsIn-clause-acts
-returns-in-LogsIn-clause-acts g c = λ h saw. rw c.in-LogsIn.is (acts_nothing _ _ h _ _ _ _ _ saw (refl, refl) refl)
+pub returns-in-Refused : goal.returns-in-Refused
+returns-in-Refused g c = record {
+  same = (refl, refl, refl);
+  acts = λ h saw. rw c.in-Refused.is (acts_nothing _ _ h _ _ _ _ _ saw (refl, refl) refl);
+  listed = λ is. absurd (apart lists (Some Listed) (Some Listed) (Some (Denied c.in-Refused.cause)) refl refl refl (sym is));
+  user = sym (ap (user_after c.args.attending.now.user) c.in-Refused.is);
+  room = refl;
+  acted = λ not. refl;
+  stopped = λ is. absurd (some_there _ _ refl is);
+  later = stayed _ _ refl;
+}
 
-pub returns-in-LogsOut-clause-acts : goal.returns-in-LogsOut-clause-acts
-returns-in-LogsOut-clause-acts g c = λ h saw. rw c.in-LogsOut.is (acts_nothing _ _ h _ _ _ _ _ saw (refl, refl) refl)
+pub returns-in-LogsIn : goal.returns-in-LogsIn
+returns-in-LogsIn g c = record {
+  same = (refl, refl, refl);
+  acts = λ h saw. rw c.in-LogsIn.is (acts_nothing _ _ h _ _ _ _ _ saw (refl, refl) refl);
+  listed = λ is. absurd (apart lists (Some Listed) (Some Listed) (Some Completed) refl refl refl (sym is));
+  user = sym (ap (user_after c.args.attending.now.user) c.in-LogsIn.is);
+  room = refl;
+  acted = λ not. refl;
+  stopped = λ is. absurd (some_there _ _ refl is);
+  later = stayed _ _ refl;
+}
 
-pub returns-in-Completes-clause-acts : goal.returns-in-Completes-clause-acts
-returns-in-Completes-clause-acts g c = λ h saw. rw c.in-Completes.is (acts_nothing _ _ h _ _ _ _ _ saw (refl, refl) refl)
+pub returns-in-LogsOut : goal.returns-in-LogsOut
+returns-in-LogsOut g c = record {
+  same = (refl, refl, refl);
+  acts = λ h saw. rw c.in-LogsOut.is (acts_nothing _ _ h _ _ _ _ _ saw (refl, refl) refl);
+  listed = λ is. absurd (apart lists (Some Listed) (Some Listed) (Some Completed) refl refl refl (sym is));
+  user = sym (ap (user_after c.args.attending.now.user) c.in-LogsOut.is);
+  room = refl;
+  acted = λ not. refl;
+  stopped = λ is. absurd (some_there _ _ refl is);
+  later = stayed _ _ refl;
+}
 
-pub returns-in-Allows-clause-acts : goal.returns-in-Allows-clause-acts
-returns-in-Allows-clause-acts g c = λ h saw.
-    let s = c.args.attending.now in
-    let z = subst (λ (k : ℕ). Acts c.args.seat.now.opening c.args.seat.now.place h s Allows completed (record { user = s.user; watch = Some k }) c.mark-newest.new.self.seen) (sym c.cursor.ensures) (acts_marked c.args.seat.now.opening c.args.seat.now.place h s c.mark-newest.result c.mark-newest.new.self.seen (c.mark-newest.ensures.mark h saw)) in
-    rw c.in-Allows.is z
+pub returns-in-Completes : goal.returns-in-Completes
+returns-in-Completes g c = record {
+  same = (refl, refl, refl);
+  acts = λ h saw. rw c.in-Completes.is (acts_nothing _ _ h _ _ _ _ _ saw (refl, refl) refl);
+  listed = λ is. absurd (apart lists (Some Listed) (Some Listed) (Some Completed) refl refl refl (sym is));
+  user = sym (ap (user_after c.args.attending.now.user) c.in-Completes.is);
+  room = refl;
+  acted = λ not. refl;
+  stopped = λ is. absurd (some_there _ _ refl is);
+  later = stayed _ _ refl;
+}
 
-pub returns-in-Inhibits-clause-acts : goal.returns-in-Inhibits-clause-acts
-returns-in-Inhibits-clause-acts g c = λ h saw. rw c.in-Inhibits.is (acts_nothing _ _ h _ _ _ _ _ saw (refl, refl) refl)
+pub returns-in-Allows : goal.returns-in-Allows
+returns-in-Allows g c = record {
+  same = c.mark-newest.ensures.same;
+  acts = λ h saw.
+      let s = c.args.attending.now in
+      let z = subst (λ (k : ℕ). Acts c.args.seat.now.opening c.args.seat.now.place h s Allows completed (record { user = s.user; watch = Some k }) c.mark-newest.new.self.seen) (sym c.cursor.ensures) (acts_marked c.args.seat.now.opening c.args.seat.now.place h s c.mark-newest.result c.mark-newest.new.self.seen (c.mark-newest.ensures.mark h saw)) in
+      rw c.in-Allows.is z;
+  listed = λ is. absurd (apart lists (Some Listed) (Some Listed) (Some Completed) refl refl refl (sym is));
+  user = sym (ap (user_after c.args.attending.now.user) c.in-Allows.is);
+  room = refl;
+  acted = λ not. refl;
+  stopped = λ is. absurd (some_there _ _ refl is);
+  later = stayed _ _ refl;
+}
 
-pub returns-in-Lists-clause-acts : goal.returns-in-Lists-clause-acts
-returns-in-Lists-clause-acts g c = λ h saw. rw c.in-Lists.is (acts_listed _ _ h _ c.in-Lists.selection _ _ (c.rows.ensures.rows h saw))
+pub returns-in-Inhibits : goal.returns-in-Inhibits
+returns-in-Inhibits g c = record {
+  same = (refl, refl, refl);
+  acts = λ h saw. rw c.in-Inhibits.is (acts_nothing _ _ h _ _ _ _ _ saw (refl, refl) refl);
+  listed = λ is. absurd (apart lists (Some Listed) (Some Listed) (Some Completed) refl refl refl (sym is));
+  user = sym (ap (user_after c.args.attending.now.user) c.in-Inhibits.is);
+  room = refl;
+  acted = λ not. refl;
+  stopped = λ is. absurd (some_there _ _ refl is);
+  later = stayed _ _ refl;
+}
 
-pub returns-in-Done-clause-acts : goal.returns-in-Done-clause-acts
-returns-in-Done-clause-acts g c = λ h saw. rw c.in-Restarts.is (acts_restarted _ _ h _ _ _ (c.restart.ensures.restarted h saw) c.in-Done.is)
+pub returns-in-Lists : goal.returns-in-Lists
+returns-in-Lists g c = record {
+  same = c.rows.ensures.same;
+  acts = λ h saw. rw c.in-Lists.is (acts_listed _ _ h _ c.in-Lists.selection _ _ (c.rows.ensures.rows h saw));
+  listed = λ is. c.rows.ensures.of_shape;
+  user = sym (ap (user_after c.args.attending.now.user) c.in-Lists.is);
+  room = c.rows.ensures.room;
+  acted = λ not. refl;
+  stopped = λ is. absurd (some_there _ _ refl is);
+  later = stayed _ _ refl;
+}
 
-pub returns-in-Denied-clause-acts : goal.returns-in-Denied-clause-acts
-returns-in-Denied-clause-acts g c = λ h saw. rw c.in-Restarts.is (acts_unrestarted _ _ h _ _ _ (c.restart.ensures.restarted h saw) c.in-Denied.cause c.in-Denied.is)
+pub returns-in-Done : goal.returns-in-Done
+returns-in-Done g c = record {
+  same = c.restart.ensures.same;
+  acts = λ h saw. rw c.in-Restarts.is (acts_restarted _ _ h _ _ _ (c.restart.ensures.restarted h saw) c.in-Done.is);
+  listed = λ is. absurd (apart lists (Some Listed) (Some Listed) (Some Restarted) refl refl refl (sym is));
+  user = sym (ap (user_after c.args.attending.now.user) c.in-Restarts.is);
+  room = refl;
+  acted = λ not. c.restart.ensures.done (apart changed_goes _ _ _ c.in-Done.is refl refl);
+  stopped = λ is. absurd (some_there _ _ refl is);
+  later = c.restart.ensures.later;
+}
 
-pub returns-in-Stopped-clause-acts : goal.returns-in-Stopped-clause-acts
-returns-in-Stopped-clause-acts g c = λ h saw. rw c.in-Restarts.is (acts_cut _ _ h _ _ _ (c.restart.ensures.restarted h saw) c.in-Stopped.is)
+pub returns-in-Denied : goal.returns-in-Denied
+returns-in-Denied g c = record {
+  same = c.restart.ensures.same;
+  acts = λ h saw. rw c.in-Restarts.is (acts_unrestarted _ _ h _ _ _ (c.restart.ensures.restarted h saw) c.in-Denied.cause c.in-Denied.is);
+  listed = λ is. absurd (apart lists (Some Listed) (Some Listed) (Some (Denied c.in-Denied.cause)) refl refl refl (sym is));
+  user = sym (ap (user_after c.args.attending.now.user) c.in-Restarts.is);
+  room = refl;
+  acted = λ not. c.restart.ensures.done (apart changed_goes _ _ _ c.in-Denied.is refl refl);
+  stopped = λ is. absurd (some_there _ _ refl is);
+  later = c.restart.ensures.later;
+}
 
-pub returns-in-Done-change-clause-acts : goal.returns-in-Done-change-clause-acts
-returns-in-Done-change-clause-acts g c = λ h saw. rw c.in-Changes.is (acts_done _ _ h _ c.in-Changes.op _ _ (c.change.ensures.changed h saw) c.in-Done-change.is)
+pub returns-in-Stopped : goal.returns-in-Stopped
+returns-in-Stopped g c = record {
+  same = c.restart.ensures.same;
+  acts = λ h saw. rw c.in-Restarts.is (acts_cut _ _ h _ _ _ (c.restart.ensures.restarted h saw) c.in-Stopped.is);
+  listed = λ is. absurd (some_there _ _ refl (sym is));
+  user = sym (ap (user_after c.args.attending.now.user) c.in-Restarts.is);
+  room = refl;
+  acted = λ not. absurd (not refl);
+  stopped = λ is. c.restart.ensures.stopped c.in-Stopped.is;
+  later = c.restart.ensures.later;
+}
 
-pub returns-in-Denied-change-clause-acts : goal.returns-in-Denied-change-clause-acts
-returns-in-Denied-change-clause-acts g c = λ h saw. rw c.in-Changes.is (acts_refused _ _ h _ c.in-Changes.op _ _ (c.change.ensures.changed h saw) c.in-Denied-change.cause c.in-Denied-change.is)
+pub returns-in-Done-change : goal.returns-in-Done-change
+returns-in-Done-change g c = record {
+  same = c.change.ensures.same;
+  acts = λ h saw. rw c.in-Changes.is (acts_done _ _ h _ c.in-Changes.op _ _ (c.change.ensures.changed h saw) c.in-Done-change.is);
+  listed = λ is. absurd (apart lists (Some Listed) (Some Listed) (Some Completed) refl refl refl (sym is));
+  user = sym (ap (user_after c.args.attending.now.user) c.in-Changes.is);
+  room = refl;
+  acted = λ not. c.change.ensures.done (apart changed_goes _ _ _ c.in-Done-change.is refl refl);
+  stopped = λ is. absurd (some_there _ _ refl is);
+  later = c.change.ensures.later;
+}
 
-pub returns-in-Stopped-change-clause-acts : goal.returns-in-Stopped-change-clause-acts
-returns-in-Stopped-change-clause-acts g c = λ h saw. rw c.in-Changes.is (acts_stopped _ _ h _ c.in-Changes.op _ _ (c.change.ensures.changed h saw) c.in-Stopped-change.is)
+pub returns-in-Denied-change : goal.returns-in-Denied-change
+returns-in-Denied-change g c = record {
+  same = c.change.ensures.same;
+  acts = λ h saw. rw c.in-Changes.is (acts_refused _ _ h _ c.in-Changes.op _ _ (c.change.ensures.changed h saw) c.in-Denied-change.cause c.in-Denied-change.is);
+  listed = λ is. absurd (apart lists (Some Listed) (Some Listed) (Some (Denied c.in-Denied-change.cause)) refl refl refl (sym is));
+  user = sym (ap (user_after c.args.attending.now.user) c.in-Changes.is);
+  room = refl;
+  acted = λ not. c.change.ensures.done (apart changed_goes _ _ _ c.in-Denied-change.is refl refl);
+  stopped = λ is. absurd (some_there _ _ refl is);
+  later = c.change.ensures.later;
+}
+
+pub returns-in-Stopped-change : goal.returns-in-Stopped-change
+returns-in-Stopped-change g c = record {
+  same = c.change.ensures.same;
+  acts = λ h saw. rw c.in-Changes.is (acts_stopped _ _ h _ c.in-Changes.op _ _ (c.change.ensures.changed h saw) c.in-Stopped-change.is);
+  listed = λ is. absurd (some_there _ _ refl (sym is));
+  user = sym (ap (user_after c.args.attending.now.user) c.in-Changes.is);
+  room = refl;
+  acted = λ not. absurd (not refl);
+  stopped = λ is. c.change.ensures.stopped c.in-Stopped-change.is;
+  later = c.change.ensures.later;
+}

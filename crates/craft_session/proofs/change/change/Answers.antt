@@ -14,6 +14,7 @@ use Rattle.xc_core.specs.declared.turns.Took.{Took}
 use Rattle.xc_core.specs.Askings.{asked_at_take}
 use Rattle.craft_session.specs.Askings.{no_mending}
 use Rattle.craft_session.proofs.Gating.{denied_asked, mending_denied, mending_more, mending_none, mending_stopped, nothing_more, rolled_asked, stopped_asked}
+use Rattle.craft_session.proofs.Ends.{apart, changed_goes, later_behind, mended_goes, rose_behind, took_goes}
 use Rattle.craft_session.proofs.change.change.Goals as goal
 
 pub take-requires-clause-seen : goal.take-requires-clause-seen
@@ -30,26 +31,61 @@ carry_out-requires-clause-taken g c =
     let t = took_rolling (opening_of g.D.Disk.state c.args.turns.now.first) c.args.pass.now.number (w.0 ++ b.front) g.D.Disk.told g.D.Disk.state c.args.op.now c.take.new.pass.seen c.take.result k c.in-Rolling.driver c.in-Rolling.is in
     (((w.0 ++ b.front) ++ t.0.later) ++ entry c.args.pass.now.number c.args.op.now Taken ∷ [], t.0.saw, subst (λ (n : ℕ). HasTaken g.D.Disk.told g.D.Disk.state (opening_of g.D.Disk.state c.args.turns.now.first) n c.args.op.now (((w.0 ++ b.front) ++ t.0.later) ++ entry c.args.pass.now.number c.args.op.now Taken ∷ []) c.in-Rolling.driver.value.p c.in-Rolling.driver.value.rolling) (sym (c.take.ensures.pass.1 ∙ c.loop.invariant.number)) t.1)
 
-pub returns-in-Rolling-clause-changed : goal.returns-in-Rolling-clause-changed
-returns-in-Rolling-clause-changed g c = λ h saw.
-    let b = c.loop.invariant.mended h saw in
-    let k = subst (λ (n : ℕ). TookIs g.D.Disk.told g.D.Disk.state (opening_of g.D.Disk.state c.args.turns.now.first) n (h ++ b.front) c.args.op.now c.take.new.pass.seen c.take.result) c.loop.invariant.number (c.take.ensures.took (h ++ b.front) b.saw) in
-    let t = took_rolling (opening_of g.D.Disk.state c.args.turns.now.first) c.args.pass.now.number (h ++ b.front) g.D.Disk.told g.D.Disk.state c.args.op.now c.take.new.pass.seen c.take.result k c.in-Rolling.driver c.in-Rolling.is in
-    let d = mended_back (opening_of g.D.Disk.state c.args.turns.now.first) c.args.pass.now.number h c.loop.pass.seen c.take.new.pass.seen b (taken_passed (opening_of g.D.Disk.state c.args.turns.now.first) c.args.pass.now.number (h ++ b.front) c.args.op.now c.take.new.pass.seen t.0) in
-    let r = subst (λ (n : ℕ). ChangedIs (opening_of g.D.Disk.state c.args.turns.now.first) n (h ++ d.front) c.args.op.now c.carry_out.new.pass.seen c.carry_out.result) (c.take.ensures.pass.1 ∙ c.loop.invariant.number) (c.carry_out.ensures.changed (h ++ d.front) d.saw) in
-    changed_on (opening_of g.D.Disk.state c.args.turns.now.first) c.args.pass.now.number h c.args.op.now c.take.new.pass.seen c.carry_out.new.pass.seen d c.carry_out.result r
+pub returns-in-Rolling : goal.returns-in-Rolling
+returns-in-Rolling g c =
+    let k = c.loop.invariant in
+    let t = c.take.ensures in
+    let r = c.carry_out.ensures in
+    let unstopped = t.unstopped (apart took_goes _ _ _ c.in-Rolling.is refl refl) ∙ k.gate in
+    record {
+      pass = (r.pass.0, r.pass.1 ∙ t.pass.1 ∙ k.number);
+      astray = r.astray;
+      done = λ not. r.done not ∙ unstopped;
+      stopped = λ is. rose_behind _ _ _ unstopped (r.stopped is);
+      later = later_behind _ _ _ unstopped r.later;
+      changed = λ h saw.
+          let b = c.loop.invariant.mended h saw in
+          let k = subst (λ (n : ℕ). TookIs g.D.Disk.told g.D.Disk.state (opening_of g.D.Disk.state c.args.turns.now.first) n (h ++ b.front) c.args.op.now c.take.new.pass.seen c.take.result) c.loop.invariant.number (c.take.ensures.took (h ++ b.front) b.saw) in
+          let t = took_rolling (opening_of g.D.Disk.state c.args.turns.now.first) c.args.pass.now.number (h ++ b.front) g.D.Disk.told g.D.Disk.state c.args.op.now c.take.new.pass.seen c.take.result k c.in-Rolling.driver c.in-Rolling.is in
+          let d = mended_back (opening_of g.D.Disk.state c.args.turns.now.first) c.args.pass.now.number h c.loop.pass.seen c.take.new.pass.seen b (taken_passed (opening_of g.D.Disk.state c.args.turns.now.first) c.args.pass.now.number (h ++ b.front) c.args.op.now c.take.new.pass.seen t.0) in
+          let r = subst (λ (n : ℕ). ChangedIs (opening_of g.D.Disk.state c.args.turns.now.first) n (h ++ d.front) c.args.op.now c.carry_out.new.pass.seen c.carry_out.result) (c.take.ensures.pass.1 ∙ c.loop.invariant.number) (c.carry_out.ensures.changed (h ++ d.front) d.saw) in
+          changed_on (opening_of g.D.Disk.state c.args.turns.now.first) c.args.pass.now.number h c.args.op.now c.take.new.pass.seen c.carry_out.new.pass.seen d c.carry_out.result r;
+      asked = rolled_asked g.G.Gate.asked g.G.Gate.asked_on c.args.gate.now c.take.new.gate c.carry_out.new.gate c.loop.invariant.asked.0 (length (rest_of c.in-Rolling.driver.value.rolling)) c.carry_out.result c.loop.invariant.asked.1 (g.G.Gate.asked_on c.args.gate.now c.loop.gate c.take.new.gate c.loop.invariant.asked.0 (Journal ∷ []) c.loop.invariant.asked.2 (subst (λ (x : Took g.row.D.Denot). g.G.Gate.asked c.loop.gate c.take.new.gate (asked_at_take x)) c.in-Rolling.is c.take.ensures.asked)) c.carry_out.ensures.asked;
+    }
 
-pub returns-in-Denied-clause-changed : goal.returns-in-Denied-clause-changed
-returns-in-Denied-clause-changed g c = λ h saw.
-    let b = c.loop.invariant.mended h saw in
-    let k = subst (λ (n : ℕ). TookIs g.D.Disk.told g.D.Disk.state (opening_of g.D.Disk.state c.args.turns.now.first) n (h ++ b.front) c.args.op.now c.take.new.pass.seen c.take.result) c.loop.invariant.number (c.take.ensures.took (h ++ b.front) b.saw) in
-    changed_on (opening_of g.D.Disk.state c.args.turns.now.first) c.args.pass.now.number h c.args.op.now c.loop.pass.seen c.take.new.pass.seen b (Denied c.in-Denied.cause) (took_denied (opening_of g.D.Disk.state c.args.turns.now.first) c.args.pass.now.number (h ++ b.front) g.D.Disk.told g.D.Disk.state c.args.op.now c.take.new.pass.seen c.take.result k c.in-Denied.cause c.in-Denied.is)
+pub returns-in-Denied : goal.returns-in-Denied
+returns-in-Denied g c =
+    let k = c.loop.invariant in
+    let t = c.take.ensures in
+    record {
+      pass = (t.pass.0, t.pass.1 ∙ k.number);
+      astray = t.astray;
+      done = λ not. t.unstopped (apart took_goes _ _ _ c.in-Denied.is refl refl) ∙ k.gate;
+      stopped = λ is. absurd (apart changed_goes (Denied c.in-Denied.cause) (Denied c.in-Denied.cause) Stopped refl refl refl is);
+      later = later_behind _ _ _ k.gate t.later;
+      changed = λ h saw.
+          let b = c.loop.invariant.mended h saw in
+          let k = subst (λ (n : ℕ). TookIs g.D.Disk.told g.D.Disk.state (opening_of g.D.Disk.state c.args.turns.now.first) n (h ++ b.front) c.args.op.now c.take.new.pass.seen c.take.result) c.loop.invariant.number (c.take.ensures.took (h ++ b.front) b.saw) in
+          changed_on (opening_of g.D.Disk.state c.args.turns.now.first) c.args.pass.now.number h c.args.op.now c.loop.pass.seen c.take.new.pass.seen b (Denied c.in-Denied.cause) (took_denied (opening_of g.D.Disk.state c.args.turns.now.first) c.args.pass.now.number (h ++ b.front) g.D.Disk.told g.D.Disk.state c.args.op.now c.take.new.pass.seen c.take.result k c.in-Denied.cause c.in-Denied.is);
+      asked = denied_asked g.G.Gate.asked g.G.Gate.asked_on c.args.gate.now c.loop.gate c.take.new.gate c.loop.invariant.asked.0 c.loop.invariant.asked.1 c.loop.invariant.asked.2 c.in-Denied.cause (subst (λ (x : Took g.row.D.Denot). g.G.Gate.asked c.loop.gate c.take.new.gate (asked_at_take x)) c.in-Denied.is c.take.ensures.asked);
+    }
 
-pub returns-in-Stopped-clause-changed : goal.returns-in-Stopped-clause-changed
-returns-in-Stopped-clause-changed g c = λ h saw.
-    let b = c.loop.invariant.mended h saw in
-    let k = subst (λ (n : ℕ). TookIs g.D.Disk.told g.D.Disk.state (opening_of g.D.Disk.state c.args.turns.now.first) n (h ++ b.front) c.args.op.now c.take.new.pass.seen c.take.result) c.loop.invariant.number (c.take.ensures.took (h ++ b.front) b.saw) in
-    changed_on (opening_of g.D.Disk.state c.args.turns.now.first) c.args.pass.now.number h c.args.op.now c.loop.pass.seen c.take.new.pass.seen b Stopped (took_stopped (opening_of g.D.Disk.state c.args.turns.now.first) c.args.pass.now.number (h ++ b.front) g.D.Disk.told g.D.Disk.state c.args.op.now c.take.new.pass.seen c.take.result k c.in-Stopped.is)
+pub returns-in-Stopped : goal.returns-in-Stopped
+returns-in-Stopped g c =
+    let k = c.loop.invariant in
+    let t = c.take.ensures in
+    record {
+      pass = (t.pass.0, t.pass.1 ∙ k.number);
+      astray = t.astray;
+      done = λ not. absurd (not refl);
+      stopped = λ is. rose_behind _ _ _ k.gate (t.stopped c.in-Stopped.is);
+      later = later_behind _ _ _ k.gate t.later;
+      changed = λ h saw.
+          let b = c.loop.invariant.mended h saw in
+          let k = subst (λ (n : ℕ). TookIs g.D.Disk.told g.D.Disk.state (opening_of g.D.Disk.state c.args.turns.now.first) n (h ++ b.front) c.args.op.now c.take.new.pass.seen c.take.result) c.loop.invariant.number (c.take.ensures.took (h ++ b.front) b.saw) in
+          changed_on (opening_of g.D.Disk.state c.args.turns.now.first) c.args.pass.now.number h c.args.op.now c.loop.pass.seen c.take.new.pass.seen b Stopped (took_stopped (opening_of g.D.Disk.state c.args.turns.now.first) c.args.pass.now.number (h ++ b.front) g.D.Disk.told g.D.Disk.state c.args.op.now c.take.new.pass.seen c.take.result k c.in-Stopped.is);
+      asked = stopped_asked g.G.Gate.asked g.G.Gate.asked_on c.args.gate.now c.loop.gate c.take.new.gate c.loop.invariant.asked.0 c.loop.invariant.asked.1 c.loop.invariant.asked.2 (subst (λ (x : Took g.row.D.Denot). g.G.Gate.asked c.loop.gate c.take.new.gate (asked_at_take x)) c.in-Stopped.is c.take.ensures.asked);
+    }
 
 pub mend-requires-clause-asked : goal.mend-requires-clause-asked
 mend-requires-clause-asked g c = let is = changes (opening_of g.D.Disk.state c.args.turns.now.first).first.fold.table.shape c.args.op.now c.requires.apt in inr (search rules)
@@ -71,7 +107,7 @@ loop-preserved g c = record {
       let b = c.loop.invariant.mended h saw in
       let k = subst (λ (n : ℕ). TookIs g.D.Disk.told g.D.Disk.state (opening_of g.D.Disk.state c.args.turns.now.first) n (h ++ b.front) c.args.op.now c.take.new.pass.seen c.take.result) c.loop.invariant.number (c.take.ensures.took (h ++ b.front) b.saw) in
       mended_back (opening_of g.D.Disk.state c.args.turns.now.first) c.args.pass.now.number h c.loop.pass.seen c.take.new.pass.seen b (turned_back_passed (opening_of g.D.Disk.state c.args.turns.now.first) c.args.pass.now.number (h ++ b.front) c.take.new.pass.seen (took_back (opening_of g.D.Disk.state c.args.turns.now.first) c.args.pass.now.number (h ++ b.front) g.D.Disk.told g.D.Disk.state c.args.op.now c.take.new.pass.seen c.take.result k c.in-Waits.is));
-  gate = c.take.ensures.unstopped (λ is. let no_stop = sym c.in-Waits.is ∙ is in cc) ∙ c.loop.invariant.gate;
+  gate = c.take.ensures.unstopped (apart took_goes _ _ _ c.in-Waits.is refl refl) ∙ c.loop.invariant.gate;
   asked = (c.loop.invariant.asked.0, c.loop.invariant.asked.1, nothing_more g.G.Gate.asked g.G.Gate.asked_on c.args.gate.now c.loop.gate c.take.new.gate c.loop.invariant.asked.0 c.loop.invariant.asked.2 (subst (λ (x : Took g.row.D.Denot). g.G.Gate.asked c.loop.gate c.take.new.gate (asked_at_take x)) c.in-Waits.is c.take.ensures.asked));
 }
 
@@ -89,38 +125,48 @@ loop-preserved-in-Ready g c = record {
         | inl is ↦ mends_ready (opening_of g.D.Disk.state c.args.turns.now.first) c.args.pass.now.number h (opening_of g.D.Disk.state c.args.turns.now.first).first.fold.table.shape c.args.op.now c.requires.apt c.take.new.pass.seen c.mend.new.pass.seen d c.mend.result m is
         | inr is ↦ mends_wait (opening_of g.D.Disk.state c.args.turns.now.first) c.args.pass.now.number h (opening_of g.D.Disk.state c.args.turns.now.first).first.fold.table.shape c.args.op.now c.requires.apt c.take.new.pass.seen c.mend.new.pass.seen d c.mend.result m is
       ];
-  gate = c.mend.ensures.going (λ is. elim c.in-Ready.is [ inl ready ↦ (let no_stop = sym ready ∙ is in cc) | inr waits ↦ (let no_stop = sym waits ∙ is in cc) ]) ∙ c.take.ensures.unstopped (λ is. let no_stop = sym c.in-Halted.is ∙ is in cc) ∙ c.loop.invariant.gate;
+  gate = c.mend.ensures.going (λ is. elim c.in-Ready.is [ inl ready ↦ apart mended_goes _ _ _ ready refl refl is | inr waits ↦ apart mended_goes _ _ _ waits refl refl is ]) ∙ c.take.ensures.unstopped (apart took_goes _ _ _ c.in-Halted.is refl refl) ∙ c.loop.invariant.gate;
   asked = elim c.in-Ready.is [ inl is ↦ mending_more g.G.Gate.asked g.G.Gate.asked_on c.args.gate.now c.take.new.gate c.mend.new.gate c.loop.invariant.asked.0 c.loop.invariant.asked.1 (nothing_more g.G.Gate.asked g.G.Gate.asked_on c.args.gate.now c.loop.gate c.take.new.gate c.loop.invariant.asked.0 c.loop.invariant.asked.2 (subst (λ (x : Took g.row.D.Denot). g.G.Gate.asked c.loop.gate c.take.new.gate (asked_at_take x)) c.in-Halted.is c.take.ensures.asked)) c.mend.result is c.mend.ensures.asked | inr is ↦ mending_none g.G.Gate.asked g.G.Gate.asked_on c.args.gate.now c.take.new.gate c.mend.new.gate c.loop.invariant.asked.0 c.loop.invariant.asked.1 (nothing_more g.G.Gate.asked g.G.Gate.asked_on c.args.gate.now c.loop.gate c.take.new.gate c.loop.invariant.asked.0 c.loop.invariant.asked.2 (subst (λ (x : Took g.row.D.Denot). g.G.Gate.asked c.loop.gate c.take.new.gate (asked_at_take x)) c.in-Halted.is c.take.ensures.asked)) c.mend.result is c.mend.ensures.asked ];
 }
 
-pub returns-in-Denied-mend-clause-changed : goal.returns-in-Denied-mend-clause-changed
-returns-in-Denied-mend-clause-changed g c = λ h saw.
-    let b = c.loop.invariant.mended h saw in
-    let k = subst (λ (n : ℕ). TookIs g.D.Disk.told g.D.Disk.state (opening_of g.D.Disk.state c.args.turns.now.first) n (h ++ b.front) c.args.op.now c.take.new.pass.seen c.take.result) c.loop.invariant.number (c.take.ensures.took (h ++ b.front) b.saw) in
-    let d = mended_back (opening_of g.D.Disk.state c.args.turns.now.first) c.args.pass.now.number h c.loop.pass.seen c.take.new.pass.seen b (turned_back_passed (opening_of g.D.Disk.state c.args.turns.now.first) c.args.pass.now.number (h ++ b.front) c.take.new.pass.seen (took_halted (opening_of g.D.Disk.state c.args.turns.now.first) c.args.pass.now.number (h ++ b.front) g.D.Disk.told g.D.Disk.state c.args.op.now c.take.new.pass.seen c.take.result k c.in-Halted.is)) in
-    let m = subst (λ (n : ℕ). MendedIs (opening_of g.D.Disk.state c.args.turns.now.first) n (h ++ d.front) c.args.op.now c.mend.new.pass.seen c.mend.result) (c.take.ensures.pass.1 ∙ c.loop.invariant.number) (c.mend.ensures.mended (h ++ d.front) d.saw) in
-    changed_on (opening_of g.D.Disk.state c.args.turns.now.first) c.args.pass.now.number h c.args.op.now c.take.new.pass.seen c.mend.new.pass.seen d (Denied c.in-Denied-mend.cause) (mend_denied (opening_of g.D.Disk.state c.args.turns.now.first) c.args.pass.now.number (h ++ d.front) (opening_of g.D.Disk.state c.args.turns.now.first).first.fold.table.shape c.args.op.now c.requires.apt c.mend.new.pass.seen c.in-Denied-mend.cause (subst (λ (z : Mended). MendedIs (opening_of g.D.Disk.state c.args.turns.now.first) c.args.pass.now.number (h ++ d.front) c.args.op.now c.mend.new.pass.seen z) c.in-Denied-mend.is m))
+pub returns-in-Denied-mend : goal.returns-in-Denied-mend
+returns-in-Denied-mend g c =
+    let k = c.loop.invariant in
+    let t = c.take.ensures in
+    let m = c.mend.ensures in
+    let unstopped = t.unstopped (apart took_goes _ _ _ c.in-Halted.is refl refl) ∙ k.gate in
+    record {
+      pass = (m.pass.0, m.pass.1 ∙ t.pass.1 ∙ k.number);
+      astray = m.astray;
+      done = λ not. m.going (apart mended_goes _ _ _ c.in-Denied-mend.is refl refl) ∙ unstopped;
+      stopped = λ is. absurd (apart changed_goes (Denied c.in-Denied-mend.cause) (Denied c.in-Denied-mend.cause) Stopped refl refl refl is);
+      later = later_behind _ _ _ unstopped m.later;
+      changed = λ h saw.
+          let b = c.loop.invariant.mended h saw in
+          let k = subst (λ (n : ℕ). TookIs g.D.Disk.told g.D.Disk.state (opening_of g.D.Disk.state c.args.turns.now.first) n (h ++ b.front) c.args.op.now c.take.new.pass.seen c.take.result) c.loop.invariant.number (c.take.ensures.took (h ++ b.front) b.saw) in
+          let d = mended_back (opening_of g.D.Disk.state c.args.turns.now.first) c.args.pass.now.number h c.loop.pass.seen c.take.new.pass.seen b (turned_back_passed (opening_of g.D.Disk.state c.args.turns.now.first) c.args.pass.now.number (h ++ b.front) c.take.new.pass.seen (took_halted (opening_of g.D.Disk.state c.args.turns.now.first) c.args.pass.now.number (h ++ b.front) g.D.Disk.told g.D.Disk.state c.args.op.now c.take.new.pass.seen c.take.result k c.in-Halted.is)) in
+          let m = subst (λ (n : ℕ). MendedIs (opening_of g.D.Disk.state c.args.turns.now.first) n (h ++ d.front) c.args.op.now c.mend.new.pass.seen c.mend.result) (c.take.ensures.pass.1 ∙ c.loop.invariant.number) (c.mend.ensures.mended (h ++ d.front) d.saw) in
+          changed_on (opening_of g.D.Disk.state c.args.turns.now.first) c.args.pass.now.number h c.args.op.now c.take.new.pass.seen c.mend.new.pass.seen d (Denied c.in-Denied-mend.cause) (mend_denied (opening_of g.D.Disk.state c.args.turns.now.first) c.args.pass.now.number (h ++ d.front) (opening_of g.D.Disk.state c.args.turns.now.first).first.fold.table.shape c.args.op.now c.requires.apt c.mend.new.pass.seen c.in-Denied-mend.cause (subst (λ (z : Mended). MendedIs (opening_of g.D.Disk.state c.args.turns.now.first) c.args.pass.now.number (h ++ d.front) c.args.op.now c.mend.new.pass.seen z) c.in-Denied-mend.is m));
+      asked = mending_denied g.G.Gate.asked g.G.Gate.asked_on c.args.gate.now c.take.new.gate c.mend.new.gate c.loop.invariant.asked.0 c.loop.invariant.asked.1 (nothing_more g.G.Gate.asked g.G.Gate.asked_on c.args.gate.now c.loop.gate c.take.new.gate c.loop.invariant.asked.0 c.loop.invariant.asked.2 (subst (λ (x : Took g.row.D.Denot). g.G.Gate.asked c.loop.gate c.take.new.gate (asked_at_take x)) c.in-Halted.is c.take.ensures.asked)) c.mend.result c.in-Denied-mend.cause c.in-Denied-mend.is c.mend.ensures.asked;
+    }
 
-pub returns-in-Stopped-mend-clause-changed : goal.returns-in-Stopped-mend-clause-changed
-returns-in-Stopped-mend-clause-changed g c = λ h saw.
-    let b = c.loop.invariant.mended h saw in
-    let k = subst (λ (n : ℕ). TookIs g.D.Disk.told g.D.Disk.state (opening_of g.D.Disk.state c.args.turns.now.first) n (h ++ b.front) c.args.op.now c.take.new.pass.seen c.take.result) c.loop.invariant.number (c.take.ensures.took (h ++ b.front) b.saw) in
-    let d = mended_back (opening_of g.D.Disk.state c.args.turns.now.first) c.args.pass.now.number h c.loop.pass.seen c.take.new.pass.seen b (turned_back_passed (opening_of g.D.Disk.state c.args.turns.now.first) c.args.pass.now.number (h ++ b.front) c.take.new.pass.seen (took_halted (opening_of g.D.Disk.state c.args.turns.now.first) c.args.pass.now.number (h ++ b.front) g.D.Disk.told g.D.Disk.state c.args.op.now c.take.new.pass.seen c.take.result k c.in-Halted.is)) in
-    let m = subst (λ (n : ℕ). MendedIs (opening_of g.D.Disk.state c.args.turns.now.first) n (h ++ d.front) c.args.op.now c.mend.new.pass.seen c.mend.result) (c.take.ensures.pass.1 ∙ c.loop.invariant.number) (c.mend.ensures.mended (h ++ d.front) d.saw) in
-    changed_on (opening_of g.D.Disk.state c.args.turns.now.first) c.args.pass.now.number h c.args.op.now c.take.new.pass.seen c.mend.new.pass.seen d Stopped (mend_stopped (opening_of g.D.Disk.state c.args.turns.now.first) c.args.pass.now.number (h ++ d.front) (opening_of g.D.Disk.state c.args.turns.now.first).first.fold.table.shape c.args.op.now c.requires.apt c.mend.new.pass.seen (subst (λ (z : Mended). MendedIs (opening_of g.D.Disk.state c.args.turns.now.first) c.args.pass.now.number (h ++ d.front) c.args.op.now c.mend.new.pass.seen z) c.in-Stopped-mend.is m))
-
-pub returns-in-Rolling-clause-asked : goal.returns-in-Rolling-clause-asked
-returns-in-Rolling-clause-asked g c =
-    rolled_asked g.G.Gate.asked g.G.Gate.asked_on c.args.gate.now c.take.new.gate c.carry_out.new.gate c.loop.invariant.asked.0 (length (rest_of c.in-Rolling.driver.value.rolling)) c.carry_out.result c.loop.invariant.asked.1 (g.G.Gate.asked_on c.args.gate.now c.loop.gate c.take.new.gate c.loop.invariant.asked.0 (Journal ∷ []) c.loop.invariant.asked.2 (subst (λ (x : Took g.row.D.Denot). g.G.Gate.asked c.loop.gate c.take.new.gate (asked_at_take x)) c.in-Rolling.is c.take.ensures.asked)) c.carry_out.ensures.asked
-
-pub returns-in-Denied-clause-asked : goal.returns-in-Denied-clause-asked
-returns-in-Denied-clause-asked g c = denied_asked g.G.Gate.asked g.G.Gate.asked_on c.args.gate.now c.loop.gate c.take.new.gate c.loop.invariant.asked.0 c.loop.invariant.asked.1 c.loop.invariant.asked.2 c.in-Denied.cause (subst (λ (x : Took g.row.D.Denot). g.G.Gate.asked c.loop.gate c.take.new.gate (asked_at_take x)) c.in-Denied.is c.take.ensures.asked)
-
-pub returns-in-Stopped-clause-asked : goal.returns-in-Stopped-clause-asked
-returns-in-Stopped-clause-asked g c = stopped_asked g.G.Gate.asked g.G.Gate.asked_on c.args.gate.now c.loop.gate c.take.new.gate c.loop.invariant.asked.0 c.loop.invariant.asked.1 c.loop.invariant.asked.2 (subst (λ (x : Took g.row.D.Denot). g.G.Gate.asked c.loop.gate c.take.new.gate (asked_at_take x)) c.in-Stopped.is c.take.ensures.asked)
-
-pub returns-in-Denied-mend-clause-asked : goal.returns-in-Denied-mend-clause-asked
-returns-in-Denied-mend-clause-asked g c = mending_denied g.G.Gate.asked g.G.Gate.asked_on c.args.gate.now c.take.new.gate c.mend.new.gate c.loop.invariant.asked.0 c.loop.invariant.asked.1 (nothing_more g.G.Gate.asked g.G.Gate.asked_on c.args.gate.now c.loop.gate c.take.new.gate c.loop.invariant.asked.0 c.loop.invariant.asked.2 (subst (λ (x : Took g.row.D.Denot). g.G.Gate.asked c.loop.gate c.take.new.gate (asked_at_take x)) c.in-Halted.is c.take.ensures.asked)) c.mend.result c.in-Denied-mend.cause c.in-Denied-mend.is c.mend.ensures.asked
-
-pub returns-in-Stopped-mend-clause-asked : goal.returns-in-Stopped-mend-clause-asked
-returns-in-Stopped-mend-clause-asked g c = mending_stopped g.G.Gate.asked g.G.Gate.asked_on c.args.gate.now c.take.new.gate c.mend.new.gate c.loop.invariant.asked.0 c.loop.invariant.asked.1 (nothing_more g.G.Gate.asked g.G.Gate.asked_on c.args.gate.now c.loop.gate c.take.new.gate c.loop.invariant.asked.0 c.loop.invariant.asked.2 (subst (λ (x : Took g.row.D.Denot). g.G.Gate.asked c.loop.gate c.take.new.gate (asked_at_take x)) c.in-Halted.is c.take.ensures.asked)) c.mend.result c.in-Stopped-mend.is c.mend.ensures.asked
+pub returns-in-Stopped-mend : goal.returns-in-Stopped-mend
+returns-in-Stopped-mend g c =
+    let k = c.loop.invariant in
+    let t = c.take.ensures in
+    let m = c.mend.ensures in
+    let unstopped = t.unstopped (apart took_goes _ _ _ c.in-Halted.is refl refl) ∙ k.gate in
+    record {
+      pass = (m.pass.0, m.pass.1 ∙ t.pass.1 ∙ k.number);
+      astray = m.astray;
+      done = λ not. absurd (not refl);
+      stopped = λ is. rose_behind _ _ _ unstopped (m.stopped c.in-Stopped-mend.is);
+      later = later_behind _ _ _ unstopped m.later;
+      changed = λ h saw.
+          let b = c.loop.invariant.mended h saw in
+          let k = subst (λ (n : ℕ). TookIs g.D.Disk.told g.D.Disk.state (opening_of g.D.Disk.state c.args.turns.now.first) n (h ++ b.front) c.args.op.now c.take.new.pass.seen c.take.result) c.loop.invariant.number (c.take.ensures.took (h ++ b.front) b.saw) in
+          let d = mended_back (opening_of g.D.Disk.state c.args.turns.now.first) c.args.pass.now.number h c.loop.pass.seen c.take.new.pass.seen b (turned_back_passed (opening_of g.D.Disk.state c.args.turns.now.first) c.args.pass.now.number (h ++ b.front) c.take.new.pass.seen (took_halted (opening_of g.D.Disk.state c.args.turns.now.first) c.args.pass.now.number (h ++ b.front) g.D.Disk.told g.D.Disk.state c.args.op.now c.take.new.pass.seen c.take.result k c.in-Halted.is)) in
+          let m = subst (λ (n : ℕ). MendedIs (opening_of g.D.Disk.state c.args.turns.now.first) n (h ++ d.front) c.args.op.now c.mend.new.pass.seen c.mend.result) (c.take.ensures.pass.1 ∙ c.loop.invariant.number) (c.mend.ensures.mended (h ++ d.front) d.saw) in
+          changed_on (opening_of g.D.Disk.state c.args.turns.now.first) c.args.pass.now.number h c.args.op.now c.take.new.pass.seen c.mend.new.pass.seen d Stopped (mend_stopped (opening_of g.D.Disk.state c.args.turns.now.first) c.args.pass.now.number (h ++ d.front) (opening_of g.D.Disk.state c.args.turns.now.first).first.fold.table.shape c.args.op.now c.requires.apt c.mend.new.pass.seen (subst (λ (z : Mended). MendedIs (opening_of g.D.Disk.state c.args.turns.now.first) c.args.pass.now.number (h ++ d.front) c.args.op.now c.mend.new.pass.seen z) c.in-Stopped-mend.is m));
+      asked = mending_stopped g.G.Gate.asked g.G.Gate.asked_on c.args.gate.now c.take.new.gate c.mend.new.gate c.loop.invariant.asked.0 c.loop.invariant.asked.1 (nothing_more g.G.Gate.asked g.G.Gate.asked_on c.args.gate.now c.loop.gate c.take.new.gate c.loop.invariant.asked.0 c.loop.invariant.asked.2 (subst (λ (x : Took g.row.D.Denot). g.G.Gate.asked c.loop.gate c.take.new.gate (asked_at_take x)) c.in-Halted.is c.take.ensures.asked)) c.mend.result c.in-Stopped-mend.is c.mend.ensures.asked;
+    }

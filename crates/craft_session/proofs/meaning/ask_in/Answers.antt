@@ -1,12 +1,51 @@
-use Rattle.std.proofs.Common.{◌≡◌, ℕ, List, Err, Result, arith, map, refl, sym, ◌∙◌, ap, ap₂}
+use Rattle.std.proofs.Common.{◌≡◌, ℕ, List, Ok, Err, Result, map, refl, sym, ◌∙◌, ap, ap₂, subst}
 use Rattle.dxc_num.specs.Dimensions.{Dimensions}
+use Rattle.dxc_model.specs.declared.cause.Cause.{Cause}
 use Rattle.tl1_text.specs.Spans.{block_at}
-use Rattle.tl1_command.specs.Meanings.{meaning}
-use Rattle.craft_session.specs.Hearing.{unasked}
+use Rattle.tl1_command.specs.Commands.{asked_by}
+use Rattle.tl1_command.specs.Meanings.{Asked, meaning}
+use Rattle.craft_session.specs.Asks.{IsAptAsk}
+use Rattle.craft_session.specs.Hearing.{AskedIs, IsAsked, unasked}
 use Rattle.craft_session.specs.Meanings.{command_ask, command_wants}
 use Rattle.craft_session.proofs.Asking.{refused_ask, refused_wants}
 use Rattle.craft_session.proofs.Consulted.{asked_nothing}
+use Rattle.craft_session.proofs.Ends.{some_there, stayed}
 use Rattle.craft_session.proofs.meaning.ask_in.Goals as goal
+
+pub served-requires-clause-within : goal.served-requires-clause-within
+served-requires-clause-within g c = (c.shape.result, c.in-Ok.ensures.apt)
+
+pub returns-in-Ok : goal.returns-in-Ok
+returns-in-Ok g c =
+    let s = c.args.shelf.now in
+    let user = c.args.user.now in
+    let bs = map (block_at c.args.unit.now) c.args.found.now.block.items in
+    let r = c.served.ensures in
+    let is : meaning s.shape s.sid user bs ≡ Ok (asked_by c.args.unit.now c.in-Ok.command) = sym (ap₂ (λ (d : Dimensions) (sid : List ℕ). meaning d sid user bs) c.shape.ensures c.sid.ensures) ∙ c.in-Ok.ensures.meaning in
+    record {
+      same = r.same;
+      asked = subst (λ (m : Result Asked Cause). IsAsked c.args.users.now.seat (command_wants s user bs m) (λ x. command_ask s user x bs m) c.served.result c.served.new.users.rows.items c.served.new.users.seat.seen) (sym is) r.asked;
+      apt = subst (λ (d : Dimensions). IsAptAsk d c.served.result) c.shape.ensures (r.apt c.shape.result c.in-Ok.ensures.apt);
+      unstopped = λ not. refl;
+      stopped = λ is_none. absurd (some_there _ _ refl is_none);
+      later = stayed _ _ refl;
+    }
+
+pub returns-in-UnknownCommand : goal.returns-in-UnknownCommand
+returns-in-UnknownCommand g c =
+    let s = c.args.shelf.now in
+    let user = c.args.user.now in
+    let bs = map (block_at c.args.unit.now) c.args.found.now.block.items in
+    let r = c.ask_users.ensures in
+    let is : meaning s.shape s.sid user bs ≡ Err c.in-Err.cause = sym (ap₂ (λ (d : Dimensions) (sid : List ℕ). meaning d sid user bs) c.shape.ensures c.sid.ensures) ∙ c.in-Err.ensures.meaning in
+    record {
+      same = r.same;
+      asked = subst (λ (m : Result Asked Cause). AskedIs c.args.users.now.seat (command_wants s user bs m) (λ x. command_ask s user x bs m) c.ask_users.new.users.rows.items c.ask_users.new.users.seat.seen c.ask_users.result) (sym (is ∙ ap Err c.in-UnknownCommand.is)) r.asked;
+      apt = r.apt s.shape;
+      unstopped = r.unstopped;
+      stopped = r.stopped;
+      later = r.later;
+    }
 
 pub returns-in_default : goal.returns-in_default
 returns-in_default g c =
@@ -20,6 +59,6 @@ returns-in_default g c =
       asked = asked_nothing _ _ _ _ _ (ap (command_wants s user bs) is ∙ refused_wants s user bs c.in-Err.cause not) (sym (ap (command_ask s user unasked bs) is ∙ refused_ask s user unasked bs c.in-Err.cause not)) c.requires.no_rows;
       apt = tt;
       unstopped = λ _. refl;
-      stopped = λ is. cc;
-      later = omega arith;
+      stopped = λ is_none. absurd (some_there _ _ refl is_none);
+      later = stayed _ _ refl;
     }

@@ -1,10 +1,14 @@
-use Rattle.std.proofs.Common.{◌∙◌, sym, ap, subst, inr}
+use Rattle.std.proofs.Common.{◌∙◌, length, refl, sym, ap, subst, inl, inr}
 use Rattle.xc_core.specs.declared.provisioner.Driver.{Driver}
 use Rattle.xc_core.specs.Provisioners.{Ground}
 use Rattle.xc_core.specs.Seeing.{HasRestart}
 use Rattle.xc_core.specs.States.{opening_of}
 use Rattle.xc_core.proofs.Restarting.{restart_rolls}
 use Rattle.craft_session.proofs.Changing.{mended_cut, mended_ready}
+use Rattle.roll_engine.specs.Rollings.{rest_of}
+use Rattle.craft_session.specs.Askings.{AskedToStop, asked_for}
+use Rattle.craft_session.specs.declared.mend.Mended.TheVariants.{Ready, Stopped}
+use Rattle.craft_session.proofs.Ends.{apart, mended_goes}
 use Rattle.craft_session.proofs.mend.resume.Goals as goal
 
 pub roll-requires-clause-own : goal.roll-requires-clause-own
@@ -25,8 +29,27 @@ cut_restart-requires-clause-restart g c =
     let t = subst (λ (x : Driver g.row.D.Denot). HasRestart g.D.Disk.told g.D.Disk.state (opening_of g.D.Disk.state c.args.turns.now.first) c.args.pass.now.number c.args.asked.now w.0 x.p x.rolling) (sym c.deref_mut-held.ensures.value) w.2 in
     (w.0, w.1, restart_rolls g.D.Disk.told g.D.Disk.state (opening_of g.D.Disk.state c.args.turns.now.first) c.args.pass.now.number c.args.asked.now w.0 c.deref_mut-held.result.now.p c.roll.new.p c.deref_mut-held.result.now.rolling c.roll.new.rolling t c.roll.ensures.ground c.roll.ensures.journal c.roll.ensures.doubt c.roll.ensures.resumes)
 
-pub returns-in-Go-clause-mended : goal.returns-in-Go-clause-mended
-returns-in-Go-clause-mended g c = λ h saw. mended_ready (opening_of g.D.Disk.state c.args.turns.now.first) c.args.pass.now.number h c.args.asked.now c.end_restart.new.pass.seen (c.end_restart.ensures.restarted h saw)
+pub end_restart-requires-clause-done : goal.end_restart-requires-clause-done
+end_restart-requires-clause-done g c = c.roll.ensures.done c.in-Go.is
 
-pub returns-in-Stop-clause-mended : goal.returns-in-Stop-clause-mended
-returns-in-Stop-clause-mended g c = λ h saw. mended_cut (opening_of g.D.Disk.state c.args.turns.now.first) c.args.pass.now.number h c.args.asked.now c.cut_restart.new.pass.seen (c.cut_restart.ensures.cut h saw)
+pub returns-in-Go : goal.returns-in-Go
+returns-in-Go g c = record {
+  pass = c.end_restart.ensures.pass;
+  mended = λ h saw. mended_ready (opening_of g.D.Disk.state c.args.turns.now.first) c.args.pass.now.number h c.args.asked.now c.end_restart.new.pass.seen (c.end_restart.ensures.restarted h saw);
+  astray = c.end_restart.ensures.astray;
+  going = λ is. c.roll.ensures.go c.in-Go.is;
+  stopped = λ is. absurd (apart mended_goes Ready Ready Stopped refl refl refl is);
+  later = c.roll.ensures.later;
+  asked = inl (refl, subst (λ (x : Driver g.row.D.Denot). g.G.Gate.asked c.args.gate.now c.roll.new.gate (asked_for (length (rest_of x.rolling)))) c.deref_mut-held.ensures.value c.in-Go.ensures.asked);
+}
+
+pub returns-in-Stop : goal.returns-in-Stop
+returns-in-Stop g c = record {
+  pass = c.cut_restart.ensures.pass;
+  mended = λ h saw. mended_cut (opening_of g.D.Disk.state c.args.turns.now.first) c.args.pass.now.number h c.args.asked.now c.cut_restart.new.pass.seen (c.cut_restart.ensures.cut h saw);
+  astray = c.cut_restart.ensures.astray;
+  going = λ not. absurd (not refl);
+  stopped = λ is. c.roll.ensures.stop c.in-Stop.is;
+  later = c.roll.ensures.later;
+  asked = inr (refl, subst (λ (x : Driver g.row.D.Denot). AskedToStop (g.G.Gate.asked c.args.gate.now c.roll.new.gate) (length (rest_of x.rolling))) c.deref_mut-held.ensures.value c.in-Stop.ensures.asked);
+}

@@ -38,13 +38,38 @@ loop-at-preserved g c =
           (told_more (language (arc_value c.args.desk.now.shelf)) g.K.Link.told g.C.Clock.told (g.K.Link.state c.args.link.now) (g.C.Clock.coming c.args.clock.now) (g.K.Link.state c.loop-at.link) (g.C.Clock.coming c.loop-at.clock) (numbered c.args.before (take c.loop-at.at c.args.desk.now.changes.items)) c.loop-at.invariant.told (g.K.Link.state c.tell_change.new.link) (g.C.Clock.coming c.tell_change.new.clock) Whole ((change (c.args.before + c.loop-at.at + 1) (slice_index_or c.args.desk.now.changes.items c.loop-at.at (EnterModule 0))) ∷ []) (told_one (language (arc_value c.args.desk.now.shelf)) g.K.Link.told g.C.Clock.told (g.K.Link.state c.loop-at.link) (g.C.Clock.coming c.loop-at.clock) (g.K.Link.state c.tell_change.new.link) (g.C.Clock.coming c.tell_change.new.clock) Whole (change (c.args.before + c.loop-at.at + 1) (slice_index_or c.args.desk.now.changes.items c.loop-at.at (EnterModule 0))) one));
     }
 
-pub returns-in-Cut-clause-told : goal.returns-in-Cut-clause-told
-returns-in-Cut-clause-told g c =
-    let raw = subst (λ (w : Contents × List Change). IsReported g.K.Link.told g.C.Clock.told (g.K.Link.state c.loop-at.link) (g.K.Link.state c.tell_change.new.link) (g.C.Clock.coming c.loop-at.clock) (g.C.Clock.coming c.tell_change.new.clock) c.tell_change.result (λ m. (language w.0).report m (change (c.args.before + c.loop-at.at + 1) (slice_index_or w.1 c.loop-at.at (EnterModule 0)))))
-    (λ i. (arc_value (c.loop-at.invariant.shelf i), (c.loop-at.invariant.changes i).items)) (c.tell_change.ensures.told (EnterModule 0)) in
-    let within : c.loop-at.at < length c.args.desk.now.changes.items = let e = ap length c.as_slice-at-end.ensures.value in let t = c.loop-at-test.true in omega (arith, e, t) in
-    let one = subst (λ (s : Sent). IsReported g.K.Link.told g.C.Clock.told (g.K.Link.state c.loop-at.link) (g.K.Link.state c.tell_change.new.link) (g.C.Clock.coming c.loop-at.clock) (g.C.Clock.coming c.tell_change.new.clock) s (λ m. (language (arc_value c.args.desk.now.shelf)).report m (change (c.args.before + c.loop-at.at + 1) (slice_index_or c.args.desk.now.changes.items c.loop-at.at (EnterModule 0))))) c.in-Cut.is raw in
-    let so_far = subst (λ (ns : List Notice). AreTold (language (arc_value c.args.desk.now.shelf)) g.K.Link.told g.C.Clock.told (g.K.Link.state c.args.link.now) (g.K.Link.state c.tell_change.new.link) (g.C.Clock.coming c.args.clock.now) (g.C.Clock.coming c.tell_change.new.clock) Cut ns) (sym (numbered_more c.args.before c.args.desk.now.changes.items c.loop-at.at (EnterModule 0) within))
-    (told_more (language (arc_value c.args.desk.now.shelf)) g.K.Link.told g.C.Clock.told (g.K.Link.state c.args.link.now) (g.C.Clock.coming c.args.clock.now) (g.K.Link.state c.loop-at.link) (g.C.Clock.coming c.loop-at.clock) (numbered c.args.before (take c.loop-at.at c.args.desk.now.changes.items)) c.loop-at.invariant.told (g.K.Link.state c.tell_change.new.link) (g.C.Clock.coming c.tell_change.new.clock) Cut ((change (c.args.before + c.loop-at.at + 1) (slice_index_or c.args.desk.now.changes.items c.loop-at.at (EnterModule 0))) ∷ []) (told_one (language (arc_value c.args.desk.now.shelf)) g.K.Link.told g.C.Clock.told (g.K.Link.state c.loop-at.link) (g.C.Clock.coming c.loop-at.clock) (g.K.Link.state c.tell_change.new.link) (g.C.Clock.coming c.tell_change.new.clock) Cut (change (c.args.before + c.loop-at.at + 1) (slice_index_or c.args.desk.now.changes.items c.loop-at.at (EnterModule 0))) one)) in
-    subst (λ (ns : List Notice). AreTold (language (arc_value c.args.desk.now.shelf)) g.K.Link.told g.C.Clock.told (g.K.Link.state c.args.link.now) (g.K.Link.state c.tell_change.new.link) (g.C.Clock.coming c.args.clock.now) (g.C.Clock.coming c.tell_change.new.clock) Cut ns) (sym (numbered_rest c.args.before c.args.desk.now.changes.items (c.loop-at.at + 1)))
-    (told_missing (language (arc_value c.args.desk.now.shelf)) g.K.Link.told g.C.Clock.told (g.K.Link.state c.args.link.now) (g.C.Clock.coming c.args.clock.now) (g.K.Link.state c.tell_change.new.link) (g.C.Clock.coming c.tell_change.new.clock) (numbered c.args.before (take (c.loop-at.at + 1) c.args.desk.now.changes.items)) (numbered (c.args.before + length (take (c.loop-at.at + 1) c.args.desk.now.changes.items)) (drop (c.loop-at.at + 1) c.args.desk.now.changes.items)) one.moment so_far)
+pub returns-in-Cut : goal.returns-in-Cut
+returns-in-Cut g c =
+    let k = c.loop-at.invariant in
+    let t = c.tell_change.ensures in
+    record {
+      shelf = t.shelf ∙ k.shelf;
+      seat = t.seat ∙ k.seat;
+      users = t.users ∙ k.users;
+      attending = t.attending ∙ k.attending;
+      reader = t.reader ∙ k.reader;
+      told =
+          let raw = subst (λ (w : Contents × List Change). IsReported g.K.Link.told g.C.Clock.told (g.K.Link.state c.loop-at.link) (g.K.Link.state c.tell_change.new.link) (g.C.Clock.coming c.loop-at.clock) (g.C.Clock.coming c.tell_change.new.clock) c.tell_change.result (λ m. (language w.0).report m (change (c.args.before + c.loop-at.at + 1) (slice_index_or w.1 c.loop-at.at (EnterModule 0)))))
+          (λ i. (arc_value (c.loop-at.invariant.shelf i), (c.loop-at.invariant.changes i).items)) (c.tell_change.ensures.told (EnterModule 0)) in
+          let within : c.loop-at.at < length c.args.desk.now.changes.items = let e = ap length c.as_slice-at-end.ensures.value in let t = c.loop-at-test.true in omega (arith, e, t) in
+          let one = subst (λ (s : Sent). IsReported g.K.Link.told g.C.Clock.told (g.K.Link.state c.loop-at.link) (g.K.Link.state c.tell_change.new.link) (g.C.Clock.coming c.loop-at.clock) (g.C.Clock.coming c.tell_change.new.clock) s (λ m. (language (arc_value c.args.desk.now.shelf)).report m (change (c.args.before + c.loop-at.at + 1) (slice_index_or c.args.desk.now.changes.items c.loop-at.at (EnterModule 0))))) c.in-Cut.is raw in
+          let so_far = subst (λ (ns : List Notice). AreTold (language (arc_value c.args.desk.now.shelf)) g.K.Link.told g.C.Clock.told (g.K.Link.state c.args.link.now) (g.K.Link.state c.tell_change.new.link) (g.C.Clock.coming c.args.clock.now) (g.C.Clock.coming c.tell_change.new.clock) Cut ns) (sym (numbered_more c.args.before c.args.desk.now.changes.items c.loop-at.at (EnterModule 0) within))
+          (told_more (language (arc_value c.args.desk.now.shelf)) g.K.Link.told g.C.Clock.told (g.K.Link.state c.args.link.now) (g.C.Clock.coming c.args.clock.now) (g.K.Link.state c.loop-at.link) (g.C.Clock.coming c.loop-at.clock) (numbered c.args.before (take c.loop-at.at c.args.desk.now.changes.items)) c.loop-at.invariant.told (g.K.Link.state c.tell_change.new.link) (g.C.Clock.coming c.tell_change.new.clock) Cut ((change (c.args.before + c.loop-at.at + 1) (slice_index_or c.args.desk.now.changes.items c.loop-at.at (EnterModule 0))) ∷ []) (told_one (language (arc_value c.args.desk.now.shelf)) g.K.Link.told g.C.Clock.told (g.K.Link.state c.loop-at.link) (g.C.Clock.coming c.loop-at.clock) (g.K.Link.state c.tell_change.new.link) (g.C.Clock.coming c.tell_change.new.clock) Cut (change (c.args.before + c.loop-at.at + 1) (slice_index_or c.args.desk.now.changes.items c.loop-at.at (EnterModule 0))) one)) in
+          subst (λ (ns : List Notice). AreTold (language (arc_value c.args.desk.now.shelf)) g.K.Link.told g.C.Clock.told (g.K.Link.state c.args.link.now) (g.K.Link.state c.tell_change.new.link) (g.C.Clock.coming c.args.clock.now) (g.C.Clock.coming c.tell_change.new.clock) Cut ns) (sym (numbered_rest c.args.before c.args.desk.now.changes.items (c.loop-at.at + 1)))
+          (told_missing (language (arc_value c.args.desk.now.shelf)) g.K.Link.told g.C.Clock.told (g.K.Link.state c.args.link.now) (g.C.Clock.coming c.args.clock.now) (g.K.Link.state c.tell_change.new.link) (g.C.Clock.coming c.tell_change.new.clock) (numbered c.args.before (take (c.loop-at.at + 1) c.args.desk.now.changes.items)) (numbered (c.args.before + length (take (c.loop-at.at + 1) c.args.desk.now.changes.items)) (drop (c.loop-at.at + 1) c.args.desk.now.changes.items)) one.moment so_far);
+    }
+
+pub returns-clause-shelf : goal.returns-clause-shelf
+returns-clause-shelf g c = c.loop-at.invariant.shelf
+
+pub returns-clause-seat : goal.returns-clause-seat
+returns-clause-seat g c = c.loop-at.invariant.seat
+
+pub returns-clause-users : goal.returns-clause-users
+returns-clause-users g c = c.loop-at.invariant.users
+
+pub returns-clause-attending : goal.returns-clause-attending
+returns-clause-attending g c = c.loop-at.invariant.attending
+
+pub returns-clause-reader : goal.returns-clause-reader
+returns-clause-reader g c = c.loop-at.invariant.reader

@@ -1,11 +1,38 @@
-use Rattle.std.proofs.Common.{rules, List, ℕ, arith, refl, sym, ap}
+use Rattle.std.proofs.Common.{◌≡◌, ◌≤◌, List, ℕ, length, IfSome, refl, sym, ◌∙◌, ap, subst}
 use Rattle.std.specs.Arc.{arc_value}
-use Rattle.tl1_text.specs.Units.{Input}
+use Rattle.tl1_text.specs.declared.reader.UnitKind.{UnitKind}
+use Rattle.tl1_text.specs.Units.{Input, whole}
+use Rattle.shelf_file.specs.Contents.{Contents}
+use Rattle.craft_session.specs.Asks.{IsAptAsk}
+use Rattle.craft_session.specs.Desks.{ConsultedIs, input_of}
 use Rattle.craft_session.specs.Hearing.{unasked}
 use Rattle.craft_session.specs.Meanings.{asks, tag_of, wants}
 use Rattle.craft_session.proofs.Asking.{input_long}
 use Rattle.craft_session.proofs.Consulted.{asked_nothing}
+use Rattle.craft_session.proofs.Ends.{some_there, stayed}
 use Rattle.craft_session.proofs.session.ask_of.Goals as goal
+
+pub consult-requires-clause-short : goal.consult-requires-clause-short
+consult-requires-clause-short g c = subst (λ (bs : List ℕ). length bs ≤ 2047) (sym c.unit.ensures) (c.requires.short c.in-Whole.is)
+
+pub returns-in-Whole : goal.returns-in-Whole
+returns-in-Whole g c =
+    let desk = c.args.desk.now in
+    let s = arc_value desk.shelf in
+    let r = c.consult.ensures in
+    let whole_is : whole c.unit.result.now ≡ input_of c.args.kind desk.reader = ap whole c.unit.ensures ∙ sym (ap (λ (k : UnitKind). input_of k desk.reader) c.in-Whole.is) in
+    record {
+      shelf = refl;
+      seat = refl;
+      users = r.same;
+      attending = refl;
+      reader = refl;
+      consulted = subst (λ (w : Contents × Input). ConsultedIs w.0 desk.attending.user w.1 desk.users.seat c.consult.new.users.rows.items c.consult.new.users.seat.seen c.consult.result) (λ i. (c.deref.ensures i, whole_is i)) r.consulted;
+      apt = subst (λ (x : Contents). IfSome c.consult.result (λ p. IsAptAsk x.shape p.1)) c.deref.ensures r.apt;
+      unstopped = r.unstopped;
+      stopped = r.stopped;
+      later = r.later;
+    }
 
 pub returns-in-TooLong : goal.returns-in-TooLong
 returns-in-TooLong g c =
@@ -18,9 +45,9 @@ returns-in-TooLong g c =
       users = (refl, refl, refl);
       attending = refl;
       reader = refl;
-      consulted = (sym (ap tag_of long), asked_nothing _ _ _ _ _ (ap (wants s desk.attending.user) long) (sym (ap (asks s desk.attending.user unasked) long)) (search rules));
+      consulted = (sym (ap tag_of long), asked_nothing _ _ _ _ _ (ap (wants s desk.attending.user) long) (sym (ap (asks s desk.attending.user unasked) long)) c.clear.ensures);
       apt = tt;
       unstopped = λ _. refl;
-      stopped = λ is. cc;
-      later = omega arith;
+      stopped = λ is. absurd (some_there _ _ refl is);
+      later = stayed _ _ refl;
     }

@@ -9,6 +9,7 @@ use Rattle.tl1_text.specs.declared.reader.UnitKind.TheVariants.{More}
 use Rattle.tl1_text.specs.Reading.{Reader}
 use Rattle.craft_session.specs.declared.end.Progress.TheVariants.{Cut}
 use Rattle.craft_session.specs.Sessions.{Beginning, Stands}
+use Rattle.craft_session.proofs.Ends.{counted_none, cut_goes, end_no, few_more, later_behind, on_goes, read_no, rose_behind, rose_later, stayed, stop_no, unheld, write_no}
 use Rattle.craft_session.proofs.SessionSteps.{stands_none, stands_piece, stands_quiet, goes_on_is, goes_cut_is, goes_stopped_is, counted_more, served_nothing, served_here}
 use Rattle.craft_session.proofs.Answering.{moved_goes}
 use Rattle.craft_session.proofs.session.serve.Goals as goal
@@ -21,52 +22,105 @@ loop-init g c = record {
   users = (refl, refl, refl);
   stands = λ b at saw users. stands_none (language (arc_value c.args.desk.now.shelf)) g.K.Link.told g.C.Clock.told (g.K.Link.state c.args.link.now) (g.C.Clock.coming c.args.clock.now) b (now c.args.desk.now) c.args.desk.now.reader saw users c.requires.nobody c.requires.nothing_read;
   gate = refl;
-  counted = record { reached = omega arith; no_more = omega arith };
+  counted = counted_none _;
   not_ended = λ lt. absurd (omega (arith, lt));
   room = c.requires.room;
 }
 
-pub returns-in-Cut-clause-end : goal.returns-in-Cut-clause-end
-returns-in-Cut-clause-end g c =
-    let going : (g.K.Link.state c.serve_piece.new.link).ended ≡ false = c.serve_piece.ensures.link.wrote.ended ∙ c.in-Bytes.ensures.ended in
-    search rules
-
-pub returns-in-Stopped-clause-end : goal.returns-in-Stopped-clause-end
-returns-in-Stopped-clause-end g c =
-    let going : (g.K.Link.state c.serve_piece.new.link).ended ≡ false = c.serve_piece.ensures.link.wrote.ended ∙ c.in-Bytes.ensures.ended in
-    search rules
-
-pub returns-in-Cut-clause-session : goal.returns-in-Cut-clause-session
-returns-in-Cut-clause-session g c =
+pub returns-in-Cut : goal.returns-in-Cut
+returns-in-Cut g c =
     let h = c.seen.ensures.history in
     let p = c.seen-2.ensures.history in
     let seat = c.args.desk.now.seat in
     let b : Beginning = record { opening = seat.opening; users = c.args.desk.now.users.seat.opening; place = seat.place; before = h.0; users_before = p.0 } in
-    record { before = h.0; users_before = p.0; saw = h.1; users_saw = p.1; attending = _; session = goes_cut_is _ _ _ _ _ _ _ _ _ _ _ _ _ c.in-Cut.is (moved_goes arc_value g.K.Link.told g.C.Clock.told _ (g.K.Link.state c.serve_piece.new.link) (g.C.Clock.coming c.loop.clock) (g.C.Clock.coming c.serve_piece.new.clock) (now c.loop.desk) (now c.serve_piece.new.desk) false c.loop.desk.reader c.serve_piece.new.desk.reader c.serve_piece.result c.args.desk.now.shelf c.loop.desk.shelf c.args.desk.now.seat c.loop.desk.seat c.args.desk.now.users.seat c.loop.desk.users.seat _ [] c.loop.invariant.shelf c.loop.invariant.seat c.loop.invariant.users c.serve_piece.ensures.goes _ _ b (refl, refl, refl, c.args.desk.now.same_place) (stands_piece _ _ _ _ _ _ _ _ _ _ _ _ _ _ (c.loop.invariant.stands b (refl, refl, refl, c.args.desk.now.same_place) h.1 p.1) c.in-Bytes.ensures (grind (arith, common_steps)))) }
+    let s = c.serve_piece.ensures in
+    let going : (g.K.Link.state c.serve_piece.new.link).ended ≡ false = s.link.wrote.ended ∙ c.in-Bytes.ensures.ended in
+    let breaks = goes_cut_is _ _ _ _ _ _ _ _ _ _ _ _ _ c.in-Cut.is (moved_goes arc_value g.K.Link.told g.C.Clock.told _ (g.K.Link.state c.serve_piece.new.link) (g.C.Clock.coming c.loop.clock) (g.C.Clock.coming c.serve_piece.new.clock) (now c.loop.desk) (now c.serve_piece.new.desk) false c.loop.desk.reader c.serve_piece.new.desk.reader c.serve_piece.result c.args.desk.now.shelf c.loop.desk.shelf c.args.desk.now.seat c.loop.desk.seat c.args.desk.now.users.seat c.loop.desk.users.seat _ [] c.loop.invariant.shelf c.loop.invariant.seat c.loop.invariant.users c.serve_piece.ensures.goes _ _ b (refl, refl, refl, c.args.desk.now.same_place) (stands_piece _ _ _ _ _ _ _ _ _ _ _ _ _ _ (c.loop.invariant.stands b (refl, refl, refl, c.args.desk.now.same_place) h.1 p.1) c.in-Bytes.ensures (grind (arith, common_steps)))) in
+    record {
+      shelf = s.shelf ∙ c.loop.invariant.shelf;
+      seat = (s.seat.0 ∙ c.loop.invariant.seat.0, s.seat.1 ∙ c.loop.invariant.seat.1, s.seat.2 ∙ c.loop.invariant.seat.2);
+      users = (s.users.0 ∙ c.loop.invariant.users.0, s.users.1 ∙ c.loop.invariant.users.1, s.users.2 ∙ c.loop.invariant.users.2);
+      session = record { before = h.0; users_before = p.0; saw = h.1; users_saw = p.1; attending = _; session = breaks };
+      end = ((λ is. write_no _ is refl), (λ ended. unheld _ going ended));
+      all_read = λ t is. write_no _ is refl;
+      read_fault = λ is. write_no _ is refl;
+      write_fault = λ is. breaks.rose;
+      stopped = λ is. write_no _ is refl;
+      unstopped = λ is. s.unstopped (cut_goes _ c.in-Cut.is) ∙ c.loop.invariant.gate;
+      later = later_behind _ _ _ c.loop.invariant.gate s.later;
+      spent = λ is. write_no _ is refl;
+      few = few_more _ _ _ _ _ _ c.loop.invariant.counted c.in-Bytes.ensures.reads s.link.wrote.reads c.loop-test.true;
+    }
 
-pub returns-in-Stopped-clause-session : goal.returns-in-Stopped-clause-session
-returns-in-Stopped-clause-session g c =
+pub returns-in-Stopped : goal.returns-in-Stopped
+returns-in-Stopped g c =
     let h = c.seen.ensures.history in
     let p = c.seen-2.ensures.history in
     let seat = c.args.desk.now.seat in
     let b : Beginning = record { opening = seat.opening; users = c.args.desk.now.users.seat.opening; place = seat.place; before = h.0; users_before = p.0 } in
-    record { before = h.0; users_before = p.0; saw = h.1; users_saw = p.1; attending = _; session = goes_stopped_is _ _ _ _ _ _ _ _ _ _ _ _ _ c.in-Stopped.is (moved_goes arc_value g.K.Link.told g.C.Clock.told _ (g.K.Link.state c.serve_piece.new.link) (g.C.Clock.coming c.loop.clock) (g.C.Clock.coming c.serve_piece.new.clock) (now c.loop.desk) (now c.serve_piece.new.desk) false c.loop.desk.reader c.serve_piece.new.desk.reader c.serve_piece.result c.args.desk.now.shelf c.loop.desk.shelf c.args.desk.now.seat c.loop.desk.seat c.args.desk.now.users.seat c.loop.desk.users.seat _ [] c.loop.invariant.shelf c.loop.invariant.seat c.loop.invariant.users c.serve_piece.ensures.goes _ _ b (refl, refl, refl, c.args.desk.now.same_place) (stands_piece _ _ _ _ _ _ _ _ _ _ _ _ _ _ (c.loop.invariant.stands b (refl, refl, refl, c.args.desk.now.same_place) h.1 p.1) c.in-Bytes.ensures (grind (arith, common_steps)))) }
+    let s = c.serve_piece.ensures in
+    let going : (g.K.Link.state c.serve_piece.new.link).ended ≡ false = s.link.wrote.ended ∙ c.in-Bytes.ensures.ended in
+    record {
+      shelf = s.shelf ∙ c.loop.invariant.shelf;
+      seat = (s.seat.0 ∙ c.loop.invariant.seat.0, s.seat.1 ∙ c.loop.invariant.seat.1, s.seat.2 ∙ c.loop.invariant.seat.2);
+      users = (s.users.0 ∙ c.loop.invariant.users.0, s.users.1 ∙ c.loop.invariant.users.1, s.users.2 ∙ c.loop.invariant.users.2);
+      session = record { before = h.0; users_before = p.0; saw = h.1; users_saw = p.1; attending = _; session = goes_stopped_is _ _ _ _ _ _ _ _ _ _ _ _ _ c.in-Stopped.is (moved_goes arc_value g.K.Link.told g.C.Clock.told _ (g.K.Link.state c.serve_piece.new.link) (g.C.Clock.coming c.loop.clock) (g.C.Clock.coming c.serve_piece.new.clock) (now c.loop.desk) (now c.serve_piece.new.desk) false c.loop.desk.reader c.serve_piece.new.desk.reader c.serve_piece.result c.args.desk.now.shelf c.loop.desk.shelf c.args.desk.now.seat c.loop.desk.seat c.args.desk.now.users.seat c.loop.desk.users.seat _ [] c.loop.invariant.shelf c.loop.invariant.seat c.loop.invariant.users c.serve_piece.ensures.goes _ _ b (refl, refl, refl, c.args.desk.now.same_place) (stands_piece _ _ _ _ _ _ _ _ _ _ _ _ _ _ (c.loop.invariant.stands b (refl, refl, refl, c.args.desk.now.same_place) h.1 p.1) c.in-Bytes.ensures (grind (arith, common_steps)))) };
+      end = ((λ is. stop_no _ is refl), (λ ended. unheld _ going ended));
+      all_read = λ t is. stop_no _ is refl;
+      read_fault = λ is. stop_no _ is refl;
+      write_fault = λ is. stop_no _ is refl;
+      stopped = λ is. rose_behind _ _ _ c.loop.invariant.gate (s.stopped c.in-Stopped.is);
+      unstopped = λ not. absurd (not refl);
+      later = later_behind _ _ _ c.loop.invariant.gate s.later;
+      spent = λ is. stop_no _ is refl;
+      few = few_more _ _ _ _ _ _ c.loop.invariant.counted c.in-Bytes.ensures.reads s.link.wrote.reads c.loop-test.true;
+    }
 
-pub returns-in-End-clause-session : goal.returns-in-End-clause-session
-returns-in-End-clause-session g c =
+pub returns-in-End : goal.returns-in-End
+returns-in-End g c =
     let h = c.seen.ensures.history in
     let p = c.seen-2.ensures.history in
     let seat = c.args.desk.now.seat in
     let b : Beginning = record { opening = seat.opening; users = c.args.desk.now.users.seat.opening; place = seat.place; before = h.0; users_before = p.0 } in
-    record { before = h.0; users_before = p.0; saw = h.1; users_saw = p.1; attending = _; session = served_nothing _ _ _ _ _ _ _ _ _ _ _ _ _ (c.loop.invariant.stands b (refl, refl, refl, c.args.desk.now.same_place) h.1 p.1) c.in-End.ensures refl }
+    let stands = c.loop.invariant.stands b (refl, refl, refl, c.args.desk.now.same_place) h.1 p.1 in
+    record {
+      shelf = c.loop.invariant.shelf;
+      seat = c.loop.invariant.seat;
+      users = c.loop.invariant.users;
+      session = record { before = h.0; users_before = p.0; saw = h.1; users_saw = p.1; attending = _; session = served_nothing _ _ _ _ _ _ _ _ _ _ _ _ _ stands c.in-End.ensures refl };
+      end = ((λ is. c.in-End.ensures.ended), (λ ended. refl));
+      all_read = λ t is. c.in-End.ensures.end t refl;
+      read_fault = λ is. end_no _ is refl;
+      write_fault = λ is. end_no _ is refl;
+      stopped = λ is. end_no _ is refl;
+      unstopped = λ is. c.loop.invariant.gate;
+      later = stayed _ _ c.loop.invariant.gate;
+      spent = λ is. end_no _ is refl;
+      few = few_more _ _ _ _ _ _ c.loop.invariant.counted c.in-End.ensures.reads refl c.loop-test.true;
+    }
 
-pub returns-in-Failed-clause-session : goal.returns-in-Failed-clause-session
-returns-in-Failed-clause-session g c =
+pub returns-in-Failed : goal.returns-in-Failed
+returns-in-Failed g c =
     let h = c.seen.ensures.history in
     let p = c.seen-2.ensures.history in
     let seat = c.args.desk.now.seat in
     let b : Beginning = record { opening = seat.opening; users = c.args.desk.now.users.seat.opening; place = seat.place; before = h.0; users_before = p.0 } in
-    record { before = h.0; users_before = p.0; saw = h.1; users_saw = p.1; attending = _; session = served_nothing _ _ _ _ _ _ _ _ _ _ _ _ _ (c.loop.invariant.stands b (refl, refl, refl, c.args.desk.now.same_place) h.1 p.1) c.in-Failed.ensures refl }
+    let stands = c.loop.invariant.stands b (refl, refl, refl, c.args.desk.now.same_place) h.1 p.1 in
+    record {
+      shelf = c.loop.invariant.shelf;
+      seat = c.loop.invariant.seat;
+      users = c.loop.invariant.users;
+      session = record { before = h.0; users_before = p.0; saw = h.1; users_saw = p.1; attending = _; session = served_nothing _ _ _ _ _ _ _ _ _ _ _ _ _ stands c.in-Failed.ensures refl };
+      end = ((λ is. read_no _ is refl), (λ ended. unheld _ c.in-Failed.ensures.ended ended));
+      all_read = λ t is. read_no _ is refl;
+      read_fault = λ is. rose_later _ _ _ stands.exchanged.read_later (c.in-Failed.ensures.cause.cause refl);
+      write_fault = λ is. read_no _ is refl;
+      stopped = λ is. read_no _ is refl;
+      unstopped = λ is. c.loop.invariant.gate;
+      later = stayed _ _ c.loop.invariant.gate;
+      spent = λ is. read_no _ is refl;
+      few = few_more _ _ _ _ _ _ c.loop.invariant.counted c.in-Failed.ensures.reads refl c.loop-test.true;
+    }
 
 pub returns-clause-session : goal.returns-clause-session
 returns-clause-session g c =
@@ -76,18 +130,6 @@ returns-clause-session g c =
     let b : Beginning = record { opening = seat.opening; users = c.args.desk.now.users.seat.opening; place = seat.place; before = h.0; users_before = p.0 } in
     record { before = h.0; users_before = p.0; saw = h.1; users_saw = p.1; attending = _; session = served_here _ _ _ _ _ _ _ _ _ _ (c.loop.invariant.stands b (refl, refl, refl, c.args.desk.now.same_place) h.1 p.1) }
 
-pub returns-in-Cut-clause-write_fault : goal.returns-in-Cut-clause-write_fault
-returns-in-Cut-clause-write_fault g c = λ is. (returns-in-Cut-clause-session g c).session.rose
-
-pub returns-in-Failed-clause-read_fault : goal.returns-in-Failed-clause-read_fault
-returns-in-Failed-clause-read_fault g c = λ is.
-    let h = c.seen.ensures.history in
-    let p = c.seen-2.ensures.history in
-    let seat = c.args.desk.now.seat in
-    let b : Beginning = record { opening = seat.opening; users = c.args.desk.now.users.seat.opening; place = seat.place; before = h.0; users_before = p.0 } in
-    let s = c.loop.invariant.stands b (refl, refl, refl, c.args.desk.now.same_place) h.1 p.1 in
-    omega (arith, s.exchanged.read_later, c.in-Failed.ensures.cause.cause refl)
-
 pub loop-preserved : goal.loop-preserved
 loop-preserved g c =
     elim c.match-read.branch [
@@ -96,7 +138,7 @@ loop-preserved g c =
         seat = (w.serve_piece.ensures.seat.0 ∙ c.loop.invariant.seat.0, w.serve_piece.ensures.seat.1 ∙ c.loop.invariant.seat.1, w.serve_piece.ensures.seat.2 ∙ c.loop.invariant.seat.2);
         users = (w.serve_piece.ensures.users.0 ∙ c.loop.invariant.users.0, w.serve_piece.ensures.users.1 ∙ c.loop.invariant.users.1, w.serve_piece.ensures.users.2 ∙ c.loop.invariant.users.2);
         stands = λ b at saw users. goes_on_is _ _ _ _ _ _ _ _ _ _ _ _ w.in-On.is (moved_goes arc_value g.K.Link.told g.C.Clock.told _ (g.K.Link.state w.serve_piece.new.link) (g.C.Clock.coming c.loop.clock) (g.C.Clock.coming w.serve_piece.new.clock) (now c.loop.desk) (now w.serve_piece.new.desk) false c.loop.desk.reader w.serve_piece.new.desk.reader w.serve_piece.result c.args.desk.now.shelf c.loop.desk.shelf c.args.desk.now.seat c.loop.desk.seat c.args.desk.now.users.seat c.loop.desk.users.seat _ [] c.loop.invariant.shelf c.loop.invariant.seat c.loop.invariant.users w.serve_piece.ensures.goes _ _ b at (stands_piece _ _ _ _ _ _ _ _ _ _ _ _ _ _ (c.loop.invariant.stands b at saw users) w.in-Bytes.ensures (grind (arith, common_steps))));
-        gate = w.serve_piece.ensures.unstopped (λ is. let bad = sym w.in-On.is ∙ is in cc) ∙ c.loop.invariant.gate;
+        gate = w.serve_piece.ensures.unstopped (on_goes _ w.in-On.is) ∙ c.loop.invariant.gate;
         counted = rw w.serve_piece.ensures.link.wrote.reads (counted_more _ _ _ _ c.loop.invariant.counted w.in-Bytes.ensures.reads);
         not_ended = λ _. w.serve_piece.ensures.link.wrote.ended ∙ w.in-Bytes.ensures.ended;
         room = search rules;
@@ -128,12 +170,13 @@ returns-in-Cut-report g c =
       seat = (c.report.ensures.seat.0 ∙ c.loop.invariant.seat.0, c.report.ensures.seat.1 ∙ c.loop.invariant.seat.1, c.report.ensures.seat.2 ∙ c.loop.invariant.seat.2);
       users = (ap (λ (u : UserDesk g.row.U.Denot). u.seat.opening) c.report.ensures.users ∙ c.loop.invariant.users.0, ap (λ (u : UserDesk g.row.U.Denot). u.seat.place) c.report.ensures.users ∙ c.loop.invariant.users.1, ap (λ (u : UserDesk g.row.U.Denot). u.seat.places) c.report.ensures.users ∙ c.loop.invariant.users.2);
       session = record { before = h.0; users_before = p.0; saw = h.1; users_saw = p.1; attending = _; session = breaks };
-      end = ((λ is. cc), (λ ended. let bad = sym going ∙ ended in cc));
-      all_read = λ t is. cc;
-      read_fault = λ is. cc;
+      end = ((λ is. write_no _ is refl), (λ ended. unheld _ going ended));
+      all_read = λ t is. write_no _ is refl;
+      read_fault = λ is. write_no _ is refl;
       write_fault = λ is. breaks.rose;
-      stopped = λ is. cc;
+      stopped = λ is. write_no _ is refl;
       unstopped = λ is. c.loop.invariant.gate;
-      later = let same = c.loop.invariant.gate in omega (arith, same);
-      spent = λ is. cc;
+      later = stayed _ _ c.loop.invariant.gate;
+      spent = λ is. write_no _ is refl;
+      few = few_more _ _ _ _ _ _ c.loop.invariant.counted c.in-Quiet.ensures.reads c.report.ensures.link.wrote.reads c.loop-test.true;
     }

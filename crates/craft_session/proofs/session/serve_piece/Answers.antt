@@ -1,4 +1,4 @@
-use Rattle.std.proofs.Common.{◌+◌, false, ℕ, List, [], drop, length, length-drop, ap, refl, sym, ◌∙◌, arith, subst}
+use Rattle.std.proofs.Common.{◌+◌, false, ℕ, List, [], drop, length, length-drop, ap, refl, ◌∙◌, arith, subst}
 use Rattle.std.proofs.lemmas.List.{take_rest}
 use Rattle.std.specs.Arc.{arc_value}
 use Rattle.dxc_outside.specs.declared.clock.Moment.{Moment}
@@ -7,6 +7,7 @@ use Rattle.shelf_file.specs.Contents.{Contents}
 use Rattle.craft_session.specs.Desks.{now}
 use Rattle.craft_session.specs.Meanings.{language}
 use Rattle.craft_session.specs.Sessions.{Beginning, Goes, IsAt, Stands}
+use Rattle.craft_session.proofs.Ends.{later_behind, on_goes, rose_behind}
 use Rattle.craft_session.proofs.SessionSteps.{stands_on, goes_on_is, goes_ended_is, writes_none, writes_more}
 use Rattle.craft_session.proofs.session.serve_piece.Goals as goal
 
@@ -24,18 +25,27 @@ loop-at-preserved g c =
       seat = (c.serve_unit.ensures.seat.0 ∙ c.loop-at.invariant.seat.0, c.serve_unit.ensures.seat.1 ∙ c.loop-at.invariant.seat.1, c.serve_unit.ensures.seat.2 ∙ c.loop-at.invariant.seat.2);
       users = (c.serve_unit.ensures.users.0 ∙ c.loop-at.invariant.users.0, c.serve_unit.ensures.users.1 ∙ c.loop-at.invariant.users.1, c.serve_unit.ensures.users.2 ∙ c.loop-at.invariant.users.2);
       link = writes_more _ _ _ _ c.loop-at.invariant.link c.serve_unit.ensures.link;
-      gate = c.serve_unit.ensures.unstopped (λ is. let no_stop = sym c.in-On.is ∙ is in cc) ∙ c.loop-at.invariant.gate;
+      gate = c.serve_unit.ensures.unstopped (on_goes _ c.in-On.is) ∙ c.loop-at.invariant.gate;
       within = omega (arith, c.feed-fed.ensures.within, ap length offer, length-drop c.loop-at.at piece, c.loop-at.invariant.within);
       stands = λ k c1 b at s. rw c.serve_unit.ensures.reader (goes_on_is (language (arc_value c.args.desk.now.shelf)) g.K.Link.told g.C.Clock.told k c1 b (g.K.Link.state c.serve_unit.new.link) (g.C.Clock.coming c.serve_unit.new.clock) (now c.serve_unit.new.desk) c.feed-fed.new.self c.serve_unit.result _ c.in-On.is (goes k c1 b (drop (c.loop-at.at + c.feed-fed.result.taken) c.args.piece.now) (c.loop-at.invariant.seat.0 ∙ at.0, c.loop-at.invariant.seat.1 ∙ at.1, c.loop-at.invariant.users.0 ∙ at.2, c.loop-at.invariant.users.1 ∙ at.3)
           (stands_on (language (arc_value c.args.desk.now.shelf)) g.K.Link.told g.C.Clock.told k c1 b (g.K.Link.state c.loop-at.link) (g.C.Clock.coming c.loop-at.clock) (record { seen = c.loop-at.desk.seat.seen; users = c.loop-at.desk.users.seat.seen; attending = c.loop-at.desk.attending }) c.loop-at.desk.reader c.args.piece.now _ c.loop-at.at c.feed-fed.result c.feed-fed.new.self (c.loop-at.invariant.stands k c1 b at s) (take_rest c.args.piece.now c.loop-at.at) c.feed-fed.ensures.fed)));
     }
 
-pub returns-in_default-clause-link : goal.returns-in_default-clause-link
-returns-in_default-clause-link g c = writes_more _ _ _ _ c.loop-at.invariant.link c.serve_unit.ensures.link
-
-pub returns-in_default-clause-goes : goal.returns-in_default-clause-goes
-returns-in_default-clause-goes g c = λ k c1 b at s.
-    let goes = subst (λ (y : Contents). (k : LinkState) (c2 : List Moment) (b : Beginning) (ahead : List ℕ) → IsAt b c.loop-at.desk.seat c.loop-at.desk.users.seat → Stands (language y) g.K.Link.told g.C.Clock.told k (g.K.Link.state c.loop-at.link) c2 (g.C.Clock.coming c.loop-at.clock) b (record { seen = c.loop-at.desk.seat.seen; users = c.loop-at.desk.users.seat.seen; attending = c.loop-at.desk.attending }) false c.feed-fed.result.unit c.feed-fed.new.self ahead
-    → Goes (language y) g.K.Link.told g.C.Clock.told k (g.K.Link.state c.serve_unit.new.link) c2 (g.C.Clock.coming c.serve_unit.new.clock) b (now c.serve_unit.new.desk) c.serve_unit.result false c.feed-fed.new.self ahead) (ap arc_value c.loop-at.invariant.shelf) c.serve_unit.ensures.goes in
-    goes_ended_is (language (arc_value c.args.desk.now.shelf)) g.K.Link.told g.C.Clock.told k c1 b (g.K.Link.state c.serve_unit.new.link) (g.C.Clock.coming c.serve_unit.new.clock) (now c.serve_unit.new.desk) c.feed-fed.new.self c.serve_unit.result false false c.serve_unit.new.desk.reader _ [] (λ is. c.in_default.not-On is) (goes k c1 b (drop (c.loop-at.at + c.feed-fed.result.taken) c.args.piece.now) (c.loop-at.invariant.seat.0 ∙ at.0, c.loop-at.invariant.seat.1 ∙ at.1, c.loop-at.invariant.users.0 ∙ at.2, c.loop-at.invariant.users.1 ∙ at.3)
-    (stands_on (language (arc_value c.args.desk.now.shelf)) g.K.Link.told g.C.Clock.told k c1 b (g.K.Link.state c.loop-at.link) (g.C.Clock.coming c.loop-at.clock) (record { seen = c.loop-at.desk.seat.seen; users = c.loop-at.desk.users.seat.seen; attending = c.loop-at.desk.attending }) c.loop-at.desk.reader c.args.piece.now _ c.loop-at.at c.feed-fed.result c.feed-fed.new.self (c.loop-at.invariant.stands k c1 b at s) (take_rest c.args.piece.now c.loop-at.at) c.feed-fed.ensures.fed))
+pub returns-in_default : goal.returns-in_default
+returns-in_default g c =
+    let k = c.loop-at.invariant in
+    let u = c.serve_unit.ensures in
+    record {
+      shelf = u.shelf ∙ k.shelf;
+      seat = (u.seat.0 ∙ k.seat.0, u.seat.1 ∙ k.seat.1, u.seat.2 ∙ k.seat.2);
+      users = (u.users.0 ∙ k.users.0, u.users.1 ∙ k.users.1, u.users.2 ∙ k.users.2);
+      link = writes_more _ _ _ _ k.link u.link;
+      stopped = λ is. rose_behind _ _ _ k.gate (u.stopped is);
+      unstopped = λ not. u.unstopped not ∙ k.gate;
+      later = later_behind _ _ _ k.gate u.later;
+      goes = λ k c1 b at s.
+          let goes = subst (λ (y : Contents). (k : LinkState) (c2 : List Moment) (b : Beginning) (ahead : List ℕ) → IsAt b c.loop-at.desk.seat c.loop-at.desk.users.seat → Stands (language y) g.K.Link.told g.C.Clock.told k (g.K.Link.state c.loop-at.link) c2 (g.C.Clock.coming c.loop-at.clock) b (record { seen = c.loop-at.desk.seat.seen; users = c.loop-at.desk.users.seat.seen; attending = c.loop-at.desk.attending }) false c.feed-fed.result.unit c.feed-fed.new.self ahead
+          → Goes (language y) g.K.Link.told g.C.Clock.told k (g.K.Link.state c.serve_unit.new.link) c2 (g.C.Clock.coming c.serve_unit.new.clock) b (now c.serve_unit.new.desk) c.serve_unit.result false c.feed-fed.new.self ahead) (ap arc_value c.loop-at.invariant.shelf) c.serve_unit.ensures.goes in
+          goes_ended_is (language (arc_value c.args.desk.now.shelf)) g.K.Link.told g.C.Clock.told k c1 b (g.K.Link.state c.serve_unit.new.link) (g.C.Clock.coming c.serve_unit.new.clock) (now c.serve_unit.new.desk) c.feed-fed.new.self c.serve_unit.result false false c.serve_unit.new.desk.reader _ [] (λ is. c.in_default.not-On is) (goes k c1 b (drop (c.loop-at.at + c.feed-fed.result.taken) c.args.piece.now) (c.loop-at.invariant.seat.0 ∙ at.0, c.loop-at.invariant.seat.1 ∙ at.1, c.loop-at.invariant.users.0 ∙ at.2, c.loop-at.invariant.users.1 ∙ at.3)
+          (stands_on (language (arc_value c.args.desk.now.shelf)) g.K.Link.told g.C.Clock.told k c1 b (g.K.Link.state c.loop-at.link) (g.C.Clock.coming c.loop-at.clock) (record { seen = c.loop-at.desk.seat.seen; users = c.loop-at.desk.users.seat.seen; attending = c.loop-at.desk.attending }) c.loop-at.desk.reader c.args.piece.now _ c.loop-at.at c.feed-fed.result c.feed-fed.new.self (c.loop-at.invariant.stands k c1 b at s) (take_rest c.args.piece.now c.loop-at.at) c.feed-fed.ensures.fed));
+    }

@@ -9,6 +9,6 @@ use Rattle.shelf_file.proofs.users.users_in.Given as goal
 
 abbrev pub invariant-loop-place : goal.invariant-loop-place
 invariant-loop-place l = record {
-  users : AreUsers (take l.place (tables_in (map view l.list.items))) (entries_of l.users.entries);
+  users : AreUsers (take l.place (tables_in (map view l.list.items))) (entries_of l.users.items);
   faultless : first_some (checks_up_to (tables_in (map view l.list.items)) l.place) ≡ None;
 }

@@ -4,5 +4,5 @@ use Rattle.user_admin.specs.Histories.{Opening}
 use Rattle.user_admin.specs.States.{StandsFor}
 use Rattle.worked_users.proofs.run.steps_fault.Given as goal
 
-abbrev pub invariant-loop-number : goal.invariant-loop-number
-invariant-loop-number g l = (o : Opening) × (h : List UserEntry) × StandsFor g.D.Disk.told g.D.Disk.state o l.state h
+abbrev pub invariant-loop-line : goal.invariant-loop-line
+invariant-loop-line g l = (o : Opening) × (h : List UserEntry) × StandsFor g.D.Disk.told g.D.Disk.state o l.state h

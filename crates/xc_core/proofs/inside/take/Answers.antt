@@ -57,3 +57,27 @@ returns-then-halted-clause-took g c = λ o own h st.
     let final = c.bring_home.ensures ∙ ap (λ (x : State g.row.D.Denot). with_home (In held) x) c.take_out.ensures.state in
     subst (λ (x : State g.row.D.Denot). TakenIs g.D.Disk.told g.D.Disk.state o own h c.args.op.now x took.Halted) (sym final)
     (was_halted g.D.Disk.told g.D.Disk.state g.met.D.Disk.counts_on o s h st own c.args.op.now held is (sym c.halted.ensures ∙ c.if-halted.true))
+
+pub returns-in-Rolling-clause-origin : goal.returns-in-Rolling-clause-origin
+returns-in-Rolling-clause-origin g c = ap (λ (x : State g.row.D.Denot). x.origin) c.take_out.ensures.state
+
+pub returns-in-Denied-clause-origin : goal.returns-in-Denied-clause-origin
+returns-in-Denied-clause-origin g c = ap (λ (x : State g.row.D.Denot). x.origin) c.bring_home-in-Denied.ensures ∙ ap (λ (x : State g.row.D.Denot). x.origin) c.take_out.ensures.state
+
+pub returns-in-Stopped-clause-origin : goal.returns-in-Stopped-clause-origin
+returns-in-Stopped-clause-origin g c = ap (λ (x : State g.row.D.Denot). x.origin) c.bring_home-in-Stopped.ensures ∙ ap (λ (x : State g.row.D.Denot). x.origin) c.take_out.ensures.state
+
+pub returns-then-halted-clause-origin : goal.returns-then-halted-clause-origin
+returns-then-halted-clause-origin g c = ap (λ (x : State g.row.D.Denot). x.origin) c.bring_home.ensures ∙ ap (λ (x : State g.row.D.Denot). x.origin) c.take_out.ensures.state
+
+pub returns-in-Rolling-clause-asked : goal.returns-in-Rolling-clause-asked
+returns-in-Rolling-clause-asked g c = c.in-Rolling.ensures.asked
+
+pub returns-in-Denied-clause-asked : goal.returns-in-Denied-clause-asked
+returns-in-Denied-clause-asked g c = c.in-Denied.ensures.asked
+
+pub returns-in-Stopped-clause-asked : goal.returns-in-Stopped-clause-asked
+returns-in-Stopped-clause-asked g c = c.in-Stopped.ensures.asked
+
+pub returns-then-halted-clause-asked : goal.returns-then-halted-clause-asked
+returns-then-halted-clause-asked g c = g.G.Gate.unasked c.args.gate.now

@@ -1,10 +1,12 @@
-use Rattle.std.proofs.Common.{◌∙◌, sym, ap, subst}
-use Rattle.std.specs.Prelude.{OnOk}
+use Rattle.std.proofs.Common.{◌≡◌, false, ◌∙◌, sym, ap, subst}
+use Rattle.std.specs.Prelude.{OnOk, IsErr, Result, Ok, Err}
 use Rattle.std.specs.List.{AllByRecursion}
 use Rattle.dxc_num.specs.Dimensions.{IsInLimits}
 use Rattle.dxc_disk.specs.Disks.{LeavesOnly}
+use Rattle.dxc_disk.proofs.DiskSteps.{sound_on, spends_on}
 use Rattle.dxc_model.specs.Tables.{Board}
 use Rattle.journal_core.specs.declared.book.Book.{Book}
+use Rattle.journal_core.specs.Books.{IsReady}
 use Rattle.journal_core.proofs.KeepSteps.{only_on}
 use Rattle.paull_matrix.specs.Colourings.{Colouring}
 use Rattle.xc_journal.specs.Entries.{FitsConn}
@@ -13,8 +15,14 @@ use Rattle.xc_core.specs.Journals.{IsCounted, IsOldOrDoubted, StillCounts}
 use Rattle.xc_core.proofs.Counting.{counts_same, keeps_counted, left_counted, still_from}
 use Rattle.xc_core.proofs.Pasts.{home_with}
 use Rattle.xc_core.proofs.Rolling.{home_limits, placed_as}
+use Rattle.xc_core.proofs.Rooms.{fault_on}
 use Rattle.xc_core.proofs.Settling.{kept_or_none, settled_left}
 use Rattle.xc_core.proofs.keep.make_ready.Goals as goal
+
+-- two things hold where it went well
+ok_both : {T E : Type 0} (r : Result T E) (P Q : Type 0) → OnOk r P → Q → OnOk r (P × Q)
+ok_both (Ok x) P Q here other = (here, other)
+ok_both (Err e) P Q here other = tt
 
 pub write_checkpoint-requires-clause-placed : goal.write_checkpoint-requires-clause-placed
 write_checkpoint-requires-clause-placed g c = let w = c.requires.home in let h = c.settle.ensures.home w.0 w.1 in placed_as w.0 c.args.table.now c.settle.new.p.matrix (sym w.2) h.past.matrix h.past.placed
@@ -92,3 +100,21 @@ returns-clause-counts g c told =
     let same = c.settle.ensures.same told in
     still_from (g.D.Disk.state a.journal.0) (g.D.Disk.state m.journal.0) a.journal.1 m.journal.1 c.args.table.now a.matrix (ap (λ (x : Book). x.shape) book) (ap (λ (x : Book). x.head) book) (ap (λ (x : Book). x.spare) book) same.0 same.1 (g.D.Disk.state n.0) n.1 c.write_checkpoint.result
     (subst (λ (x : Colouring). OnOk c.write_checkpoint.result (StillCounts (g.D.Disk.state m.journal.0) m.journal.1 (g.D.Disk.state n.0) n.1 c.args.table.now x)) (ap (λ (x : Provisioner g.row.D.Denot). x.matrix) c.settle.ensures.others) (c.write_checkpoint.ensures.counts told))
+
+pub returns-clause-others : goal.returns-clause-others
+returns-clause-others g c = ap (λ (x : Provisioner g.row.D.Denot). record x { journal = c.write_checkpoint.new.journal }) c.settle.ensures.others
+
+pub returns-clause-ground : goal.returns-clause-ground
+returns-clause-ground g c = (λ i. record { fabric = c.settle.new.p.mover.fabric; shape = c.write_checkpoint.ensures.shape i }) ∙ c.settle.ensures.ground
+
+pub returns-clause-ready : goal.returns-clause-ready
+returns-clause-ready g c = ok_both c.write_checkpoint.result (IsReady c.write_checkpoint.new.journal.1) (c.write_checkpoint.new.journal.1.to_mend ≡ false) c.write_checkpoint.ensures.ready (c.write_checkpoint.ensures.whole c.in-Ok.ensures.mended)
+
+pub returns-clause-cause : goal.returns-clause-cause
+returns-clause-cause g c = fault_on (g.D.Disk.state c.args.p.now.journal.0).faults (g.D.Disk.state c.settle.new.p.journal.0).faults (g.D.Disk.state c.write_checkpoint.new.journal.0).faults (IsErr c.write_checkpoint.result) c.settle.ensures.cause.later c.write_checkpoint.ensures.cause.later c.write_checkpoint.ensures.cause.cause
+
+pub returns-clause-room : goal.returns-clause-room
+returns-clause-room g c = spends_on 3 4_600_042 (g.D.Disk.state c.args.p.now.journal.0) (g.D.Disk.state c.settle.new.p.journal.0) (g.D.Disk.state c.write_checkpoint.new.journal.0) c.settle.ensures.room c.write_checkpoint.ensures.room
+
+pub returns-clause-sound : goal.returns-clause-sound
+returns-clause-sound g c = λ sound failed. c.write_checkpoint.ensures.sound (sound_on 3 4_600_042 (g.D.Disk.state c.args.p.now.journal.0) (g.D.Disk.state c.settle.new.p.journal.0) c.settle.ensures.cause.later sound c.settle.ensures.room) failed

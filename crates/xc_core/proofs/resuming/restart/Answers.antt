@@ -105,3 +105,54 @@ returns-in-Stopped-clause-restarting g c = λ o own h st.
 
 pub returns-in-Err-clause-asked : goal.returns-in-Err-clause-asked
 returns-in-Err-clause-asked g c = inl (g.G.Gate.unasked c.args.gate.now)
+
+pub returns-in_default-clause-origin : goal.returns-in_default-clause-origin
+returns-in_default-clause-origin g c = ap (λ (x : State g.row.D.Denot). x.origin) c.take_out.ensures.state
+
+pub returns-in-Warm-clause-origin : goal.returns-in-Warm-clause-origin
+returns-in-Warm-clause-origin g c = ap (λ (x : State g.row.D.Denot). x.origin) c.take_out.ensures.state
+
+pub returns-then-not-goes_for-clause-origin : goal.returns-then-not-goes_for-clause-origin
+returns-then-not-goes_for-clause-origin g c = ap (λ (x : State g.row.D.Denot). x.origin) c.bring_home.ensures ∙ ap (λ (x : State g.row.D.Denot). x.origin) c.take_out.ensures.state
+
+pub returns-in-Err-clause-origin : goal.returns-in-Err-clause-origin
+returns-in-Err-clause-origin g c = ap (λ (x : State g.row.D.Denot). x.origin) c.bring_home-in-Err.ensures ∙ ap (λ (x : State g.row.D.Denot). x.origin) c.take_out.ensures.state
+
+pub returns-in-Cold-clause-origin : goal.returns-in-Cold-clause-origin
+returns-in-Cold-clause-origin g c = ap (λ (x : State g.row.D.Denot). x.origin) c.bring_home-in-Cold.ensures ∙ ap (λ (x : State g.row.D.Denot). x.origin) c.take_out.ensures.state
+
+pub returns-in-Fault-clause-origin : goal.returns-in-Fault-clause-origin
+returns-in-Fault-clause-origin g c = ap (λ (x : State g.row.D.Denot). x.origin) c.bring_home-in-Fault.ensures ∙ ap (λ (x : State g.row.D.Denot). x.origin) c.take_out.ensures.state
+
+pub returns-in-Stopped-clause-origin : goal.returns-in-Stopped-clause-origin
+returns-in-Stopped-clause-origin g c = ap (λ (x : State g.row.D.Denot). x.origin) c.bring_home-in-Stopped.ensures ∙ ap (λ (x : State g.row.D.Denot). x.origin) c.take_out.ensures.state
+
+pub returns-in_default-clause-asked : goal.returns-in_default-clause-asked
+returns-in_default-clause-asked g c = g.G.Gate.unasked c.args.gate.now
+
+pub returns-then-not-goes_for-clause-asked : goal.returns-then-not-goes_for-clause-asked
+returns-then-not-goes_for-clause-asked g c = g.G.Gate.unasked c.args.gate.now
+
+pub returns-in-Warm-clause-asked : goal.returns-in-Warm-clause-asked
+returns-in-Warm-clause-asked g c = c.recover.ensures.asked
+
+pub returns-in-Cold-clause-asked : goal.returns-in-Cold-clause-asked
+returns-in-Cold-clause-asked g c = c.recover.ensures.asked
+
+pub returns-in-Stopped-clause-asked : goal.returns-in-Stopped-clause-asked
+returns-in-Stopped-clause-asked g c = c.recover.ensures.asked
+
+pub returns-in-Fault-clause-asked : goal.returns-in-Fault-clause-asked
+returns-in-Fault-clause-asked g c = inr c.recover.ensures.asked
+
+pub returns-in-Warm-clause-later : goal.returns-in-Warm-clause-later
+returns-in-Warm-clause-later g c = c.recover.ensures.later
+
+pub returns-in-Cold-clause-later : goal.returns-in-Cold-clause-later
+returns-in-Cold-clause-later g c = c.recover.ensures.later
+
+pub returns-in-Fault-clause-later : goal.returns-in-Fault-clause-later
+returns-in-Fault-clause-later g c = c.recover.ensures.later
+
+pub returns-in-Stopped-clause-later : goal.returns-in-Stopped-clause-later
+returns-in-Stopped-clause-later g c = c.recover.ensures.later

@@ -1,15 +1,12 @@
-use Rattle.std.proofs.Common.{List, Result, ◌∙◌, ap, subst}
-use Rattle.std.specs.Prelude.{MatchResult}
+use Rattle.std.proofs.Common.{List, ◌∙◌, ap, subst}
 use Rattle.std.specs.Arc.{arc_value}
 use Rattle.turnstile.specs.Passing.{Gate}
 use Rattle.user_admin.specs.declared.op.UserEntry.{UserEntry}
-use Rattle.user_admin.specs.declared.op.UserOp.TheVariants.{Look}
-use Rattle.user_admin.specs.declared.op.UserOutcome.TheVariants.{Answered}
 use Rattle.user_admin.specs.declared.state.UserState.{UserState}
-use Rattle.user_admin.specs.States.{entry, opening_of}
-use Rattle.user_admin.specs.Turns.{LoggedIn, RowsAre, RowsDenied, Saw, TookIs}
+use Rattle.user_admin.specs.States.{opening_of}
+use Rattle.user_admin.specs.Turns.{Saw, TookIs}
 use Rattle.craft_session.specs.Seats.{UserSeatAt, user_seat_at}
-use Rattle.craft_session.proofs.Seating.{rows_seen, took_seen, turn_seen, user_seated_on, users_saw_there}
+use Rattle.craft_session.proofs.Seating.{took_seen, user_seated_on, users_saw_there}
 use Rattle.craft_session.proofs.users.UserSeat.change.Goals as goal
 
 pub invariant_of-self : goal.invariant_of-self

@@ -1,0 +1,35 @@
+use Rattle.std.proofs.Common.{Ok, Err, ◌∙◌, inl, inr}
+use Rattle.std.proofs.lemmas.Result.{err_from_is_err_and}
+use Rattle.xc_core.specs.States.{opening_of}
+use Rattle.craft_element.specs.Openings.{named, sources}
+use Rattle.craft_element.proofs.Starting.{begun, with_users}
+use Rattle.craft_element.proofs.opening.open.Goals as goal
+
+pub returns-in-Ok-clause-opened : goal.returns-in-Ok-clause-opened
+returns-in-Ok-clause-opened g c =
+    let h = c.in_ok-controller.ensures.opened in
+    let names = named c.args.names.shelf.now c.args.names.journal.now in
+    let before = sources (g.O.Opener.state c.args.opener.now) (g.O.Opener.journal_at c.args.opener.now) (g.G.Gate.stops c.args.gate.now) in
+    let mid = sources (g.O.Opener.state c.open_controller.new.opener) (g.O.Opener.journal_at c.open_controller.new.opener) (g.G.Gate.stops c.open_controller.new.gate) in
+    let after = sources (g.O.Opener.state c.open_users.new.opener) (g.O.Opener.journal_at c.open_users.new.opener) (g.G.Gate.stops c.open_controller.new.gate) in
+    (h, with_users g.O.Journal.Disk.told g.O.Journal.Disk.state g.O.Opener.told names before mid after h.0.shelf c.deref.result.now (Ok c.in-Ok.users) (c.deref.ensures ∙ h.1.shelf) c.open_controller.ensures.others c.open_controller.ensures.later c.in-Ok.ensures.users)
+
+pub returns-in-Err-clause-opened : goal.returns-in-Err-clause-opened
+returns-in-Err-clause-opened g c =
+    let h = c.in_ok-controller.ensures.opened in
+    let names = named c.args.names.shelf.now c.args.names.journal.now in
+    let before = sources (g.O.Opener.state c.args.opener.now) (g.O.Opener.journal_at c.args.opener.now) (g.G.Gate.stops c.args.gate.now) in
+    let mid = sources (g.O.Opener.state c.open_controller.new.opener) (g.O.Opener.journal_at c.open_controller.new.opener) (g.G.Gate.stops c.open_controller.new.gate) in
+    let after = sources (g.O.Opener.state c.open_users.new.opener) (g.O.Opener.journal_at c.open_users.new.opener) (g.G.Gate.stops c.open_controller.new.gate) in
+    let told = g.O.Journal.Disk.told in
+    let state = g.O.Journal.Disk.state in
+    inr (
+      h.0,
+      opening_of state c.in_ok-controller.controller.state,
+      begun told state h.0.disk h.0.shelf _ c.in_ok-controller.controller h.1,
+      c.in_ok-controller.ensures.unstopped,
+      with_users told state g.O.Opener.told names before mid after h.0.shelf c.deref.result.now (Err c.in-Err.status) (c.deref.ensures ∙ h.1.shelf) c.open_controller.ensures.others c.open_controller.ensures.later c.in-Err.ensures.users,
+    )
+
+pub returns-in_err-controller-clause-opened : goal.returns-in_err-controller-clause-opened
+returns-in_err-controller-clause-opened g c = let p = err_from_is_err_and c.from_residual.result c.from_residual.ensures.1 in rw (p.1, p.2) (inl c.in_err-controller.ensures.opened)

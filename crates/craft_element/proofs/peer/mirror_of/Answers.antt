@@ -1,0 +1,58 @@
+use Rattle.std.proofs.Common.{◌∙◌, arith, inl, inr, refl}
+use Rattle.craft_jobs.proofs.Handing.{handed}
+use Rattle.craft_jobs.proofs.Counting.{rose_behind}
+use Rattle.craft_element.proofs.peer.mirror_of.Goals as goal
+
+pub returns-in-Failed-clause-mirror : goal.returns-in-Failed-clause-mirror
+returns-in-Failed-clause-mirror g c = inr (refl, c.journal.ensures.opening.cause.cause c.in-Failed.is)
+
+pub returns-in-NoMemory-clause-mirror : goal.returns-in-NoMemory-clause-mirror
+returns-in-NoMemory-clause-mirror g c = inl refl
+
+pub returns-in-Open-peer-clause-mirror : goal.returns-in-Open-peer-clause-mirror
+returns-in-Open-peer-clause-mirror g c = record {
+  disk = c.in-Open.disk;
+  handed = λ t. handed g.O.Opener.told (g.O.Opener.journal_at c.args.opener.now) (g.O.Opener.journal_at c.args.opener.now) (g.O.Opener.journal_at c.journal.new.self) c.journal.result c.in-Open.disk c.args.journal.now (λ t n. refl) c.in-Open.is c.journal.ensures.opening.hands t;
+  is_mirror = record {
+    looks = c.join.ensures.looks;
+    later = c.join.ensures.faults;
+    peer = c.in-Open-peer.link;
+    joins = c.join.ensures.line;
+  };
+}
+
+pub returns-in-Failed-peer-clause-mirror : goal.returns-in-Failed-peer-clause-mirror
+returns-in-Failed-peer-clause-mirror g c = inr (refl, rose_behind _ _ _ c.journal.ensures.opening.cause.later (c.peer.ensures.cause.cause c.in-Failed-peer.is))
+
+pub returns-in-NoMemory-peer-clause-mirror : goal.returns-in-NoMemory-peer-clause-mirror
+returns-in-NoMemory-peer-clause-mirror g c = inl refl
+
+pub returns-in-Failed-clause-others : goal.returns-in-Failed-clause-others
+returns-in-Failed-clause-others g c = c.journal.ensures.opening.others
+
+pub returns-in-Failed-clause-later : goal.returns-in-Failed-clause-later
+returns-in-Failed-clause-later g c = c.journal.ensures.opening.cause.later
+
+pub returns-in-NoMemory-clause-others : goal.returns-in-NoMemory-clause-others
+returns-in-NoMemory-clause-others g c = c.journal.ensures.opening.others
+
+pub returns-in-NoMemory-clause-later : goal.returns-in-NoMemory-clause-later
+returns-in-NoMemory-clause-later g c = c.journal.ensures.opening.cause.later
+
+pub returns-in-Open-peer-clause-others : goal.returns-in-Open-peer-clause-others
+returns-in-Open-peer-clause-others g c = λ t n not. c.peer.ensures.aside.journals t n ∙ c.journal.ensures.opening.others t n not
+
+pub returns-in-Open-peer-clause-later : goal.returns-in-Open-peer-clause-later
+returns-in-Open-peer-clause-later g c = let first = c.journal.ensures.opening.cause.later in let then_peer = c.peer.ensures.cause.later in omega (arith, first, then_peer)
+
+pub returns-in-Failed-peer-clause-others : goal.returns-in-Failed-peer-clause-others
+returns-in-Failed-peer-clause-others g c = λ t n not. c.peer.ensures.aside.journals t n ∙ c.journal.ensures.opening.others t n not
+
+pub returns-in-Failed-peer-clause-later : goal.returns-in-Failed-peer-clause-later
+returns-in-Failed-peer-clause-later g c = let first = c.journal.ensures.opening.cause.later in let then_peer = c.peer.ensures.cause.later in omega (arith, first, then_peer)
+
+pub returns-in-NoMemory-peer-clause-others : goal.returns-in-NoMemory-peer-clause-others
+returns-in-NoMemory-peer-clause-others g c = λ t n not. c.peer.ensures.aside.journals t n ∙ c.journal.ensures.opening.others t n not
+
+pub returns-in-NoMemory-peer-clause-later : goal.returns-in-NoMemory-peer-clause-later
+returns-in-NoMemory-peer-clause-later g c = let first = c.journal.ensures.opening.cause.later in let then_peer = c.peer.ensures.cause.later in omega (arith, first, then_peer)

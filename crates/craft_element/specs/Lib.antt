@@ -1,0 +1,6 @@
+pub mod Statuses
+pub mod Openings
+pub mod Peers
+pub mod Loads
+pub mod Listings
+pub mod Stocks

@@ -1,0 +1,179 @@
+-- What the words name is opened, or why it isn't.
+use Rattle.std.specs.Prelude.{◌≡◌, ◌≢◌, ◌⊎◌, ◌≤◌, ◌<◌, ◌+◌, ℕ, List, ◌++◌, length, codes, Option, Some}
+use Rattle.std.specs.Arc.{arc_value}
+use Rattle.dxc_causes.specs.Causes.{Rose, last}
+use Rattle.dxc_disk.specs.Disks.{DiskState, IsSound}
+use Rattle.dxc_outside.specs.Openings.{OpenerState, IsShelfPart}
+use Rattle.fabric_words.specs.New.{AreNew}
+use Rattle.fabric_words.specs.Seats.{FabricId}
+use Rattle.shelf_file.specs.declared.fault.ShelfFault.TheVariants as fault
+use Rattle.shelf_file.specs.Contents.{Contents, IsShelf}
+use Rattle.shelf_file.specs.Checks.{IsFirstFault}
+use Rattle.xc_core.specs.declared.fault.OpenFault.{OpenFault}
+use Rattle.xc_core.specs.Openings.{Begins, Fails, IsOpening}
+use Rattle.xc_core.specs.States.{Opening, opening_of}
+use Rattle.user_admin.specs.declared.fault.UserOpenFault.{UserOpenFault}
+use Rattle.user_admin.specs.declared.state.UserState.{UserState}
+use Rattle.user_admin.specs.Histories.{Opening as UsersOpening}
+use Rattle.user_admin.specs.Openings.{Begins as UsersBegin, Fails as UsersFail, IsOpening as IsUsersOpening}
+use Rattle.user_admin.specs.States.{opening_of as users_opening}
+use Rattle.craft_element.specs.declared.opening.Controller.{Controller}
+use Rattle.craft_element.specs.declared.opening.Element.{Element}
+use Rattle.craft_words.specs.declared.status.Status.{Status}
+use Rattle.craft_words.specs.declared.status.Status.TheVariants.{Done, BadWords, BadShelf, BadJournal, Disk, CannotOpen, NoThread, NoMemory, Link, Stopped, Spent, BadMessage, NotEmpty}
+use Rattle.craft_element.specs.Statuses.{status_of_fault, status_of_users_fault}
+
+-- the names of a shelf file and a journal
+pub record Named : Type 0 where
+  pub shelf : List ℕ
+  pub journal : List ℕ
+
+abbrev pub named : List ℕ → List ℕ → Named
+named shelf journal = record { shelf = shelf; journal = journal }
+
+-- the name of the users' journal beside a journal of this name
+abbrev pub users_name : List ℕ → List ℕ
+users_name journal = journal ++ codes ".users"
+
+-- what an opening asks: the opener, which would hand out these disks by name, and the gate, by its count of stops
+pub record Sources (D : Type 0) : Type 0 where
+  pub opener : OpenerState
+  pub journal_at : List ℕ → Option D
+  pub stops : ℕ
+
+abbrev pub sources : {D : Type 0} → OpenerState → (List ℕ → Option D) → ℕ → Sources D
+sources o at n = record { opener = o; journal_at = at; stops = n }
+
+-- where the opener tells what it holds, these bytes are the file's, as far as they are read
+abbrev pub IsFile : (told : Type 0) (o : OpenerState) (name file : List ℕ) → Type 0
+IsFile told o name file = told → IsShelfPart o name file
+
+-- a shelf that the file of this name describes
+abbrev pub HasShelf : (told : Type 0) (o : OpenerState) (name : List ℕ) → Contents → Type 0
+HasShelf told o name s = (file : List ℕ) × IsFile told o name file × IsShelf file s
+
+-- why there is none
+abbrev pub NoShelf : (told : Type 0) (o p : OpenerState) (name : List ℕ) → Status → Type 0
+NoShelf told o p name (BadShelf f) = (file : List ℕ) × IsFile told o name file × IsFirstFault file f × (f ≢ fault.NoMemory)
+NoShelf told o p name CannotOpen = Rose o.faults p.faults
+NoShelf told o p name NoMemory = Unit {0}
+NoShelf told o p name Done = ⊥
+NoShelf told o p name BadWords = ⊥
+NoShelf told o p name NoThread = ⊥
+NoShelf told o p name Link = ⊥
+NoShelf told o p name Stopped = ⊥
+NoShelf told o p name (BadJournal f) = ⊥
+NoShelf told o p name Disk = ⊥
+NoShelf told o p name Spent = ⊥
+NoShelf told o p name BadMessage = ⊥
+NoShelf told o p name NotEmpty = ⊥
+
+-- no disk was handed out, and why
+abbrev pub NoDisk : {D : Type 0} → Sources D → Sources D → Status → Type 0
+NoDisk before after status = (after.stops ≡ before.stops) × ((status ≡ NoMemory) ⊎ ((status ≡ CannotOpen) × Rose before.opener.faults after.opener.faults))
+
+-- the most that an opening takes of a disk's room
+abbrev pub opening_room : ℕ
+opening_room = 131_081
+
+-- An opening of a disk left these faults, room and margin: it took of the room what it may, and each fault in it lowered the margin.
+pub record IsTaken (d : DiskState) (faults room margin : ℕ) : Type 0 where
+  pub later : d.faults ≤ faults
+  pub kept : opening_room ≤ d.room → d.room ≤ room + opening_room
+  pub paid : opening_room ≤ d.room → faults + margin ≤ d.faults + d.margin
+  pub counts : 0 < room → faults < last
+
+module _ {D : Type 0} (disk_told : Type 0) (state : D → DiskState) where
+  -- why the controller didn't start on this disk
+  pub record NotStarted (disk : D) (s : Contents) (stops later : ℕ) (status : Status) : Type 0 where
+    pub fault : OpenFault D
+    pub is : status ≡ status_of_fault fault
+    pub why : disk_told → Fails state (state disk) s.shape fault
+    pub disk_failed : status ≡ Disk → IsSound opening_room (state disk) → ⊥
+    pub stopped : status ≡ Stopped → Rose stops later
+
+  -- where the history begins that the disk's journal came to, on a fabric of its own
+  pub record HasOpening (disk : D) (s : Contents) (o : Opening) : Type 0 where
+    pub fabric : FabricId
+    pub opening : IsOpening disk_told (state disk).reads_as s fabric o
+
+  -- It started on the shelf, with so many workers, on a fabric of its own; the state stands for no entry behind what the disk's journal came to.
+  pub record IsStarted (disk : D) (s : Contents) (workers : ℕ) (x : Controller D) : Type 0 where
+    pub shelf : arc_value x.shelf ≡ s
+    pub size : (arc_value x.fabric).size ≡ record { shape = s.shape; workers = workers }
+    pub opening : IsOpening disk_told (state disk).reads_as s (arc_value x.fabric) (opening_of state x.state)
+    pub begins : Begins disk_told state x.state
+    pub shape : (opening_of state x.state).first.fold.table.shape ≡ s.shape
+    pub taken : IsTaken (state disk) (opening_of state x.state).faults (opening_of state x.state).room (opening_of state x.state).margin
+    pub seats : AreNew (arc_value x.fabric) 0 x.seats.items
+    pub each : length x.seats.items ≡ workers
+
+-- the shelf that the file of the name describes, and the disk that the opener handed out for the journal
+pub record Found (opener_told : Type 0) {D : Type 0} (names : Named) (before : Sources D) : Type 0 where
+  pub shelf : Contents
+  pub described : HasShelf opener_told before.opener names.shelf shelf
+  pub disk : D
+  pub handed : opener_told → before.journal_at names.journal ≡ Some disk
+
+-- the disk that the opener handed out for the users' journal
+pub record FoundUsers (opener_told : Type 0) {D : Type 0} (names : Named) (before : Sources D) : Type 0 where
+  pub disk : D
+  pub handed : opener_told → before.journal_at (users_name names.journal) ≡ Some disk
+
+module _ {D : Type 0} (disk_told : Type 0) (state : D → DiskState) where
+  -- the users were taken up from what this disk's journal came to, and their state stands for no entry behind it
+  pub record AreUsersStarted (disk : D) (s : Contents) (x : UserState D) : Type 0 where
+    pub opening : IsUsersOpening disk_told (state disk).reads_as s (users_opening state x)
+    pub begins : UsersBegin disk_told state x
+    pub taken : IsTaken (state disk) (users_opening state x).faults (users_opening state x).room (users_opening state x).margin
+
+  -- why they weren't taken up
+  pub record AreUsersNotStarted (disk : D) (s : Contents) (status : Status) : Type 0 where
+    pub fault : UserOpenFault D
+    pub is : status ≡ status_of_users_fault fault
+    pub why : disk_told → UsersFail state (state disk) s fault
+    pub disk_failed : status ≡ Disk → IsSound opening_room (state disk) → ⊥
+
+module _ (opener_told : Type 0) {D : Type 0} (disk_told : Type 0) (state : D → DiskState) where
+  -- the controller that the names stand for
+  abbrev pub HasController : Named → ℕ → Sources D → Controller D → Type 0
+  HasController names workers before x = (f : Found opener_told names before) × IsStarted disk_told state f.disk f.shelf workers x
+
+  -- no shelf, no disk, or one on which the controller didn't start
+  abbrev pub NoController : Named → (before after : Sources D) → Status → Type 0
+  NoController names before after status =
+      ((after.stops ≡ before.stops) × NoShelf opener_told before.opener after.opener names.shelf status)
+      ⊎ (((s : Contents) × HasShelf opener_told before.opener names.shelf s × NoDisk before after status)
+      ⊎ ((f : Found opener_told names before) × NotStarted disk_told state f.disk f.shelf before.stops after.stops status))
+
+  -- the users of that journal
+  abbrev pub HasUsers : Named → Sources D → Contents → UserState D → Type 0
+  HasUsers names before s x = (u : FoundUsers opener_told names before) × AreUsersStarted disk_told state u.disk s x
+
+  -- no disk for it, or one on which they weren't taken up
+  abbrev pub NoUsers : Named → (before after : Sources D) → Contents → Status → Type 0
+  NoUsers names before after s status =
+      ((status ≡ NoMemory) ⊎ ((status ≡ CannotOpen) × Rose before.opener.faults after.opener.faults))
+      ⊎ ((u : FoundUsers opener_told names before) × AreUsersNotStarted disk_told state u.disk s status)
+
+  -- the controller that the names stand for, and its users
+  abbrev pub IsOpened : Named → ℕ → Sources D → Element D D → Type 0
+  IsOpened names workers before x = (h : HasController names workers before x.controller) × HasUsers names before h.0.shelf x.users
+
+  -- no controller, or none of its users
+  abbrev pub NotOpened : Named → (before after : Sources D) → Status → Type 0
+  NotOpened names before after status =
+      NoController names before after status
+      ⊎ ((f : Found opener_told names before) × (o : Opening) × HasOpening disk_told state f.disk f.shelf o × (after.stops ≡ before.stops) × NoUsers names before after f.shelf status)
+
+  -- where the users' history begins that the second disk's journal came to
+  pub record Began (names : Named) (before : Sources D) (s : Contents) : Type 0 where
+    pub found : FoundUsers opener_told names before
+    pub opening : UsersOpening
+    pub is : IsUsersOpening disk_told (state found.disk).reads_as s opening
+
+  -- Nothing was opened, why, and nothing else happened; or this was done on what was opened.
+  abbrev pub Opens : (names : Named) (before after : Sources D) (untouched : Type 0) (done : (f : Found opener_told names before) → Opening → Began names before f.shelf → Type 0) → Status → Type 0
+  Opens names before after untouched done status =
+      (NotOpened names before after status × untouched)
+      ⊎ ((f : Found opener_told names before) × (o : Opening) × HasOpening disk_told state f.disk f.shelf o × (u : Began names before f.shelf) × done f o u)

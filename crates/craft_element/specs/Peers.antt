@@ -1,0 +1,66 @@
+-- A controller whose journal is mirrored to a standby.
+use Rattle.std.specs.Prelude.{◌≡◌, ◌⊎◌, ◌≤◌, ℕ, List, Option, Some, IsSomeAnd}
+use Rattle.dxc_disk.specs.Disks.{DiskState, Looks}
+use Rattle.dxc_outside.specs.Links.{LinkState}
+use Rattle.shelf_file.specs.Contents.{Contents}
+use Rattle.standby_link.specs.declared.mirror_disk.MirrorDisk.{MirrorDisk}
+use Rattle.standby_link.specs.Lines.{line_at}
+use Rattle.standby_link.specs.Moves.{Joins}
+use Rattle.xc_core.specs.States.{Opening}
+use Rattle.craft_element.specs.declared.opening.Controller.{Controller}
+use Rattle.craft_element.specs.declared.opening.Element.{Element}
+use Rattle.craft_words.specs.declared.status.Status.{Status}
+use Rattle.craft_element.specs.Openings.{Began, HasOpening, HasShelf, HasUsers, IsStarted, Named, NoDisk, NoShelf, NotStarted, NoUsers, Sources}
+
+-- what a mirrored disk shows is what the disk below shows
+abbrev pub mirror_state : {D K : Type 0} → (D → DiskState) → MirrorDisk D K → DiskState
+mirror_state state m = state m.disk
+
+module _ {D K : Type 0} (disk_told link_told : Type 0) (state : D → DiskState) (link : K → LinkState) where
+  -- The disk is mirrored, behind a joining over some link. That changed nothing on it.
+  pub record IsMirror (disk : D) (m : MirrorDisk D K) : Type 0 where
+    pub looks : disk_told → Looks (state disk) (state m.disk)
+    pub later : (state disk).faults ≤ (state m.disk).faults
+    pub peer : K
+    pub joins : IsSomeAnd m.line (λ l. Joins disk_told link_told (state disk) (state m.disk) (link peer) (line_at link l))
+
+  module _ (opener_told : Type 0) where
+    -- the mirror of the disk that was handed out for a journal
+    pub record IsMirrorOf (journal_at : List ℕ → Option D) (journal : List ℕ) (m : MirrorDisk D K) : Type 0 where
+      pub disk : D
+      pub handed : opener_told → journal_at journal ≡ Some disk
+      pub is_mirror : IsMirror disk m
+
+    -- the shelf that the file of the name describes, and the mirror of the disk that the opener handed out for the journal
+    pub record FoundMirror (names : Named) (before : Sources D) : Type 0 where
+      pub shelf : Contents
+      pub described : HasShelf opener_told before.opener names.shelf shelf
+      pub mirror : MirrorDisk D K
+      pub mirrors : IsMirrorOf before.journal_at names.journal mirror
+
+    -- the controller that the names stand for, on the mirror
+    abbrev pub HasMirrored : Named → ℕ → Sources D → Controller (MirrorDisk D K) → Type 0
+    HasMirrored names workers before x = (f : FoundMirror names before) × IsStarted disk_told (mirror_state state) f.mirror f.shelf workers x
+
+    -- no shelf, no disk or no peer, or a mirror on which the controller didn't start
+    abbrev pub NoMirrored : Named → (before after : Sources D) → Status → Type 0
+    NoMirrored names before after status =
+        ((after.stops ≡ before.stops) × NoShelf opener_told before.opener after.opener names.shelf status)
+        ⊎ (((s : Contents) × HasShelf opener_told before.opener names.shelf s × NoDisk before after status)
+        ⊎ ((f : FoundMirror names before) × NotStarted disk_told (mirror_state state) f.mirror f.shelf before.stops after.stops status))
+
+    -- the controller that the names stand for, on the mirror, and its users, on a journal that isn't mirrored
+    abbrev pub IsOpenedOn : Named → ℕ → Sources D → Element (MirrorDisk D K) D → Type 0
+    IsOpenedOn names workers before x = (h : HasMirrored names workers before x.controller) × HasUsers opener_told disk_told state names before h.0.shelf x.users
+
+    -- no controller, or none of its users
+    abbrev pub NotMirrored : Named → (before after : Sources D) → Status → Type 0
+    NotMirrored names before after status =
+        NoMirrored names before after status
+        ⊎ ((f : FoundMirror names before) × (o : Opening) × HasOpening disk_told (mirror_state state) f.mirror f.shelf o × (after.stops ≡ before.stops) × NoUsers opener_told disk_told state names before after f.shelf status)
+
+    -- Nothing was opened, why, and nothing else happened; or this was done on what was opened and mirrored.
+    abbrev pub Mirrors : (names : Named) (before after : Sources D) (untouched : Type 0) (done : (f : FoundMirror names before) → Opening → Began opener_told disk_told state names before f.shelf → Type 0) → Status → Type 0
+    Mirrors names before after untouched done status =
+        (NotMirrored names before after status × untouched)
+        ⊎ ((f : FoundMirror names before) × (o : Opening) × HasOpening disk_told (mirror_state state) f.mirror f.shelf o × (u : Began opener_told disk_told state names before f.shelf) × done f o u)

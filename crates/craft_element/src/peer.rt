@@ -1,0 +1,80 @@
+//! A controller whose journal a standby has a copy of.
+ghost use Rattle.std.specs.Prelude.{◌≡◌, ◌≢◌, ◌⊎◌, ◌≤◌, ◌<◌, ℕ, List, MatchResult};
+ghost use Rattle.dxc_causes.specs.Causes.{Rose};
+ghost use Rattle.craft_element.specs.Openings.{named, sources};
+ghost use Rattle.craft_element.specs.Peers.{HasMirrored, IsMirrorOf, IsOpenedOn, NoMirrored, NotMirrored};
+
+use crate::opening::{Controller, Element, Names, open_users, shelf_of_file, start};
+use craft_words::Status;
+use dxc_outside::{Gate, Opened, Opener};
+use standby_link::MirrorDisk;
+use std::alloc::Global;
+
+/// The disk of an opener's journals, mirrored to a peer.
+pub type Mirror<O> = MirrorDisk<<O as Opener>::Journal, <O as Opener>::Peer>;
+
+/// Opens the shelf file and the journal of these names, joins the standby at the peer, and starts the controller with so many
+/// workers on what the journal came to; then the users' journal beside it, which isn't mirrored. Where the joining is lost the
+/// journal is served alone.
+pub fn open_mirrored<O: Opener, G: Gate>(
+    alloc: Global,
+    opener: &mut O,
+    names: Names<'_>,
+    peer: &str,
+    workers: u16,
+    gate: &mut G,
+) -> Result<Element<Mirror<O>, O::Journal>, Status>
+    requires workers { (0 < workers) × (workers ≤ 8) }
+    ensures opened { MatchResult result (IsOpenedOn O.Journal.told O.Peer.told O.Journal.state O.Peer.state O.told (named names.entry.shelf.now names.entry.journal.now) workers (sources (O.state opener.old) (O.journal_at opener.old) (G.stops gate.old))) (NotMirrored O.Journal.told O.Peer.told O.Journal.state O.Peer.state O.told (named names.entry.shelf.now names.entry.journal.now) (sources (O.state opener.old) (O.journal_at opener.old) (G.stops gate.old)) (sources (O.state opener.new) (O.journal_at opener.new) (G.stops gate.new))) }
+    ensures unstopped { MatchResult result (λ x. G.stops gate.new ≡ G.stops gate.old) (λ s. G.stops gate.old ≤ G.stops gate.new) }
+    ensures later { (O.state opener.old).faults ≤ (O.state opener.new).faults }
+{
+    let controller = mirrored_controller(alloc, opener, names, peer, workers, gate)?;
+    match open_users(alloc, opener, names.journal, &controller.shelf) {
+        Ok(users) => Ok(Element { controller, users }),
+        Err(status) => Err(status),
+    }
+}
+
+// The shelf file, the journal and the peer of these names, and the controller on what the mirrored journal came to.
+fn mirrored_controller<O: Opener, G: Gate>(
+    alloc: Global,
+    opener: &mut O,
+    names: Names<'_>,
+    peer: &str,
+    workers: u16,
+    gate: &mut G,
+) -> Result<Controller<Mirror<O>>, Status>
+    requires workers { (0 < workers) × (workers ≤ 8) }
+    ensures opened { MatchResult result (HasMirrored O.Journal.told O.Peer.told O.Journal.state O.Peer.state O.told (named names.entry.shelf.now names.entry.journal.now) workers (sources (O.state opener.old) (O.journal_at opener.old) (G.stops gate.old))) (NoMirrored O.Journal.told O.Peer.told O.Journal.state O.Peer.state O.told (named names.entry.shelf.now names.entry.journal.now) (sources (O.state opener.old) (O.journal_at opener.old) (G.stops gate.old)) (sources (O.state opener.new) (O.journal_at opener.new) (G.stops gate.new))) }
+    ensures others { O.told → (n : List ℕ) → n ≢ names.entry.journal.now → O.journal_at opener.new n ≡ O.journal_at opener.old n }
+    ensures unstopped { MatchResult result (λ x. G.stops gate.new ≡ G.stops gate.old) (λ s. G.stops gate.old ≤ G.stops gate.new) }
+    ensures later { (O.state opener.old).faults ≤ (O.state opener.new).faults }
+{
+    let shelf = shelf_of_file(alloc, opener, names.shelf)?;
+    let mirror = mirror_of(alloc, opener, names.journal, peer)?;
+    start(alloc, shelf, mirror, workers, gate)
+}
+
+// The disk of the journal of that name, mirrored to the standby at the peer.
+fn mirror_of<O: Opener>(
+    alloc: Global,
+    opener: &mut O,
+    journal: &str,
+    peer: &str,
+) -> Result<Mirror<O>, Status>
+    ensures mirror { MatchResult result (IsMirrorOf O.Journal.told O.Peer.told O.Journal.state O.Peer.state O.told (O.journal_at opener.old) journal.now) (λ s. (s ≡ Status.NoMemory) ⊎ ((s ≡ Status.CannotOpen) × Rose (O.state opener.old).faults (O.state opener.new).faults)) }
+    ensures others { O.told → (n : List ℕ) → n ≢ journal.now → O.journal_at opener.new n ≡ O.journal_at opener.old n }
+    ensures later { (O.state opener.old).faults ≤ (O.state opener.new).faults }
+{
+    let disk = match opener.journal(alloc, journal) {
+        Opened::Open(disk) => disk,
+        Opened::Failed => return Err(Status::CannotOpen),
+        Opened::NoMemory => return Err(Status::NoMemory),
+    };
+    match opener.peer(alloc, peer) {
+        Opened::Open(link) => Ok(MirrorDisk::join(disk, link)),
+        Opened::Failed => Err(Status::CannotOpen),
+        Opened::NoMemory => Err(Status::NoMemory),
+    }
+}

@@ -1,0 +1,13 @@
+use Rattle.std.proofs.Common.{◌≡◌, ◌≤◌, ◌+◌, length}
+use Rattle.std.specs.Arc.{arc_value}
+use Rattle.fabric_words.specs.New.{AreNew}
+use Rattle.craft_jobs.proofs.workers.frame_jobs.Given as goal
+
+abbrev pub invariant-loop-number : goal.invariant-loop-number
+invariant-loop-number g l = record {
+  fabric : l.fabric ≡ l.fn.fabric;
+  seats : AreNew (arc_value l.fabric) l.number l.seats.items;
+  each : length l.seats.items + l.number ≡ l.fn.workers;
+  jobs : length l.jobs.items ≡ l.number;
+  later : (g.O.Opener.state l.fn.opener).faults ≤ (g.O.Opener.state l.opener).faults;
+}

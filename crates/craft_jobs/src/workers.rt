@@ -1,0 +1,63 @@
+//! A job for each frame worker, on its lines.
+ghost use Rattle.std.specs.Prelude.{◌≡◌, IfOk, length, vec_len};
+ghost use Rattle.std.specs.Arc.{arc_value};
+ghost use Rattle.fabric_words.specs.New.{AreNew};
+ghost use Rattle.craft_jobs.specs.Missing.{IsMade};
+
+use crate::frames::FrameJob;
+use craft_words::Status;
+use dxc_outside::{Opened, Opener};
+use fabric_words::{Fabric, WorkerSeat};
+use std::alloc::Global;
+use std::sync::Arc;
+
+// The job of the seat, on its lines of that name.
+fn frame_job<O: Opener>(
+    alloc: Global,
+    opener: &mut O,
+    name: &str,
+    number: u16,
+    fabric: &Arc<Fabric>,
+    seat: WorkerSeat,
+) -> Result<FrameJob<O::Lines, O::Gate>, Status>
+    requires own { seat.reader.fabric ≡ arc_value fabric.now }
+    requires unused { seat.reader.worker.frame ≡ 0 }
+    ensures { IsMade (O.state opener.old).faults (O.state opener.new).faults result }
+{
+    let lines = match opener.lines(alloc, name, number) {
+        Opened::Open(lines) => lines,
+        Opened::Failed => return Err(Status::CannotOpen),
+        Opened::NoMemory => return Err(Status::NoMemory),
+    };
+    let Ok(fabric) = Arc::try_clone(fabric) else {
+        return Err(Status::NoMemory);
+    };
+    match FrameJob::new(alloc, fabric, seat, lines, opener.gate()) {
+        Ok(job) => Ok(job),
+        Err(_) => Err(Status::NoMemory),
+    }
+}
+
+/// A job for each seat, in their order.
+pub fn frame_jobs<O: Opener>(
+    alloc: Global,
+    opener: &mut O,
+    name: &str,
+    workers: u16,
+    fabric: &Arc<Fabric>,
+    mut seats: Vec<WorkerSeat>,
+) -> Result<Vec<FrameJob<O::Lines, O::Gate>>, Status>
+    requires seats { AreNew (arc_value fabric.now) 0 seats.items }
+    requires each { length seats.items ≡ workers }
+    ensures jobs { IfOk result (λ jobs. vec_len jobs ≡ workers) }
+    ensures made { IsMade (O.state opener.old).faults (O.state opener.new).faults result }
+{
+    let mut jobs = Vec::new(alloc);
+    for number in 0..workers {
+        let job = frame_job(alloc, opener, name, number, fabric, seats.remove(0))?;
+        if jobs.push(job).is_err() {
+            return Err(Status::NoMemory);
+        }
+    }
+    Ok(jobs)
+}

@@ -1,0 +1,35 @@
+use Rattle.std.proofs.Common.{◌≡◌, ◌+◌, inl, refl}
+use Rattle.craft_element.specs.Openings.{named, sources}
+use Rattle.craft_element.specs.Peers.{mirror_state}
+use Rattle.craft_server.specs.Serving.{IsServing}
+use Rattle.craft_element.proofs.Mirroring.{serves}
+use Rattle.craft_server.proofs.Serves.{serving_behind}
+use Rattle.craft_server.proofs.Starting.{opened_at}
+use Rattle.craft_server.proofs.mirrored.serve_mirrored.Goals as goal
+
+pub returns-in-Err : goal.returns-in-Err
+returns-in-Err g c = inl (c.in-Err.ensures.opened, refl)
+
+pub serve_on-requires-clause-seats : goal.serve_on-requires-clause-seats
+serve_on-requires-clause-seats g c κs within = c.in-Ok.ensures.opened.0.1.seats
+
+pub serve_on-requires-clause-each : goal.serve_on-requires-clause-each
+serve_on-requires-clause-each g c κs within = c.in-Ok.ensures.opened.0.1.each
+
+pub serve_on-requires-clause-begins : goal.serve_on-requires-clause-begins
+serve_on-requires-clause-begins g c κs within = c.in-Ok.ensures.opened.0.1.begins
+
+pub serve_on-requires-clause-users_begin : goal.serve_on-requires-clause-users_begin
+serve_on-requires-clause-users_begin g c κs within = c.in-Ok.ensures.opened.1.1.begins
+
+pub serve_on-requires-clause-opening : goal.serve_on-requires-clause-opening
+serve_on-requires-clause-opening g c κs within = let h = c.in-Ok.ensures.opened.0 in opened_at g.O.Journal.Disk.told (mirror_state g.O.Journal.Disk.state) h.0.mirror h.0.shelf _ c.in-Ok.element.controller h.1
+
+pub returns : goal.returns
+returns g c =
+    let before = sources (g.O.Opener.state c.args.opener.now) (g.O.Opener.journal_at c.args.opener.now) (g.G.Gate.stops c.args.gate.now) in
+    let after = sources (g.O.Opener.state c.serve_on.new.opener) (g.O.Opener.journal_at c.serve_on.new.opener) (g.G.Gate.stops c.open_mirrored.new.gate) in
+    let p = g.P.Spawner.state c.args.spawner.now in
+    let q = g.P.Spawner.state c.serve_on.new.spawner in
+    let jobs = serving_behind _ _ _ _ p q c.serve_on.result c.in-Ok.ensures.later c.serve_on.ensures in
+    serves g.O.Journal.Disk.told g.O.Peer.Link.told g.O.Journal.Disk.state g.O.Peer.Link.state g.O.Opener.told (named c.args.names.shelf.now c.args.names.journal.now) c.args.site.workers before after (q ≡ p) ((after.stops ≡ before.stops) × IsServing (c.args.site.workers + 16) before.opener.faults after.opener.faults p q c.serve_on.result) c.serve_on.result c.in-Ok.element c.in-Ok.ensures.opened (c.in-Ok.ensures.unstopped, jobs)

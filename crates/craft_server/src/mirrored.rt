@@ -1,0 +1,50 @@
+//! Sessions and frame workers of a controller whose journal a standby has a copy of.
+ghost use Rattle.std.specs.Prelude.{◌≡◌, ◌≤◌, ◌+◌};
+ghost use Rattle.craft_element.specs.Openings.{named, sources};
+ghost use Rattle.craft_element.specs.Peers.{Mirrors};
+ghost use Rattle.craft_server.specs.Serving.{IsServing};
+
+use crate::serve::{Site, serve_on};
+use craft_element::{Controller, Element, Names, open_mirrored};
+use craft_words::Status;
+use dxc_outside::{Gate, Listener, Opener, Spawner};
+use std::alloc::Global;
+use std::sync::Wait;
+
+/// Serves the site with the controller that is opened on these names, its journal mirrored to the standby at the peer, and with its users.
+pub(crate) fn serve_mirrored<O: Opener, G: Gate, P: Spawner, R: Wait>(
+    alloc: Global,
+    opener: &mut O,
+    names: Names<'_>,
+    peer: &str,
+    site: Site<'_>,
+    gate: &mut G,
+    spawner: &mut P,
+    rt: &R,
+) -> Status
+where
+    <O::Listener as Listener>::Link: Send + 'static,
+    requires { (1 ≤ site.workers) × (site.workers ≤ 8) }
+    ensures { Mirrors O.Journal.told O.Peer.told O.Journal.state O.Peer.state O.told (named names.entry.shelf.now names.entry.journal.now) (sources (O.state opener.old) (O.journal_at opener.old) (G.stops gate.old)) (sources (O.state opener.new) (O.journal_at opener.new) (G.stops gate.new)) (P.state spawner.new ≡ P.state spawner.old) (λ f o u. (G.stops gate.new ≡ G.stops gate.old) × IsServing (site.entry.workers + 16) (O.state opener.old).faults (O.state opener.new).faults (P.state spawner.old) (P.state spawner.new) result) result }
+{
+    let Element { controller, users } = match open_mirrored(
+        alloc,
+        opener,
+        names,
+        peer,
+        site.workers,
+        gate,
+    ) {
+        Ok(element) => element,
+        Err(status) => return status,
+    };
+    let Controller {
+        shelf,
+        fabric,
+        seats,
+        state,
+    } = controller;
+    serve_on(
+        alloc, opener, site, &shelf, &fabric, seats, state, users, spawner, rt,
+    )
+}

@@ -1,0 +1,127 @@
+-- What ended otherwise, and counts along calls, over plain variables.
+use Rattle.std.specs.Prelude.{is_some}
+use Rattle.std.proofs.Common.{◌≡◌, ◌≢◌, ◌<◌, ◌≤◌, ◌+◌, ℕ, Bool, true, false, Option, Some, None, le_of_eq, true≢false, ap, refl, sym, ◌∙◌, subst, arith}
+use Rattle.dxc_causes.specs.Causes.{Counted, Rose}
+use Rattle.dxc_outside.specs.declared.gate.Pass1.{Pass1}
+use Rattle.dxc_outside.specs.declared.gate.Pass1.TheVariants as pass
+use Rattle.dxc_outside.specs.declared.send.Sent.{Sent}
+use Rattle.dxc_outside.specs.declared.send.Sent.TheVariants.{Whole, Cut as Sent_cut}
+use Rattle.roll_engine.specs.declared.answer.Advance.{Advance}
+use Rattle.roll_engine.specs.declared.answer.Advance.TheVariants as advance
+use Rattle.xc_core.specs.declared.restarts.Restarting.{Restarting}
+use Rattle.xc_core.specs.declared.restarts.Restarting.TheVariants as restarting
+use Rattle.xc_core.specs.declared.turns.Took.{Took}
+use Rattle.xc_core.specs.declared.turns.Took.TheVariants as took
+use Rattle.craft_session.specs.declared.change.Changed.{Changed}
+use Rattle.craft_session.specs.declared.change.Changed.TheVariants as changed
+use Rattle.craft_session.specs.declared.end.SessionEnd.{SessionEnd}
+use Rattle.craft_session.specs.declared.end.SessionEnd.TheVariants as session
+use Rattle.craft_session.specs.declared.end.Progress.{Progress}
+use Rattle.craft_session.specs.declared.end.Progress.TheVariants.{On, Cut, Stopped}
+use Rattle.craft_session.specs.declared.mend.Mended.{Mended}
+use Rattle.craft_session.specs.declared.mend.Mended.TheVariants as mended
+use Rattle.craft_session.specs.Progresses.{progress_of}
+
+-- by a test that holds of the one and not of the other
+pub apart : {A : Type 0} (test : A → Bool) (how one other : A) → how ≡ one → test one ≡ true → test other ≡ false → how ≢ other
+apart test how one other is holds fails also = true≢false (sym holds ∙ ap test (sym is ∙ also) ∙ fails)
+
+pub unheld : {X : Type 0} (b : Bool) → b ≡ false → b ≡ true → X
+unheld b is holds = absurd (true≢false (sym holds ∙ is))
+
+pub some_there : {A : Type 0} (o : Option A) (x : A) → o ≡ Some x → o ≢ None
+some_there o x is = apart is_some o (Some x) None is refl refl
+
+-- whether no stop came
+abbrev pub took_goes : {D : Type 0} → Took D → Bool
+took_goes took.Stopped = false
+took_goes _ = true
+
+abbrev pub restarting_goes : {D : Type 0} → Restarting D → Bool
+restarting_goes restarting.Stopped = false
+restarting_goes _ = true
+
+abbrev pub advance_goes : Advance → Bool
+advance_goes advance.Stopped = false
+advance_goes _ = true
+
+abbrev pub pass_goes : Pass1 → Bool
+pass_goes pass.Stop = false
+pass_goes _ = true
+
+abbrev pub changed_goes : Changed → Bool
+changed_goes changed.Stopped = false
+changed_goes _ = true
+
+abbrev pub mended_goes : Mended → Bool
+mended_goes mended.Stopped = false
+mended_goes _ = true
+
+abbrev pub progress_goes : Progress → Bool
+progress_goes Stopped = false
+progress_goes _ = true
+
+pub on_goes : (how : Progress) → how ≡ On → how ≢ Stopped
+on_goes how is = apart progress_goes how On Stopped is refl refl
+
+pub cut_goes : (how : Progress) → how ≡ Cut → how ≢ Stopped
+cut_goes how is = apart progress_goes how Cut Stopped is refl refl
+
+-- no stop comes of what was written
+pub sent_goes : (sent : Sent) (how : Progress) → how ≡ progress_of sent → how ≢ Stopped
+sent_goes Whole how is = on_goes how is
+sent_goes Sent_cut how is = cut_goes how is
+
+-- a session's end is no other
+abbrev is_end : SessionEnd → Bool
+is_end session.End = true
+is_end _ = false
+
+abbrev is_read_fault : SessionEnd → Bool
+is_read_fault session.ReadFault = true
+is_read_fault _ = false
+
+abbrev is_write_fault : SessionEnd → Bool
+is_write_fault session.WriteFault = true
+is_write_fault _ = false
+
+abbrev is_stopped : SessionEnd → Bool
+is_stopped session.Stopped = true
+is_stopped _ = false
+
+module _ {X : Type 0} (e : SessionEnd) where
+  pub end_no : session.End ≡ e → is_end e ≡ false → X
+  end_no is other = absurd (apart is_end session.End session.End e refl refl other is)
+
+  pub read_no : session.ReadFault ≡ e → is_read_fault e ≡ false → X
+  read_no is other = absurd (apart is_read_fault session.ReadFault session.ReadFault e refl refl other is)
+
+  pub write_no : session.WriteFault ≡ e → is_write_fault e ≡ false → X
+  write_no is other = absurd (apart is_write_fault session.WriteFault session.WriteFault e refl refl other is)
+
+  pub stop_no : session.Stopped ≡ e → is_stopped e ≡ false → X
+  stop_no is other = absurd (apart is_stopped session.Stopped session.Stopped e refl refl other is)
+
+-- a count that stayed first
+pub later_behind : (a b c : ℕ) → b ≡ a → b ≤ c → a ≤ c
+later_behind a b c same later = subst (λ (n : ℕ). n ≤ c) same later
+
+pub rose_behind : (a b c : ℕ) → b ≡ a → Rose b c → Rose a c
+rose_behind a b c same rose = subst (λ (n : ℕ). Rose n c) same rose
+
+pub stayed : (a b : ℕ) → b ≡ a → a ≤ b
+stayed a b same = le_of_eq (sym same)
+
+-- one that didn't fall first
+pub later_on : (a b c : ℕ) → a ≤ b → b ≤ c → a ≤ c
+later_on a b c first next = omega (arith, first, next)
+
+pub rose_later : (a b c : ℕ) → a ≤ b → Rose b c → Rose a c
+rose_later a b c later rose = omega (arith, later, rose)
+
+pub counted_none : (n : ℕ) → Counted n n 0
+counted_none n = record { reached = omega arith; no_more = omega arith }
+
+-- so many reads and one more are within a limit
+pub few_more : (limit a b c d n : ℕ) → Counted a b n → Counted b c 1 → d ≡ c → n < limit → d ≤ a + limit
+few_more limit a b c d n so_far one is within = omega (arith, so_far.no_more, one.no_more, is, within)

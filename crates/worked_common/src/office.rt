@@ -1,0 +1,209 @@
+use crate::part::Part;
+use crate::shelf::shelf_text;
+use crate::torn::Torn;
+use crate::words::{Line, byte, bytes_of, hex_of, joined, number_of, shape_of, two, words_of};
+use crate::written::number_otherwise;
+use anyhow::{Context, Result};
+use std::alloc::Global;
+use std::fs;
+
+/// The names under which a run finds a row's files.
+pub const SHELF: &str = "s";
+
+pub const JOURNAL: &str = "j";
+
+pub const USERS: &str = "j.users";
+
+/// What a row's runs find, one behind the other.
+#[derive(Drop)]
+pub struct Office<'a> {
+    /// The element's name, as headers have it.
+    pub sid: &'a str,
+    pub shelf: Vec<u8>,
+    /// What the journal's file holds; empty is new.
+    pub journal: Vec<u8>,
+    /// The same of the users' journal.
+    pub users: Vec<u8>,
+    /// What comes of the bytes of a write that fails.
+    pub torn: Torn,
+}
+
+impl<'a> Office<'a> {
+    /// What the first run finds, by the lines in front of it.
+    pub fn of(rt: &HostRuntime, head: Part<'_, 'a>) -> Result<Office<'a>> {
+        let alloc = rt.alloc();
+        let torn = match head.last("torn") {
+            Some(word) => Torn::of(word)?,
+            None => Torn::Lost,
+        };
+        let mut office = Office {
+            sid: head.last("sid").unwrap_or("DXC1"),
+            shelf: shelf_of(rt, head)?,
+            journal: Vec::new(alloc),
+            users: Vec::new(alloc),
+            torn,
+        };
+        for line in head.lines {
+            office.take(alloc, *line, head.number)?;
+        }
+        Ok(office)
+    }
+
+    // Takes a line on the journals, in a row that is run for that number.
+    fn take(&mut self, alloc: Global, line: Line<'_>, number: u64) -> Result<()> {
+        match line.word {
+            "old" => self
+                .journal
+                .extend_from_slice(&bytes_in(alloc, line.rest)?)?,
+            "times" => add_times(alloc, line.rest, &mut self.journal)?,
+            "from" => fill_to(&mut self.journal, number_of(line.rest)? as usize)?,
+            "cut" => self.journal.truncate(number as usize),
+            "change" => turn(&mut self.journal, number as usize, number_of(line.rest)?)?,
+            "people" => self.users = bytes_in(alloc, line.rest)?,
+            _ => {}
+        }
+        Ok(())
+    }
+
+    /// Writes the files under the names of a run.
+    pub fn write(&self, rt: &HostRuntime) -> Result<()> {
+        fs::write(rt, SHELF, &self.shelf)?;
+        fs::write(rt, JOURNAL, &self.journal)?;
+        fs::write(rt, USERS, &self.users)?;
+        Ok(())
+    }
+
+    /// Reads what a run left in the files.
+    pub fn read(&mut self, rt: &HostRuntime) -> Result<()> {
+        self.journal = fs::read(rt, JOURNAL)?;
+        self.users = fs::read(rt, USERS)?;
+        Ok(())
+    }
+
+    /// What of the files is otherwise than it must be behind the run of these lines.
+    pub fn otherwise(&self, alloc: Global, run: Part<'_, '_>) -> Result<Option<String>> {
+        let length = self.journal.len() as u64;
+        if let Some(wanted) = run.number_at("length")? {
+            if let Some(why) = number_otherwise(alloc, "the journal's length", length, wanted)? {
+                return Ok(Some(why));
+            }
+        }
+        for line in run.lines {
+            if let Some(why) = self.line_otherwise(alloc, *line)? {
+                return Ok(Some(why));
+            }
+        }
+        Ok(None)
+    }
+
+    // What isn't as a line says: all of the journal, of the users' journal, or bytes of the journal from a place on.
+    fn line_otherwise(&self, alloc: Global, line: Line<'_>) -> Result<Option<String>> {
+        match line.word {
+            "after" => bytes_otherwise(
+                alloc,
+                "the journal",
+                &self.journal,
+                &bytes_in(alloc, line.rest)?,
+            ),
+            "users" => bytes_otherwise(
+                alloc,
+                "the users' journal",
+                &self.users,
+                &bytes_in(alloc, line.rest)?,
+            ),
+            "piece" => {
+                let (at, digits) = two(line.rest)?;
+                let behind = self.journal.get(number_of(at)? as usize..).unwrap_or(&[]);
+                let wanted = bytes_in(alloc, digits)?;
+                let piece = behind.get(..wanted.len()).unwrap_or(behind);
+                bytes_otherwise(alloc, "a piece", piece, &wanted)
+            }
+            _ => Ok(None),
+        }
+    }
+}
+
+/// What bytes are otherwise than they must be.
+pub fn bytes_otherwise(
+    alloc: Global,
+    what: &str,
+    found: &[u8],
+    wanted: &[u8],
+) -> Result<Option<String>> {
+    if found == wanted {
+        return Ok(None);
+    }
+    let found = hex_of(alloc, found)?;
+    Ok(Some(joined(alloc, &[what, " was ", found.as_str()])?))
+}
+
+// The shelf file: that of a name or of a shape, with texts replaced, or filled up with line ends.
+fn shelf_of(rt: &HostRuntime, head: Part<'_, '_>) -> Result<Vec<u8>> {
+    let alloc = rt.alloc();
+    let mut text = match head.last("shelf") {
+        Some(name) => fs::read(rt, name)?,
+        None => {
+            let (modules, slots) = shape_of(head.last("shape").unwrap_or("2 1"))?;
+            shelf_text(alloc, modules, slots)?.into_bytes()
+        }
+    };
+    if let Some(texts) = head.last("swap") {
+        text = swapped(alloc, &text, texts)?;
+    }
+    if let Some(length) = head.number_at("pad")? {
+        text.resize(text.len().max(length as usize), b'\n')?;
+    }
+    Ok(text)
+}
+
+// The text with each of one text replaced by another; ~ is a line's end in them.
+fn swapped(alloc: Global, text: &[u8], texts: &str) -> Result<Vec<u8>> {
+    let (old, new) = texts.split_once('|').context("two texts are wanted")?;
+    let old = old.replace(alloc, "~", "\n")?;
+    let new = new.replace(alloc, "~", "\n")?;
+    let text = String::from_utf8_lossy(alloc, text)?;
+    let text = text.as_str().replace(alloc, old.as_str(), new.as_str())?;
+    Ok(text.into_bytes())
+}
+
+// Appends the bytes so often.
+fn add_times(alloc: Global, rest: &str, into: &mut Vec<u8>) -> Result<()> {
+    let (times, digits) = two(rest)?;
+    let bytes = bytes_in(alloc, digits)?;
+    for _ in 0..number_of(times)? {
+        into.extend_from_slice(&bytes)?;
+    }
+    Ok(())
+}
+
+// Turns these bits of the byte at a place.
+fn turn(bytes: &mut Vec<u8>, at: usize, bits: u64) -> Result<()> {
+    let bits = byte(bits)?;
+    let byte = bytes
+        .as_mut_slice()
+        .get_mut(at)
+        .context("there is no such byte")?;
+    *byte ^= bits;
+    Ok(())
+}
+
+// Adds zeros up to this length.
+fn fill_to(bytes: &mut Vec<u8>, length: usize) -> Result<()> {
+    bytes.resize(bytes.len().max(length), 0)?;
+    Ok(())
+}
+
+/// The bytes that hexadecimal digits spell; blanks between them fall away. `00*N` stands for so many zeros.
+pub fn bytes_in(alloc: Global, text: &str) -> Result<Vec<u8>> {
+    let mut bytes = Vec::new(alloc);
+    for word in &words_of(alloc, text)? {
+        match word.strip_prefix("00*") {
+            Some(count) => {
+                let length = bytes.len().saturating_add(number_of(count)? as usize);
+                fill_to(&mut bytes, length)?;
+            }
+            None => bytes.extend_from_slice(&bytes_of(alloc, word)?)?,
+        }
+    }
+    Ok(bytes)
+}

@@ -1,0 +1,185 @@
+use crate::words::{Line, number_of, two, words_of};
+use anyhow::{Result, ensure};
+use std::alloc::Global;
+
+/// The words with which a line may begin.
+const WORDS: [&str; 57] = [
+    "row",
+    "each",
+    "shelf",
+    "shape",
+    "swap",
+    "pad",
+    "sid",
+    "torn",
+    "old",
+    "times",
+    "from",
+    "cut",
+    "change",
+    "people",
+    "run",
+    "status",
+    "end",
+    "any",
+    "after",
+    "users",
+    "length",
+    "piece",
+    "calls",
+    "crash",
+    "fails",
+    "lines",
+    "carried",
+    "place",
+    "caller",
+    "peer",
+    "login",
+    "send",
+    "hex",
+    "byte",
+    "fill",
+    "pieces",
+    "takes",
+    "list",
+    "enters",
+    "retrieves",
+    "lists",
+    "sent",
+    "messages",
+    "bytes",
+    "want",
+    "compld",
+    "compldx",
+    "deny",
+    "rows",
+    "report",
+    "standby",
+    "primary",
+    "joins",
+    "write",
+    "sync",
+    "copy",
+    "at",
+];
+
+/// Lines of a row, one behind the other, and the number for which the row is run.
+#[derive(Clone, Copy)]
+pub struct Part<'m, 'a> {
+    pub lines: &'m [Line<'a>],
+    pub number: u64,
+}
+
+impl<'m, 'a> Part<'m, 'a> {
+    /// What stands behind the word, in the last line that begins with it.
+    pub fn last(&self, word: &str) -> Option<&'a str> {
+        let line = self.lines.iter().rev().find(|line| line.word == word)?;
+        Some(line.rest)
+    }
+
+    /// The rows of these lines, the last one first.
+    pub fn rows(self, alloc: Global) -> Result<Vec<Part<'m, 'a>>> {
+        for line in self.lines {
+            ensure!(WORDS.contains(&line.word), "a word isn't known");
+        }
+        let (head, rows) = self.split(alloc, &["row"])?;
+        ensure!(head.lines.is_empty(), "a line stands before the first row");
+        Ok(rows)
+    }
+
+    /// The name of the row.
+    pub fn name(&self) -> &'a str {
+        self.last("row").unwrap_or("")
+    }
+
+    /// The first and the last number for which the row is run.
+    pub fn each(&self) -> Result<(u64, u64)> {
+        let (first, last) = two(self.last("each").unwrap_or("0 0"))?;
+        Ok((number_of(first)?, number_of(last)?))
+    }
+
+    /// The row, run for that number.
+    pub fn at(self, number: u64) -> Part<'m, 'a> {
+        let mut part = self;
+        part.number = number;
+        part
+    }
+
+    /// Whether a line begins with the word.
+    pub fn has(&self, word: &str) -> bool {
+        self.last(word).is_some()
+    }
+
+    /// The number behind the word.
+    pub fn number_at(&self, word: &str) -> Result<Option<u64>> {
+        match self.last(word) {
+            Some(text) => Ok(Some(self.number_in(text)?)),
+            None => Ok(None),
+        }
+    }
+
+    /// The number that the text spells: N is the number of the row, N-1 one less where it isn't 0, N/2 half of it.
+    pub fn number_in(&self, text: &str) -> Result<u64> {
+        match text {
+            "N" => Ok(self.number),
+            "N-1" => Ok(self.number.saturating_sub(1)),
+            "N/2" => Ok(self.number / 2),
+            _ => number_of(text),
+        }
+    }
+
+    /// The numbers of the calls of this kind that fail.
+    pub fn failing(&self, alloc: Global, kind: &str) -> Result<Vec<u64>> {
+        let mut numbers = Vec::new(alloc);
+        for line in self.lines {
+            if line.word == "fails" {
+                let (what, texts) = two(line.rest)?;
+                if what == kind {
+                    self.add_numbers(alloc, texts, &mut numbers)?;
+                }
+            }
+        }
+        Ok(numbers)
+    }
+
+    fn add_numbers(&self, alloc: Global, texts: &str, numbers: &mut Vec<u64>) -> Result<()> {
+        for text in &words_of(alloc, texts)? {
+            numbers.push(self.number_in(text)?)?;
+        }
+        Ok(())
+    }
+
+    /// The lines in front of the first that begins with one of the words, and then, the last one first, those from each such line up to the next.
+    pub fn split(
+        &self,
+        alloc: Global,
+        words: &[&str],
+    ) -> Result<(Part<'m, 'a>, Vec<Part<'m, 'a>>)> {
+        let mut parts = Vec::new(alloc);
+        let mut last = self.lines.len();
+        for at in (0..self.lines.len()).rev() {
+            if self.begins(at, words) {
+                parts.push(self.between(at, last))?;
+                last = at;
+            }
+        }
+        Ok((self.between(0, last), parts))
+    }
+
+    // Whether the line there begins with one of the words.
+    fn begins(&self, at: usize, words: &[&str]) -> bool {
+        match self.lines.get(at) {
+            Some(line) => words.contains(&line.word),
+            None => false,
+        }
+    }
+
+    // The lines from the one place up to the other, all where there are no such places.
+    fn between(self, first: usize, last: usize) -> Part<'m, 'a> {
+        let number = self.number;
+        match self.lines.get(first..last) {
+            Some(lines) => Part { lines, number },
+            None => self,
+        }
+    }
+}
