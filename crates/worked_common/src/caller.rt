@@ -11,8 +11,13 @@ use std::alloc::Global;
 /// What these lines say, for an element of this name.
 pub fn exchange_of(alloc: Global, sid: &str, part: Part<'_, '_>) -> Result<Exchange> {
     let mut exchange = Exchange::new(alloc);
+    take_lines(alloc, sid, part, &mut exchange)?;
+    Ok(exchange)
+}
+
+fn take_lines(alloc: Global, sid: &str, part: Part<'_, '_>, exchange: &mut Exchange) -> Result<()> {
     for line in part.lines {
-        take_line(alloc, sid, part, *line, &mut exchange)?;
+        take_line(alloc, sid, part, *line, exchange)?;
     }
     if let Some(count) = part.number_at("messages")? {
         let end = end_of(&exchange.output, count);
@@ -21,7 +26,7 @@ pub fn exchange_of(alloc: Global, sid: &str, part: Part<'_, '_>) -> Result<Excha
     if let Some(count) = part.number_at("bytes")? {
         exchange.output.truncate(count as usize);
     }
-    Ok(exchange)
+    Ok(())
 }
 
 fn take_line(
@@ -36,16 +41,9 @@ fn take_line(
         "sent" => exchange
             .output
             .extend_from_slice(&bytes_of(alloc, line.rest)?)?,
-        "enters" => enter(alloc, sid, line.rest, exchange)?,
-        "retrieves" => {
-            add_texts(&["RTRV-CRS-T0:::1;"], &mut exchange.input)?;
+        "enters" | "retrieves" | "lists" => {
             let pairs = Entries::of(line.rest)?.pairs(alloc)?;
-            add_blocks(alloc, sid, &pairs, &mut exchange.output)?;
-        }
-        "lists" => {
-            for pair in &Entries::of(line.rest)?.pairs(alloc)? {
-                add_texts(&[pair.as_str(), ":1WAY\n"], &mut exchange.output)?;
-            }
+            take_pairs(alloc, sid, line.word, &pairs, exchange)?;
         }
         _ => {
             let _ = exchange.take(alloc, sid, line.word, line.rest)?;
@@ -54,11 +52,35 @@ fn take_line(
     Ok(())
 }
 
-// Enters the connections that the text tells.
-fn enter(alloc: Global, sid: &str, text: &str, exchange: &mut Exchange) -> Result<()> {
-    for pair in &Entries::of(text)?.pairs(alloc)? {
+// What is done with these connections.
+fn take_pairs(
+    alloc: Global,
+    sid: &str,
+    word: &str,
+    pairs: &[String],
+    exchange: &mut Exchange,
+) -> Result<()> {
+    match word {
+        "enters" => enter(sid, pairs, exchange),
+        "retrieves" => {
+            add_texts(&["RTRV-CRS-T0:::1;"], &mut exchange.input)?;
+            add_blocks(alloc, sid, pairs, &mut exchange.output)
+        }
+        _ => list(pairs, &mut exchange.output),
+    }
+}
+
+fn enter(sid: &str, pairs: &[String], exchange: &mut Exchange) -> Result<()> {
+    for pair in pairs {
         add_texts(&["ENT-CRS-T0::", pair.as_str(), ":1;"], &mut exchange.input)?;
         add_completed(sid, "1", &mut exchange.output)?;
+    }
+    Ok(())
+}
+
+fn list(pairs: &[String], into: &mut Vec<u8>) -> Result<()> {
+    for pair in pairs {
+        add_texts(&[pair.as_str(), ":1WAY\n"], into)?;
     }
     Ok(())
 }

@@ -30,13 +30,17 @@ impl Entries {
     pub fn pairs(self, alloc: Global) -> Result<Vec<String>> {
         let mut pairs = Vec::new(alloc);
         for port in 0..self.count {
-            let ports = self.modules.saturating_mul(self.slots);
-            let to = port.saturating_add(self.step).checked_rem(ports);
-            let from = self.name(alloc, port)?;
-            let to = self.name(alloc, to.unwrap_or(0))?;
-            pairs.push(joined(alloc, &[from.as_str(), ",", to.as_str()])?)?;
+            pairs.push(self.pair(alloc, port)?)?;
         }
         Ok(pairs)
+    }
+
+    fn pair(self, alloc: Global, port: u16) -> Result<String> {
+        let ports = self.modules.saturating_mul(self.slots);
+        let to = port.saturating_add(self.step).checked_rem(ports);
+        let from = self.name(alloc, port)?;
+        let to = self.name(alloc, to.unwrap_or(0))?;
+        joined(alloc, &[from.as_str(), ",", to.as_str()])
     }
 
     fn name(self, alloc: Global, port: u16) -> Result<String> {

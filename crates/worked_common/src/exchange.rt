@@ -1,5 +1,5 @@
 use crate::wanted::{add_completed, add_wanted};
-use crate::words::{add_texts, bytes_of, number_of, numbers_of, two};
+use crate::words::{add_texts, bytes_of, number_of, two};
 use anyhow::Result;
 use std::alloc::Global;
 
@@ -23,16 +23,22 @@ impl Exchange {
 
     /// Takes a line of its own, for an element of this name; false where the word is none of its own.
     pub fn take(&mut self, alloc: Global, sid: &str, word: &str, rest: &str) -> Result<bool> {
-        match word {
-            "login" => self.take_login(sid, rest)?,
-            "send" => add_texts(&[rest], &mut self.input)?,
-            "hex" => self.input.extend_from_slice(&bytes_of(alloc, rest)?)?,
-            "fill" => self.take_fill(rest)?,
-            "pieces" => self.take_pieces(alloc, rest)?,
-            "list" => add_texts(&[rest, "\n"], &mut self.output)?,
-            _ => return add_wanted(alloc, sid, word, rest, &mut self.output),
-        }
+        let taken = match word {
+            "login" => self.take_login(sid, rest),
+            "send" => add_texts(&[rest], &mut self.input),
+            "hex" => self.take_hex(alloc, rest),
+            "fill" => self.take_fill(rest),
+            "pieces" => self.take_pieces(rest),
+            "list" => add_texts(&[rest, "\n"], &mut self.output),
+            _ => return add_wanted(sid, word, rest, &mut self.output),
+        };
+        taken?;
         Ok(true)
+    }
+
+    fn take_hex(&mut self, alloc: Global, rest: &str) -> Result<()> {
+        self.input.extend_from_slice(&bytes_of(alloc, rest)?)?;
+        Ok(())
     }
 
     fn take_login(&mut self, sid: &str, rest: &str) -> Result<()> {
@@ -49,9 +55,9 @@ impl Exchange {
         Ok(())
     }
 
-    fn take_pieces(&mut self, alloc: Global, rest: &str) -> Result<()> {
-        for length in &numbers_of(alloc, rest)? {
-            self.pieces.push(*length as usize)?;
+    fn take_pieces(&mut self, rest: &str) -> Result<()> {
+        for length in rest.split(' ') {
+            self.pieces.push(number_of(length)? as usize)?;
         }
         Ok(())
     }

@@ -12,7 +12,7 @@ use crate::office::{Office, SHELF};
 use crate::opener::{Holding, RowOpener};
 use crate::part::Part;
 use crate::torn::Torn;
-use crate::words::{Line, frame_of, joined, words_of};
+use crate::words::{Line, frame_of, joined};
 use anyhow::{Context, Result};
 use dxc_outside::{MemGate, MemLines, MemLink, MemOpener, Name};
 use std::alloc::Global;
@@ -21,71 +21,81 @@ use std::sync::Arc;
 /// The program serves so many sessions at a time.
 const PLACES: usize = 16;
 
-/// What a run of the program is lent.
+/// The words that begin what a run's opener holds.
+const HELD: [&str; 3] = ["lines", "place", "peer"];
+
+/// What a run of the program is lent beside what it opens.
 #[derive(Drop)]
 pub struct Lent {
     pub words: Vec<Name>,
-    pub terminal: RowLink,
-    pub opener: RowOpener,
     pub gate: MemGate,
-    /// The starts of threads that fail.
-    pub starts: Vec<u64>,
+    pub terminal: RowLink,
 }
 
-/// What the run of these lines is lent in this office, and what it must leave.
-pub fn lend(alloc: Global, run: Part<'_, '_>, office: &Office<'_>) -> Result<(Lent, Due)> {
-    let mut due = Due::new(alloc)?;
-    let (own, parts) = run.split(alloc, &["lines", "place", "peer"])?;
-    let terminal = link_of(alloc, office.sid, own, "the terminal", &mut due)?;
-    let mut holding = holding_of(alloc, run, office, &due)?;
-    for part in &parts {
-        hold(alloc, office.sid, *part, &mut holding, &mut due)?;
-    }
-    let lent = Lent {
+/// What the run of these lines is lent, for an element of this name.
+pub fn lend(alloc: Global, sid: &str, run: Part<'_, '_>, due: &mut Due) -> Result<Lent> {
+    Ok(Lent {
         words: words_in(alloc, run)?,
-        terminal,
-        opener: RowOpener::new(alloc, holding, run.failing(alloc, "opener")?),
         gate: MemGate::new(run.failing(alloc, "gate")?),
-        starts: run.failing(alloc, "starts")?,
-    };
-    Ok((lent, due))
+        terminal: link_of(alloc, sid, run.front(&HELD), "the terminal", due)?,
+    })
+}
+
+/// What the run of these lines opens in this office.
+pub fn opener_of(
+    alloc: Global,
+    run: Part<'_, '_>,
+    office: &Office<'_>,
+    due: &mut Due,
+) -> Result<RowOpener> {
+    let mut holding = Holding::new(alloc, files_of(alloc, &office.shelf)?);
+    hold_disks(alloc, run, office, due, &mut holding)?;
+    hold_listeners(alloc, &mut holding.listeners)?;
+    hold_parts(alloc, office.sid, run, &mut holding, due)?;
+    Ok(RowOpener::new(alloc, holding, run.failing(alloc, "opener")?))
 }
 
 // The words of the program's line.
 fn words_in(alloc: Global, run: Part<'_, '_>) -> Result<Vec<Name>> {
     let mut words = Vec::new(alloc);
-    for word in &words_of(alloc, run.last("run").unwrap_or(""))? {
-        words.push(Name::of(joined(alloc, &[*word])?))?;
+    for word in run.last("run").unwrap_or("").split(' ') {
+        words.push(Name::of(joined(alloc, &[word])?))?;
     }
     Ok(words)
 }
 
-// What the opener holds beside what the run's parts say: nobody calls at a place.
-fn holding_of(alloc: Global, run: Part<'_, '_>, office: &Office<'_>, due: &Due) -> Result<Holding> {
-    let shelf = (
-        Name::of(joined(alloc, &[SHELF])?),
-        copy_of(alloc, &office.shelf)?,
-    );
-    let mut listeners = Vec::new(alloc);
+// The shelf file, under its name.
+fn files_of(alloc: Global, shelf: &[u8]) -> Result<MemOpener> {
+    let shelf = (Name::of(joined(alloc, &[SHELF])?), copy_of(alloc, shelf)?);
+    Ok(MemOpener::new(alloc, Vec::new(alloc)).with_shelves(vec![in alloc; shelf]?))
+}
+
+fn hold_disks(
+    alloc: Global,
+    run: Part<'_, '_>,
+    office: &Office<'_>,
+    due: &Due,
+    holding: &mut Holding,
+) -> Result<()> {
+    let journal = copy_of(alloc, &office.journal)?;
+    holding.journal = Some(disk_of(alloc, run, journal, office.torn, &due.journal)?);
+    let users = copy_of(alloc, &office.users)?;
+    holding.users = Some(plain_disk(alloc, users, office.torn, &due.users)?);
+    Ok(())
+}
+
+// Listeners at which nobody calls.
+fn hold_listeners(alloc: Global, listeners: &mut Vec<RowListener>) -> Result<()> {
     for _ in 0..PLACES {
         listeners.push(RowListener::new(Vec::new(alloc), Vec::new(alloc)))?;
     }
-    let journal = copy_of(alloc, &office.journal)?;
-    let users = copy_of(alloc, &office.users)?;
-    Ok(Holding {
-        files: MemOpener::new(alloc, Vec::new(alloc)).with_shelves(vec![in alloc; shelf]?),
-        journal: Some(disk_of(alloc, run, journal, office.torn, &due.journal)?),
-        users: Some(RowDisk::new(
-            users,
-            Vec::new(alloc),
-            office.torn,
-            Arc::try_clone(&due.users)?,
-        )),
-        lines: Vec::new(alloc),
-        listeners,
-        gates: Vec::new(alloc),
-        peer: None,
-    })
+    Ok(())
+}
+
+// A disk that holds these bytes.
+fn plain_disk(alloc: Global, held: Vec<u8>, torn: Torn, levers: &Arc<Levers>) -> Result<RowDisk> {
+    let levers = Arc::try_clone(levers)?;
+    Ok(RowDisk::new(held, Vec::new(alloc), torn, levers))
 }
 
 /// A disk that holds these bytes, with the calls on it that fail in the run of these lines, and its crash.
@@ -100,7 +110,7 @@ pub fn disk_of(
     if let Some(write) = run.failing(alloc, "writes")?.first() {
         levers.fail_writes(*write, *write);
     }
-    let disk = RowDisk::new(held, Vec::new(alloc), torn, Arc::try_clone(levers)?);
+    let disk = plain_disk(alloc, held, torn, levers)?;
     match run.last("crash") {
         Some(left) => {
             levers.fail_writes(run.number, u64::MAX);
@@ -110,30 +120,48 @@ pub fn disk_of(
     }
 }
 
-// Adds what a worker, a place or the standby is.
-fn hold(
+// Adds what the workers, the places and the standby are.
+fn hold_parts(
+    alloc: Global,
+    sid: &str,
+    run: Part<'_, '_>,
+    holding: &mut Holding,
+    due: &mut Due,
+) -> Result<()> {
+    for part in &run.parts(alloc, &HELD)? {
+        let head = part.lines.first().context("a part has no line")?;
+        match head.word {
+            "lines" => hold_worker(alloc, *part, head.rest, holding, due)?,
+            "place" => hold_place(alloc, sid, *part, holding, due)?,
+            _ => holding.peer = Some(link_of(alloc, sid, *part, "the standby", due)?),
+        }
+    }
+    Ok(())
+}
+
+fn hold_worker(
+    alloc: Global,
+    part: Part<'_, '_>,
+    frames: &str,
+    holding: &mut Holding,
+    due: &mut Due,
+) -> Result<()> {
+    holding.lines.push(lines_of(alloc, part, frames, due)?)?;
+    let gate = MemGate::new(part.failing(alloc, "frames")?);
+    holding.gates.push(gate)?;
+    Ok(())
+}
+
+fn hold_place(
     alloc: Global,
     sid: &str,
     part: Part<'_, '_>,
     holding: &mut Holding,
     due: &mut Due,
 ) -> Result<()> {
-    let head = part.lines.first().context("a part has no line")?;
-    match head.word {
-        "lines" => {
-            holding.lines.push(lines_of(alloc, part, head.rest, due)?)?;
-            holding
-                .gates
-                .push(MemGate::new(part.failing(alloc, "frames")?))?;
-        }
-        "place" => {
-            holding.listeners.push(listener_of(alloc, sid, part, due)?)?;
-            holding
-                .gates
-                .push(MemGate::new(part.failing(alloc, "session")?))?;
-        }
-        _ => holding.peer = Some(link_of(alloc, sid, part, "the standby", due)?),
-    }
+    holding.listeners.push(listener_of(alloc, sid, part, due)?)?;
+    let gate = MemGate::new(part.failing(alloc, "session")?);
+    holding.gates.push(gate)?;
     Ok(())
 }
 
@@ -145,13 +173,14 @@ pub fn link_of(
     who: &'static str,
     due: &mut Due,
 ) -> Result<RowLink> {
+    let most = part.number_at("takes")?.unwrap_or(u64::MAX);
+    let failing = part.failing(alloc, "link")?;
     let Exchange {
         input,
         pieces,
         output,
     } = exchange_of(alloc, sid, part)?;
-    let most = part.number_at("takes")?.unwrap_or(u64::MAX);
-    let held = MemLink::new(input, pieces, part.failing(alloc, "link")?, Vec::new(alloc));
+    let held = MemLink::new(input, pieces, failing, Vec::new(alloc));
     let kept = due.expect(alloc, who, output)?;
     Ok(RowLink::new(alloc, held, most as usize, kept))
 }
@@ -164,8 +193,7 @@ fn listener_of(
     due: &mut Due,
 ) -> Result<RowListener> {
     let mut links = Vec::new(alloc);
-    let (_, callers) = place.split(alloc, &["caller"])?;
-    for caller in &callers {
+    for caller in &place.parts(alloc, &["caller"])? {
         links.push(link_of(alloc, sid, *caller, "a caller", due)?)?;
     }
     Ok(RowListener::new(links, place.failing(alloc, "accepts")?))
@@ -176,8 +204,9 @@ fn lines_of(alloc: Global, part: Part<'_, '_>, frames: &str, due: &mut Due) -> R
     let Line { word, rest } = Line::of(part.last("carried").unwrap_or("0"));
     let carried = frames_of(alloc, rest, part.number_in(word)?)?;
     let kept = due.expect(alloc, "a worker", carried)?;
+    let failing = part.failing(alloc, "lines")?;
     let input = frames_of(alloc, frames, u64::MAX)?;
-    let held = MemLines::new(input, part.failing(alloc, "lines")?, Vec::new(alloc));
+    let held = MemLines::new(input, failing, Vec::new(alloc));
     Ok(RowLines::new(alloc, held, kept))
 }
 
@@ -185,7 +214,7 @@ fn lines_of(alloc: Global, part: Part<'_, '_>, frames: &str, due: &mut Due) -> R
 fn frames_of(alloc: Global, text: &str, count: u64) -> Result<Vec<u8>> {
     let mut bytes = Vec::new(alloc);
     let mut left = count;
-    for frame in &words_of(alloc, text)? {
+    for frame in text.split(' ') {
         if left == 0 {
             break;
         }

@@ -32,7 +32,7 @@ pub use crash::copy_of;
 pub use disk::RowDisk;
 pub use due::{Due, left_by};
 pub use exchange::Exchange;
-pub use lent::{Lent, disk_of, lend, link_of};
+pub use lent::{Lent, disk_of, lend, link_of, opener_of};
 pub use levers::Levers;
 pub use link::{Kept, RowLink};
 pub use noon::NOON;

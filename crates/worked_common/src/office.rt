@@ -1,7 +1,7 @@
 use crate::part::Part;
 use crate::shelf::shelf_text;
 use crate::torn::Torn;
-use crate::words::{Line, byte, bytes_of, hex_of, joined, number_of, shape_of, two, words_of};
+use crate::words::{Line, byte, bytes_of, hex_of, joined, number_of, shape_of, two};
 use crate::written::number_otherwise;
 use anyhow::{Context, Result};
 use std::alloc::Global;
@@ -32,37 +32,38 @@ impl<'a> Office<'a> {
     /// What the first run finds, by the lines in front of it.
     pub fn of(rt: &HostRuntime, head: Part<'_, 'a>) -> Result<Office<'a>> {
         let alloc = rt.alloc();
-        let torn = match head.last("torn") {
-            Some(word) => Torn::of(word)?,
-            None => Torn::Lost,
-        };
         let mut office = Office {
             sid: head.last("sid").unwrap_or("DXC1"),
+            torn: Torn::of(head.last("torn").unwrap_or("lost"))?,
             shelf: shelf_of(rt, head)?,
             journal: Vec::new(alloc),
             users: Vec::new(alloc),
-            torn,
         };
-        for line in head.lines {
-            office.take(alloc, *line, head.number)?;
-        }
+        office.take_all(alloc, head)?;
         Ok(office)
+    }
+
+    fn take_all(&mut self, alloc: Global, head: Part<'_, '_>) -> Result<()> {
+        for line in head.lines {
+            self.take(alloc, *line, head.number)?;
+        }
+        Ok(())
     }
 
     // Takes a line on the journals, in a row that is run for that number.
     fn take(&mut self, alloc: Global, line: Line<'_>, number: u64) -> Result<()> {
         match line.word {
-            "old" => self
-                .journal
-                .extend_from_slice(&bytes_in(alloc, line.rest)?)?,
-            "times" => add_times(alloc, line.rest, &mut self.journal)?,
-            "from" => fill_to(&mut self.journal, number_of(line.rest)? as usize)?,
-            "cut" => self.journal.truncate(number as usize),
-            "change" => turn(&mut self.journal, number as usize, number_of(line.rest)?)?,
-            "people" => self.users = bytes_in(alloc, line.rest)?,
-            _ => {}
+            "old" => add_bytes(alloc, line.rest, &mut self.journal),
+            "times" => add_times(alloc, line.rest, &mut self.journal),
+            "from" => fill_to(&mut self.journal, number_of(line.rest)? as usize),
+            "change" => turn(&mut self.journal, number as usize, number_of(line.rest)?),
+            "people" => add_bytes(alloc, line.rest, &mut self.users),
+            "cut" => {
+                self.journal.truncate(number as usize);
+                Ok(())
+            }
+            _ => Ok(()),
         }
-        Ok(())
     }
 
     /// Writes the files under the names of a run.
@@ -83,14 +84,15 @@ impl<'a> Office<'a> {
     /// What of the files is otherwise than it must be behind the run of these lines.
     pub fn otherwise(&self, alloc: Global, run: Part<'_, '_>) -> Result<Option<String>> {
         let length = self.journal.len() as u64;
-        if let Some(wanted) = run.number_at("length")? {
-            if let Some(why) = number_otherwise(alloc, "the journal's length", length, wanted)? {
-                return Ok(Some(why));
-            }
+        let wanted = run.number_at("length")?.unwrap_or(length);
+        let why = number_otherwise(alloc, "the journal's length", length, wanted)?;
+        if why.is_some() {
+            return Ok(why);
         }
         for line in run.lines {
-            if let Some(why) = self.line_otherwise(alloc, *line)? {
-                return Ok(Some(why));
+            let why = self.line_otherwise(alloc, *line)?;
+            if why.is_some() {
+                return Ok(why);
             }
         }
         Ok(None)
@@ -111,15 +113,17 @@ impl<'a> Office<'a> {
                 &self.users,
                 &bytes_in(alloc, line.rest)?,
             ),
-            "piece" => {
-                let (at, digits) = two(line.rest)?;
-                let behind = self.journal.get(number_of(at)? as usize..).unwrap_or(&[]);
-                let wanted = bytes_in(alloc, digits)?;
-                let piece = behind.get(..wanted.len()).unwrap_or(behind);
-                bytes_otherwise(alloc, "a piece", piece, &wanted)
-            }
+            "piece" => self.piece_otherwise(alloc, line.rest),
             _ => Ok(None),
         }
+    }
+
+    fn piece_otherwise(&self, alloc: Global, text: &str) -> Result<Option<String>> {
+        let (at, digits) = two(text)?;
+        let behind = self.journal.get(number_of(at)? as usize..).unwrap_or(&[]);
+        let wanted = bytes_in(alloc, digits)?;
+        let piece = behind.get(..wanted.len()).unwrap_or(behind);
+        bytes_otherwise(alloc, "a piece", piece, &wanted)
     }
 }
 
@@ -159,11 +163,15 @@ fn shelf_of(rt: &HostRuntime, head: Part<'_, '_>) -> Result<Vec<u8>> {
 // The text with each of one text replaced by another; ~ is a line's end in them.
 fn swapped(alloc: Global, text: &[u8], texts: &str) -> Result<Vec<u8>> {
     let (old, new) = texts.split_once('|').context("two texts are wanted")?;
-    let old = old.replace(alloc, "~", "\n")?;
-    let new = new.replace(alloc, "~", "\n")?;
+    let old = replaced(alloc, old, "~", "\n")?;
+    let new = replaced(alloc, new, "~", "\n")?;
     let text = String::from_utf8_lossy(alloc, text)?;
-    let text = text.as_str().replace(alloc, old.as_str(), new.as_str())?;
+    let text = replaced(alloc, text.as_str(), old.as_str(), new.as_str())?;
     Ok(text.into_bytes())
+}
+
+fn replaced(alloc: Global, text: &str, old: &str, new: &str) -> Result<String> {
+    Ok(text.replace(alloc, old, new)?)
 }
 
 // Appends the bytes so often.
@@ -196,14 +204,19 @@ fn fill_to(bytes: &mut Vec<u8>, length: usize) -> Result<()> {
 /// The bytes that hexadecimal digits spell; blanks between them fall away. `00*N` stands for so many zeros.
 pub fn bytes_in(alloc: Global, text: &str) -> Result<Vec<u8>> {
     let mut bytes = Vec::new(alloc);
-    for word in &words_of(alloc, text)? {
+    add_bytes(alloc, text, &mut bytes)?;
+    Ok(bytes)
+}
+
+fn add_bytes(alloc: Global, text: &str, into: &mut Vec<u8>) -> Result<()> {
+    for word in text.split(' ') {
         match word.strip_prefix("00*") {
             Some(count) => {
-                let length = bytes.len().saturating_add(number_of(count)? as usize);
-                fill_to(&mut bytes, length)?;
+                let length = into.len().saturating_add(number_of(count)? as usize);
+                fill_to(into, length)?;
             }
-            None => bytes.extend_from_slice(&bytes_of(alloc, word)?)?,
+            None => into.extend_from_slice(&bytes_of(alloc, word)?)?,
         }
     }
-    Ok(bytes)
+    Ok(())
 }

@@ -27,6 +27,21 @@ pub struct Holding {
     pub peer: Option<RowLink>,
 }
 
+impl Holding {
+    /// The shelf file alone.
+    pub fn new(alloc: Global, files: MemOpener) -> Holding {
+        Holding {
+            files,
+            journal: None,
+            users: None,
+            lines: Vec::new(alloc),
+            listeners: Vec::new(alloc),
+            gates: Vec::new(alloc),
+            peer: None,
+        }
+    }
+}
+
 /// Hands out what it holds, whatever the name. Calls of those that may fail are numbered from 0; those of the numbers in `failing` fail, and one for
 /// what it doesn't hold. It tells nothing of what it holds.
 #[derive(Drop)]

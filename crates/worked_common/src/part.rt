@@ -1,4 +1,4 @@
-use crate::words::{Line, number_of, two, words_of};
+use crate::words::{Line, number_of, two};
 use anyhow::{Result, ensure};
 use std::alloc::Global;
 
@@ -82,9 +82,9 @@ impl<'m, 'a> Part<'m, 'a> {
         for line in self.lines {
             ensure!(WORDS.contains(&line.word), "a word isn't known");
         }
-        let (head, rows) = self.split(alloc, &["row"])?;
+        let head = self.front(&["row"]);
         ensure!(head.lines.is_empty(), "a line stands before the first row");
-        Ok(rows)
+        self.parts(alloc, &["row"])
     }
 
     /// The name of the row.
@@ -135,26 +135,32 @@ impl<'m, 'a> Part<'m, 'a> {
             if line.word == "fails" {
                 let (what, texts) = two(line.rest)?;
                 if what == kind {
-                    self.add_numbers(alloc, texts, &mut numbers)?;
+                    self.add_numbers(texts, &mut numbers)?;
                 }
             }
         }
         Ok(numbers)
     }
 
-    fn add_numbers(&self, alloc: Global, texts: &str, numbers: &mut Vec<u64>) -> Result<()> {
-        for text in &words_of(alloc, texts)? {
+    fn add_numbers(&self, texts: &str, numbers: &mut Vec<u64>) -> Result<()> {
+        for text in texts.split(' ') {
             numbers.push(self.number_in(text)?)?;
         }
         Ok(())
     }
 
-    /// The lines in front of the first that begins with one of the words, and then, the last one first, those from each such line up to the next.
-    pub fn split(
-        &self,
-        alloc: Global,
-        words: &[&str],
-    ) -> Result<(Part<'m, 'a>, Vec<Part<'m, 'a>>)> {
+    /// The lines in front of the first that begins with one of the words.
+    pub fn front(self, words: &[&str]) -> Part<'m, 'a> {
+        for at in 0..self.lines.len() {
+            if self.begins(at, words) {
+                return self.between(0, at);
+            }
+        }
+        self
+    }
+
+    /// From each line that begins with one of the words the lines up to the next such one, the last ones first.
+    pub fn parts(self, alloc: Global, words: &[&str]) -> Result<Vec<Part<'m, 'a>>> {
         let mut parts = Vec::new(alloc);
         let mut last = self.lines.len();
         for at in (0..self.lines.len()).rev() {
@@ -163,7 +169,7 @@ impl<'m, 'a> Part<'m, 'a> {
                 last = at;
             }
         }
-        Ok((self.between(0, last), parts))
+        Ok(parts)
     }
 
     // Whether the line there begins with one of the words.

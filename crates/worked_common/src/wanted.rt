@@ -1,35 +1,36 @@
 //! What a session must be written, line by line.
 
-use crate::words::{add_texts, number_of, two, words_of};
+use crate::words::{add_texts, number_of, two};
 use anyhow::Result;
-use std::alloc::Global;
 
 /// Appends what a line of a row wants of an element of this name; false where the word is none of these.
-pub fn add_wanted(
-    alloc: Global,
-    sid: &str,
-    word: &str,
-    rest: &str,
-    into: &mut Vec<u8>,
-) -> Result<bool> {
-    match word {
-        "want" => add_line(sid, rest, into)?,
-        "compld" => add_completed(sid, rest, into)?,
-        "compldx" => {
-            let (count, tag) = two(rest)?;
-            for _ in 0..number_of(count)? {
-                add_completed(sid, tag, into)?;
-            }
-        }
-        "deny" => add_denied(sid, rest, into)?,
-        "rows" => add_rows(alloc, sid, rest, into)?,
-        "report" => {
-            let (number, text) = two(rest)?;
-            add_report(sid, number, text, into)?;
-        }
+pub fn add_wanted(sid: &str, word: &str, rest: &str, into: &mut Vec<u8>) -> Result<bool> {
+    let added = match word {
+        "want" => add_line(sid, rest, into),
+        "compld" => add_completed(sid, rest, into),
+        "compldx" => add_often(sid, rest, into),
+        "deny" => add_denied(sid, rest, into),
+        "rows" => add_rows(sid, rest, into),
+        "report" => add_told(sid, rest, into),
         _ => return Ok(false),
-    }
+    };
+    added?;
     Ok(true)
+}
+
+// Appends so many responses COMPLD of one tag.
+fn add_often(sid: &str, rest: &str, into: &mut Vec<u8>) -> Result<()> {
+    let (count, tag) = two(rest)?;
+    for _ in 0..number_of(count)? {
+        add_completed(sid, tag, into)?;
+    }
+    Ok(())
+}
+
+// Appends a report; its number stands in front of its text.
+fn add_told(sid: &str, rest: &str, into: &mut Vec<u8>) -> Result<()> {
+    let (number, text) = two(rest)?;
+    add_report(sid, number, text, into)
 }
 
 /// Appends the header of the fixed clock.
@@ -81,11 +82,11 @@ pub fn add_report(sid: &str, number: &str, text: &str, into: &mut Vec<u8>) -> Re
 }
 
 // Appends a response COMPLD with rows, which stand behind its tag.
-fn add_rows(alloc: Global, sid: &str, rest: &str, into: &mut Vec<u8>) -> Result<()> {
+fn add_rows(sid: &str, rest: &str, into: &mut Vec<u8>) -> Result<()> {
     let (tag, rows) = two(rest)?;
     add_header(sid, into)?;
     add_texts(&["M  ", tag, " COMPLD\r\n"], into)?;
-    for row in &words_of(alloc, rows)? {
+    for row in rows.split(' ') {
         add_texts(&["   \"", row, "\"\r\n"], into)?;
     }
     add_texts(&[";"], into)

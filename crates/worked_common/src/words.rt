@@ -68,7 +68,7 @@ pub fn small_of(text: &str) -> Result<u16> {
 /// The numbers that the text spells, with a blank between any two.
 pub fn numbers_of(alloc: Global, text: &str) -> Result<Vec<u64>> {
     let mut numbers = Vec::new(alloc);
-    for word in &words_of(alloc, text)? {
+    for word in text.split(' ') {
         numbers.push(number_of(word)?)?;
     }
     Ok(numbers)

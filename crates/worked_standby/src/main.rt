@@ -8,20 +8,31 @@ mod standby;
 use crate::primary::primary_otherwise;
 use crate::standby::standby_otherwise;
 use anyhow::Result;
+use std::alloc::Global;
 use std::fs;
 use worked_common::{Part, Tally, decimal, joined, lines_of};
 
 fn main(rt: HostRuntime) -> Result<()> {
-    let alloc = rt.alloc();
     let text = fs::read_to_string(&rt, "rows.txt")?;
-    let lines = lines_of(alloc, text.as_str())?;
+    let told = told_of(rt.alloc(), text.as_str())?;
+    print!(rt; "{told}")?;
+    Ok(())
+}
+
+// What comes of the rows of a text.
+fn told_of(alloc: Global, text: &str) -> Result<String> {
+    let lines = lines_of(alloc, text)?;
     let all = Part {
         lines: &lines,
         number: 0,
     };
-    let rows = all.rows(alloc)?;
     let mut tally = Tally::new(alloc);
-    for row in rows.iter().rev() {
+    run_rows(alloc, all, &mut tally)?;
+    summed(alloc, &tally)
+}
+
+fn run_rows(alloc: Global, all: Part<'_, '_>, tally: &mut Tally) -> Result<()> {
+    for row in all.rows(alloc)?.iter().rev() {
         let why = if row.has("standby") {
             standby_otherwise(alloc, *row)?
         } else {
@@ -29,9 +40,11 @@ fn main(rt: HostRuntime) -> Result<()> {
         };
         tally.count(alloc, row.name(), 0, why)?;
     }
+    Ok(())
+}
+
+fn summed(alloc: Global, tally: &Tally) -> Result<String> {
     let count = decimal(alloc, tally.runs)?;
     let counted = joined(alloc, &[count.as_str(), " rows"])?;
-    let told = tally.told(alloc, counted.as_str())?;
-    print!(rt; "{told}")?;
-    Ok(())
+    tally.told(alloc, counted.as_str())
 }

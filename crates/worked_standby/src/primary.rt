@@ -1,39 +1,66 @@
 use crate::standby::{disk_in, serve};
 use anyhow::Result;
 use dxc_disk::Disk;
-use dxc_outside::MemLink;
+use dxc_outside::{Link, MemLink};
 use standby_link::{Mirror, MirrorDisk};
 use std::alloc::Global;
 use worked_common::{
-    Due, Line, Part, RowDisk, RowLink, bytes_in, bytes_otherwise, joined, left_by, link_of,
-    number_of, spelled, text_otherwise, two,
+    Due, Line, Part, RowDisk, bytes_in, bytes_otherwise, joined, left_by, link_of, number_of,
+    spelled, text_otherwise, two,
 };
 
 /// What a primary does otherwise than it must.
 pub fn primary_otherwise(alloc: Global, row: Part<'_, '_>) -> Result<Option<String>> {
     let mut due = Due::new(alloc)?;
-    let link = link_of(alloc, "", row, "the standby", &mut due)?;
-    let mut mirror = MirrorDisk::join(disk_in(alloc, row, &due.journal)?, link);
-    for line in row.lines {
-        if let Some(why) = line_otherwise(alloc, &mut mirror, *line)? {
-            return Ok(Some(why));
-        }
-    }
-    let is_joined = mirror.mirror() == Mirror::Joined;
-    // What is dropped leaves what it holds.
-    drop(mirror);
     let copy = bytes_in(alloc, row.last("copy").unwrap_or(""))?;
-    if is_joined {
-        let file = left_by(alloc, &due.journal)?;
-        if let Some(why) = bytes_otherwise(alloc, "its own file", &file, &copy)? {
-            return Ok(Some(why));
-        }
+    let why = calls_otherwise(alloc, row, &copy, &mut due)?;
+    if why.is_some() {
+        return Ok(why);
     }
-    if let Some(why) = due.written_otherwise(alloc)? {
-        return Ok(Some(why));
+    let why = due.written_otherwise(alloc)?;
+    if why.is_some() {
+        return Ok(why);
     }
     let copied = copy_by(alloc, bytes_in(alloc, row.last("sent").unwrap_or(""))?)?;
     bytes_otherwise(alloc, "the copy", &copied, &copy)
+}
+
+// What is otherwise than the lines' calls say, and where the standby is joined to the end, than its own file must be. All that is lent is dropped, and
+// leaves what it holds.
+fn calls_otherwise(
+    alloc: Global,
+    row: Part<'_, '_>,
+    copy: &[u8],
+    due: &mut Due,
+) -> Result<Option<String>> {
+    let (why, is_joined) = called(alloc, row, due)?;
+    if why.is_some() || !is_joined {
+        return Ok(why);
+    }
+    let file = left_by(alloc, &due.journal)?;
+    bytes_otherwise(alloc, "its own file", &file, copy)
+}
+
+// What is otherwise than the lines' calls say, and whether the standby is joined to the end.
+fn called(alloc: Global, row: Part<'_, '_>, due: &mut Due) -> Result<(Option<String>, bool)> {
+    let link = link_of(alloc, "", row, "the standby", due)?;
+    let mut mirror = MirrorDisk::join(disk_in(alloc, row, &due.journal)?, link);
+    let why = lines_otherwise(alloc, row, &mut mirror)?;
+    Ok((why, mirror.mirror() == Mirror::Joined))
+}
+
+fn lines_otherwise<K: Link>(
+    alloc: Global,
+    row: Part<'_, '_>,
+    mirror: &mut MirrorDisk<RowDisk, K>,
+) -> Result<Option<String>> {
+    for line in row.lines {
+        let why = line_otherwise(alloc, mirror, *line)?;
+        if why.is_some() {
+            return Ok(why);
+        }
+    }
+    Ok(None)
 }
 
 // What a new standby's file becomes by these bytes.
@@ -47,19 +74,14 @@ fn copy_by(alloc: Global, sent: Vec<u8>) -> Result<Vec<u8>> {
 }
 
 // Makes the call that a line tells, and what comes of it otherwise.
-fn line_otherwise(
+fn line_otherwise<K: Link>(
     alloc: Global,
-    mirror: &mut MirrorDisk<RowDisk, RowLink>,
+    mirror: &mut MirrorDisk<RowDisk, K>,
     line: Line<'_>,
 ) -> Result<Option<String>> {
     let (is_ok, rest) = match line.word {
         "joins" => (true, line.rest),
-        "write" => {
-            let (place, rest) = two(line.rest)?;
-            let (digits, rest) = two(rest)?;
-            let bytes = bytes_in(alloc, digits)?;
-            (mirror.write_at(number_of(place)?, &bytes).is_ok(), rest)
-        }
+        "write" => write(alloc, mirror, line.rest)?,
         "sync" => (mirror.sync().is_ok(), line.rest),
         _ => return Ok(None),
     };
@@ -67,6 +89,19 @@ fn line_otherwise(
     if is_ok != (answer == "ok") {
         return Ok(Some(joined(alloc, &["a call was answered otherwise"])?));
     }
-    let mirror = spelled(alloc, &mirror.mirror())?;
-    text_otherwise(alloc, "it", mirror.as_str(), stands)
+    let stood = spelled(alloc, &mirror.mirror())?;
+    text_otherwise(alloc, "it", stood.as_str(), stands)
+}
+
+// Writes what the text tells; whether that was answered, and the text behind it.
+fn write<'a, K: Link>(
+    alloc: Global,
+    mirror: &mut MirrorDisk<RowDisk, K>,
+    text: &'a str,
+) -> Result<(bool, &'a str)> {
+    let (place, rest) = two(text)?;
+    let (digits, rest) = two(rest)?;
+    let place = number_of(place)?;
+    let bytes = bytes_in(alloc, digits)?;
+    Ok((mirror.write_at(place, &bytes).is_ok(), rest))
 }

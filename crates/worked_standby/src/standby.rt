@@ -1,11 +1,12 @@
 use anyhow::{Context, Result};
-use dxc_outside::MemLink;
+use dxc_disk::Disk;
+use dxc_outside::{Link, MemLink};
 use standby_link::serve_standby;
 use std::alloc::Global;
 use std::sync::Arc;
 use worked_common::{
-    Levers, Part, RowDisk, Torn, bytes_in, bytes_otherwise, copy_of, decimal, disk_of, exchange_of,
-    joined, left_by, number_of, spelled, text_otherwise, two,
+    Exchange, Levers, Part, RowDisk, Torn, bytes_in, bytes_otherwise, copy_of, decimal, disk_of,
+    exchange_of, joined, left_by, number_of, spelled, text_otherwise, two,
 };
 
 /// How a standby ended, its file, and what it sent.
@@ -24,38 +25,53 @@ pub fn disk_in(alloc: Global, row: Part<'_, '_>, levers: &Arc<Levers>) -> Result
 
 /// Serves a standby over the link, on that disk.
 pub fn serve(alloc: Global, row: Part<'_, '_>, link: MemLink) -> Result<Served> {
-    let mut link = link;
     let levers = Levers::new(alloc).ok().context("no memory")?;
-    let mut disk = disk_in(alloc, row, &levers)?;
-    let end = serve_standby(&mut link, &mut disk);
-    // Where it is dropped the disk leaves what it holds.
-    drop(disk);
+    let mut link = link;
+    let end = end_on(alloc, disk_in(alloc, row, &levers)?, &mut link)?;
     Ok(Served {
-        end: spelled(alloc, &end)?,
+        end,
         file: left_by(alloc, &levers)?,
         sent: copy_of(alloc, link.output())?,
     })
 }
 
+// How it ended. Where it is dropped the disk leaves what it holds.
+fn end_on<D: Disk + Drop, K: Link>(alloc: Global, disk: D, link: &mut K) -> Result<String> {
+    let mut disk = disk;
+    let end = serve_standby(link, &mut disk);
+    spelled(alloc, &end)
+}
+
 /// What a standby does otherwise than it must, with its input cut behind some byte or whole.
 pub fn standby_otherwise(alloc: Global, row: Part<'_, '_>) -> Result<Option<String>> {
     let exchange = exchange_of(alloc, "", row)?;
-    let input = exchange.input.as_slice();
-    for cut in 0..=input.len() {
-        let link = MemLink::new(
-            copy_of(alloc, input.get(..cut).unwrap_or(input))?,
-            exchange.pieces.clone()?,
-            row.failing(alloc, "link")?,
-            Vec::new(alloc),
-        );
-        let served = serve(alloc, row, link)?;
-        if let Some(why) = served_otherwise(alloc, mark_at(row, cut as u64)?, &served)? {
+    for cut in 0..=exchange.input.len() {
+        let why = cut_otherwise(alloc, row, &exchange, cut)?;
+        if let Some(why) = why {
             let cut = decimal(alloc, cut as u64)?;
             let texts = ["of ", cut.as_str(), " bytes ", why.as_str()];
             return Ok(Some(joined(alloc, &texts)?));
         }
     }
     Ok(None)
+}
+
+// The same with the input cut behind so many bytes.
+fn cut_otherwise(
+    alloc: Global,
+    row: Part<'_, '_>,
+    exchange: &Exchange,
+    cut: usize,
+) -> Result<Option<String>> {
+    let input = exchange.input.as_slice();
+    let link = MemLink::new(
+        copy_of(alloc, input.get(..cut).unwrap_or(input))?,
+        exchange.pieces.clone()?,
+        row.failing(alloc, "link")?,
+        Vec::new(alloc),
+    );
+    let served = serve(alloc, row, link)?;
+    served_otherwise(alloc, mark_at(row, cut as u64)?, &served)
 }
 
 // What the last line says that is of so many bytes or fewer.
@@ -75,13 +91,24 @@ fn mark_at<'a>(row: Part<'_, 'a>, cut: u64) -> Result<&'a str> {
 fn served_otherwise(alloc: Global, mark: &str, served: &Served) -> Result<Option<String>> {
     let (end, rest) = two(mark)?;
     let (file, sent) = two(rest)?;
-    if let Some(why) = text_otherwise(alloc, "the end", served.end.as_str(), end)? {
-        return Ok(Some(why));
+    let why = text_otherwise(alloc, "the end", served.end.as_str(), end)?;
+    if why.is_some() {
+        return Ok(why);
     }
-    let file = bytes_in(alloc, file.strip_prefix("-").unwrap_or(file))?;
-    if let Some(why) = bytes_otherwise(alloc, "the file", &served.file, &file)? {
-        return Ok(Some(why));
+    let why = marked_otherwise(alloc, "the file", &served.file, file)?;
+    if why.is_some() {
+        return Ok(why);
     }
-    let sent = bytes_in(alloc, sent.strip_prefix("-").unwrap_or(sent))?;
-    bytes_otherwise(alloc, "what it sent", &served.sent, &sent)
+    marked_otherwise(alloc, "what it sent", &served.sent, sent)
+}
+
+// What bytes are otherwise than the digits say.
+fn marked_otherwise(
+    alloc: Global,
+    what: &str,
+    found: &[u8],
+    digits: &str,
+) -> Result<Option<String>> {
+    let wanted = bytes_in(alloc, digits.strip_prefix("-").unwrap_or(digits))?;
+    bytes_otherwise(alloc, what, found, &wanted)
 }
