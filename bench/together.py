@@ -87,7 +87,7 @@ def asked_by(text):
 
 def tables_of(texts):
     """The plain table behind so many changes, for each number of them."""
-    tables = [Table(b"DXC1", MODULES, SLOTS, [plain.User("ANNA", "S", b"a", bytes.fromhex(DIGEST))], set())]
+    tables = [Table(b"DXC1", MODULES, SLOTS, [plain.User("ANNA", "S", b"a", bytes.fromhex(DIGEST))], set(range(1, MODULES + 1)))]
     for number, text in enumerate(texts):
         was = tables[-1]
         now = Table(was.sid, was.modules, was.slots, was.users, set(was.equipped), dict(was.connections))
@@ -148,7 +148,6 @@ def run(rounds, units, seed):
         while len(pool) < MODULES * SLOTS:
             pair = name(dice), name(dice)
             pool += [",".join(pair)] if pair[0] != pair[1] else []
-        callers[0].round([f"ENT-EQPT::MOD-{module}:1".encode() for module in range(1, MODULES + 1)])
         for number in range(rounds):
             work = [threading.Thread(target=it.round, args=([unit(it.dice, pool, f"{number + 1}X{at}") for at in range(units)],)) for it in callers]
             for it in work:
