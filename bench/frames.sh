@@ -1,21 +1,19 @@
 #!/bin/sh
 # What an output byte costs in frames full of joins, beside plain C over the same words: time, and instructions where valgrind is
 # there. A word says how many frames are timed; CC names the C compiler.
-cd "$(dirname "$0")/.." || exit 1
+set -eu
+cd "$(dirname "$0")/.."
 frames=${1:-50000}
-made=$(mktemp -d) && trap 'rm -r "$made"' EXIT
-"${CC:-clang}" -O2 -o "$made/plain" bench/frames.c || exit 1
-(cd crates/bench_core && rt run) >"$made/once.txt" || exit 1
-cmp "$made/once.txt" crates/bench_core/stdout || exit 1
-cp crates/bench_core/out/bench_core "$made/proved" || exit 1
-"$made/plain" >"$made/plain.txt" || exit 1
-grep sum "$made/once.txt" | cmp - "$made/plain.txt" || exit 1
+. bench/outside.sh
+build_outside frames
+"${CC:-clang}" -O2 -o "$room/plain" bench/frames.c
+"$room/plain" | cmp - "$room/once.txt"
 
 # Runs the one or the other: so many frames of a network with so many modules, or of each.
 carry() {
     case $1 in
-    plain) shift && $valgrind "$made/plain" "$@" ;;
-    proved) shift && $valgrind "$made/proved" frames "$@" ;;
+    plain) shift && $valgrind "$room/plain" "$@" ;;
+    proved) shift && $valgrind "$program" "$@" ;;
     esac
 }
 
@@ -26,15 +24,15 @@ instructions() {
     awk -v few="$few" -v many="$many" -v bytes="$3" 'BEGIN { printf "%.2f", (many - few) / 200 / bytes }'
 }
 
-for program in proved plain; do
-    echo "$program:"
+for which in proved plain; do
+    echo "$which:"
     valgrind=
-    carry $program "$frames" | awk -v frames="$frames" '{
+    carry $which "$frames" | awk -v frames="$frames" '{
         nanos = $(NF - 1)
         printf "%s by %d: %.0f picoseconds a byte\n", $1, $3, nanos * 1000 / frames / ($1 * $3)
     }'
     command -v valgrind >/dev/null || continue
     valgrind="valgrind --tool=callgrind --callgrind-out-file=/dev/null"
-    echo "8 by 24: $(instructions $program 8 192) instructions a byte"
-    echo "32 by 32: $(instructions $program 32 1024) instructions a byte"
+    echo "8 by 24: $(instructions $which 8 192) instructions a byte"
+    echo "32 by 32: $(instructions $which 32 1024) instructions a byte"
 done

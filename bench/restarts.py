@@ -1,6 +1,6 @@
 #!/usr/bin/env python3
 """Writes rows of crates/worked_restarts: an entry that needs three moves, and a middle that goes out of service and comes back, are stopped at each
-of their gate places, and restarts come behind.
+of their gate places, and restarts come behind; and random walks (bench/walk.py).
 
 usage: bench/restarts.py            writes crates/worked_restarts/data/stops.txt and points.txt
        bench/restarts.py --check    ends with an error where one of these files is another one
@@ -9,6 +9,8 @@ What the registers hold after each of the entry's writes is reckoned from the wo
 """
 import os
 import sys
+
+from walk import walks
 
 TOP = os.path.dirname(os.path.dirname(os.path.abspath(__file__)))
 DATA = os.path.join(TOP, "crates", "worked_restarts", "data")
@@ -263,10 +265,10 @@ def texts():
     points = [part for work in (ENTRY, TAKE, PUT, *PART.values()) for part in work.parts()]
     rows = [
         "\n".join([f"row {name}", *lines]) + "\n"
-        for rows in (restarts(), adoptions(), second_stops(), stops_of_deletions(), changes(), middles(), faults(), seals())
+        for rows in (restarts(), adoptions(), second_stops(), stops_of_deletions(), changes(), middles(), faults(), seals(), walks())
         for name, lines in rows
     ]
-    head = "# Stops at each place of an entry that needs three moves and of a middle that goes out and comes back, and restarts. `bench/restarts.py` writes them.\n\n"
+    head = "# Stops at each place of an entry that needs three moves and of a middle that goes out and comes back, and restarts; and random walks. `bench/restarts.py` writes them.\n\n"
     return {"points.txt": "\n".join(points), "stops.txt": head + "\n".join(rows)}
 
 

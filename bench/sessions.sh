@@ -1,20 +1,11 @@
 #!/bin/sh
 # Units a second of 1, 4 and 16 sessions at one state, on links in memory and each on a thread of its own, until all have ended; and
 # instructions a unit of one session where valgrind is there. A word says how many units each session asks: at most 65000.
-# The program is the crate in bench/sessions, which the gate leaves out for its time: it is proved and built in a copy.
 set -eu
 cd "$(dirname "$0")/.."
 units=${1:-20000}
-room=$(mktemp -d)
-trap 'rm -rf "$room"' EXIT
-trap 'exit 1' HUP INT TERM
-cp -a crates crates.txt HANDLES "$room"
-cp -a bench/sessions "$room/crates/bench_sessions"
-cat bench/sessions/libraries.txt >>"$room/crates.txt"
-cd "$room/crates/bench_sessions"
-rt run >once.txt
-cmp once.txt stdout
-program=$room/crates/bench_sessions/out/bench_sessions
+. bench/outside.sh
+build_outside sessions
 "$program" "$units" | awk '{
     for (i = 2; i <= NF; i++) { if ($i == "completed,") units = $(i - 1); if ($i == "denied,") units += $(i - 1) }
     nanos = $(NF - 1)

@@ -1,0 +1,13 @@
+# To be sourced at the top of the checkout by the scripts of measures: proves and builds the program whose crate lies in bench/NAME, which the gate
+# leaves out for its time, in a copy of the checkout's crates that goes with the shell, and compares what it prints with what it must. $program is it then.
+build_outside() {
+    room=$(mktemp -d)
+    trap 'rm -rf "$room"' EXIT
+    trap 'exit 1' HUP INT TERM
+    cp -a crates crates.txt HANDLES "$room"
+    cp -a "bench/$1" "$room/crates/bench_$1"
+    cat "bench/$1/libraries.txt" >>"$room/crates.txt"
+    (cd "$room/crates/bench_$1" && rt run) >"$room/once.txt"
+    cmp "$room/once.txt" "bench/$1/stdout"
+    program=$room/crates/bench_$1/out/bench_$1
+}
