@@ -35,6 +35,8 @@ pub fn serve_links<L: Listener, C: Clock, G: Gate, D: Disk + Drop, U: Disk + Dro
     ensures said_end { (L.state listener.new).ended ≡ true → (result ≡ LinksEnd.End) ⊎ ((L.state listener.old).ended ≡ true) }
     ensures all_served { L.told → result ≡ LinksEnd.End → (L.state listener.new).coming ≡ [] }
     ensures failed { result ≡ LinksEnd.Failed → RoseBy 16 (L.state listener.old).faults (L.state listener.new).faults }
+    // Those that failed were in a row: from a moment of the call on nobody came.
+    ensures in_a_row { result ≡ LinksEnd.Failed → (mid : L) × ((L.state listener.old).faults ≤ (L.state mid).faults) × RoseBy 16 (L.state mid).faults (L.state listener.new).faults × (L.told → (L.state mid).coming ≡ (L.state listener.new).coming) }
     ensures later { (L.state listener.old).faults ≤ (L.state listener.new).faults }
     ensures gate { G.stops gate.old ≤ G.stops gate.new }
 {

@@ -174,7 +174,7 @@ module _ (o : Opening) (own : ℕ) (h : List Entry) where
     took_halted is = (subst (λ (x : Took D). TookIs told state o own h op seen x) is at).0
 
     pub took_back : t ≡ took.Waits → TurnedBack o own h seen
-    took_back is = subst (λ (x : Took D). TookIs told state o own h op seen x) is at
+    took_back is = (subst (λ (x : Took D). TookIs told state o own h op seen x) is at).0
 
   -- the turns of a restart
   abbrev pub turned_back_passed : (seen : List Gv) → TurnedBack o own h seen → PassedBy o own h seen
@@ -211,7 +211,7 @@ module _ (o : Opening) (own : ℕ) (h : List Entry) where
         (turned_passed (entry own Restart Cut) seen x.0, x.1)
 
     pub restart_waits : t ≡ restarting.Waits → MendedIs o own h asked seen mended.Waits
-    restart_waits is = turned_back_passed seen (subst (λ (x : Restarting D). RestartIs told state o own h asked seen x) is at)
+    restart_waits is = turned_back_passed seen (subst (λ (x : Restarting D). RestartIs told state o own h asked seen x) is at).0
 
   -- INIT-SYS: what came of it, behind turns that entered nothing
   module _ (seen then_seen : List Gv) (b : PassedBy o own h seen) (how : Mended) (x : MendedIs o own (h ++ b.passed) Restart then_seen how) where

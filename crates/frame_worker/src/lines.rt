@@ -47,6 +47,7 @@ pub fn run_lines<N: Lines, G: Gate>(
     ensures read_fault { result ≡ LinesEnd.ReadFault → Rose (N.state lines.old).read_faults (N.state lines.new).read_faults }
     ensures write_fault { result ≡ LinesEnd.WriteFault → Rose (N.state lines.old).write_faults (N.state lines.new).write_faults }
     ensures stopped { result ≡ LinesEnd.Stopped → Rose (G.stops gate.old) (G.stops gate.new) }
+    ensures unstopped { result ≢ LinesEnd.Stopped → G.stops gate.new ≡ G.stops gate.old }
 {
     has_ports(fabric);
     for _ in 0..FRAMES {
@@ -84,11 +85,13 @@ fn run_frame<N: Lines, G: Gate>(
     ensures all_read { N.told → result ≡ Some LinesEnd.End → (N.state lines.new).left ≡ [] }
     ensures read_faults { HasCause (N.state lines.old).read_faults (N.state lines.new).read_faults (result ≡ Some LinesEnd.ReadFault) }
     ensures write_faults { HasCause (N.state lines.old).write_faults (N.state lines.new).write_faults (result ≡ Some LinesEnd.WriteFault) }
-    ensures stops { HasCause (G.stops gate.old) (G.stops gate.new) (result ≡ Some LinesEnd.Stopped) }
+    ensures stopped { result ≡ Some LinesEnd.Stopped → Rose (G.stops gate.old) (G.stops gate.new) }
+    ensures unstopped { result ≢ Some LinesEnd.Stopped → G.stops gate.new ≡ G.stops gate.old }
     ensures asked { G.asked gate.old gate.new (GatePlace.Frame ∷ []) }
 {
-    if gate.pass(GatePlace::Frame) == Pass1::Stop {
-        return Some(LinesEnd::Stopped);
+    match gate.pass(GatePlace::Frame) {
+        Pass1::Stop => return Some(LinesEnd::Stopped),
+        Pass1::Go => {}
     }
     match lines.read_frame(input) {
         Frame::Whole => {}

@@ -33,6 +33,7 @@ fn make_ready<D: Disk>(
     ensures shape { journal.new.1.shape ≡ journal.old.1.shape }
     ensures book { IsWhole journal.new.1 }
     ensures any_moment { D.told → (doubt : Option Change) → IsAtHome D.told (D.state journal.old.0) journal.old.1 described.now users.now doubt → LeavesOnly (D.state journal.old.0) (D.state journal.new.0) (IsOldOrDoubted journal.old.1.shape described.now users.now doubt) }
+    ensures still { IsReady journal.old.1 × (journal.old.1.to_mend ≡ false) → journal.new ≡ journal.old }
     ensures cause { HasCause (D.state journal.old.0).faults (D.state journal.new.0).faults (IsErr result) }
     ensures room { Spends 4_207_147 (D.state journal.old.0) (D.state journal.new.0) }
     ensures sound { IsSound 4_207_147 (D.state journal.old.0) → IsErr result → ⊥ }
@@ -71,6 +72,7 @@ pub(crate) fn keep<D: Disk>(
     ensures any_moment { D.told → (doubt : Option Change) → IsAtHome D.told (D.state journal.old.0) journal.old.1 described.now users.now doubt → LeavesOnly (D.state journal.old.0) (D.state journal.new.0) (IsOldOrOneMore journal.old.1.shape described.now users.now doubt change.now) }
     ensures cause { HasCause (D.state journal.old.0).faults (D.state journal.new.0).faults (IsErr result) }
     ensures room { Spends 4_207_216 (D.state journal.old.0) (D.state journal.new.0) }
+    ensures short { IsReady journal.old.1 × (journal.old.1.to_mend ≡ false) → Spends 69 (D.state journal.old.0) (D.state journal.new.0) }
     ensures sound { IsSound 4_207_216 (D.state journal.old.0) → IsErr result → ⊥ }
 {
     match make_ready(journal, described, users) {

@@ -1,8 +1,9 @@
 //! The state of the users: who they are, and their journal.
-ghost use Rattle.std.specs.Prelude.{◌≡◌, ◌≢◌, ◌≤◌, ◌<◌, ◌⊎◌, ℕ, List, [], None, length, option_map, slice_get, MatchResult, Some, IfErr, IfOk, IfSome};
+ghost use Rattle.std.specs.Prelude.{◌≡◌, ◌≢◌, ◌≤◌, ◌<◌, ◌⊎◌, ℕ, List, [], None, false, length, option_map, slice_get, MatchResult, Some, IfErr, IfOk, IfSome};
 ghost use Rattle.std.specs.FinMap.{entries};
 ghost use Rattle.dxc_causes.specs.Causes.{HasCause, Rose};
 ghost use Rattle.dxc_disk.specs.Disks.{IsSound, LeavesOnly, Spends};
+ghost use Rattle.journal_core.specs.Books.{IsReady};
 ghost use Rattle.user_admin.specs.declared.op.UserEntry.{UserEntry as Entry};
 ghost use Rattle.user_admin.specs.Histories.{Opening};
 ghost use Rattle.user_admin.specs.Openings.{Begins, Fails, IsDiskErr, IsOpening, LeavesOpened, asked_at, disk_of};
@@ -159,6 +160,8 @@ impl<D: Disk> UserState<D> {
         ensures asked { G.asked gate.old gate.new (asked_at result) }
         ensures fault { HasCause (D.state self.old.journal.0).faults (D.state self.new.journal.0).faults (result ≡ UserDone.Denied Cause.DiskFault) }
         ensures room { Spends 4_207_216 (D.state self.old.journal.0) (D.state self.new.journal.0) }
+        // Where no checkpoint is due and no record is in doubt, it is a record's.
+        ensures short { IsReady self.old.journal.1 × (self.old.journal.1.to_mend ≡ false) → Spends 69 (D.state self.old.journal.0) (D.state self.new.journal.0) }
         ensures sound { IsSound 4_207_216 (D.state self.old.journal.0) → result ≢ UserDone.Denied Cause.DiskFault }
     {
         let lists = &mut *self.lists;

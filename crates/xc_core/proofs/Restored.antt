@@ -22,6 +22,7 @@ use Rattle.xc_core.specs.States.{Opening, StandsFor, most_room, with_home}
 use Rattle.xc_core.specs.Turns.{RestartingIs}
 use Rattle.xc_core.proofs.Restarting.{astray_now, found_stage, has_restart, restart_failed, restart_stopped, restart_taken, restart_unsettled, rose_now}
 use Rattle.xc_core.proofs.Standing.{IsIn, found_in}
+use Rattle.xc_core.proofs.Within.{stands_back}
 
 -- what settling and recovering take of the room
 restart_room : (a b c : DiskState) → Spends 3 a b → Spends 131_079 b c → Spends most_room a c
@@ -44,6 +45,10 @@ module _ {D : Type 0} (told : Type 0) (state : D → DiskState) (counts : (d : D
     | inl halted ↦ elim (found_stage told state o s h st d is) [ inl a ↦ absurd (let e : false ≡ true = sym a.0.ready ∙ halted in cc) | inr b ↦ inr b.1 ]
     | inr same ↦ inl same
   ]
+
+  -- nothing is done where it is ready, and no restart was asked for
+  pub was_ready : (own : ℕ) (asked : Op) → ((p.halted ≡ true) ⊎ (asked ≡ Restart) → ⊥) → RestartingIs told state o own h asked (with_home (In d) s) restarting.Waits
+  was_ready own asked not = (stands_back told state counts o s h st (In d) is, inr (λ same. not (inr same), elim (found_stage told state o s h st d is) [ inl a ↦ a.1 | inr b ↦ absurd (not (inl b.0.halted)) ]))
 
   abbrev was : IsIn told state o h p
   was = found_in told state o s h st d is

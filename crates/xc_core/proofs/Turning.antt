@@ -229,7 +229,7 @@ module _ {D : Type 0} (told : Type 0) (state : D → DiskState) where
     waits_stands op y (took.Denied q) is at = absurd cc
     waits_stands op y took.Stopped is at = absurd cc
     waits_stands op y took.Halted is at = at.0
-    waits_stands op y took.Waits is at = at
+    waits_stands op y took.Waits is at = at.0
 
     pub took_entry : (op : Op) (y : State D) (t : Took D) (out : Outcome) (then_seen : List Gv) → outcome_of t ≡ Some out → TakenIs told state o own (h ++ f.later) op y t → then_seen ≡ in_turn ++ entry_coded.code (entry own op out) ∷ [] → TookIs told state o own h op then_seen t
     took_entry op y (took.Rolling d) out then_seen is at seen = (turned y (entry own op outcome.Taken) then_seen at.0 (entered_code op op out outcome.Taken then_seen (outcome_entry op out outcome.Taken is) seen), at.1)
@@ -243,7 +243,7 @@ module _ {D : Type 0} (told : Type 0) (state : D → DiskState) where
     took_back op y (took.Denied q) then_seen is at seen = absurd cc
     took_back op y took.Stopped then_seen is at seen = absurd cc
     took_back op y took.Halted then_seen is at seen = (turned_back y then_seen at.0 seen, at.1)
-    took_back op y took.Waits then_seen is at seen = turned_back y then_seen at seen
+    took_back op y took.Waits then_seen is at seen = (turned_back y then_seen at.0 seen, at.1)
 
     -- a turn in which a restart was to begin
     pub restarting_stands : (asked : Op) (y : State D) (t : Restarting D) (op : Op) (out : Outcome) → restart_entry_of asked t ≡ Some (ends op out) → RestartingIs told state o own (h ++ f.later) asked y t → StandsFor told state o y ((h ++ f.later) ++ entry own op out ∷ [])
@@ -256,7 +256,7 @@ module _ {D : Type 0} (told : Type 0) (state : D → DiskState) where
     no_restart_stands asked y (restarting.Rolling d) is at = absurd cc
     no_restart_stands asked y (restarting.Failed q) is at = absurd cc
     no_restart_stands asked y restarting.Stopped is at = absurd cc
-    no_restart_stands asked y restarting.Waits is at = at
+    no_restart_stands asked y restarting.Waits is at = at.0
 
     pub restart_entry : (asked : Op) (y : State D) (t : Restarting D) (op : Op) (out : Outcome) (then_seen : List Gv) → restart_entry_of asked t ≡ Some (ends op out) → RestartingIs told state o own (h ++ f.later) asked y t → then_seen ≡ in_turn ++ entry_coded.code (entry own op out) ∷ []
         → RestartIs told state o own h asked then_seen t
@@ -269,7 +269,7 @@ module _ {D : Type 0} (told : Type 0) (state : D → DiskState) where
     restart_back asked y (restarting.Rolling d) then_seen is at seen = absurd cc
     restart_back asked y (restarting.Failed q) then_seen is at seen = absurd cc
     restart_back asked y restarting.Stopped then_seen is at seen = absurd cc
-    restart_back asked y restarting.Waits then_seen is at seen = turned_back y then_seen at seen
+    restart_back asked y restarting.Waits then_seen is at seen = (turned_back y then_seen at.0 seen, at.1)
 
   -- a retrieval
   pub turned_read : (o : Opening) (own : ℕ) (h : List Entry) (x : State D) (in_turn : List Gv) (f : FoundAt o own h x in_turn) → Rests own h → (op : Op) → IsRetrieval op → StandsFor told state o x ((h ++ f.later) ++ entry own op outcome.Answered ∷ [])

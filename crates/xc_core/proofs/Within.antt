@@ -26,7 +26,7 @@ use Rattle.xc_core.specs.declared.turns.Took.TheVariants as took
 use Rattle.xc_core.specs.Reckonings.{Past}
 use Rattle.xc_core.specs.Provisioners.{Boxed, IsHome, ground_of, with_halt}
 use Rattle.xc_core.specs.Begins.{BegunIs}
-use Rattle.xc_core.specs.States.{Opening, HomeIs, StandsFor, most_room, with_home}
+use Rattle.xc_core.specs.States.{HomeIs, IsLent, Opening, StandsFor, most_room, with_home}
 use Rattle.xc_core.specs.Seeing.{entry, refused}
 use Rattle.xc_core.specs.Turns.{TakenIs}
 use Rattle.xc_core.proofs.Entries.{over_limit}
@@ -72,6 +72,10 @@ module _ {D : Type 0} (told : Type 0) (state : D → DiskState) (counts : (d : D
     astray = st.astray;
     home = subst (λ (y : Home D). HomeIs told state o st.now h y) is st.home;
   }
+
+  -- nor may it be, where a place has the Provisioner
+  pub lent : s.home ≡ Out → StandsFor told state o (with_home Out s) h × IsLent h
+  lent is = (stands_back Out is, subst (HomeIs told state o st.now h) is st.home)
 
   -- the box that was borrowed is the one that was home
   pub held_home : (d : Boxed D) (v : Driver D) → v ≡ d.value → s.home ≡ In d → s.home ≡ In (with_value d v)

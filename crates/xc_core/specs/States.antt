@@ -123,6 +123,10 @@ SpendsOf o taken s = taken ≤ o.room → IsLeftOf o taken s
 abbrev pub IsPaid : Opening → List Entry → Type 0
 IsPaid o h = room_in h < o.room → faults_in h ≤ o.margin
 
+-- a place has the Provisioner
+abbrev pub IsLent : List Entry → Type 0
+IsLent h = (t : Entry) × (holder None h ≡ Some t)
+
 -- no operation failed because the journal reads otherwise than it was written
 abbrev pub IsNeverAstray : List Entry → Type 0
 IsNeverAstray h = AllByRecursion (λ e. e.outcome ≢ Failed JournalAstray) h
@@ -143,7 +147,7 @@ module _ {D : Type 0} (told : Type 0) (state : D → DiskState) where
   -- the Provisioner is out where a place took it and hasn't brought it home; then nothing is said of it
   abbrev pub HomeIs : Opening → Past → List Entry → Home D → Type 0
   HomeIs o b h (In d) = (holder None h ≡ None) × IsHomeAfter o b h d.value.p
-  HomeIs o b h Out = (t : Entry) × (holder None h ≡ Some t)
+  HomeIs o b h Out = IsLent h
 
   -- the state is that after the history
   pub record StandsFor (o : Opening) (s : State D) (h : List Entry) : Type 0 where

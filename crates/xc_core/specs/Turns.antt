@@ -1,5 +1,5 @@
 -- What a turn of a place comes to.
-use Rattle.std.specs.Prelude.{◌≡◌, ◌≢◌, ◌<◌, ℕ, true, List, [], ◌∷◌, ◌++◌, length, min, Option, Some, None}
+use Rattle.std.specs.Prelude.{◌≡◌, ◌≢◌, ◌<◌, ◌⊎◌, ℕ, true, List, [], ◌∷◌, ◌++◌, length, min, Option, Some, None}
 use base.Stored.{Gv}
 use Rattle.turnstile.specs.Passing.{Gate, Token}
 use Rattle.turnstile.specs.Turning.{Each}
@@ -23,7 +23,7 @@ use Rattle.xc_core.specs.declared.turns.Took.{Took}
 use Rattle.xc_core.specs.declared.turns.Took.TheVariants.{Rolling, Denied, Stopped, Halted, Waits}
 use Rattle.xc_core.specs.declared.restarts.Restarting.{Restarting}
 use Rattle.xc_core.specs.declared.restarts.Restarting.TheVariants as restarting
-use Rattle.xc_core.specs.States.{IsNeverAstray, Opening, StandsFor}
+use Rattle.xc_core.specs.States.{IsLent, IsNeverAstray, Opening, StandsFor}
 use Rattle.xc_core.specs.Seeing.{HasRestart, HasTaken, IsDueFor, Turned, TurnedBack, codes, entry, refused}
 
 -- each entry that was seen carries the number of one of so many passes
@@ -53,6 +53,10 @@ restart_entry_of asked (restarting.Failed q) = Some (asked, Failed q)
 restart_entry_of asked restarting.Stopped = Some (Restart, Cut)
 restart_entry_of asked restarting.Waits = None
 
+-- no restart may begin for this operation: a place has the Provisioner; or no stop stands last, and INIT-SYS wasn't asked for
+abbrev pub MayNotRestart : Op → List Entry → Type 0
+MayNotRestart asked h = IsLent h ⊎ ((asked ≢ Restart) × (IsStopped h → ⊥))
+
 module _ {D : Type 0} (told : Type 0) (state : D → DiskState) where
   -- the state of a turn in which a change was to begin, behind the history
   abbrev pub TakenIs : Opening → ℕ → List Entry → Op → State D → Took D → Type 0
@@ -60,7 +64,7 @@ module _ {D : Type 0} (told : Type 0) (state : D → DiskState) where
   TakenIs o own h op s (Denied q) = StandsFor told state o s (h ++ entry own op (refused q) ∷ []) × (IsStopped h → ⊥) × (q ≢ JournalAstray)
   TakenIs o own h op s Stopped = StandsFor told state o s (h ++ entry own op Cut ∷ []) × (IsStopped h → ⊥)
   TakenIs o own h op s Halted = StandsFor told state o s h × IsRestartDue h
-  TakenIs o own h op s Waits = StandsFor told state o s h
+  TakenIs o own h op s Waits = StandsFor told state o s h × IsLent h
 
   -- what the place has seen behind it
   abbrev pub TookIs : Opening → ℕ → List Entry → Op → List Gv → Took D → Type 0
@@ -68,21 +72,21 @@ module _ {D : Type 0} (told : Type 0) (state : D → DiskState) where
   TookIs o own h op then_seen (Denied q) = (t : Turned o own h (entry own op (refused q)) then_seen) × (IsStopped (h ++ t.later) → ⊥) × (q ≢ JournalAstray)
   TookIs o own h op then_seen Stopped = (t : Turned o own h (entry own op Cut) then_seen) × (IsStopped (h ++ t.later) → ⊥)
   TookIs o own h op then_seen Halted = (t : TurnedBack o own h then_seen) × IsRestartDue (h ++ t.later)
-  TookIs o own h op then_seen Waits = TurnedBack o own h then_seen
+  TookIs o own h op then_seen Waits = (t : TurnedBack o own h then_seen) × IsLent (h ++ t.later)
 
   -- the state of a turn in which a restart was to begin
   abbrev pub RestartingIs : Opening → ℕ → List Entry → Op → State D → Restarting D → Type 0
   RestartingIs o own h asked s (restarting.Rolling d) = StandsFor told state o s (h ++ entry own Restart Taken ∷ []) × HasRestart told state o own asked (h ++ entry own Restart Taken ∷ []) d.value.p d.value.rolling
   RestartingIs o own h asked s (restarting.Failed q) = StandsFor told state o s (h ++ entry own asked (Failed q) ∷ []) × IsFault q × IsDueFor asked h
   RestartingIs o own h asked s restarting.Stopped = StandsFor told state o s (h ++ entry own Restart Cut ∷ []) × IsDueFor asked h
-  RestartingIs o own h asked s restarting.Waits = StandsFor told state o s h
+  RestartingIs o own h asked s restarting.Waits = StandsFor told state o s h × MayNotRestart asked h
 
   -- what the place has seen behind it
   abbrev pub RestartIs : Opening → ℕ → List Entry → Op → List Gv → Restarting D → Type 0
   RestartIs o own h asked then_seen (restarting.Rolling d) = (t : Turned o own h (entry own Restart Taken) then_seen) × HasRestart told state o own asked ((h ++ t.later) ++ entry own Restart Taken ∷ []) d.value.p d.value.rolling
   RestartIs o own h asked then_seen (restarting.Failed q) = (t : Turned o own h (entry own asked (Failed q)) then_seen) × IsFault q × IsDueFor asked (h ++ t.later)
   RestartIs o own h asked then_seen restarting.Stopped = (t : Turned o own h (entry own Restart Cut) then_seen) × IsDueFor asked (h ++ t.later)
-  RestartIs o own h asked then_seen restarting.Waits = TurnedBack o own h then_seen
+  RestartIs o own h asked then_seen restarting.Waits = (t : TurnedBack o own h then_seen) × MayNotRestart asked (h ++ t.later)
 
 -- the table took the change
 abbrev pub DoneIs : Opening → ℕ → List Entry → Op → List Gv → Type 0

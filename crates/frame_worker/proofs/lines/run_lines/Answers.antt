@@ -1,5 +1,6 @@
-use Rattle.std.proofs.Common.{rules, ◌≡◌, ◌≢◌, ℕ, ◌+◌, List, [], ◌∷◌, replicate, arith, sym, refl, subst, ⊎_elim}
+use Rattle.std.proofs.Common.{rules, ◌≡◌, ◌≢◌, ◌∙◌, ℕ, ◌+◌, List, [], ◌∷◌, Some, replicate, arith, sym, refl, ap, subst, ⊎_elim}
 use Rattle.std.proofs.lemmas.List.{replicate_more}
+use Rattle.dxc_causes.specs.Causes.{Rose}
 use Rattle.dxc_outside.specs.declared.gate.GatePlace.{GatePlace}
 use Rattle.dxc_outside.specs.declared.gate.GatePlace.TheVariants as place
 use Rattle.frame_worker.specs.declared.lines.LinesEnd.{LinesEnd}
@@ -28,18 +29,30 @@ returns-in-Some-clause-run g c =
           (g.G.Gate.asked_on c.args.gate.now c.loop.gate c.run_frame.new.gate (replicate n place.Frame) (place.Frame ∷ []) c.loop.invariant.asked c.run_frame.ensures.asked)),
     )
 
+same_end : (e f : LinesEnd) → Some e ≡ Some f → e ≡ f
+same_end e f is = cc
+
+pub returns-in-Some-clause-stopped : goal.returns-in-Some-clause-stopped
+returns-in-Some-clause-stopped g c = λ is. subst (λ (n : ℕ). Rose n (g.G.Gate.stops c.run_frame.new.gate)) c.loop.invariant.unstopped (c.in-Some.ensures.stopped (ap (λ (e : LinesEnd). Some e) is))
+
+pub returns-in-Some-clause-unstopped : goal.returns-in-Some-clause-unstopped
+returns-in-Some-clause-unstopped g c = λ other. c.in-Some.ensures.unstopped (λ is. other (same_end c.in-Some.end Stopped is)) ∙ c.loop.invariant.unstopped
+
+pub returns-clause-unstopped : goal.returns-clause-unstopped
+returns-clause-unstopped g c = λ _. c.loop.invariant.unstopped
+
 pub loop-preserved : goal.loop-preserved
 loop-preserved g c =
     let i = c.loop.invariant in let n = c.loop.counter in
-    let read = c.run_frame.ensures.read_faults.later in let write = c.run_frame.ensures.write_faults.later in let stop = c.run_frame.ensures.stops.later in
-    let reads = i.read_faults in let writes = i.write_faults in let stops = i.stops in record {
+    let read = c.run_frame.ensures.read_faults.later in let write = c.run_frame.ensures.write_faults.later in
+    let reads = i.read_faults in let writes = i.write_faults in record {
       fabric = search rules;
       run = run_more c.args.fabric.now.size g.N.Lines.told n 1 Spent (g.N.Lines.state c.args.lines.now) (g.N.Lines.state c.loop.lines) (g.N.Lines.state c.run_frame.new.lines) c.args.seat.now.reader.worker c.loop.seat.reader.worker c.run_frame.new.seat.reader.worker refl
           i.run c.in_default.ensures.run;
       said_end = λ h. ⊎_elim (λ end. absurd (c.in_default.not-Some End end)) (λ old. i.said_end old) (c.run_frame.ensures.said_end h);
       read_faults = omega arith;
       write_faults = omega arith;
-      stops = omega arith;
+      unstopped = c.run_frame.ensures.unstopped (c.in_default.not-Some Stopped) ∙ i.unstopped;
       asked = subst (λ (places : List GatePlace). g.G.Gate.asked c.args.gate.now c.run_frame.new.gate places) (replicate_more n place.Frame)
           (g.G.Gate.asked_on c.args.gate.now c.loop.gate c.run_frame.new.gate (replicate n place.Frame) (place.Frame ∷ []) i.asked c.run_frame.ensures.asked);
     }

@@ -11,6 +11,6 @@ invariant-loop g l = record {
   said_end : (g.N.Lines.state l.lines).ended ≡ true → (g.N.Lines.state l.initial.lines).ended ≡ true;
   read_faults : (g.N.Lines.state l.initial.lines).read_faults ≤ (g.N.Lines.state l.lines).read_faults;
   write_faults : (g.N.Lines.state l.initial.lines).write_faults ≤ (g.N.Lines.state l.lines).write_faults;
-  stops : g.G.Gate.stops l.initial.gate ≤ g.G.Gate.stops l.gate;
+  unstopped : g.G.Gate.stops l.gate ≡ g.G.Gate.stops l.initial.gate;
   asked : g.G.Gate.asked l.initial.gate l.gate (replicate l.counter place.Frame);
 }

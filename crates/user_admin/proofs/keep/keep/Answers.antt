@@ -1,6 +1,8 @@
-use Rattle.std.proofs.Common.{inl, ℕ, List, slice_index, ◌∙◌, ap, subst}
+use Rattle.std.proofs.Common.{inl, ℕ, List, slice_index, ◌∙◌, sym, ap, subst}
 use Rattle.dxc_num.specs.Dimensions.{Dimensions}
-use Rattle.dxc_disk.specs.Disks.{LeavesOnly}
+use Rattle.dxc_disk.specs.Disks.{LeavesOnly, Spends}
+use Rattle.dxc_disk.proofs.DiskSteps.{spends_none}
+use Rattle.journal_core.specs.declared.book.Book.{Book}
 use Rattle.journal_core.proofs.KeepSteps.{only_on}
 use Rattle.user_admin.specs.Files.{IsOldOrOneMore}
 use Rattle.user_admin.specs.Records.{has_long_salt}
@@ -56,3 +58,11 @@ returns-clause-any_moment g c = λ told doubt home.
     (more_left (g.D.Disk.state a.0) (g.D.Disk.state m.0) a.1.shape d u doubt ch (c.make_ready.ensures.any_moment told doubt home))
     (subst (λ (x : Dimensions). LeavesOnly (g.D.Disk.state m.0) (g.D.Disk.state n.0) (IsOldOrOneMore x d u doubt ch)) c.make_ready.ensures.shape
     (append_called g.D.Disk.told (g.D.Disk.state m.0) m.1 d u doubt (c.make_ready.ensures.home doubt home) told ch c.record_of.result (g.D.Disk.state n.0) (has_long_salt ch, c.requires.meant, c.record_of.ensures) c.requires.fits (c.append.ensures.appends told).any_moment))
+
+pub returns-in-Err-clause-short : goal.returns-in-Err-clause-short
+returns-in-Err-clause-short g c = λ ready.
+    let s = g.D.Disk.state c.args.journal.now.0 in
+    subst (λ (j : g.row.D.Denot × Book). Spends 69 s (g.D.Disk.state j.0)) (sym (c.make_ready.ensures.still ready)) (spends_none 69 s)
+
+pub returns-clause-short : goal.returns-clause-short
+returns-clause-short g c = λ ready. subst (λ (j : g.row.D.Denot × Book). Spends 69 (g.D.Disk.state j.0) (g.D.Disk.state c.append.new.self.0)) (c.make_ready.ensures.still ready) c.append.ensures.room

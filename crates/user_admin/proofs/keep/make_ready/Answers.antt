@@ -1,5 +1,6 @@
-use Rattle.std.proofs.Common.{ap}
+use Rattle.std.proofs.Common.{◌≡◌, true, false, sym, ap, subst}
 use Rattle.journal_core.specs.declared.book.Book.{Book}
+use Rattle.journal_core.specs.Books.{IsReady}
 use Rattle.user_admin.proofs.Keeping.{left_on, may_called, mend_home}
 use Rattle.user_admin.proofs.Checkpointing.{both_ok}
 use Rattle.user_admin.proofs.keep.make_ready.Goals as goal
@@ -44,3 +45,15 @@ returns-clause-any_moment g c = λ told doubt home.
 
 pub returns-clause-ready : goal.returns-clause-ready
 returns-clause-ready g c = both_ok _ _ c.write_checkpoint.result c.write_checkpoint.ensures.ready (c.write_checkpoint.ensures.whole (ap (λ (x : Book). x.to_mend) c.in-Ok.ensures.ok))
+
+pub returns-in-Err-clause-still : goal.returns-in-Err-clause-still
+returns-in-Err-clause-still g c = λ ready. (c.mend.ensures.none ready.1).1
+
+pub returns-then-not-due-clause-still : goal.returns-then-not-due-clause-still
+returns-then-not-due-clause-still g c = λ ready. (c.mend.ensures.none ready.1).1
+
+-- no checkpoint was due
+pub returns-clause-still : goal.returns-clause-still
+returns-clause-still g c = λ ready.
+    let same = (c.mend.ensures.none ready.1).1 in
+    absurd (let e : true ≡ false = c.if-not-due.ensures.1 (subst (λ (j : g.row.D.Denot × Book). IsReady j.1) (sym same) ready.0) in cc)

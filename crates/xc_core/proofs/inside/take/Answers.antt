@@ -7,8 +7,13 @@ use Rattle.xc_core.specs.declared.turns.Took.TheVariants as took
 use Rattle.xc_core.specs.Provisioners.{Boxed}
 use Rattle.xc_core.specs.States.{with_home}
 use Rattle.xc_core.specs.Turns.{TakenIs}
-use Rattle.xc_core.proofs.Within.{change_room, held_home, was_denied, was_halted, was_held, was_planned}
+use Rattle.xc_core.proofs.Within.{change_room, held_home, lent, was_denied, was_halted, was_held, was_planned}
 use Rattle.xc_core.proofs.inside.take.Goals as goal
+
+pub returns-in_default-clause-took : goal.returns-in_default-clause-took
+returns-in_default-clause-took g c = λ o own h st.
+    subst (λ (x : State g.row.D.Denot). TakenIs g.D.Disk.told g.D.Disk.state o own h c.args.op.now x took.Waits) (sym c.take_out.ensures.state)
+    (lent g.D.Disk.told g.D.Disk.state g.met.D.Disk.counts_on o c.args.state.now h st c.in_default.ensures.none)
 
 pub returns-in-Rolling-clause-took : goal.returns-in-Rolling-clause-took
 returns-in-Rolling-clause-took g c = λ o own h st.

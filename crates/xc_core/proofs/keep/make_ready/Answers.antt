@@ -1,4 +1,4 @@
-use Rattle.std.proofs.Common.{◌≡◌, false, ◌∙◌, sym, ap, subst}
+use Rattle.std.proofs.Common.{◌≡◌, true, false, ◌∙◌, sym, ap, subst}
 use Rattle.std.specs.Prelude.{OnOk, IsErr, Result, Ok, Err}
 use Rattle.std.specs.List.{AllByRecursion}
 use Rattle.dxc_num.specs.Dimensions.{IsInLimits}
@@ -118,3 +118,15 @@ returns-clause-room g c = spends_on 3 4_600_042 (g.D.Disk.state c.args.p.now.jou
 
 pub returns-clause-sound : goal.returns-clause-sound
 returns-clause-sound g c = λ sound failed. c.write_checkpoint.ensures.sound (sound_on 3 4_600_042 (g.D.Disk.state c.args.p.now.journal.0) (g.D.Disk.state c.settle.new.p.journal.0) c.settle.ensures.cause.later sound c.settle.ensures.room) failed
+
+pub returns-in-Err-clause-still : goal.returns-in-Err-clause-still
+returns-in-Err-clause-still g c = λ ready. c.settle.ensures.still ready.1
+
+pub returns-then-not-due-clause-still : goal.returns-then-not-due-clause-still
+returns-then-not-due-clause-still g c = λ ready. c.settle.ensures.still ready.1
+
+-- no checkpoint was due
+pub returns-clause-still : goal.returns-clause-still
+returns-clause-still g c = λ ready.
+    let same = c.settle.ensures.still ready.1 in
+    absurd (let e : true ≡ false = c.if-not-due.ensures.1 (subst (λ (j : g.row.D.Denot × Book). IsReady j.1) (sym same) ready.0) in cc)

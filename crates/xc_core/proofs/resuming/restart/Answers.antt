@@ -1,4 +1,4 @@
-use Rattle.std.proofs.Common.{refl, sym, ◌∙◌, ap, subst, inl, inr}
+use Rattle.std.proofs.Common.{◌≡◌, true, false, refl, sym, ◌∙◌, ap, subst, inl, inr}
 use Rattle.std.specs.Box.{with_value}
 use Rattle.dxc_model.specs.declared.cause.Cause.TheVariants.{DiskFault, JournalAstray}
 use Rattle.xc_core.specs.declared.provisioner.Driver.{Driver}
@@ -9,8 +9,8 @@ use Rattle.xc_core.specs.declared.state.State.{State}
 use Rattle.xc_core.specs.Provisioners.{Boxed}
 use Rattle.xc_core.specs.States.{with_home}
 use Rattle.xc_core.specs.Turns.{RestartingIs}
-use Rattle.xc_core.proofs.Restored.{found_home, may_recover, was_astray, was_faulty, was_resumed, was_stopped, was_unsettled}
-use Rattle.xc_core.proofs.Within.{held_home, stands_back}
+use Rattle.xc_core.proofs.Restored.{found_home, may_recover, was_astray, was_faulty, was_ready, was_resumed, was_stopped, was_unsettled}
+use Rattle.xc_core.proofs.Within.{held_home, lent}
 use Rattle.xc_core.proofs.resuming.restart.Goals as goal
 
 pub make_halted-requires : goal.make_halted-requires
@@ -21,6 +21,11 @@ make_halted-requires g c =
     let is = held_home g.D.Disk.told g.D.Disk.state g.met.D.Disk.counts_on w.0 s w.1 w.2 c.in-Some.driver v c.deref_mut-held.ensures.value c.in-Some.ensures.found in
     record { home = found_home g.D.Disk.told g.D.Disk.state g.met.D.Disk.counts_on w.0 s w.1 w.2 (with_value c.in-Some.driver v) is }
 
+pub returns-in_default-clause-restarting : goal.returns-in_default-clause-restarting
+returns-in_default-clause-restarting g c = λ o own h st.
+    let x = lent g.D.Disk.told g.D.Disk.state g.met.D.Disk.counts_on o c.args.state.now h st c.in_default.ensures.none in
+    subst (λ (y : State g.row.D.Denot). RestartingIs g.D.Disk.told g.D.Disk.state o own h c.args.asked.now y restarting.Waits) (sym c.take_out.ensures.state) (x.0, inl x.1)
+
 pub returns-then-not-goes_for-clause-restarting : goal.returns-then-not-goes_for-clause-restarting
 returns-then-not-goes_for-clause-restarting g c = λ o own h st.
     let s = c.args.state.now in
@@ -30,7 +35,7 @@ returns-then-not-goes_for-clause-restarting g c = λ o own h st.
     let is = held_home g.D.Disk.told g.D.Disk.state g.met.D.Disk.counts_on o s h st driver v c.deref_mut-held.ensures.value c.in-Some.ensures.found in
     let final = c.bring_home.ensures ∙ ap (λ (x : State g.row.D.Denot). with_home (In held) x) c.take_out.ensures.state in
     subst (λ (x : State g.row.D.Denot). RestartingIs g.D.Disk.told g.D.Disk.state o own h c.args.asked.now x restarting.Waits) (sym final)
-    (stands_back g.D.Disk.told g.D.Disk.state g.met.D.Disk.counts_on o s h st (In held) is)
+    (was_ready g.D.Disk.told g.D.Disk.state g.met.D.Disk.counts_on o s h st held is own c.args.asked.now (λ why. let e : false ≡ true = c.if-not-goes_for.ensures.1 why in cc))
 
 pub returns-in-Err-clause-restarting : goal.returns-in-Err-clause-restarting
 returns-in-Err-clause-restarting g c = λ o own h st.

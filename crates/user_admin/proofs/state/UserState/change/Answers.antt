@@ -1,5 +1,6 @@
 use Rattle.std.proofs.Common.{◌⊎◌, List, Option, Some, refl, sym, ◌∙◌, ap, subst, arith}
 use Rattle.dxc_disk.specs.Disks.{LeavesOnly}
+use Rattle.dxc_disk.proofs.DiskSteps.{spends_none}
 use Rattle.dxc_outside.specs.declared.gate.GatePlace.{GatePlace}
 use Rattle.user_admin.specs.declared.op.UserChange.{UserChange}
 use Rattle.user_admin.specs.declared.state.Lists.{Lists}
@@ -112,3 +113,15 @@ returns-clause-any_moment g c = λ told o h st.
     change_left g.D.Disk.told g.D.Disk.state o s h st c.args.op.now ch (g.D.Disk.state n.0) (subst (λ (m : Users). Grants s.sid c.args.op.now m ch) (ap (λ (x : Lists). x.users) l) c.in-Ok.ensures)
     (subst (λ (x : Lists). (doubt : Option UserChange) → IsAtHome g.D.Disk.told (g.D.Disk.state s.journal.0) s.journal.1 x.described x.users doubt → LeavesOnly (g.D.Disk.state s.journal.0) (g.D.Disk.state n.0) (IsOldOrOneMore s.journal.1.shape x.described x.users doubt ch)) l (c.keep.ensures.any_moment told))
     (λ x. g.met.D.Disk.is_disk s.journal.0 x)
+
+pub returns-in-Err-clause-short : goal.returns-in-Err-clause-short
+returns-in-Err-clause-short g c = λ _. spends_none 69 (g.D.Disk.state c.args.self.now.journal.0)
+
+pub returns-in-Stop-clause-short : goal.returns-in-Stop-clause-short
+returns-in-Stop-clause-short g c = λ _. spends_none 69 (g.D.Disk.state c.args.self.now.journal.0)
+
+pub returns-in-Err-keep-clause-short : goal.returns-in-Err-keep-clause-short
+returns-in-Err-keep-clause-short g c = c.keep.ensures.short
+
+pub returns-clause-short : goal.returns-clause-short
+returns-clause-short g c = c.keep.ensures.short
