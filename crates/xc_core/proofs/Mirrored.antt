@@ -5,6 +5,7 @@ use Rattle.dxc_disk.specs.Disks.{DiskState, IsDisk, LeavesOnly}
 use Rattle.dxc_num.specs.Dimensions.{Dimensions}
 use Rattle.dxc_model.specs.declared.op.Op.{Op}
 use Rattle.dxc_model.specs.declared.op.Change.{Change}
+use Rattle.dxc_model.specs.declared.entry.Entry.{Entry}
 use Rattle.journal_core.specs.declared.head.Head.{Head}
 use Rattle.journal_core.specs.Headers.{IsNew, StandsAlike, header}
 use Rattle.journal_core.specs.Makes.{IsFresh}
@@ -20,12 +21,17 @@ use Rattle.standby_link.proofs.CallSteps.{moment_left, read_on}
 use Rattle.xc_recovery.specs.Replays.{ComesTo}
 use Rattle.xc_recovery.proofs.LastWorks.{comes_shape}
 use Rattle.xc_core.specs.declared.provisioner.Provisioner.{Provisioner}
+use Rattle.xc_core.specs.declared.state.Home.{Home}
+use Rattle.xc_core.specs.declared.state.Home.TheVariants.{In, Out}
+use Rattle.xc_core.specs.declared.state.State.{State}
 use Rattle.xc_core.specs.Journals.{IsOld, IsOldOrDoubted, IsSoFar}
-use Rattle.xc_core.specs.Mirrorings.{AreCommands, Command, HasStarted, IsBetween, IsCommand, MayBe, Says, StandbysStand, StandsForFirst, Task, change, made_in, read_by, restart, start}
+use Rattle.xc_core.specs.Mirrorings.{AreCommands, Command, HasStarted, IsBetween, IsCommand, MayBe, Says, StandbysStand, StandsForFirst, StartsAreCommands, Task, change, made_in, read_by, restart, start}
+use Rattle.xc_core.specs.Openings.{Begins, disk_home}
 use Rattle.xc_core.specs.Provisioners.{Rolls, with_halt}
 use Rattle.xc_core.specs.Reckonings.{Past, ReckonsTo, changed}
 use Rattle.xc_core.specs.Restarts.{IsHalted}
-use Rattle.xc_core.specs.States.{Opening}
+use Rattle.xc_core.specs.States.{HomeIs, IsReadyOrHalted, Opening, began, opening_of}
+use Rattle.xc_core.proofs.Began.{began_changes}
 use Rattle.xc_core.proofs.Halting.{halted_rolls, resumes_halted}
 use Rattle.xc_core.proofs.Journalling.{old_by}
 use Rattle.xc_core.proofs.Pasts.{past_marked}
@@ -164,3 +170,39 @@ module _ {D : Type 0} (told : Type 0) (state : D → DiskState) (t : told) (disk
 pub standbys_stand : {D : Type 0} (told : Type 0) (state : D → DiskState) → ((d : D) → told → IsDisk (state d)) → StandbysStand told state
 standbys_stand told state disk t d b cs p are pair unseen keeps is = find told state t (λ x. disk x t) d b cs p are pair.primary.answered keeps.moment pair.standby.file keeps.not_before
     (ap (λ (l : List (List ℕ)). slice_get l keeps.moment) (sym is) ∙ get_more (moments pair.primary) unseen keeps.moment pair.standby.file keeps.read)
+
+-- what a start says of its state
+module _ {D : Type 0} (told : Type 0) (state : D → DiskState) (s : State D) (begins : Begins told state s) where
+  abbrev at : Opening
+  at = opening_of state s
+
+  now_first : begins.stands.now ≡ at.first
+  now_first = subst (λ (cs : List Change). ReckonsTo at.first cs begins.stands.now) (began_changes at.due) begins.stands.reckoned
+
+  -- the Provisioner is home, or halted
+  is_between : (b : Past) (h : List Entry) (p : Provisioner D) → IsReadyOrHalted told state b h p → IsBetween told state b p
+  is_between b h p stage = ⊎_elim (λ ready. inl ready.0) (λ halted. inr (inl halted.0)) stage
+
+  at_home : (d : D) (x : Home D) → s.home ≡ x → disk_home x ≡ Some d → (p : Provisioner D) × (p.journal.0 ≡ d) × IsBetween told state at.first p
+  at_home d (In dr) is home =
+      let h : HomeIs told state at begins.stands.now (began at.due ++ []) (In dr) = subst (λ (y : Home D). HomeIs told state at begins.stands.now (began at.due ++ []) y) is begins.stands.home in (
+        dr.value.p,
+        (let e : Some dr.value.p.journal.0 ≡ Some d = home in cc),
+        subst (λ (b : Past). IsBetween told state b dr.value.p) now_first (is_between begins.stands.now (began at.due ++ []) dr.value.p h.1.stage),
+      )
+  at_home d Out is home = absurd (let e : None ≡ Some d = home in cc)
+
+pub start_command : {D : Type 0} (told : Type 0) (state : D → DiskState) → StartsAreCommands told state
+start_command told state t d shelf fabric due number calls s settled are home opens leaves begins =
+    let x = at_home told state s begins (last_of d calls) s.home refl home in (
+      x.0,
+      (
+        record {
+          calls = are;
+          says = record { opening = opening_of state s; fabric = fabric; due = due; number = number; opens = opens; first = refl; settled = settled; leaves = leaves };
+          next = (opening_of state s).first;
+          reckoned = refl;
+        },
+        (x.1, x.2),
+      ),
+    )

@@ -13,12 +13,13 @@ use Rattle.standby_link.specs.Calls.{AreCalls, Call, last_of, read_in}
 use Rattle.standby_link.specs.Laws.{KeepsUp}
 use Rattle.standby_link.specs.Mirrors.{Pair, moments}
 use Rattle.xc_core.specs.declared.provisioner.Provisioner.{Provisioner}
+use Rattle.xc_core.specs.declared.state.State.{State}
 use Rattle.xc_core.specs.Journals.{IsOld, IsOldOrDoubted, IsOldOrOneMore}
-use Rattle.xc_core.specs.Openings.{LeavesOpened, Opens}
+use Rattle.xc_core.specs.Openings.{Begins, LeavesOpened, Opens, disk_home}
 use Rattle.xc_core.specs.Provisioners.{IsHome, Rolls}
 use Rattle.xc_core.specs.Reckonings.{Past, ReckonsTo}
 use Rattle.xc_core.specs.Restarts.{IsHalted, Resumes}
-use Rattle.xc_core.specs.States.{Opening}
+use Rattle.xc_core.specs.States.{Opening, opening_of}
 
 -- what a journal is called for
 pub data Task : Type 0 where
@@ -108,3 +109,13 @@ abbrev pub StandbysStand : {D : Type 0} → Type 0 → (D → DiskState) → Typ
 StandbysStand {D} told state = told → (d : D) (b : Past) (cs : List (Command D)) (p : Provisioner D) → AreCommands told state d b cs p
     → (pair : Pair) (unseen : List (List ℕ)) → KeepsUp pair → moments pair.primary ++ unseen ≡ (state d).reads_as ∷ read_by state cs
     → StandsForFirst state b cs p.doubt pair.primary.answered pair.standby.file
+
+-- the command that a start on this shelf is
+abbrev pub started_by : {D : Type 0} → Contents → List (Call D) → Command D
+started_by shelf calls = record { task = start shelf; doubt = None; calls = calls; made = [] }
+
+-- A start on a settled disk is the first command, behind which the Provisioner of its state is.
+abbrev pub StartsAreCommands : {D : Type 0} → Type 0 → (D → DiskState) → Type 0
+StartsAreCommands {D} told state = told → (d : D) (shelf : Contents) (fabric : FabricId) (due : Bool) (number : ℕ) (calls : List (Call D)) (s : State D) → IsSettled (state d) → AreCalls state d calls → disk_home s.home ≡ Some (last_of d calls)
+    → Opens told (state d).reads_as shelf fabric due number (opening_of state s) → LeavesOpened shelf (state d) (state (last_of d calls)) → Begins told state s
+    → (p : Provisioner D) × AreCommands told state d (opening_of state s).first (started_by shelf calls ∷ []) p
