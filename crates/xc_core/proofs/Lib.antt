@@ -15,6 +15,7 @@ pub mod Within
 pub mod Turning
 pub mod Reported
 pub mod Meeting
+pub mod Mirrored
 pub mod Restarting
 pub mod Restored
 pub mod Giving
