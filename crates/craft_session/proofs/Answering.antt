@@ -3,6 +3,7 @@ use Rattle.std.specs.Prelude.{is_some}
 use Rattle.std.proofs.Common.{◌≡◌, ◌≢◌, ℕ, Bool, false, List, [], Option, inl, inr, refl, sym, ◌∙◌, subst}
 use base.Stored.{Gv}
 use Rattle.dxc_outside.specs.declared.clock.Moment.{Moment}
+use Rattle.dxc_outside.specs.declared.gate.GatePlace.{GatePlace}
 use Rattle.dxc_outside.specs.declared.send.Sent.{Sent}
 use Rattle.dxc_outside.specs.declared.send.Sent.TheVariants.{Whole, Cut as Sent_cut}
 use Rattle.dxc_outside.specs.Links.{LinkState}
@@ -82,7 +83,7 @@ answered_by s told clock_told k j c d u seat users before after Whole how is x =
 answered_by s told clock_told k j c d u seat users before after Sent_cut how is x = subst (λ (y : Progress). IsAnswered s told clock_told k j c d u seat users before after y) (sym is) x
 
 module _ (s : Contents) (told clock_told : Type 0) (k j : LinkState) (c d : List Moment) (u : Input) (seat : SeatAt) (users : UserSeatAt) (before after : Now) (a : Ask) (rows : List UserRow)
-    (x : IsAsked users (wants s before.attending.user u) (λ y. asks s before.attending.user y u) a rows after.users) where
+    (gate : List GatePlace → Type 0) (x : IsAsked users (wants s before.attending.user u) (λ y. asks s before.attending.user y u) a rows after.users gate) where
   -- the reply to what was asked behind what was heard
   pub said_of : (sent : Sent) (tag : Option (List ℕ)) (reply : Reply) → tag ≡ tag_of u → IsReplied s told clock_told k j c d sent tag rows reply
       → ((h : List Entry) → Saw seat.opening before.seen h → Acts seat.opening seat.place h before.attending a reply after.attending after.seen) → IsSaidOf s told clock_told k j c d sent u seat users before after

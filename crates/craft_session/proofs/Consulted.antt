@@ -3,6 +3,7 @@ use Rattle.std.proofs.Common.{◌≡◌, ◌≢◌, ℕ, List, [], ◌∷◌, �
 use base.Stored.{Gv}
 use Rattle.turnstile.specs.Turning.{Each}
 use Rattle.dxc_outside.specs.declared.clock.Moment.{Moment}
+use Rattle.dxc_outside.specs.declared.gate.GatePlace.{GatePlace}
 use Rattle.dxc_model.specs.declared.user.SessionUser.{SessionUser}
 use Rattle.user_admin.specs.declared.op.UserEntry.{UserEntry}
 use Rattle.user_admin.specs.declared.op.UserRow.{UserRow}
@@ -11,6 +12,7 @@ use Rattle.user_admin.specs.Turns.{Saw, TurnedBack}
 use Rattle.craft_session.specs.declared.ask.Ask.{Ask}
 use Rattle.craft_session.specs.Asks.{Language, user_after}
 use Rattle.craft_session.specs.Consulting.{Consults, others_pass, unit_hears, quiet_passes}
+use Rattle.craft_session.specs.Gated.{users_kept}
 use Rattle.craft_session.specs.Happenings.{Happening, Request, unit, quiet}
 use Rattle.craft_session.specs.Hearing.{Heard, HeardBehind, IsAsked, Wanted, nothing, unasked}
 use Rattle.craft_session.specs.Seats.{UserSeatAt}
@@ -42,8 +44,8 @@ module _ (l : Language Request Moment) (b : Beginning) (seen then_seen : List Gv
       record { history = c.history ++ x.later; heard = consults_past l b.place b.users b.users_before hs c.history s x.later x.others c.heard; saw = x.saw }
 
 -- nothing was wanted
-pub asked_nothing : (seat : UserSeatAt) (w : Wanted) (by : Heard → Ask) (a : Ask) (rows : List UserRow) → w ≡ nothing → a ≡ by unasked → rows ≡ [] → IsAsked seat w by a rows seat.seen
-asked_nothing seat w by a rows none is no_rows = record {
+pub asked_nothing : (seat : UserSeatAt) (w : Wanted) (by : Heard → Ask) (a : Ask) (rows : List UserRow) (gate : List GatePlace → Type 0) → gate [] → w ≡ nothing → a ≡ by unasked → rows ≡ [] → IsAsked seat w by a rows seat.seen gate
+asked_nothing seat w by a rows gate unasked_gate none is no_rows = record {
   heard = unasked;
   behind = λ h saw. record {
     passed = [];
@@ -54,4 +56,5 @@ asked_nothing seat w by a rows none is no_rows = record {
   };
   ask_is = is;
   rows_are = no_rows;
+  entered = λ h saw. record { entries = []; saw = subst (λ (x : List UserEntry). Saw seat.opening seat.seen x) (sym (append-nil h)) saw; places = []; were = unasked_gate; gated = users_kept [] tt };
 }

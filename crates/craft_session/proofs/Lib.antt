@@ -6,6 +6,8 @@ pub mod Saying
 pub mod Listing
 pub mod Changing
 pub mod Gating
+pub mod Gated
+pub mod Effects
 pub mod Acted
 pub mod Walking
 pub mod Seating

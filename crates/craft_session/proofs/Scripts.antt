@@ -43,10 +43,11 @@ use Rattle.craft_session.specs.declared.end.SessionEnd.TheVariants.{End, ReadFau
 use Rattle.craft_session.specs.Asks.{Language, Reply, user_after}
 use Rattle.craft_session.specs.Happenings.{Happening, Request, unit, bytes_in, inputs_in, units_in}
 use Rattle.craft_session.specs.Meanings.{language}
-use Rattle.craft_session.specs.PlainUsers.{ConsultsAlone, IsUsersOpeningOf, users_opening_room}
+use Rattle.craft_session.specs.PlainUsers.{ConsultsAlone, IsUsersOpeningOf}
+use Rattle.craft_session.specs.Rooms.{opening_room}
 use Rattle.craft_session.specs.Plain.{Excuse, Plays, alone, said_in, standing}
 use Rattle.craft_session.specs.Runs.{Run, Walk, begins, passes, responds, waits, looks}
-use Rattle.craft_session.specs.Scripts.{Answered, AnsweredInPart, AnsweredToStop, AnsweredToUsersStop, IsEnded, IsOpeningOf, IsOwn, IsOwnHistory, IsScript, IsUnsoundBy, WroteAll, command_room, excused_on, opened, opening_room, room_of}
+use Rattle.craft_session.specs.Scripts.{Answered, AnsweredInPart, AnsweredToStop, AnsweredToUsersStop, IsEnded, IsOpeningOf, IsOwn, IsOwnHistory, IsScript, IsUnsoundBy, WroteAll, command_room, excused_on, opened, room_of}
 use Rattle.craft_session.specs.Seats.{SeatAt, UserSeatAt}
 use Rattle.craft_session.specs.Sessions.{Beginning, Consulted, CutPast, IsServed, IsSession, IsStoppedAtTable, IsStoppedAtUsers, Now, Past, Served, StopPast}
 use Rattle.craft_session.specs.Walks.{ChangeReply, IsUnused, Mends, RestartReply, Serves}
@@ -497,7 +498,7 @@ opening_of_disk {D} told failed state counts disk s x cause spends ready =
     }
 
 -- and so is one of a users' disk
-pub users_opening_of_disk : {D : Type 0} (told failed : Type 0) (state : D → DiskState) → ((x : D) → CountsOn (state x)) → (disk : D) (s : UserState D) → UsersBegins told state s → HasCause (state disk).faults (state s.journal.0).faults failed → Spends users_opening_room (state disk) (state s.journal.0)
+pub users_opening_of_disk : {D : Type 0} (told failed : Type 0) (state : D → DiskState) → ((x : D) → CountsOn (state x)) → (disk : D) (s : UserState D) → UsersBegins told state s → HasCause (state disk).faults (state s.journal.0).faults failed → Spends opening_room (state disk) (state s.journal.0)
     → IsUsersOpeningOf (state disk) (users_opening state s)
 users_opening_of_disk {D} told failed state counts disk s x cause spends =
     let on = counts s.journal.0 in

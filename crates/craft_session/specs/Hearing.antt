@@ -2,6 +2,7 @@
 use Rattle.std.specs.Prelude.{◌≡◌, ◌≢◌, ℕ, List, [], ◌∷◌, ◌++◌, Option, Some, None}
 use base.Stored.{Gv}
 use Rattle.turnstile.specs.Turning.{Each}
+use Rattle.dxc_outside.specs.declared.gate.GatePlace.{GatePlace}
 use Rattle.dxc_model.specs.declared.cause.Cause.{Cause}
 use Rattle.dxc_model.specs.declared.user.Class.{Class}
 use Rattle.user_admin.specs.declared.op.UserEntry.{UserEntry}
@@ -16,6 +17,7 @@ use Rattle.user_admin.specs.Turns.{Saw, TurnedBack}
 use Rattle.user_admin.specs.Users.{Users}
 use Rattle.user_admin.specs.Verdicts.{IsChanging, login, rows_in}
 use Rattle.craft_session.specs.declared.ask.Ask.{Ask}
+use Rattle.craft_session.specs.Gated.{AreUsersEntered}
 use Rattle.craft_session.specs.Seats.{UserSeatAt}
 
 -- nothing; a look at them, for a log-in with this name and PID; or an operation of a users' command
@@ -72,12 +74,13 @@ pub record HeardBehind (o : Opening) (place : ℕ) (h : List UserEntry) (w : Wan
 abbrev pub IsHeard : UserSeatAt → Wanted → Heard → List Gv → Type 0
 IsHeard seat w x then_seen = (h : List UserEntry) → Saw seat.opening seat.seen h → HeardBehind seat.opening seat.place h w x then_seen
 
--- what is wanted was heard, and this is asked by it, with the rows that were read
-pub record IsAsked (seat : UserSeatAt) (w : Wanted) (by : Heard → Ask) (a : Ask) (rows : List UserRow) (then_seen : List Gv) : Type 0 where
+-- what is wanted was heard, and this is asked by it, with the rows that were read; the gate was asked for what was entered
+pub record IsAsked (seat : UserSeatAt) (w : Wanted) (by : Heard → Ask) (a : Ask) (rows : List UserRow) (then_seen : List Gv) (gate : List GatePlace → Type 0) : Type 0 where
   pub heard : Heard
   pub behind : IsHeard seat w heard then_seen
   pub ask_is : a ≡ by heard
   pub rows_are : rows ≡ rows_heard heard
+  pub entered : AreUsersEntered seat gate then_seen
 
 -- a stop came before the users were changed: others' entries alone stand behind their history
 pub record IsUnasked (seat : UserSeatAt) (w : Wanted) (then_seen : List Gv) : Type 0 where
@@ -87,6 +90,6 @@ pub record IsUnasked (seat : UserSeatAt) (w : Wanted) (then_seen : List Gv) : Ty
   pub behind : (h : List UserEntry) → Saw seat.opening seat.seen h → TurnedBack seat.opening seat.place h then_seen
 
 -- what came of asking the users; none, where a stop came
-abbrev pub AskedIs : UserSeatAt → Wanted → (Heard → Ask) → List UserRow → List Gv → Option Ask → Type 0
-AskedIs seat w by rows then_seen (Some a) = IsAsked seat w by a rows then_seen
-AskedIs seat w by rows then_seen None = IsUnasked seat w then_seen
+abbrev pub AskedIs : UserSeatAt → Wanted → (Heard → Ask) → List UserRow → List Gv → (List GatePlace → Type 0) → Option Ask → Type 0
+AskedIs seat w by rows then_seen gate (Some a) = IsAsked seat w by a rows then_seen gate
+AskedIs seat w by rows then_seen gate None = IsUnasked seat w then_seen × AreUsersEntered seat gate then_seen

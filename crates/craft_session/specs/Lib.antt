@@ -7,6 +7,7 @@ pub mod Moments
 pub mod Walks
 pub mod Changing
 pub mod Askings
+pub mod Gated
 pub mod Acting
 pub mod Progresses
 pub mod Runs
@@ -16,6 +17,7 @@ pub mod Seats
 pub mod Sessions
 pub mod Desks
 pub mod Plain
+pub mod Rooms
 pub mod PlainUsers
 pub mod Scripts
 pub mod Entering

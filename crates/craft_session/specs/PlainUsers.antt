@@ -18,6 +18,7 @@ use Rattle.craft_session.specs.Asks.{Language, user_after}
 use Rattle.craft_session.specs.Consulting.{Consults}
 use Rattle.craft_session.specs.Happenings.{Happening, Request, unit, quiet}
 use Rattle.craft_session.specs.Hearing.{Heard, Wanted, unasked, found, nothing, to_look, to_do, heard_of}
+use Rattle.craft_session.specs.Rooms.{opening_room}
 
 -- a fault of the disk has an excuse
 abbrev pub IsExcusedBy : Type 0 → UserOutcome → Type 0
@@ -45,13 +46,9 @@ bare [] = []
 bare (unit u ∷ hs) = unit u.input ∷ bare hs
 bare (quiet ∷ hs) = quiet ∷ bare hs
 
--- the most that an opening of the users takes of their disk's room
-abbrev pub users_opening_room : ℕ
-users_opening_room = 131_081
-
 -- what opening and so many commands may take of it
 abbrev pub users_room_of : ℕ → ℕ
-users_room_of commands = users_opening_room + most_room * commands
+users_room_of commands = opening_room + most_room * commands
 
 -- a users' disk of this margin and room isn't sound for opening and so many commands
 abbrev pub IsUsersUnsoundBy : (margin room commands : ℕ) → Type 0
@@ -60,8 +57,8 @@ IsUsersUnsoundBy margin room commands = margin ≡ 0 → users_room_of commands 
 -- the opening of a users' disk: it took of the disk's room what an opening may, and each fault in it lowered the margin
 pub record IsUsersOpeningOf (d : DiskState) (o : Opening) : Type 0 where
   pub later : d.faults ≤ o.faults
-  pub room : users_opening_room ≤ d.room → d.room ≤ o.room + users_opening_room
-  pub margin : users_opening_room ≤ d.room → o.faults + o.margin ≤ d.faults + d.margin
+  pub room : opening_room ≤ d.room → d.room ≤ o.room + opening_room
+  pub margin : opening_room ≤ d.room → o.faults + o.margin ≤ d.faults + d.margin
   pub counts : 0 < o.room → o.faults < last
 
 -- Of a session that is alone, while this happened: a legal users' history of its entries alone, after so many commands; where the disk that was handed

@@ -31,12 +31,9 @@ use Rattle.craft_session.specs.Meanings.{language}
 use Rattle.craft_session.specs.Moments.{Gives}
 use Rattle.craft_session.specs.Plain.{At, Excuse, Plays, PlaysTo, Said, alone, said_in, standing}
 use Rattle.craft_session.specs.PlainUsers.{ConsultsAlone}
+use Rattle.craft_session.specs.Rooms.{opening_room}
 use Rattle.craft_session.specs.Runs.{Run, Walk}
 use Rattle.craft_session.specs.Walks.{CutsAt, FrontOf, nobody}
-
--- the most that an opening takes of a disk's room
-abbrev pub opening_room : ℕ
-opening_room = 131_081
 
 -- the most that a command takes: a restart that was due, and its operation
 abbrev pub command_room : ℕ

@@ -1,4 +1,4 @@
-ghost use Rattle.std.specs.Prelude.{◌≡◌, ◌≢◌, ◌≤◌, List, Some, None, vec_capacity};
+ghost use Rattle.std.specs.Prelude.{◌≡◌, ◌≢◌, ◌≤◌, false, List, Some, None, vec_capacity};
 ghost use Rattle.std.specs.List.{AllByRecursion};
 ghost use Rattle.dxc_causes.specs.Causes.{Rose};
 ghost use Rattle.dxc_num.specs.Dimensions.{ports};
@@ -7,6 +7,7 @@ ghost use Rattle.tl1_answer.specs.Texts.{IsOfShape};
 ghost use Rattle.xc_core.specs.Seeing.{Saw};
 ghost use Rattle.craft_session.specs.Asks.{IsAptAsk, cursor_from, user_after};
 ghost use Rattle.craft_session.specs.Acting.{ActedIs};
+ghost use Rattle.craft_session.specs.Gated.{Entered};
 ghost use Rattle.craft_session.specs.Seats.{IsSameSeat};
 
 use crate::ask::{Acted, Ask};
@@ -38,6 +39,7 @@ pub fn act<D: Disk + Drop, G: Gate, R: Wait>(
     ensures acted { result ≢ None → G.stops gate.new ≡ G.stops gate.old }
     ensures stopped { result ≡ None → Rose (G.stops gate.old) (G.stops gate.new) }
     ensures later { G.stops gate.old ≤ G.stops gate.new }
+    ensures entered { (h : List Entry) → Saw seat.old.opening seat.old.seen h → Entered seat.old.opening seat.old.place (G.asked gate.old gate.new) false false h seat.new.seen }
 {
     match ask {
         Ask::Refused(cause) => Some(Acted::Denied(cause)),

@@ -1,5 +1,5 @@
 //! A changing command: planned in one turn, driven to its end, and taken by the table in another.
-ghost use Rattle.std.specs.Prelude.{◌≡◌, ◌≢◌, ◌≤◌, ◌⊎◌, List, [], length, Option};
+ghost use Rattle.std.specs.Prelude.{◌≡◌, ◌≢◌, ◌≤◌, ◌⊎◌, false, true, List, [], length, Option};
 ghost use Rattle.dxc_causes.specs.Causes.{Rose};
 ghost use Rattle.dxc_model.specs.declared.entry.Entry.{Entry};
 ghost use Rattle.dxc_model.specs.declared.op.Change.{Change};
@@ -15,6 +15,7 @@ ghost use Rattle.xc_core.specs.States.{opening_of};
 ghost use Rattle.xc_core.specs.Turns.{HasPass, SawNoneAstray};
 ghost use Rattle.craft_session.specs.Askings.{ChangeAsked, RollAsked};
 ghost use Rattle.craft_session.specs.Changing.{ChangedIs};
+ghost use Rattle.craft_session.specs.Gated.{Entered};
 
 use crate::mend::{Mended, mend};
 use dxc_disk::Disk;
@@ -89,6 +90,7 @@ fn carry_out<D: Disk + Drop, G: Gate, R: Wait>(
     ensures stopped { result ≡ Changed.Stopped → Rose (G.stops gate.old) (G.stops gate.new) }
     ensures later { G.stops gate.old ≤ G.stops gate.new }
     ensures asked { ((result ≡ Changed.Done) × RollAsked (G.asked gate.old gate.new) (length (rest_of driver.value.rolling)) Pass1.Go) ⊎ ((result ≡ Changed.Stopped) × RollAsked (G.asked gate.old gate.new) (length (rest_of driver.value.rolling)) Pass1.Stop) }
+    ensures entered { (h : List Entry) → Saw (opening_of D.state turns.now.first) pass.old.seen h → Entered (opening_of D.state turns.now.first) pass.old.number (G.asked gate.old gate.new) true false h pass.new.seen }
 {
     let mut driver = driver;
     let held = &mut *driver;
@@ -126,6 +128,7 @@ pub fn change<D: Disk + Drop, G: Gate, R: Wait>(
     ensures stopped { result ≡ Changed.Stopped → Rose (G.stops gate.old) (G.stops gate.new) }
     ensures later { G.stops gate.old ≤ G.stops gate.new }
     ensures asked { ChangeAsked (G.asked gate.old gate.new) result }
+    ensures entered { (h : List Entry) → Saw (opening_of D.state turns.now.first) pass.old.seen h → Entered (opening_of D.state turns.now.first) pass.old.number (G.asked gate.old gate.new) false false h pass.new.seen }
 {
     for _ in rt.forever() {
         match turns::take(pass, turns, op, gate, rt) {

@@ -1,4 +1,5 @@
 //! What is true of every session's run, as the contract of a function without parameters.
+ghost use Rattle.craft_session.specs.Gated.{EffectsAreAsked};
 ghost use Rattle.craft_session.specs.Laws.{AreUnitsAlone, AreHearingsOnce, ArePlayed, ArePlayedAlone, AreResponsesOnce, AreScripts, EntriesAreCompleted, EntriesWantMiddles, OpeningsArePlaced};
 
 use dxc_disk::Disk;
@@ -42,4 +43,9 @@ pub fn entries_are_completed()
     ensures opened { OpeningsArePlaced }
     ensures completed { EntriesAreCompleted }
     ensures denied { EntriesWantMiddles }
+{}
+
+/// A session's gate was asked behind a work's writes for each entry of its own that took effect, and for no other but those that a stop cut.
+pub fn effects_are_asked()
+    ensures { EffectsAreAsked }
 {}

@@ -9,6 +9,7 @@ ghost use Rattle.user_admin.specs.Spellable.{NamesUid};
 ghost use Rattle.user_admin.specs.Verdicts.{IsChanging};
 ghost use Rattle.craft_session.specs.Asks.{IsAptAsk};
 ghost use Rattle.craft_session.specs.Desks.{ConsultedIs};
+ghost use Rattle.craft_session.specs.Gated.{NothingAsked};
 ghost use Rattle.craft_session.specs.Hearing.{AskedIs, IsAsked, to_do};
 ghost use Rattle.tl1_command.specs.Meanings.{meaning};
 ghost use Rattle.user_admin.specs.Commands.{user_meaning};
@@ -41,7 +42,7 @@ pub fn consult<U: Disk + Drop, G: Gate, R: Wait>(
     requires short { length unit.now ≤ 2047 }
     requires no_rows { users.old.rows.items ≡ [] }
     ensures same { IsSameUserSeat users.old.seat users.new.seat }
-    ensures consulted { ConsultedIs shelf.now user.now (whole unit.now) users.old.seat users.new.rows.items users.new.seat.seen result }
+    ensures consulted { ConsultedIs shelf.now user.now (whole unit.now) users.old.seat users.new.rows.items users.new.seat.seen (G.asked gate.old gate.new) result }
     ensures apt { IfSome result (λ p. IsAptAsk shelf.now.shape p.1) }
     ensures unstopped { result ≢ None → G.stops gate.new ≡ G.stops gate.old }
     ensures stopped { result ≡ None → Rose (G.stops gate.old) (G.stops gate.new) }
@@ -70,7 +71,7 @@ fn ask_in<U: Disk + Drop, G: Gate, R: Wait>(
     requires blocks { AreBlocksOf unit.now found.now.block.items }
     requires no_rows { users.old.rows.items ≡ [] }
     ensures same { IsSameUserSeat users.old.seat users.new.seat }
-    ensures asked { AskedIs users.old.seat (command_wants shelf.now user.now (map (block_at unit.now) found.now.block.items) (meaning shelf.now.shape shelf.now.sid user.now (map (block_at unit.now) found.now.block.items))) (λ x. command_ask shelf.now user.now x (map (block_at unit.now) found.now.block.items) (meaning shelf.now.shape shelf.now.sid user.now (map (block_at unit.now) found.now.block.items))) users.new.rows.items users.new.seat.seen result }
+    ensures asked { AskedIs users.old.seat (command_wants shelf.now user.now (map (block_at unit.now) found.now.block.items) (meaning shelf.now.shape shelf.now.sid user.now (map (block_at unit.now) found.now.block.items))) (λ x. command_ask shelf.now user.now x (map (block_at unit.now) found.now.block.items) (meaning shelf.now.shape shelf.now.sid user.now (map (block_at unit.now) found.now.block.items))) users.new.rows.items users.new.seat.seen (G.asked gate.old gate.new) result }
     ensures apt { IfSome result (IsAptAsk shelf.now.shape) }
     ensures unstopped { result ≢ None → G.stops gate.new ≡ G.stops gate.old }
     ensures stopped { result ≡ None → Rose (G.stops gate.old) (G.stops gate.new) }
@@ -96,7 +97,7 @@ fn served<U: Disk + Drop, R: Wait>(
     requires within { (d : Dimensions) × IsAptCommand d unit.now command }
     requires no_rows { users.old.rows.items ≡ [] }
     ensures same { IsSameUserSeat users.old.seat users.new.seat }
-    ensures asked { IsAsked users.old.seat (session_wants (asked_by unit.now command)) (λ x. session_ask user.now x (asked_by unit.now command)) result users.new.rows.items users.new.seat.seen }
+    ensures asked { IsAsked users.old.seat (session_wants (asked_by unit.now command)) (λ x. session_ask user.now x (asked_by unit.now command)) result users.new.rows.items users.new.seat.seen NothingAsked }
     ensures apt { (d : Dimensions) → IsAptCommand d unit.now command → IsAptAsk d result }
 {
     match command {
@@ -129,7 +130,7 @@ fn act_user<U: Disk + Drop, R: Wait>(
 ) -> Ask
     requires no_rows { users.old.rows.items ≡ [] }
     ensures same { IsSameUserSeat users.old.seat users.new.seat }
-    ensures asked { IsAsked users.old.seat (login_wants uid.now pid.now) (λ x. log_in user.now (named_by uid.now x)) result users.new.rows.items users.new.seat.seen }
+    ensures asked { IsAsked users.old.seat (login_wants uid.now pid.now) (λ x. log_in user.now (named_by uid.now x)) result users.new.rows.items users.new.seat.seen NothingAsked }
     ensures apt { (d : Dimensions) → IsAptAsk d result }
 {
     let Some(uid) = Uid::of(uid) else {
@@ -198,7 +199,7 @@ fn ask_users<U: Disk + Drop, G: Gate, R: Wait>(
     requires blocks { AreBlocksOf unit.now found.now.block.items }
     requires no_rows { users.old.rows.items ≡ [] }
     ensures same { IsSameUserSeat users.old.seat users.new.seat }
-    ensures asked { AskedIs users.old.seat (users_want (user_meaning shelf.now.sid user.now (map (block_at unit.now) found.now.block.items))) (λ x. users_ask x (user_meaning shelf.now.sid user.now (map (block_at unit.now) found.now.block.items))) users.new.rows.items users.new.seat.seen result }
+    ensures asked { AskedIs users.old.seat (users_want (user_meaning shelf.now.sid user.now (map (block_at unit.now) found.now.block.items))) (λ x. users_ask x (user_meaning shelf.now.sid user.now (map (block_at unit.now) found.now.block.items))) users.new.rows.items users.new.seat.seen (G.asked gate.old gate.new) result }
     ensures apt { (d : Dimensions) → IfSome result (IsAptAsk d) }
     ensures unstopped { result ≢ None → G.stops gate.new ≡ G.stops gate.old }
     ensures stopped { result ≡ None → Rose (G.stops gate.old) (G.stops gate.new) }
@@ -220,7 +221,7 @@ fn on_users<U: Disk + Drop, G: Gate, R: Wait>(
     requires named { NamesUid op }
     requires no_rows { users.old.rows.items ≡ [] }
     ensures same { IsSameUserSeat users.old.seat users.new.seat }
-    ensures asked { AskedIs users.old.seat (op_wants op) heard_ask users.new.rows.items users.new.seat.seen result }
+    ensures asked { AskedIs users.old.seat (op_wants op) heard_ask users.new.rows.items users.new.seat.seen (G.asked gate.old gate.new) result }
     ensures apt { (d : Dimensions) → IfSome result (IsAptAsk d) }
     ensures unstopped { result ≢ None → G.stops gate.new ≡ G.stops gate.old }
     ensures stopped { result ≡ None → Rose (G.stops gate.old) (G.stops gate.new) }
@@ -237,7 +238,7 @@ fn on_users<U: Disk + Drop, G: Gate, R: Wait>(
 fn list_users<U: Disk + Drop, R: Wait>(users: &mut UserDesk<U>, which: Option<Uid>, rt: &R) -> Ask
     requires no_rows { users.old.rows.items ≡ [] }
     ensures same { IsSameUserSeat users.old.seat users.new.seat }
-    ensures asked { IsAsked users.old.seat (to_do (UserOp.Rows which)) heard_ask result users.new.rows.items users.new.seat.seen }
+    ensures asked { IsAsked users.old.seat (to_do (UserOp.Rows which)) heard_ask result users.new.rows.items users.new.seat.seen NothingAsked }
     ensures apt { (d : Dimensions) → IsAptAsk d result }
 {
     match users.seat.rows(which, rt) {
@@ -260,7 +261,7 @@ fn change_users<U: Disk + Drop, G: Gate, R: Wait>(
     requires named { NamesUid op }
     requires no_rows { users.old.rows.items ≡ [] }
     ensures same { IsSameUserSeat users.old.seat users.new.seat }
-    ensures asked { AskedIs users.old.seat (to_do op) heard_ask users.new.rows.items users.new.seat.seen result }
+    ensures asked { AskedIs users.old.seat (to_do op) heard_ask users.new.rows.items users.new.seat.seen (G.asked gate.old gate.new) result }
     ensures apt { (d : Dimensions) → IfSome result (IsAptAsk d) }
     ensures unstopped { result ≢ None → G.stops gate.new ≡ G.stops gate.old }
     ensures stopped { result ≡ None → Rose (G.stops gate.old) (G.stops gate.new) }

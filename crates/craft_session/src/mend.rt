@@ -1,5 +1,5 @@
 //! A restart: begun in one turn, driven to its end, and ended in another.
-ghost use Rattle.std.specs.Prelude.{◌≡◌, ◌≢◌, ◌≤◌, ◌⊎◌, List, length};
+ghost use Rattle.std.specs.Prelude.{◌≡◌, ◌≢◌, ◌≤◌, ◌⊎◌, false, true, List, length};
 ghost use Rattle.dxc_causes.specs.Causes.{Rose};
 ghost use Rattle.dxc_model.specs.declared.entry.Entry.{Entry};
 ghost use Rattle.dxc_model.specs.declared.op.Op.TheVariants.{Restart};
@@ -10,6 +10,7 @@ ghost use Rattle.xc_core.specs.Turns.{HasPass, SawNoneAstray};
 ghost use Rattle.roll_engine.specs.Rollings.{rest_of};
 ghost use Rattle.craft_session.specs.Askings.{MendAsked, RollAsked, WarmAsked};
 ghost use Rattle.craft_session.specs.Changing.{MendedIs, WarmRestartIs};
+ghost use Rattle.craft_session.specs.Gated.{Entered};
 
 use crate::change::{Changed, roll};
 use dxc_disk::Disk;
@@ -54,6 +55,7 @@ fn resume<D: Disk + Drop, G: Gate, R: Wait>(
     ensures stopped { result ≡ Mended.Stopped → Rose (G.stops gate.old) (G.stops gate.new) }
     ensures later { G.stops gate.old ≤ G.stops gate.new }
     ensures asked { ((result ≡ Mended.Ready) × RollAsked (G.asked gate.old gate.new) (length (rest_of driver.value.rolling)) Pass1.Go) ⊎ ((result ≡ Mended.Stopped) × RollAsked (G.asked gate.old gate.new) (length (rest_of driver.value.rolling)) Pass1.Stop) }
+    ensures entered { (h : List Entry) → Saw (opening_of D.state turns.now.first) pass.old.seen h → Entered (opening_of D.state turns.now.first) pass.old.number (G.asked gate.old gate.new) true false h pass.new.seen }
 {
     let mut driver = driver;
     let held = &mut *driver;
@@ -89,6 +91,7 @@ pub fn mend<D: Disk + Drop, G: Gate, R: Wait>(
     ensures stopped { result ≡ Mended.Stopped → Rose (G.stops gate.old) (G.stops gate.new) }
     ensures later { G.stops gate.old ≤ G.stops gate.new }
     ensures asked { MendAsked (G.asked gate.old gate.new) result }
+    ensures entered { (h : List Entry) → Saw (opening_of D.state turns.now.first) pass.old.seen h → Entered (opening_of D.state turns.now.first) pass.old.number (G.asked gate.old gate.new) false false h pass.new.seen }
 {
     match restart(pass, turns, fabric, asked, gate, rt) {
         Restarting::Rolling(driver) => resume(pass, turns, fabric, asked, driver, gate, rt),
@@ -117,6 +120,7 @@ pub fn warm_restart<D: Disk + Drop, G: Gate, R: Wait>(
     ensures stopped { result ≡ Changed.Stopped → Rose (G.stops gate.old) (G.stops gate.new) }
     ensures later { G.stops gate.old ≤ G.stops gate.new }
     ensures asked { WarmAsked (G.asked gate.old gate.new) result }
+    ensures entered { (h : List Entry) → Saw (opening_of D.state turns.now.first) pass.old.seen h → Entered (opening_of D.state turns.now.first) pass.old.number (G.asked gate.old gate.new) false false h pass.new.seen }
 {
     for _ in rt.forever() {
         match mend(pass, turns, fabric, &Op::Restart, gate, rt) {

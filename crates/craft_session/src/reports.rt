@@ -4,15 +4,18 @@ ghost use Rattle.std.specs.Arc.{arc_value};
 ghost use Rattle.std.specs.List.{AllByRecursion};
 ghost use Rattle.dxc_outside.specs.declared.clock.Moment.{Moment};
 ghost use Rattle.dxc_outside.specs.Links.{LinkState};
+ghost use Rattle.dxc_model.specs.declared.entry.Entry.{Entry};
 ghost use Rattle.dxc_model.specs.declared.op.Change.{Change};
 ghost use Rattle.tl1_text.specs.declared.reader.UnitKind.TheVariants.{More};
 ghost use Rattle.tl1_text.specs.Reading.{Reader};
 ghost use Rattle.tl1_answer.specs.Texts.{IsChangeOf};
 ghost use Rattle.tl1_answer.specs.Messages.{report as whole_report};
+ghost use Rattle.xc_core.specs.Seeing.{Saw};
 ghost use Rattle.craft_session.specs.Meanings.{language};
 ghost use Rattle.craft_session.specs.Notices.{change, found_notices, lead, numbered};
 ghost use Rattle.craft_session.specs.Responses.{lost_text as text_of_lost};
 ghost use Rattle.craft_session.specs.Desks.{now};
+ghost use Rattle.craft_session.specs.Gated.{Entered, NothingAsked};
 ghost use Rattle.craft_session.specs.Seats.{IsSameSeat};
 ghost use Rattle.craft_session.specs.Sessions.{AreTold, Beginning, IsAt, IsReported, Writes, Stands, Goes};
 
@@ -42,6 +45,7 @@ pub fn report<K: Link, C: Clock, D: Disk + Drop, U: Disk + Drop, R: Wait>(
     ensures goes { (k : LinkState) → (c : List Moment) → (b : Beginning) → (r : Reader) → (ahead : List ℕ) → IsAt b desk.old.seat desk.old.users.seat → Stands (language (arc_value desk.old.shelf)) K.told C.told k (K.state link.old) c (C.coming clock.old) b (now desk.old) (is_some desk.old.attending.watch) More r ahead
         → Goes (language (arc_value desk.old.shelf)) K.told C.told k (K.state link.new) c (C.coming clock.new) b (now desk.new) result false r ahead }
     ensures unstopped { result ≢ Progress.Stopped }
+    ensures entered { (h : List Entry) → Saw desk.old.seat.opening desk.old.seat.seen h → Entered desk.old.seat.opening desk.old.seat.place NothingAsked false false h desk.new.seat.seen }
 {
     let Some(cursor) = desk.attending.watch else {
         return Progress::On;

@@ -1,4 +1,4 @@
-ghost use Rattle.std.specs.Prelude.{◌≡◌, ◌≢◌, ◌≤◌, List, length, vec_capacity};
+ghost use Rattle.std.specs.Prelude.{◌≡◌, ◌≢◌, ◌≤◌, false, List, length, vec_capacity};
 ghost use Rattle.std.specs.Arc.{arc_value};
 ghost use Rattle.std.specs.List.{AllByRecursion};
 ghost use Rattle.tl1_answer.specs.Texts.{IsChangeOf, IsOfShape};
@@ -11,6 +11,7 @@ ghost use Rattle.xc_core.specs.Seeing.{Saw};
 ghost use Rattle.xc_core.specs.Turns.{AreNumbered, LookIs, MarkIs, RowsAre, SawNoneAstray};
 ghost use Rattle.craft_session.specs.Askings.{ChangeAsked, WarmAsked};
 ghost use Rattle.craft_session.specs.Changing.{ChangedIs, WarmRestartIs};
+ghost use Rattle.craft_session.specs.Gated.{Entered};
 ghost use Rattle.craft_session.specs.Seats.{IsSameSeat, IsSeated, seat_at};
 
 use crate::change::{Changed, change};
@@ -111,6 +112,7 @@ impl<D: Disk + Drop> Seat<D> {
         ensures stopped { result ≡ Changed.Stopped → Rose (G.stops gate.old) (G.stops gate.new) }
         ensures later { G.stops gate.old ≤ G.stops gate.new }
         ensures asked { WarmAsked (G.asked gate.old gate.new) result }
+        ensures entered { (h : List Entry) → Saw self.old.opening self.old.seen h → Entered self.old.opening self.old.place (G.asked gate.old gate.new) false false h self.new.seen }
     {
         warm_restart(&mut self.pass, &self.turns, &self.fabric, gate, rt)
     }
@@ -124,6 +126,7 @@ impl<D: Disk + Drop> Seat<D> {
         ensures stopped { result ≡ Changed.Stopped → Rose (G.stops gate.old) (G.stops gate.new) }
         ensures later { G.stops gate.old ≤ G.stops gate.new }
         ensures asked { ChangeAsked (G.asked gate.old gate.new) result }
+        ensures entered { (h : List Entry) → Saw self.old.opening self.old.seen h → Entered self.old.opening self.old.place (G.asked gate.old gate.new) false false h self.new.seen }
     {
         change(&mut self.pass, &self.turns, &self.fabric, op, gate, rt)
     }

@@ -5,11 +5,10 @@ ghost use Rattle.dxc_outside.specs.Links.{LinkState};
 ghost use Rattle.tl1_text.specs.declared.reader.UnitKind.TheVariants.{More};
 ghost use Rattle.tl1_text.specs.Reading.{Holds, hand};
 ghost use Rattle.std.specs.Arc.{arc_value};
-ghost use Rattle.std.specs.List.{AllByRecursion};
-ghost use Rattle.tl1_answer.specs.Texts.{IsOfShape};
-ghost use Rattle.craft_session.specs.Asks.{reply_of, IsAptAsk};
+ghost use Rattle.craft_session.specs.Asks.{IsAptAsk};
+ghost use Rattle.craft_session.specs.Gated.{AreEntered};
 ghost use Rattle.craft_session.specs.Meanings.{language};
-ghost use Rattle.craft_session.specs.Desks.{now, input_of, ConsultedIs, IsReplied, IsAnswered};
+ghost use Rattle.craft_session.specs.Desks.{now, input_of, ConsultedIs, IsAnswered};
 ghost use Rattle.craft_session.specs.Seats.{IsSameSeat, IsSameUserSeat};
 ghost use Rattle.craft_session.specs.Sessions.{Beginning, IsAt, Writes, Stands, Goes, IsServed};
 ghost use Rattle.craft_session.specs.Walks.{nobody};
@@ -17,16 +16,16 @@ ghost use Rattle.user_admin.specs.Turns.{AreNumbered as AreUsersNumbered};
 ghost use Rattle.xc_core.specs.Turns.{AreNumbered, SawNoneAstray};
 
 use crate::act::act;
-use crate::ask::{Acted, Ask};
+use crate::ask::Ask;
 use crate::desk::Desk;
 use crate::end::{Progress, SessionEnd};
 use crate::meaning::consult;
 use crate::place::Place;
 use crate::reports::report;
-use crate::say::{add_lines, code_of};
+use crate::say::say;
 use dxc_disk::Disk;
 use dxc_model::Cause;
-use dxc_outside::{Clock, Gate, Got, Link, Sent, write_all};
+use dxc_outside::{Clock, Gate, Got, Link};
 use std::sync::Wait;
 use tl1_text::{Ctag, UnitKind};
 
@@ -50,6 +49,7 @@ fn serve_piece<K: Link, C: Clock, G: Gate, D: Disk + Drop, U: Disk + Drop, R: Wa
     ensures stopped { result ≡ Progress.Stopped → Rose (G.stops gate.old) (G.stops gate.new) }
     ensures unstopped { result ≢ Progress.Stopped → G.stops gate.new ≡ G.stops gate.old }
     ensures later { G.stops gate.old ≤ G.stops gate.new }
+    ensures asked { AreEntered desk.old.seat desk.old.users.seat (G.asked gate.old gate.new) desk.new.seat.seen desk.new.users.seat.seen }
 {
     let mut at = 0;
     while at < piece.len() {
@@ -83,6 +83,7 @@ fn serve_unit<K: Link, C: Clock, G: Gate, D: Disk + Drop, U: Disk + Drop, R: Wai
     ensures stopped { result ≡ Progress.Stopped → Rose (G.stops gate.old) (G.stops gate.new) }
     ensures unstopped { result ≢ Progress.Stopped → G.stops gate.new ≡ G.stops gate.old }
     ensures later { G.stops gate.old ≤ G.stops gate.new }
+    ensures asked { AreEntered desk.old.seat desk.old.users.seat (G.asked gate.old gate.new) desk.new.seat.seen desk.new.users.seat.seen }
 {
     match kind {
         UnitKind::More => Progress::On,
@@ -111,6 +112,7 @@ fn attend<K: Link, C: Clock, G: Gate, D: Disk + Drop, U: Disk + Drop, R: Wait>(
     ensures stopped { result ≡ Progress.Stopped → Rose (G.stops gate.old) (G.stops gate.new) }
     ensures unstopped { result ≢ Progress.Stopped → G.stops gate.new ≡ G.stops gate.old }
     ensures later { G.stops gate.old ≤ G.stops gate.new }
+    ensures asked { AreEntered desk.old.seat desk.old.users.seat (G.asked gate.old gate.new) desk.new.seat.seen desk.new.users.seat.seen }
 {
     match answer(desk, link, clock, gate, rt, kind) {
         Progress::On => report(desk, link, clock, rt),
@@ -137,6 +139,7 @@ fn answer<K: Link, C: Clock, G: Gate, D: Disk + Drop, U: Disk + Drop, R: Wait>(
     ensures stopped { result ≡ Progress.Stopped → Rose (G.stops gate.old) (G.stops gate.new) }
     ensures unstopped { result ≢ Progress.Stopped → G.stops gate.new ≡ G.stops gate.old }
     ensures later { G.stops gate.old ≤ G.stops gate.new }
+    ensures asked { AreEntered desk.old.seat desk.old.users.seat (G.asked gate.old gate.new) desk.new.seat.seen desk.new.users.seat.seen }
 {
     let Some((tag, ask)) = ask_of(desk, gate, rt, kind) else {
         return Progress::Stopped;
@@ -168,7 +171,7 @@ fn ask_of<G: Gate, D: Disk + Drop, U: Disk + Drop, R: Wait>(
     ensures users { IsSameUserSeat desk.old.users.seat desk.new.users.seat }
     ensures attending { desk.new.attending ≡ desk.old.attending }
     ensures reader { desk.new.reader ≡ desk.old.reader }
-    ensures consulted { ConsultedIs (arc_value desk.old.shelf) desk.old.attending.user (input_of kind desk.old.reader) desk.old.users.seat desk.new.users.rows.items desk.new.users.seat.seen result }
+    ensures consulted { ConsultedIs (arc_value desk.old.shelf) desk.old.attending.user (input_of kind desk.old.reader) desk.old.users.seat desk.new.users.rows.items desk.new.users.seat.seen (G.asked gate.old gate.new) result }
     ensures apt { IfSome result (λ p. IsAptAsk (arc_value desk.old.shelf).shape p.1) }
     ensures unstopped { result ≢ None → G.stops gate.new ≡ G.stops gate.old }
     ensures stopped { result ≡ None → Rose (G.stops gate.old) (G.stops gate.new) }
@@ -186,41 +189,6 @@ fn ask_of<G: Gate, D: Disk + Drop, U: Disk + Drop, R: Wait>(
         ),
         UnitKind::TooLong | UnitKind::More => Some((None, Ask::Refused(Cause::TooLong))),
     }
-}
-
-/// Writes the response of what was done with the next moment.
-fn say<K: Link, C: Clock, D: Disk + Drop, U: Disk + Drop>(
-    desk: &mut Desk<D, U>,
-    link: &mut K,
-    clock: &mut C,
-    tag: Option<Ctag>,
-    acted: Acted,
-) -> Sent
-    requires { acted ≡ Acted.Listed → AllByRecursion (IsOfShape desk.old.seat.opening.first.fold.table.shape) desk.old.rows.items }
-    ensures shelf { desk.new.shelf ≡ desk.old.shelf }
-    ensures seat { desk.new.seat ≡ desk.old.seat }
-    ensures users { desk.new.users ≡ desk.old.users }
-    ensures attending { desk.new.attending ≡ desk.old.attending }
-    ensures reader { desk.new.reader ≡ desk.old.reader }
-    ensures said { IsReplied (arc_value desk.old.shelf) K.told C.told (K.state link.old) (K.state link.new) (C.coming clock.old) (C.coming clock.new) result tag desk.old.users.rows.items (reply_of acted desk.old.rows.items) }
-{
-    let moment = clock.now();
-    desk.answer
-        .begin(desk.shelf.sid(), moment, tag.as_ref(), code_of(acted));
-    match add_lines(
-        &mut desk.answer,
-        &mut desk.text,
-        link,
-        desk.shelf.shape(),
-        acted,
-        &desk.rows,
-        desk.users.rows.as_slice(),
-    ) {
-        Sent::Whole => {}
-        Sent::Cut => return Sent::Cut,
-    }
-    desk.answer.end();
-    write_all(link, desk.answer.bytes())
 }
 
 /// Serves the link, until it ends or fails, the gate stops, or 2^32 reads were made. It waits for its turn at the state, for the Provisioner, and for
@@ -246,6 +214,7 @@ pub fn serve_session<K: Link, C: Clock, G: Gate, D: Disk + Drop, U: Disk + Drop,
     ensures stopped { result ≡ SessionEnd.Stopped → Rose (G.stops gate.old) (G.stops gate.new) }
     ensures unstopped { result ≢ SessionEnd.Stopped → G.stops gate.new ≡ G.stops gate.old }
     ensures later { G.stops gate.old ≤ G.stops gate.new }
+    ensures asked { AreEntered place.old.seat place.old.users (G.asked gate.old gate.new) place.new.seat.seen place.new.users.seen }
     ensures spent { result ≡ SessionEnd.Spent → Counted (K.state link.old).reads (K.state link.new).reads (2 ^ 32) }
     ensures few { (K.state link.new).reads ≤ (K.state link.old).reads + 2 ^ 32 }
 {
@@ -279,6 +248,7 @@ fn serve<K: Link, C: Clock, G: Gate, D: Disk + Drop, U: Disk + Drop, R: Wait>(
     ensures stopped { result ≡ SessionEnd.Stopped → Rose (G.stops gate.old) (G.stops gate.new) }
     ensures unstopped { result ≢ SessionEnd.Stopped → G.stops gate.new ≡ G.stops gate.old }
     ensures later { G.stops gate.old ≤ G.stops gate.new }
+    ensures asked { AreEntered desk.old.seat desk.old.users.seat (G.asked gate.old gate.new) desk.new.seat.seen desk.new.users.seat.seen }
     ensures spent { result ≡ SessionEnd.Spent → Counted (K.state link.old).reads (K.state link.new).reads (2 ^ 32) }
     ensures few { (K.state link.new).reads ≤ (K.state link.old).reads + 2 ^ 32 }
 {

@@ -1,11 +1,13 @@
-use Rattle.std.proofs.Common.{ℕ, Bool, true, false, Option, Some, refl, sym, ap, subst}
+use Rattle.std.proofs.Common.{ℕ, [], Bool, true, false, Option, Some, refl, sym, ap, subst}
 use Rattle.craft_session.specs.declared.ask.Ask.TheVariants.{Allows}
 use Rattle.craft_session.specs.Acting.{Acts}
 use Rattle.craft_session.specs.declared.ask.Acted.{Acted}
 use Rattle.craft_session.specs.declared.ask.Acted.TheVariants.{Completed, Listed, Restarted, Denied}
 use Rattle.craft_session.specs.Asks.{completed, user_after}
+use Rattle.craft_session.specs.Gated.{answers}
 use Rattle.craft_session.proofs.Acted.{acts_nothing, acts_listed, acts_marked, acts_cut, acts_done, acts_refused, acts_restarted, acts_stopped, acts_unrestarted}
 use Rattle.craft_session.proofs.Ends.{apart, changed_goes, some_there, stayed}
+use Rattle.craft_session.proofs.Gated.{entered_at, entered_none}
 use Rattle.craft_session.proofs.act.act.Goals as goal
 
 -- whether rows were listed
@@ -23,6 +25,7 @@ returns-in-Refused g c = record {
   acted = λ not. refl;
   stopped = λ is. absurd (some_there _ _ refl is);
   later = stayed _ _ refl;
+  entered = λ h saw. entered_none c.args.seat.now.opening c.args.seat.now.place (g.G.Gate.asked c.args.gate.now c.args.gate.now) h c.args.seat.now.seen (g.G.Gate.unasked c.args.gate.now) saw;
 }
 
 pub returns-in-LogsIn : goal.returns-in-LogsIn
@@ -35,6 +38,7 @@ returns-in-LogsIn g c = record {
   acted = λ not. refl;
   stopped = λ is. absurd (some_there _ _ refl is);
   later = stayed _ _ refl;
+  entered = λ h saw. entered_none c.args.seat.now.opening c.args.seat.now.place (g.G.Gate.asked c.args.gate.now c.args.gate.now) h c.args.seat.now.seen (g.G.Gate.unasked c.args.gate.now) saw;
 }
 
 pub returns-in-LogsOut : goal.returns-in-LogsOut
@@ -47,6 +51,7 @@ returns-in-LogsOut g c = record {
   acted = λ not. refl;
   stopped = λ is. absurd (some_there _ _ refl is);
   later = stayed _ _ refl;
+  entered = λ h saw. entered_none c.args.seat.now.opening c.args.seat.now.place (g.G.Gate.asked c.args.gate.now c.args.gate.now) h c.args.seat.now.seen (g.G.Gate.unasked c.args.gate.now) saw;
 }
 
 pub returns-in-Completes : goal.returns-in-Completes
@@ -59,6 +64,7 @@ returns-in-Completes g c = record {
   acted = λ not. refl;
   stopped = λ is. absurd (some_there _ _ refl is);
   later = stayed _ _ refl;
+  entered = λ h saw. entered_none c.args.seat.now.opening c.args.seat.now.place (g.G.Gate.asked c.args.gate.now c.args.gate.now) h c.args.seat.now.seen (g.G.Gate.unasked c.args.gate.now) saw;
 }
 
 pub returns-in-Allows : goal.returns-in-Allows
@@ -74,6 +80,7 @@ returns-in-Allows g c = record {
   acted = λ not. refl;
   stopped = λ is. absurd (some_there _ _ refl is);
   later = stayed _ _ refl;
+  entered = λ h saw. entered_at c.args.seat.now.opening c.args.seat.now.place (g.G.Gate.asked c.args.gate.now c.args.gate.now) h c.mark-newest.new.self.seen false false _ [] (answers _) (g.G.Gate.unasked c.args.gate.now) (c.mark-newest.ensures.mark h saw).0;
 }
 
 pub returns-in-Inhibits : goal.returns-in-Inhibits
@@ -86,6 +93,7 @@ returns-in-Inhibits g c = record {
   acted = λ not. refl;
   stopped = λ is. absurd (some_there _ _ refl is);
   later = stayed _ _ refl;
+  entered = λ h saw. entered_none c.args.seat.now.opening c.args.seat.now.place (g.G.Gate.asked c.args.gate.now c.args.gate.now) h c.args.seat.now.seen (g.G.Gate.unasked c.args.gate.now) saw;
 }
 
 pub returns-in-Lists : goal.returns-in-Lists
@@ -98,6 +106,7 @@ returns-in-Lists g c = record {
   acted = λ not. refl;
   stopped = λ is. absurd (some_there _ _ refl is);
   later = stayed _ _ refl;
+  entered = λ h saw. entered_at c.args.seat.now.opening c.args.seat.now.place (g.G.Gate.asked c.args.gate.now c.args.gate.now) h c.rows.new.self.seen false false _ [] (answers _) (g.G.Gate.unasked c.args.gate.now) (c.rows.ensures.rows h saw).0;
 }
 
 pub returns-in-Done : goal.returns-in-Done
@@ -110,6 +119,7 @@ returns-in-Done g c = record {
   acted = λ not. c.restart.ensures.done (apart changed_goes _ _ _ c.in-Done.is refl refl);
   stopped = λ is. absurd (some_there _ _ refl is);
   later = c.restart.ensures.later;
+  entered = c.restart.ensures.entered;
 }
 
 pub returns-in-Denied : goal.returns-in-Denied
@@ -122,6 +132,7 @@ returns-in-Denied g c = record {
   acted = λ not. c.restart.ensures.done (apart changed_goes _ _ _ c.in-Denied.is refl refl);
   stopped = λ is. absurd (some_there _ _ refl is);
   later = c.restart.ensures.later;
+  entered = c.restart.ensures.entered;
 }
 
 pub returns-in-Stopped : goal.returns-in-Stopped
@@ -134,6 +145,7 @@ returns-in-Stopped g c = record {
   acted = λ not. absurd (not refl);
   stopped = λ is. c.restart.ensures.stopped c.in-Stopped.is;
   later = c.restart.ensures.later;
+  entered = c.restart.ensures.entered;
 }
 
 pub returns-in-Done-change : goal.returns-in-Done-change
@@ -146,6 +158,7 @@ returns-in-Done-change g c = record {
   acted = λ not. c.change.ensures.done (apart changed_goes _ _ _ c.in-Done-change.is refl refl);
   stopped = λ is. absurd (some_there _ _ refl is);
   later = c.change.ensures.later;
+  entered = c.change.ensures.entered;
 }
 
 pub returns-in-Denied-change : goal.returns-in-Denied-change
@@ -158,6 +171,7 @@ returns-in-Denied-change g c = record {
   acted = λ not. c.change.ensures.done (apart changed_goes _ _ _ c.in-Denied-change.is refl refl);
   stopped = λ is. absurd (some_there _ _ refl is);
   later = c.change.ensures.later;
+  entered = c.change.ensures.entered;
 }
 
 pub returns-in-Stopped-change : goal.returns-in-Stopped-change
@@ -170,4 +184,5 @@ returns-in-Stopped-change g c = record {
   acted = λ not. absurd (not refl);
   stopped = λ is. c.change.ensures.stopped c.in-Stopped-change.is;
   later = c.change.ensures.later;
+  entered = c.change.ensures.entered;
 }

@@ -1,4 +1,4 @@
-use Rattle.std.proofs.Common.{rules, length, ℕ, [], ◌∷◌, ◌++◌, inl, inr, refl, sym, ◌∙◌, subst}
+use Rattle.std.proofs.Common.{rules, length, ℕ, [], ◌∷◌, ◌++◌, inl, inr, refl, sym, ◌∙◌, ap, subst}
 use Rattle.dxc_model.specs.declared.entry.Outcome.TheVariants.{Taken}
 use Rattle.dxc_model.proofs.FirstCauses.{changes}
 use Rattle.xc_core.specs.Seeing.{HasTaken, entry}
@@ -13,6 +13,7 @@ use Rattle.roll_engine.specs.Rollings.{rest_of}
 use Rattle.xc_core.specs.declared.turns.Took.{Took}
 use Rattle.xc_core.specs.Askings.{asked_at_take}
 use Rattle.craft_session.specs.Askings.{no_mending}
+use Rattle.craft_session.proofs.Gated.{entered_none, entered_on, entered_take_on, takes_out}
 use Rattle.craft_session.proofs.Gating.{denied_asked, mending_denied, mending_more, mending_none, mending_stopped, nothing_more, rolled_asked, stopped_asked}
 use Rattle.craft_session.proofs.Ends.{apart, changed_goes, later_behind, mended_goes, rose_behind, took_goes}
 use Rattle.craft_session.proofs.change.change.Goals as goal
@@ -21,7 +22,7 @@ pub take-requires-clause-seen : goal.take-requires-clause-seen
 take-requires-clause-seen g c = let w = c.requires.seen in let b = c.loop.invariant.mended w.0 w.1 in (w.0 ++ b.front, b.saw)
 
 pub loop-init : goal.loop-init
-loop-init g c = record { goes = (tt, tt); pass = c.requires.pass; number = refl; mended = λ h saw. mended_none (opening_of g.D.Disk.state c.args.turns.now.first) c.args.pass.now.number h c.args.pass.now.seen saw; gate = refl; asked = ([], no_mending, g.G.Gate.unasked c.args.gate.now) }
+loop-init g c = record { goes = (tt, tt); pass = c.requires.pass; number = refl; mended = λ h saw. mended_none (opening_of g.D.Disk.state c.args.turns.now.first) c.args.pass.now.number h c.args.pass.now.seen saw; gate = refl; asked = ([], no_mending, g.G.Gate.unasked c.args.gate.now); entered = λ h saw. entered_none (opening_of g.D.Disk.state c.args.turns.now.first) c.args.pass.now.number (g.G.Gate.asked c.args.gate.now c.args.gate.now) h c.args.pass.now.seen (g.G.Gate.unasked c.args.gate.now) saw }
 
 pub carry_out-requires-clause-taken : goal.carry_out-requires-clause-taken
 carry_out-requires-clause-taken g c =
@@ -51,6 +52,7 @@ returns-in-Rolling g c =
           let r = subst (λ (n : ℕ). ChangedIs (opening_of g.D.Disk.state c.args.turns.now.first) n (h ++ d.front) c.args.op.now c.carry_out.new.pass.seen c.carry_out.result) (c.take.ensures.pass.1 ∙ c.loop.invariant.number) (c.carry_out.ensures.changed (h ++ d.front) d.saw) in
           changed_on (opening_of g.D.Disk.state c.args.turns.now.first) c.args.pass.now.number h c.args.op.now c.take.new.pass.seen c.carry_out.new.pass.seen d c.carry_out.result r;
       asked = rolled_asked g.G.Gate.asked g.G.Gate.asked_on c.args.gate.now c.take.new.gate c.carry_out.new.gate c.loop.invariant.asked.0 (length (rest_of c.in-Rolling.driver.value.rolling)) c.carry_out.result c.loop.invariant.asked.1 (g.G.Gate.asked_on c.args.gate.now c.loop.gate c.take.new.gate c.loop.invariant.asked.0 (Journal ∷ []) c.loop.invariant.asked.2 (subst (λ (x : Took g.row.D.Denot). g.G.Gate.asked c.loop.gate c.take.new.gate (asked_at_take x)) c.in-Rolling.is c.take.ensures.asked)) c.carry_out.ensures.asked;
+      entered = λ h saw. entered_on g.G.Gate.asked g.G.Gate.asked_on c.args.gate.now c.take.new.gate c.carry_out.new.gate _ _ _ _ _ _ _ _ _ (t.pass.1 ∙ k.number) (entered_take_on g.G.Gate.asked g.G.Gate.asked_on c.args.gate.now c.loop.gate c.take.new.gate _ _ _ _ _ _ g.D.Disk.told g.D.Disk.state c.args.op.now c.take.result _ (ap takes_out c.in-Rolling.is) k.number (k.entered h saw) t.asked t.took) r.entered;
     }
 
 pub returns-in-Denied : goal.returns-in-Denied
@@ -68,6 +70,7 @@ returns-in-Denied g c =
           let k = subst (λ (n : ℕ). TookIs g.D.Disk.told g.D.Disk.state (opening_of g.D.Disk.state c.args.turns.now.first) n (h ++ b.front) c.args.op.now c.take.new.pass.seen c.take.result) c.loop.invariant.number (c.take.ensures.took (h ++ b.front) b.saw) in
           changed_on (opening_of g.D.Disk.state c.args.turns.now.first) c.args.pass.now.number h c.args.op.now c.loop.pass.seen c.take.new.pass.seen b (Denied c.in-Denied.cause) (took_denied (opening_of g.D.Disk.state c.args.turns.now.first) c.args.pass.now.number (h ++ b.front) g.D.Disk.told g.D.Disk.state c.args.op.now c.take.new.pass.seen c.take.result k c.in-Denied.cause c.in-Denied.is);
       asked = denied_asked g.G.Gate.asked g.G.Gate.asked_on c.args.gate.now c.loop.gate c.take.new.gate c.loop.invariant.asked.0 c.loop.invariant.asked.1 c.loop.invariant.asked.2 c.in-Denied.cause (subst (λ (x : Took g.row.D.Denot). g.G.Gate.asked c.loop.gate c.take.new.gate (asked_at_take x)) c.in-Denied.is c.take.ensures.asked);
+      entered = λ h saw. entered_take_on g.G.Gate.asked g.G.Gate.asked_on c.args.gate.now c.loop.gate c.take.new.gate _ _ _ _ _ _ g.D.Disk.told g.D.Disk.state c.args.op.now c.take.result _ (ap takes_out c.in-Denied.is) k.number (k.entered h saw) t.asked t.took;
     }
 
 pub returns-in-Stopped : goal.returns-in-Stopped
@@ -85,6 +88,7 @@ returns-in-Stopped g c =
           let k = subst (λ (n : ℕ). TookIs g.D.Disk.told g.D.Disk.state (opening_of g.D.Disk.state c.args.turns.now.first) n (h ++ b.front) c.args.op.now c.take.new.pass.seen c.take.result) c.loop.invariant.number (c.take.ensures.took (h ++ b.front) b.saw) in
           changed_on (opening_of g.D.Disk.state c.args.turns.now.first) c.args.pass.now.number h c.args.op.now c.loop.pass.seen c.take.new.pass.seen b Stopped (took_stopped (opening_of g.D.Disk.state c.args.turns.now.first) c.args.pass.now.number (h ++ b.front) g.D.Disk.told g.D.Disk.state c.args.op.now c.take.new.pass.seen c.take.result k c.in-Stopped.is);
       asked = stopped_asked g.G.Gate.asked g.G.Gate.asked_on c.args.gate.now c.loop.gate c.take.new.gate c.loop.invariant.asked.0 c.loop.invariant.asked.1 c.loop.invariant.asked.2 (subst (λ (x : Took g.row.D.Denot). g.G.Gate.asked c.loop.gate c.take.new.gate (asked_at_take x)) c.in-Stopped.is c.take.ensures.asked);
+      entered = λ h saw. entered_take_on g.G.Gate.asked g.G.Gate.asked_on c.args.gate.now c.loop.gate c.take.new.gate _ _ _ _ _ _ g.D.Disk.told g.D.Disk.state c.args.op.now c.take.result _ (ap takes_out c.in-Stopped.is) k.number (k.entered h saw) t.asked t.took;
     }
 
 pub mend-requires-clause-asked : goal.mend-requires-clause-asked
@@ -109,6 +113,7 @@ loop-preserved g c = record {
       mended_back (opening_of g.D.Disk.state c.args.turns.now.first) c.args.pass.now.number h c.loop.pass.seen c.take.new.pass.seen b (turned_back_passed (opening_of g.D.Disk.state c.args.turns.now.first) c.args.pass.now.number (h ++ b.front) c.take.new.pass.seen (took_back (opening_of g.D.Disk.state c.args.turns.now.first) c.args.pass.now.number (h ++ b.front) g.D.Disk.told g.D.Disk.state c.args.op.now c.take.new.pass.seen c.take.result k c.in-Waits.is));
   gate = c.take.ensures.unstopped (apart took_goes _ _ _ c.in-Waits.is refl refl) ∙ c.loop.invariant.gate;
   asked = (c.loop.invariant.asked.0, c.loop.invariant.asked.1, nothing_more g.G.Gate.asked g.G.Gate.asked_on c.args.gate.now c.loop.gate c.take.new.gate c.loop.invariant.asked.0 c.loop.invariant.asked.2 (subst (λ (x : Took g.row.D.Denot). g.G.Gate.asked c.loop.gate c.take.new.gate (asked_at_take x)) c.in-Waits.is c.take.ensures.asked));
+  entered = λ h saw. entered_take_on g.G.Gate.asked g.G.Gate.asked_on c.args.gate.now c.loop.gate c.take.new.gate _ _ _ _ _ _ g.D.Disk.told g.D.Disk.state c.args.op.now c.take.result _ (ap takes_out c.in-Waits.is) c.loop.invariant.number (c.loop.invariant.entered h saw) c.take.ensures.asked c.take.ensures.took;
 }
 
 pub loop-preserved-in-Ready : goal.loop-preserved-in-Ready
@@ -127,6 +132,7 @@ loop-preserved-in-Ready g c = record {
       ];
   gate = c.mend.ensures.going (λ is. elim c.in-Ready.is [ inl ready ↦ apart mended_goes _ _ _ ready refl refl is | inr waits ↦ apart mended_goes _ _ _ waits refl refl is ]) ∙ c.take.ensures.unstopped (apart took_goes _ _ _ c.in-Halted.is refl refl) ∙ c.loop.invariant.gate;
   asked = elim c.in-Ready.is [ inl is ↦ mending_more g.G.Gate.asked g.G.Gate.asked_on c.args.gate.now c.take.new.gate c.mend.new.gate c.loop.invariant.asked.0 c.loop.invariant.asked.1 (nothing_more g.G.Gate.asked g.G.Gate.asked_on c.args.gate.now c.loop.gate c.take.new.gate c.loop.invariant.asked.0 c.loop.invariant.asked.2 (subst (λ (x : Took g.row.D.Denot). g.G.Gate.asked c.loop.gate c.take.new.gate (asked_at_take x)) c.in-Halted.is c.take.ensures.asked)) c.mend.result is c.mend.ensures.asked | inr is ↦ mending_none g.G.Gate.asked g.G.Gate.asked_on c.args.gate.now c.take.new.gate c.mend.new.gate c.loop.invariant.asked.0 c.loop.invariant.asked.1 (nothing_more g.G.Gate.asked g.G.Gate.asked_on c.args.gate.now c.loop.gate c.take.new.gate c.loop.invariant.asked.0 c.loop.invariant.asked.2 (subst (λ (x : Took g.row.D.Denot). g.G.Gate.asked c.loop.gate c.take.new.gate (asked_at_take x)) c.in-Halted.is c.take.ensures.asked)) c.mend.result is c.mend.ensures.asked ];
+  entered = λ h saw. entered_on g.G.Gate.asked g.G.Gate.asked_on c.args.gate.now c.take.new.gate c.mend.new.gate _ _ _ _ _ _ _ _ _ (c.take.ensures.pass.1 ∙ c.loop.invariant.number) (entered_take_on g.G.Gate.asked g.G.Gate.asked_on c.args.gate.now c.loop.gate c.take.new.gate _ _ _ _ _ _ g.D.Disk.told g.D.Disk.state c.args.op.now c.take.result _ (ap takes_out c.in-Halted.is) c.loop.invariant.number (c.loop.invariant.entered h saw) c.take.ensures.asked c.take.ensures.took) c.mend.ensures.entered;
 }
 
 pub returns-in-Denied-mend : goal.returns-in-Denied-mend
@@ -148,6 +154,7 @@ returns-in-Denied-mend g c =
           let m = subst (λ (n : ℕ). MendedIs (opening_of g.D.Disk.state c.args.turns.now.first) n (h ++ d.front) c.args.op.now c.mend.new.pass.seen c.mend.result) (c.take.ensures.pass.1 ∙ c.loop.invariant.number) (c.mend.ensures.mended (h ++ d.front) d.saw) in
           changed_on (opening_of g.D.Disk.state c.args.turns.now.first) c.args.pass.now.number h c.args.op.now c.take.new.pass.seen c.mend.new.pass.seen d (Denied c.in-Denied-mend.cause) (mend_denied (opening_of g.D.Disk.state c.args.turns.now.first) c.args.pass.now.number (h ++ d.front) (opening_of g.D.Disk.state c.args.turns.now.first).first.fold.table.shape c.args.op.now c.requires.apt c.mend.new.pass.seen c.in-Denied-mend.cause (subst (λ (z : Mended). MendedIs (opening_of g.D.Disk.state c.args.turns.now.first) c.args.pass.now.number (h ++ d.front) c.args.op.now c.mend.new.pass.seen z) c.in-Denied-mend.is m));
       asked = mending_denied g.G.Gate.asked g.G.Gate.asked_on c.args.gate.now c.take.new.gate c.mend.new.gate c.loop.invariant.asked.0 c.loop.invariant.asked.1 (nothing_more g.G.Gate.asked g.G.Gate.asked_on c.args.gate.now c.loop.gate c.take.new.gate c.loop.invariant.asked.0 c.loop.invariant.asked.2 (subst (λ (x : Took g.row.D.Denot). g.G.Gate.asked c.loop.gate c.take.new.gate (asked_at_take x)) c.in-Halted.is c.take.ensures.asked)) c.mend.result c.in-Denied-mend.cause c.in-Denied-mend.is c.mend.ensures.asked;
+      entered = λ h saw. entered_on g.G.Gate.asked g.G.Gate.asked_on c.args.gate.now c.take.new.gate c.mend.new.gate _ _ _ _ _ _ _ _ _ (t.pass.1 ∙ k.number) (entered_take_on g.G.Gate.asked g.G.Gate.asked_on c.args.gate.now c.loop.gate c.take.new.gate _ _ _ _ _ _ g.D.Disk.told g.D.Disk.state c.args.op.now c.take.result _ (ap takes_out c.in-Halted.is) k.number (k.entered h saw) t.asked t.took) m.entered;
     }
 
 pub returns-in-Stopped-mend : goal.returns-in-Stopped-mend
@@ -169,4 +176,5 @@ returns-in-Stopped-mend g c =
           let m = subst (λ (n : ℕ). MendedIs (opening_of g.D.Disk.state c.args.turns.now.first) n (h ++ d.front) c.args.op.now c.mend.new.pass.seen c.mend.result) (c.take.ensures.pass.1 ∙ c.loop.invariant.number) (c.mend.ensures.mended (h ++ d.front) d.saw) in
           changed_on (opening_of g.D.Disk.state c.args.turns.now.first) c.args.pass.now.number h c.args.op.now c.take.new.pass.seen c.mend.new.pass.seen d Stopped (mend_stopped (opening_of g.D.Disk.state c.args.turns.now.first) c.args.pass.now.number (h ++ d.front) (opening_of g.D.Disk.state c.args.turns.now.first).first.fold.table.shape c.args.op.now c.requires.apt c.mend.new.pass.seen (subst (λ (z : Mended). MendedIs (opening_of g.D.Disk.state c.args.turns.now.first) c.args.pass.now.number (h ++ d.front) c.args.op.now c.mend.new.pass.seen z) c.in-Stopped-mend.is m));
       asked = mending_stopped g.G.Gate.asked g.G.Gate.asked_on c.args.gate.now c.take.new.gate c.mend.new.gate c.loop.invariant.asked.0 c.loop.invariant.asked.1 (nothing_more g.G.Gate.asked g.G.Gate.asked_on c.args.gate.now c.loop.gate c.take.new.gate c.loop.invariant.asked.0 c.loop.invariant.asked.2 (subst (λ (x : Took g.row.D.Denot). g.G.Gate.asked c.loop.gate c.take.new.gate (asked_at_take x)) c.in-Halted.is c.take.ensures.asked)) c.mend.result c.in-Stopped-mend.is c.mend.ensures.asked;
+      entered = λ h saw. entered_on g.G.Gate.asked g.G.Gate.asked_on c.args.gate.now c.take.new.gate c.mend.new.gate _ _ _ _ _ _ _ _ _ (t.pass.1 ∙ k.number) (entered_take_on g.G.Gate.asked g.G.Gate.asked_on c.args.gate.now c.loop.gate c.take.new.gate _ _ _ _ _ _ g.D.Disk.told g.D.Disk.state c.args.op.now c.take.result _ (ap takes_out c.in-Halted.is) k.number (k.entered h saw) t.asked t.took) m.entered;
     }

@@ -1,4 +1,4 @@
-use Rattle.std.proofs.Common.{◌≡◌, List}
+use Rattle.std.proofs.Common.{◌≡◌, false, List}
 use Rattle.dxc_model.specs.declared.entry.Entry.{Entry}
 use Rattle.xc_core.specs.Seeing.{Saw}
 use Rattle.xc_core.specs.States.{opening_of}
@@ -6,6 +6,7 @@ use Rattle.xc_core.specs.Turns.{HasPass}
 use Rattle.dxc_outside.specs.declared.gate.GatePlace.{GatePlace}
 use Rattle.craft_session.specs.Askings.{AreMendings}
 use Rattle.craft_session.specs.Changing.{MendedBy}
+use Rattle.craft_session.specs.Gated.{Entered}
 use Rattle.craft_session.proofs.change.change.Given as goal
 
 abbrev pub invariant-loop : goal.invariant-loop
@@ -16,4 +17,5 @@ invariant-loop g l = record {
   mended : (h : List Entry) → Saw (opening_of g.D.Disk.state l.turns.first) l.fn.pass.seen h → MendedBy (opening_of g.D.Disk.state l.turns.first) l.fn.pass.number h l.pass.seen;
   gate : g.G.Gate.stops l.gate ≡ g.G.Gate.stops l.fn.gate;
   asked : (front : List GatePlace) × AreMendings front × g.G.Gate.asked l.fn.gate l.gate front;
+  entered : (h : List Entry) → Saw (opening_of g.D.Disk.state l.turns.first) l.fn.pass.seen h → Entered (opening_of g.D.Disk.state l.turns.first) l.fn.pass.number (g.G.Gate.asked l.fn.gate l.gate) false false h l.pass.seen;
 }

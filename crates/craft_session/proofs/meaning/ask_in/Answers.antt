@@ -5,9 +5,10 @@ use Rattle.tl1_text.specs.Spans.{block_at}
 use Rattle.tl1_command.specs.Commands.{asked_by}
 use Rattle.tl1_command.specs.Meanings.{Asked, meaning}
 use Rattle.craft_session.specs.Asks.{IsAptAsk}
+use Rattle.craft_session.specs.Gated.{NothingAsked}
 use Rattle.craft_session.specs.Hearing.{AskedIs, IsAsked, unasked}
 use Rattle.craft_session.specs.Meanings.{command_ask, command_wants}
-use Rattle.craft_session.proofs.Asking.{refused_ask, refused_wants}
+use Rattle.craft_session.proofs.Asking.{asked_beside, refused_ask, refused_wants}
 use Rattle.craft_session.proofs.Consulted.{asked_nothing}
 use Rattle.craft_session.proofs.Ends.{some_there, stayed}
 use Rattle.craft_session.proofs.meaning.ask_in.Goals as goal
@@ -24,7 +25,8 @@ returns-in-Ok g c =
     let is : meaning s.shape s.sid user bs ≡ Ok (asked_by c.args.unit.now c.in-Ok.command) = sym (ap₂ (λ (d : Dimensions) (sid : List ℕ). meaning d sid user bs) c.shape.ensures c.sid.ensures) ∙ c.in-Ok.ensures.meaning in
     record {
       same = r.same;
-      asked = subst (λ (m : Result Asked Cause). IsAsked c.args.users.now.seat (command_wants s user bs m) (λ x. command_ask s user x bs m) c.served.result c.served.new.users.rows.items c.served.new.users.seat.seen) (sym is) r.asked;
+      asked = asked_beside c.args.users.now.seat (command_wants s user bs (meaning s.shape s.sid user bs)) (λ x. command_ask s user x bs (meaning s.shape s.sid user bs)) c.served.result c.served.new.users.rows.items c.served.new.users.seat.seen (g.G.Gate.asked c.args.gate.now c.args.gate.now) (g.G.Gate.unasked c.args.gate.now)
+          (subst (λ (m : Result Asked Cause). IsAsked c.args.users.now.seat (command_wants s user bs m) (λ x. command_ask s user x bs m) c.served.result c.served.new.users.rows.items c.served.new.users.seat.seen NothingAsked) (sym is) r.asked);
       apt = subst (λ (d : Dimensions). IsAptAsk d c.served.result) c.shape.ensures (r.apt c.shape.result c.in-Ok.ensures.apt);
       unstopped = λ not. refl;
       stopped = λ is_none. absurd (some_there _ _ refl is_none);
@@ -40,7 +42,7 @@ returns-in-UnknownCommand g c =
     let is : meaning s.shape s.sid user bs ≡ Err c.in-Err.cause = sym (ap₂ (λ (d : Dimensions) (sid : List ℕ). meaning d sid user bs) c.shape.ensures c.sid.ensures) ∙ c.in-Err.ensures.meaning in
     record {
       same = r.same;
-      asked = subst (λ (m : Result Asked Cause). AskedIs c.args.users.now.seat (command_wants s user bs m) (λ x. command_ask s user x bs m) c.ask_users.new.users.rows.items c.ask_users.new.users.seat.seen c.ask_users.result) (sym (is ∙ ap Err c.in-UnknownCommand.is)) r.asked;
+      asked = subst (λ (m : Result Asked Cause). AskedIs c.args.users.now.seat (command_wants s user bs m) (λ x. command_ask s user x bs m) c.ask_users.new.users.rows.items c.ask_users.new.users.seat.seen (g.G.Gate.asked c.args.gate.now c.ask_users.new.gate) c.ask_users.result) (sym (is ∙ ap Err c.in-UnknownCommand.is)) r.asked;
       apt = r.apt s.shape;
       unstopped = r.unstopped;
       stopped = r.stopped;
@@ -56,7 +58,7 @@ returns-in_default g c =
     let is : meaning s.shape s.sid user bs ≡ Err c.in-Err.cause = sym (ap₂ (λ (d : Dimensions) (sid : List ℕ). meaning d sid user bs) c.shape.ensures c.sid.ensures) ∙ c.in-Err.ensures.meaning in
     record {
       same = (refl, refl, refl);
-      asked = asked_nothing _ _ _ _ _ (ap (command_wants s user bs) is ∙ refused_wants s user bs c.in-Err.cause not) (sym (ap (command_ask s user unasked bs) is ∙ refused_ask s user unasked bs c.in-Err.cause not)) c.requires.no_rows;
+      asked = asked_nothing _ _ _ _ _ (g.G.Gate.asked c.args.gate.now c.args.gate.now) (g.G.Gate.unasked c.args.gate.now) (ap (command_wants s user bs) is ∙ refused_wants s user bs c.in-Err.cause not) (sym (ap (command_ask s user unasked bs) is ∙ refused_ask s user unasked bs c.in-Err.cause not)) c.requires.no_rows;
       apt = tt;
       unstopped = λ _. refl;
       stopped = λ is_none. absurd (some_there _ _ refl is_none);

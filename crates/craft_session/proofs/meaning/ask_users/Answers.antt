@@ -10,4 +10,4 @@ pub returns-in-Err-clause-asked : goal.returns-in-Err-clause-asked
 returns-in-Err-clause-asked g c =
     let bs = map (block_at c.args.unit.now) c.args.found.now.block.items in
     let is = ap (λ (s : List ℕ). user_meaning s c.args.user.now bs) (sym c.sid.ensures) ∙ sym c.user_command_of.ensures.meaning ∙ c.in-Err.is in
-    asked_nothing _ _ _ _ _ (ap users_want is) (sym (ap (users_ask unasked) is)) c.requires.no_rows
+    asked_nothing _ _ _ _ _ (g.G.Gate.asked c.args.gate.now c.args.gate.now) (g.G.Gate.unasked c.args.gate.now) (ap users_want is) (sym (ap (users_ask unasked) is)) c.requires.no_rows

@@ -1,4 +1,4 @@
-use Rattle.std.proofs.Common.{inl, length, ℕ, [], ◌∷◌, ◌++◌, ◌∙◌, refl, sym, subst}
+use Rattle.std.proofs.Common.{ap, inl, length, ℕ, [], ◌∷◌, ◌++◌, ◌∙◌, refl, sym, subst}
 use Rattle.dxc_model.specs.declared.entry.Outcome.TheVariants.{Taken}
 use Rattle.dxc_model.specs.declared.op.Op.TheVariants.{Restart}
 use Rattle.xc_core.specs.Seeing.{HasRestart, entry}
@@ -7,6 +7,7 @@ use Rattle.roll_engine.specs.Rollings.{rest_of}
 use Rattle.xc_core.specs.declared.restarts.Restarting.{Restarting}
 use Rattle.xc_core.specs.Askings.{RestartAsked}
 use Rattle.craft_session.specs.Changing.{MendedIs}
+use Rattle.craft_session.proofs.Gated.{entered_mend, entered_on, restarts_out}
 use Rattle.craft_session.proofs.Gating.{failed_asked, mended_by}
 use Rattle.craft_session.proofs.Changing.{mended_on_turns, restart_failed, restart_rolling, restart_stopped, restart_waits, taken_passed}
 use Rattle.craft_session.specs.declared.mend.Mended.TheVariants.{Denied, Stopped, Waits}
@@ -36,6 +37,7 @@ returns-in-Rolling g c =
           let r = subst (λ (n : ℕ). MendedIs (opening_of g.D.Disk.state c.args.turns.now.first) n (h ++ d.passed) c.args.asked.now c.resume.new.pass.seen c.resume.result) c.restart.ensures.pass.1 (c.resume.ensures.mended (h ++ d.passed) d.saw) in
           mended_on_turns (opening_of g.D.Disk.state c.args.turns.now.first) c.args.pass.now.number h c.args.asked.now c.restart.new.pass.seen c.resume.new.pass.seen d c.resume.result r;
       asked = mended_by g.G.Gate.asked g.G.Gate.asked_on c.args.gate.now c.restart.new.gate c.resume.new.gate (length (rest_of c.in-Rolling.driver.value.rolling)) c.resume.result (subst (λ (x : Restarting g.row.D.Denot). RestartAsked (g.G.Gate.asked c.args.gate.now c.restart.new.gate) x) c.in-Rolling.is c.restart.ensures.asked) c.resume.ensures.asked;
+      entered = λ h saw. entered_on g.G.Gate.asked g.G.Gate.asked_on c.args.gate.now c.restart.new.gate c.resume.new.gate _ _ _ _ _ _ _ _ _ t.pass.1 (entered_mend (opening_of g.D.Disk.state c.args.turns.now.first) c.args.pass.now.number (g.G.Gate.asked c.args.gate.now c.restart.new.gate) h c.restart.new.pass.seen g.D.Disk.told g.D.Disk.state c.args.asked.now c.restart.result _ (ap restarts_out c.in-Rolling.is) t.asked (t.restart h saw)) r.entered;
     }
 
 pub returns-in-Failed : goal.returns-in-Failed
@@ -49,6 +51,7 @@ returns-in-Failed g c =
       later = t.later;
       mended = λ h saw. restart_failed (opening_of g.D.Disk.state c.args.turns.now.first) c.args.pass.now.number h g.D.Disk.told g.D.Disk.state c.args.asked.now c.restart.new.pass.seen c.restart.result (c.restart.ensures.restart h saw) c.in-Failed.cause c.in-Failed.is;
       asked = failed_asked g.row.D.Denot (g.G.Gate.asked c.args.gate.now c.restart.new.gate) c.in-Failed.cause (subst (λ (x : Restarting g.row.D.Denot). RestartAsked (g.G.Gate.asked c.args.gate.now c.restart.new.gate) x) c.in-Failed.is c.restart.ensures.asked);
+      entered = λ h saw. entered_mend (opening_of g.D.Disk.state c.args.turns.now.first) c.args.pass.now.number (g.G.Gate.asked c.args.gate.now c.restart.new.gate) h c.restart.new.pass.seen g.D.Disk.told g.D.Disk.state c.args.asked.now c.restart.result _ (ap restarts_out c.in-Failed.is) t.asked (t.restart h saw);
     }
 
 pub returns-in-Stopped : goal.returns-in-Stopped
@@ -62,6 +65,7 @@ returns-in-Stopped g c =
       later = t.later;
       mended = λ h saw. restart_stopped (opening_of g.D.Disk.state c.args.turns.now.first) c.args.pass.now.number h g.D.Disk.told g.D.Disk.state c.args.asked.now c.restart.new.pass.seen c.restart.result (c.restart.ensures.restart h saw) c.in-Stopped.is;
       asked = inl (subst (λ (x : Restarting g.row.D.Denot). RestartAsked (g.G.Gate.asked c.args.gate.now c.restart.new.gate) x) c.in-Stopped.is c.restart.ensures.asked);
+      entered = λ h saw. entered_mend (opening_of g.D.Disk.state c.args.turns.now.first) c.args.pass.now.number (g.G.Gate.asked c.args.gate.now c.restart.new.gate) h c.restart.new.pass.seen g.D.Disk.told g.D.Disk.state c.args.asked.now c.restart.result _ (ap restarts_out c.in-Stopped.is) t.asked (t.restart h saw);
     }
 
 pub returns-in-Waits : goal.returns-in-Waits
@@ -75,4 +79,5 @@ returns-in-Waits g c =
       later = t.later;
       mended = λ h saw. restart_waits (opening_of g.D.Disk.state c.args.turns.now.first) c.args.pass.now.number h g.D.Disk.told g.D.Disk.state c.args.asked.now c.restart.new.pass.seen c.restart.result (c.restart.ensures.restart h saw) c.in-Waits.is;
       asked = subst (λ (x : Restarting g.row.D.Denot). RestartAsked (g.G.Gate.asked c.args.gate.now c.restart.new.gate) x) c.in-Waits.is c.restart.ensures.asked;
+      entered = λ h saw. entered_mend (opening_of g.D.Disk.state c.args.turns.now.first) c.args.pass.now.number (g.G.Gate.asked c.args.gate.now c.restart.new.gate) h c.restart.new.pass.seen g.D.Disk.told g.D.Disk.state c.args.asked.now c.restart.result _ (ap restarts_out c.in-Waits.is) t.asked (t.restart h saw);
     }

@@ -11,6 +11,7 @@ use Rattle.craft_session.specs.Meanings.{language}
 use Rattle.craft_session.specs.Sessions.{Goes, Stands}
 use Rattle.craft_session.proofs.Answering.{answered, input_ended}
 use Rattle.craft_session.proofs.Ends.{on_goes}
+use Rattle.craft_session.proofs.Gated.{are_entered_beside}
 use Rattle.craft_session.proofs.SessionSteps.{goes_ended_is, writes_more}
 use Rattle.craft_session.proofs.session.attend.Goals as goal
 
@@ -35,6 +36,7 @@ returns-in-On g c =
       stopped = λ is. absurd (next.unstopped is);
       unstopped = λ is. first.unstopped (on_goes _ c.in-On.is);
       later = first.later;
+      asked = are_entered_beside g.G.Gate.asked g.G.Gate.asked_on g.G.Gate.unasked c.args.desk.now.seat c.answer.new.desk.seat c.args.desk.now.users.seat c.args.gate.now c.answer.new.gate _ _ _ _ first.asked refl first.seat (ap (λ (u : UserDesk g.row.U.Denot). u.seat.seen) next.users) next.entered;
     }
 
 pub returns-in_default : goal.returns-in_default
@@ -55,4 +57,5 @@ returns-in_default g c =
       stopped = first.stopped;
       unstopped = first.unstopped;
       later = first.later;
+      asked = first.asked;
     }

@@ -10,6 +10,7 @@ use Rattle.tl1_text.specs.Reading.{Reader}
 use Rattle.craft_session.specs.declared.end.Progress.TheVariants.{Cut}
 use Rattle.craft_session.specs.Sessions.{Beginning, Stands}
 use Rattle.craft_session.proofs.Ends.{counted_none, cut_goes, end_no, few_more, later_behind, on_goes, read_no, rose_behind, rose_later, stayed, stop_no, unheld, write_no}
+use Rattle.craft_session.proofs.Gated.{are_entered_beside, are_entered_none, are_entered_on}
 use Rattle.craft_session.proofs.SessionSteps.{stands_none, stands_piece, stands_quiet, goes_on_is, goes_cut_is, goes_stopped_is, counted_more, served_nothing, served_here}
 use Rattle.craft_session.proofs.Answering.{moved_goes}
 use Rattle.craft_session.proofs.session.serve.Goals as goal
@@ -25,6 +26,7 @@ loop-init g c = record {
   counted = counted_none _;
   not_ended = λ lt. absurd (omega (arith, lt));
   room = c.requires.room;
+  asked = are_entered_none c.args.desk.now.seat c.args.desk.now.users.seat (g.G.Gate.asked c.args.gate.now c.args.gate.now) (g.G.Gate.unasked c.args.gate.now);
 }
 
 pub returns-in-Cut : goal.returns-in-Cut
@@ -50,6 +52,7 @@ returns-in-Cut g c =
       later = later_behind _ _ _ c.loop.invariant.gate s.later;
       spent = λ is. write_no _ is refl;
       few = few_more _ _ _ _ _ _ c.loop.invariant.counted c.in-Bytes.ensures.reads s.link.wrote.reads c.loop-test.true;
+      asked = are_entered_on g.G.Gate.asked g.G.Gate.asked_on c.args.desk.now.seat c.loop.desk.seat c.args.desk.now.users.seat c.loop.desk.users.seat c.args.gate.now c.loop.gate c.serve_piece.new.gate _ _ c.loop.invariant.asked c.loop.invariant.seat c.loop.invariant.users s.asked;
     }
 
 pub returns-in-Stopped : goal.returns-in-Stopped
@@ -74,6 +77,7 @@ returns-in-Stopped g c =
       later = later_behind _ _ _ c.loop.invariant.gate s.later;
       spent = λ is. stop_no _ is refl;
       few = few_more _ _ _ _ _ _ c.loop.invariant.counted c.in-Bytes.ensures.reads s.link.wrote.reads c.loop-test.true;
+      asked = are_entered_on g.G.Gate.asked g.G.Gate.asked_on c.args.desk.now.seat c.loop.desk.seat c.args.desk.now.users.seat c.loop.desk.users.seat c.args.gate.now c.loop.gate c.serve_piece.new.gate _ _ c.loop.invariant.asked c.loop.invariant.seat c.loop.invariant.users s.asked;
     }
 
 pub returns-in-End : goal.returns-in-End
@@ -97,6 +101,7 @@ returns-in-End g c =
       later = stayed _ _ c.loop.invariant.gate;
       spent = λ is. end_no _ is refl;
       few = few_more _ _ _ _ _ _ c.loop.invariant.counted c.in-End.ensures.reads refl c.loop-test.true;
+      asked = c.loop.invariant.asked;
     }
 
 pub returns-in-Failed : goal.returns-in-Failed
@@ -120,6 +125,7 @@ returns-in-Failed g c =
       later = stayed _ _ c.loop.invariant.gate;
       spent = λ is. read_no _ is refl;
       few = few_more _ _ _ _ _ _ c.loop.invariant.counted c.in-Failed.ensures.reads refl c.loop-test.true;
+      asked = c.loop.invariant.asked;
     }
 
 pub returns-clause-session : goal.returns-clause-session
@@ -142,6 +148,7 @@ loop-preserved g c =
         counted = rw w.serve_piece.ensures.link.wrote.reads (counted_more _ _ _ _ c.loop.invariant.counted w.in-Bytes.ensures.reads);
         not_ended = λ _. w.serve_piece.ensures.link.wrote.ended ∙ w.in-Bytes.ensures.ended;
         room = search rules;
+        asked = are_entered_on g.G.Gate.asked g.G.Gate.asked_on c.args.desk.now.seat c.loop.desk.seat c.args.desk.now.users.seat c.loop.desk.users.seat c.args.gate.now c.loop.gate w.serve_piece.new.gate _ _ c.loop.invariant.asked c.loop.invariant.seat c.loop.invariant.users w.serve_piece.ensures.asked;
       })
       | in-Quiet+in-On-report w ↦ rw (w.desk-is, w.link-is, w.clock-is, w.gate-is) (record {
         shelf = w.report.ensures.shelf ∙ c.loop.invariant.shelf;
@@ -153,6 +160,7 @@ loop-preserved g c =
         counted = rw w.report.ensures.link.wrote.reads (counted_more _ _ _ _ c.loop.invariant.counted w.in-Quiet.ensures.reads);
         not_ended = λ _. w.report.ensures.link.wrote.ended ∙ w.in-Quiet.ensures.ended;
         room = search rules;
+        asked = are_entered_beside g.G.Gate.asked g.G.Gate.asked_on g.G.Gate.unasked c.args.desk.now.seat c.loop.desk.seat c.args.desk.now.users.seat c.args.gate.now c.loop.gate _ _ _ _ c.loop.invariant.asked refl c.loop.invariant.seat (ap (λ (u : UserDesk g.row.U.Denot). u.seat.seen) w.report.ensures.users) w.report.ensures.entered;
       })
     ]
 
@@ -179,4 +187,8 @@ returns-in-Cut-report g c =
       later = stayed _ _ c.loop.invariant.gate;
       spent = λ is. write_no _ is refl;
       few = few_more _ _ _ _ _ _ c.loop.invariant.counted c.in-Quiet.ensures.reads c.report.ensures.link.wrote.reads c.loop-test.true;
+      asked = are_entered_beside g.G.Gate.asked g.G.Gate.asked_on g.G.Gate.unasked c.args.desk.now.seat c.loop.desk.seat c.args.desk.now.users.seat c.args.gate.now c.loop.gate _ _ _ _ c.loop.invariant.asked refl c.loop.invariant.seat (ap (λ (u : UserDesk g.row.U.Denot). u.seat.seen) c.report.ensures.users) c.report.ensures.entered;
     }
+
+pub returns-clause-asked : goal.returns-clause-asked
+returns-clause-asked g c = c.loop.invariant.asked

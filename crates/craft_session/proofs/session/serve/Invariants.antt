@@ -5,6 +5,7 @@ use Rattle.tl1_text.specs.declared.reader.UnitKind.TheVariants.{More}
 use Rattle.user_admin.specs.Turns.{Saw as SawUsers}
 use Rattle.xc_core.specs.Seeing.{Saw}
 use Rattle.craft_session.specs.Desks.{now}
+use Rattle.craft_session.specs.Gated.{AreEntered}
 use Rattle.craft_session.specs.Meanings.{language}
 use Rattle.craft_session.specs.Seats.{IsSameSeat, IsSameUserSeat}
 use Rattle.craft_session.specs.Sessions.{Beginning, IsAt, Stands}
@@ -23,4 +24,5 @@ invariant-loop g l =
       counted : Counted (state l.fn.link).reads (state l.link).reads l.counter;
       not_ended : 0 < l.counter → (state l.link).ended ≡ false;
       room : 0 < length l.piece;
+      asked : AreEntered l.fn.desk.seat l.fn.desk.users.seat (g.G.Gate.asked l.fn.gate l.gate) l.desk.seat.seen l.desk.users.seat.seen;
     }

@@ -4,6 +4,7 @@ use Rattle.dxc_outside.specs.declared.clock.Moment.{Moment}
 use Rattle.dxc_outside.specs.Links.{LinkState}
 use Rattle.tl1_text.specs.declared.reader.UnitKind.TheVariants.{More}
 use Rattle.craft_session.specs.Desks.{now}
+use Rattle.craft_session.specs.Gated.{AreEntered}
 use Rattle.craft_session.specs.Meanings.{language}
 use Rattle.craft_session.specs.Seats.{IsSameSeat, IsSameUserSeat}
 use Rattle.craft_session.specs.Sessions.{Beginning, IsAt, Stands, Writes}
@@ -21,6 +22,7 @@ invariant-loop-at g l =
       link : Writes g.K.Link.told (state l.fn.link) (state l.link);
       gate : g.G.Gate.stops l.gate ≡ g.G.Gate.stops l.fn.gate;
       within : l.at ≤ length l.piece;
+      asked : AreEntered l.fn.desk.seat l.fn.desk.users.seat (g.G.Gate.asked l.fn.gate l.gate) l.desk.seat.seen l.desk.users.seat.seen;
       stands : (k : LinkState) (c : List Moment) (b : Beginning) → IsAt b l.fn.desk.seat l.fn.desk.users.seat → Stands tongue g.K.Link.told g.C.Clock.told k (state l.fn.link) c (coming l.fn.clock) b (now l.fn.desk) false More l.fn.desk.reader l.piece
           → Stands tongue g.K.Link.told g.C.Clock.told k (state l.link) c (coming l.clock) b (now l.desk) false More l.desk.reader (drop l.at l.piece);
     }

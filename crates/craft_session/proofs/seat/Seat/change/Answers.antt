@@ -1,10 +1,11 @@
-use Rattle.std.proofs.Common.{List, ◌∙◌, ap, subst}
+use Rattle.std.proofs.Common.{false, List, ◌∙◌, ap, subst}
 use Rattle.std.specs.Arc.{arc_value}
 use Rattle.turnstile.specs.Passing.{Gate}
 use Rattle.dxc_model.specs.declared.entry.Entry.{Entry}
 use Rattle.xc_core.specs.declared.state.State.{State}
 use Rattle.xc_core.specs.Seeing.{Saw}
 use Rattle.craft_session.specs.Changing.{ChangedIs}
+use Rattle.craft_session.specs.Gated.{Entered}
 use Rattle.craft_session.specs.Seats.{SeatAt, seat_at}
 use Rattle.xc_core.specs.States.{opening_of}
 use Rattle.craft_session.proofs.Seating.{changed_ended, saw_there, seated_on}
@@ -24,3 +25,8 @@ pub returns-clause-changed : goal.returns-clause-changed
 returns-clause-changed g c =
     let eq = ap (λ (t : Gate (State g.row.D.Denot)). seat_at g.D.Disk.state c.self.inside.pass t) c.deref.ensures ∙ c.self.view_is in
     subst (λ (s : SeatAt). (h : List Entry) → Saw s.opening s.seen h → ChangedIs s.opening s.place h c.args.op.now c.change.new.pass.seen c.change.result) eq c.change.ensures.changed
+
+pub returns-clause-entered : goal.returns-clause-entered
+returns-clause-entered g c =
+    let eq = ap (λ (t : Gate (State g.row.D.Denot)). seat_at g.D.Disk.state c.self.inside.pass t) c.deref.ensures ∙ c.self.view_is in
+    subst (λ (s : SeatAt). (h : List Entry) → Saw s.opening s.seen h → Entered s.opening s.place (g.G.Gate.asked c.args.gate.now c.change.new.gate) false false h c.change.new.pass.seen) eq c.change.ensures.entered

@@ -1,5 +1,12 @@
+use Rattle.std.proofs.Common.{false, List, ◌∙◌, ap, subst}
 use Rattle.std.specs.Arc.{arc_value}
+use Rattle.turnstile.specs.Passing.{Gate}
+use Rattle.dxc_model.specs.declared.entry.Entry.{Entry}
+use Rattle.xc_core.specs.declared.state.State.{State}
+use Rattle.xc_core.specs.Seeing.{Saw}
 use Rattle.xc_core.specs.States.{opening_of}
+use Rattle.craft_session.specs.Gated.{Entered}
+use Rattle.craft_session.specs.Seats.{SeatAt, seat_at}
 use Rattle.craft_session.proofs.Seating.{restarted_ended, saw_there, seated_on}
 use Rattle.craft_session.proofs.seat.Seat.restart.Goals as goal
 
@@ -12,3 +19,8 @@ invariant_of-self g c =
     let turn = c.warm_restart.ensures.restarted w.0 (saw_there g.D.Disk.told g.D.Disk.state p t c.deref.result.now w.0 c.deref.ensures w.1) in
     seated_on g.D.Disk.told g.D.Disk.state p c.warm_restart.new.pass t c.deref.result.now (arc_value c.self.inside.fabric) c.deref.ensures c.self.invariant c.warm_restart.ensures.pass.0 c.warm_restart.ensures.pass.1
     (restarted_ended o p.number w.0 c.warm_restart.new.pass.seen c.warm_restart.result turn) c.warm_restart.ensures.astray
+
+pub returns-clause-entered : goal.returns-clause-entered
+returns-clause-entered g c =
+    let eq = ap (λ (t : Gate (State g.row.D.Denot)). seat_at g.D.Disk.state c.self.inside.pass t) c.deref.ensures ∙ c.self.view_is in
+    subst (λ (s : SeatAt). (h : List Entry) → Saw s.opening s.seen h → Entered s.opening s.place (g.G.Gate.asked c.args.gate.now c.warm_restart.new.gate) false false h c.warm_restart.new.pass.seen) eq c.warm_restart.ensures.entered
