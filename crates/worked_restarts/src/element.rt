@@ -23,7 +23,7 @@ use shelf_file::Shelf;
 use std::alloc::Global;
 use std::sync::{Arc, Wait};
 use turnstile::{Pass, Sequential, Turnstile};
-use worked_common::{Line, RowDisk, small};
+use worked_common::{Part, RowDisk, small};
 use xc_core::{Adopted, Core, State};
 
 /// The turnstile of an element.
@@ -46,7 +46,7 @@ impl Element<RowDisk, MemDisk> {
     /// The element that the row's shelf and the disk's journal describe, for so many sessions, and its workers.
     pub fn open(
         alloc: Global,
-        row: &[Line<'_>],
+        row: Part<'_, '_>,
         disk: RowDisk,
         sessions: usize,
     ) -> Result<(RowElement, Crew)> {

@@ -15,13 +15,13 @@ mod stale;
 mod start;
 mod users;
 
-use crate::row::spelled_out;
+use crate::row::{WORDS, spelled_out};
 use crate::run::run_row;
 use anyhow::Result;
 use std::alloc::Global;
 use std::fs;
 use std::sync::Wait;
-use worked_common::{Section, Tally, decimal, joined, lines_of, sections_of};
+use worked_common::{Part, Tally, decimal, joined, lines_of, why_of};
 
 fn main(rt: HostRuntime) -> Result<()> {
     let alloc = rt.alloc();
@@ -38,9 +38,14 @@ fn main(rt: HostRuntime) -> Result<()> {
 // Runs and counts the rows of the text.
 fn run_all<R: Wait>(alloc: Global, rt: &R, text: &str, tally: &mut Tally) -> Result<()> {
     let lines = lines_of(alloc, text)?;
-    let parts = sections_of(alloc, &lines, "part")?;
-    for row in &sections_of(alloc, &lines, "row")? {
-        count_row(alloc, rt, row, &parts, tally)?;
+    let all = Part {
+        lines: &lines,
+        number: 0,
+    };
+    all.known(&WORDS)?;
+    let parts = all.parts(alloc, &["part"])?;
+    for row in all.parts(alloc, &["row"])?.iter().rev() {
+        count_row(alloc, rt, *row, &parts, tally)?;
     }
     Ok(())
 }
@@ -49,16 +54,17 @@ fn run_all<R: Wait>(alloc: Global, rt: &R, text: &str, tally: &mut Tally) -> Res
 fn count_row<'a, R: Wait>(
     alloc: Global,
     rt: &R,
-    row: &Section<'a>,
-    parts: &[Section<'a>],
+    row: Part<'_, 'a>,
+    parts: &[Part<'_, 'a>],
     tally: &mut Tally,
 ) -> Result<()> {
-    let lines = spelled_out(alloc, &row.lines, parts)?;
-    let why = match run_row(alloc, rt, &lines) {
-        Ok(()) => None,
-        Err(why) => Some(why.to_string(alloc)?),
+    let lines = spelled_out(alloc, row, parts)?;
+    let spelled = Part {
+        lines: &lines,
+        number: 0,
     };
-    tally.count(alloc, row.name, 0, why)
+    let why = why_of(alloc, run_row(alloc, rt, spelled))?;
+    tally.count(alloc, row.name(), 0, why)
 }
 
 // All parts and then all rows. A part without a name stands between them, so that no other has lines of rows.

@@ -29,7 +29,7 @@ use shelf_file::Shelf;
 use std::alloc::Global;
 use std::sync::{Arc, Wait};
 use turnstile::{Pass, Turnstile};
-use worked_common::{Line, Section};
+use worked_common::Part;
 use xc_core::State;
 
 /// DS0-2-2.
@@ -46,16 +46,16 @@ const WANTED: Beside = Beside {
     asked_in_all: 19,
 };
 
-/// The row's first session, the entry by another place, and the row's second session. An error tells what isn't as it must be.
+/// The row's first session, the entry by another place, and the row's second session; these stand the last one first. An error tells what isn't as it must be.
 pub fn run_stale<D: Disk + Drop, U: Disk + Drop, R: Wait>(
     alloc: Global,
     rt: &R,
-    row: &[Line<'_>],
+    row: Part<'_, '_>,
     disk: D,
     users: U,
-    sessions: &[Section<'_>],
+    sessions: &[Part<'_, '_>],
 ) -> Result<()> {
-    let [before, behind] = sessions else {
+    let [behind, before] = sessions else {
         bail!("two sessions are wanted");
     };
     let mut held = seat_beside(alloc, row, disk, users)?;
@@ -68,8 +68,8 @@ pub fn run_stale<D: Disk + Drop, U: Disk + Drop, R: Wait>(
         &mut seated.place,
         &mut seated.pass,
         &mut held.late,
-        &before.lines,
-        &behind.lines,
+        *before,
+        *behind,
     )
 }
 
@@ -83,7 +83,7 @@ struct Held<D: Disk, U: Disk> {
 
 fn seat_beside<D: Disk + Drop, U: Disk + Drop>(
     alloc: Global,
-    row: &[Line<'_>],
+    row: Part<'_, '_>,
     disk: D,
     users: U,
 ) -> Result<Held<D, U>>
@@ -172,8 +172,8 @@ fn between<D: Disk + Drop, U: Disk + Drop, R: Wait>(
     place: &mut Place<D, U>,
     pass: &mut Pass,
     late: &mut WorkerSeat,
-    before: &[Line<'_>],
-    behind: &[Line<'_>],
+    before: Part<'_, '_>,
+    behind: Part<'_, '_>,
 ) -> Result<()>
     requires seated { IsSeated D.told D.state pass.old turns.now fabric.now }
     requires ports { 1 < ports (opening_of D.state turns.now.first).first.fold.table.shape }

@@ -1,3 +1,0 @@
-pub mod Served
-pub mod Streams
-pub mod Texts

@@ -1,0 +1,6 @@
+pub mod Elements
+pub mod Wanted
+pub mod Carrying
+pub mod Served
+pub mod Streams
+pub mod Texts
