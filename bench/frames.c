@@ -1,4 +1,4 @@
-/* A frame by the same words in plain C: three loads an output, and nothing proved. The network is that of crates/measures. */
+/* A frame by the same words in plain C: three loads an output, and nothing proved. The network is that of crates/worked_core. */
 #include <stdint.h>
 #include <stdio.h>
 #include <stdlib.h>

@@ -5,9 +5,9 @@ cd "$(dirname "$0")/.." || exit 1
 frames=${1:-50000}
 made=$(mktemp -d) && trap 'rm -r "$made"' EXIT
 "${CC:-clang}" -O2 -o "$made/plain" bench/frames.c || exit 1
-(cd crates/measures && rt run) >"$made/once.txt" || exit 1
-cmp "$made/once.txt" crates/measures/stdout || exit 1
-cp crates/measures/out/measures "$made/proved" || exit 1
+(cd crates/worked_core && rt run) >"$made/once.txt" || exit 1
+cmp "$made/once.txt" crates/worked_core/stdout || exit 1
+cp crates/worked_core/out/worked_core "$made/proved" || exit 1
 "$made/plain" >"$made/plain.txt" || exit 1
 grep sum "$made/once.txt" | cmp - "$made/plain.txt" || exit 1
 

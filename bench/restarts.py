@@ -1,8 +1,8 @@
 #!/usr/bin/env python3
-"""Writes rows of crates/worked_restarts: an entry that needs three moves, and a middle that goes out of service and comes back, are stopped at each
+"""Writes rows of crates/worked_core: an entry that needs three moves, and a middle that goes out of service and comes back, are stopped at each
 of their gate places, and restarts come behind.
 
-usage: bench/restarts.py            writes crates/worked_restarts/data/stops.txt and points.txt
+usage: bench/restarts.py            writes crates/worked_core/data/stops.txt and points.txt
        bench/restarts.py --check    ends with an error where one of these files is another one
 
 What the registers hold after each of the entry's writes is reckoned from the words before it and the writes, which are worked out by hand.
@@ -11,7 +11,7 @@ import os
 import sys
 
 TOP = os.path.dirname(os.path.dirname(os.path.abspath(__file__)))
-DATA = os.path.join(TOP, "crates", "worked_restarts", "data")
+DATA = os.path.join(TOP, "crates", "worked_core", "data")
 
 MODULES, MIDDLES, SLOTS = 3, 3, 2
 WORDS = "0 1 0 1 0 0 1 2 0 3 2 0 0 1 3 0 0 0 0 769 514 257 1026 0"

@@ -1,12 +1,12 @@
 #!/bin/sh
 # Units a second of 1, 4 and 16 sessions at one state, on links in memory and each on a thread of its own, until all have ended; and
 # instructions a unit of one session where valgrind is there. A word says how many units each session asks: at most 65000.
-cd "$(dirname "$0")/../crates/measures" || exit 1
+cd "$(dirname "$0")/../crates/worked_core" || exit 1
 units=${1:-20000}
 made=$(mktemp -d) && trap 'rm -r "$made"' EXIT
 rt run >"$made/once.txt" || exit 1
 cmp "$made/once.txt" stdout || exit 1
-cp out/measures "$made/measures" || exit 1
+cp out/worked_core "$made/measures" || exit 1
 "$made/measures" sessions "$units" | awk '{
     for (i = 2; i <= NF; i++) { if ($i == "completed,") units = $(i - 1); if ($i == "denied,") units += $(i - 1) }
     nanos = $(NF - 1)

@@ -1,5 +1,5 @@
 #!/usr/bin/env python3
-"""Reckons anew the lines of the random walks of crates/measures, by the plain paths (bench/paths.py).
+"""Reckons anew the lines of the random walks of crates/worked_core, by the plain paths (bench/paths.py).
 
 usage: bench/walk.py     writes the lines with which that program's output begins
 """

@@ -1,5 +1,0 @@
-use Rattle.measures.specs.Elements.{IsReady}
-use Rattle.measures.proofs.walk.take_turns.Given as goal
-
-abbrev pub invariant-loop : goal.invariant-loop
-invariant-loop g l = IsReady g.D.Disk.told g.D.Disk.state l.element

@@ -1,0 +1,16 @@
+use Rattle.std.proofs.Common.{◌<◌, ◌∙◌, arith, ap}
+use Rattle.std.specs.Arc.{arc_value}
+use Rattle.turnstile.specs.Passing.{Gate}
+use Rattle.xc_core.specs.declared.state.State.{State}
+use Rattle.xc_core.specs.States.{opening_of}
+use Rattle.craft_session.proofs.FreshPlaces.{seated}
+use Rattle.worked_core.proofs.restarts.element.seat_all.Goals as goal
+
+pub new-requires : goal.new-requires
+new-requires g c =
+    let t : Gate (State g.row.D.Denot) = arc_value c.in_ok-turns.turns in
+    let own = (c.next_pass-pass.ensures.pass t.id 0 c.in_ok-turns.ensures.fresh).0 in
+    let first = c.in_ok-turns.ensures.turns.0 in
+    let within : 0 < t.passes = omega (arith, c.in_ok-turns.ensures.turns.1) in
+    let fabric = ap (λ (s : State g.row.D.Denot). (opening_of g.D.Disk.state s).site.fabric) first ∙ c.requires.opening.fabric in
+    seated g.D.Disk.told g.D.Disk.state c.next_pass-pass.result t (arc_value c.args.fabric.now) 0 own within fabric

@@ -1,0 +1,125 @@
+//! A change that is driven while a worker holds its frame.
+ghost use Rattle.std.specs.Prelude.{◌≡◌, IfOk, IfSome, List, []};
+ghost use Rattle.dxc_model.specs.declared.entry.Entry.{Entry};
+ghost use Rattle.dxc_model.specs.Operations.{IsApt};
+ghost use Rattle.fabric_core.specs.Working.{CanBegin, HasOutput, Runs};
+ghost use Rattle.roll_engine.specs.Rollings.{rest_of};
+ghost use Rattle.xc_core.specs.Seeing.{HasTaken, Saw};
+ghost use Rattle.xc_core.specs.States.{opening_of};
+ghost use Rattle.xc_core.specs.Turns.{HasPass};
+ghost use Rattle.craft_session.specs.Seats.{IsSeated};
+
+use crate::restarts::reader::{follow, hold};
+use anyhow::{Result, bail};
+use dxc_disk::Disk;
+use dxc_model::Op;
+use dxc_num::Port;
+use dxc_outside::MemGate;
+use fabric_words::{Fabric, WorkerSeat};
+use roll_engine::Advance;
+use std::alloc::Global;
+use std::sync::Wait;
+use turnstile::{Pass, Turnstile};
+use xc_core::turns::{self, Took};
+use xc_core::{Driver, State, drive};
+
+/// What mover and worker came to.
+#[derive(Clone, Copy, PartialEq, Eq)]
+pub struct Beside {
+    /// The OUT word that the worker holds.
+    pub held: Option<u64>,
+    /// How the mover was held up.
+    pub first: Advance,
+    /// How often the gate was asked until then.
+    pub asked: u64,
+    /// The MID word and the IN word that the worker found then.
+    pub followed: Option<(u64, u64)>,
+    /// How the mover went on when the frame had ended.
+    pub then: Advance,
+    /// How often the gate was asked in all.
+    pub asked_in_all: u64,
+}
+
+/// Begins the change in one turn of the pass; drives it while the worker holds a frame in which it loaded OUT of the output, and again when that
+/// frame has ended; and ends it in another turn.
+pub fn change_beside<D: Disk + Drop, R: Wait>(
+    alloc: Global,
+    pass: &mut Pass,
+    turns: &Turnstile<State<D>>,
+    fabric: &Fabric,
+    op: &Op,
+    reader: &mut WorkerSeat,
+    output: Port,
+    rt: &R,
+) -> Result<Beside>
+    requires seated { IsSeated D.told D.state pass.old turns.now fabric.now }
+    requires apt { IsApt (opening_of D.state turns.now.first).first.fold.table.shape op.now }
+    requires own { reader.old.reader.fabric ≡ fabric.now }
+    requires rests { CanBegin reader.old.reader.worker }
+    ensures seated { IfOk result (λ b. IsSeated D.told D.state pass.new turns.now fabric.now) }
+{
+    let mut gate = MemGate::new(Vec::new(alloc));
+    let Took::Rolling(driver) = turns::take(pass, turns, op, &mut gate, rt) else {
+        bail!("no work came of it");
+    };
+    let held = hold(fabric, reader, output);
+    Ok(drive_beside(pass, turns, fabric, op, driver, reader, held, &mut gate, rt))
+}
+
+fn drive_beside<D: Disk + Drop, R: Wait>(
+    pass: &mut Pass,
+    turns: &Turnstile<State<D>>,
+    fabric: &Fabric,
+    op: &Op,
+    mut driver: Box<Driver<D>>,
+    reader: &mut WorkerSeat,
+    held: Option<u64>,
+    gate: &mut MemGate,
+    rt: &R,
+) -> Beside
+    requires pass { HasPass turns.now pass.old }
+    requires fabric { (opening_of D.state turns.now.first).site.fabric ≡ fabric.now }
+    requires taken { (h : List Entry) × Saw (opening_of D.state turns.now.first) pass.old.seen h × HasTaken D.told D.state (opening_of D.state turns.now.first) pass.old.number op.now h driver.value.p driver.value.rolling }
+    requires own { reader.old.reader.fabric ≡ fabric.now }
+    requires held { IfSome held (λ word. Runs reader.old.reader.worker × HasOutput reader.old.reader.worker.hold) }
+    ensures seated { IsSeated D.told D.state pass.new turns.now fabric.now }
+{
+    let out = &mut *driver;
+    let first = drive(&mut out.p, fabric, &mut out.rolling, gate);
+    let asked = gate.asked();
+    let followed = follow(fabric, reader, held);
+    let then = drive(&mut out.p, fabric, &mut out.rolling, gate);
+    let asked_in_all = gate.asked();
+    bring_or_cut(pass, turns, fabric, op, driver, then, rt);
+    Beside {
+        held,
+        first,
+        asked,
+        followed,
+        then,
+        asked_in_all,
+    }
+}
+
+// Brings the Provisioner home where all writes are made, else halted.
+fn bring_or_cut<D: Disk + Drop, R: Wait>(
+    pass: &mut Pass,
+    turns: &Turnstile<State<D>>,
+    fabric: &Fabric,
+    op: &Op,
+    driver: Box<Driver<D>>,
+    then: Advance,
+    rt: &R,
+)
+    requires pass { HasPass turns.now pass.old }
+    requires fabric { (opening_of D.state turns.now.first).site.fabric ≡ fabric.now }
+    requires taken { (h : List Entry) × Saw (opening_of D.state turns.now.first) pass.old.seen h × HasTaken D.told D.state (opening_of D.state turns.now.first) pass.old.number op.now h driver.value.p driver.value.rolling }
+    requires done { then ≡ Advance.Done → rest_of driver.value.rolling ≡ [] }
+    ensures { IsSeated D.told D.state pass.new turns.now fabric.now }
+{
+    let _ = fabric;
+    match then {
+        Advance::Done => turns::bring(pass, turns, op, driver, rt),
+        _ => turns::cut(pass, turns, op, driver, rt),
+    }
+}

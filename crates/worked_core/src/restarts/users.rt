@@ -1,0 +1,49 @@
+//! The users beside an element, with the passes that are left.
+ghost use Rattle.std.specs.Prelude.{◌≡◌, ◌<◌, ◌+◌, IfOk, length};
+ghost use Rattle.std.specs.Arc.{arc_value};
+ghost use Rattle.user_admin.specs.Openings.{Begins as UsersBegin};
+ghost use Rattle.craft_session.specs.Places.{AreFresh};
+
+use crate::restarts::element::turns_of;
+use anyhow::{Result, bail};
+use dxc_disk::{Disk, MemDisk};
+use shelf_file::Shelf;
+use std::alloc::Global;
+use std::sync::Arc;
+use turnstile::{Pass, Turnstile};
+use user_admin::UserState;
+
+/// The users of an element, and the passes of places that aren't made yet.
+#[derive(Drop)]
+pub struct Users<U: Disk> {
+    pub turns: Arc<Turnstile<UserState<U>>>,
+    pub passes: Vec<Pass>,
+}
+
+/// A new disk in memory.
+pub fn users_disk(alloc: Global) -> Result<MemDisk> {
+    let Ok(disk) = MemDisk::new(alloc, Vec::new(alloc), Vec::new(alloc)) else {
+        bail!("no memory");
+    };
+    Ok(disk)
+}
+
+/// The users that the shelf describes after the changes of the disk's journal, with so many passes.
+pub fn users_of<U: Disk + Drop>(
+    alloc: Global,
+    shelf: &Shelf,
+    disk: U,
+    count: u16,
+) -> Result<Users<U>>
+    requires some { 0 < count }
+    ensures begin { IfOk result (λ u. UsersBegin U.told U.state (arc_value u.turns).first) }
+    ensures within { IfOk result (λ u. (arc_value u.turns).passes ≡ count) }
+    ensures each { IfOk result (λ u. length u.passes.items ≡ count) }
+    ensures fresh { IfOk result (λ u. AreFresh (arc_value u.turns).id 0 u.passes.items) }
+{
+    let Ok(state) = UserState::open(alloc, shelf, disk) else {
+        bail!("no users");
+    };
+    let (turns, passes) = turns_of(alloc, state, count)?;
+    Ok(Users { turns, passes })
+}
