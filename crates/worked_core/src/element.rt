@@ -1,7 +1,7 @@
 ghost use Rattle.std.specs.Prelude.{◌≡◌, ◌↔◌, true, false, IfOk, IsTrue, Ok};
 ghost use Rattle.std.specs.Arc.{arc_value};
 ghost use Rattle.dxc_model.specs.Operations.{ArePorts, IsApt};
-ghost use Rattle.fabric_core.specs.State.{new_worker};
+ghost use Rattle.fabric_core.specs.State.{new_mover, new_worker};
 ghost use Rattle.fabric_words.specs.Seats.{FabricId};
 ghost use Rattle.xc_core.specs.Openings.{Begins};
 ghost use Rattle.xc_core.specs.States.{opening_of};
@@ -13,7 +13,7 @@ use dxc_disk::{Disk, MemDisk};
 use dxc_model::{Cause, Cct, Conn, Label, Op, Table};
 use dxc_num::{Leg, Middle, Port, Shape};
 use dxc_outside::{AlwaysGo, Gate};
-use fabric_words::{Fabric, WorkerSeat};
+use fabric_words::{Fabric, MoverSeat, WorkerSeat};
 use roll_engine::{Advance, Rolling};
 use shelf_file::{Shelf, shelf_of};
 use std::alloc::Global;
@@ -32,10 +32,29 @@ pub struct Element<D: Disk> {
     pub p: Provisioner<D>,
 }
 
-/// A shelf of this shape with all modules equipped.
-pub fn shelf(alloc: Global, shape: Shape) -> Result<Shelf> {
-    let text = shelf_text(alloc, shape.modules(), shape.slots())?;
+/// A shelf of so many modules and slots with all modules equipped.
+pub fn shelf(alloc: Global, modules: u16, slots: u16) -> Result<Shelf> {
+    let text = shelf_text(alloc, modules, slots)?;
     shelf_of(alloc, text.as_bytes()).ok().context("no shelf")
+}
+
+/// The controller on what the disk's journal came to, which writes the registers.
+pub fn controller<D: Disk + Drop>(
+    alloc: Global,
+    shelf: &Shelf,
+    fabric: &Fabric,
+    mover: MoverSeat,
+    disk: D,
+) -> Result<State<D>>
+    requires new { mover ≡ record { fabric = fabric.now; mover = new_mover fabric.now.size } }
+    requires shape { fabric.now.size.shape ≡ shelf.now.shape }
+    ensures begins { IfOk result (λ s. Begins D.told D.state s) }
+    ensures opening { IfOk result (λ s. IsAtOpening (opening_of D.state s) shelf.now fabric.now) }
+{
+    let Ok(state) = Core::open(alloc, shelf, disk, mover, fabric, &mut AlwaysGo) else {
+        bail!("not opened");
+    };
+    Ok(state)
 }
 
 /// A controller over a disk, on a new fabric of the shelf's shape, and the seat of its only worker.
@@ -52,9 +71,7 @@ pub fn start<D: Disk + Drop>(
         bail!("no memory");
     };
     let seat = seats.remove(0);
-    let Ok(state) = Core::open(alloc, shelf, disk, mover, &fabric, &mut AlwaysGo) else {
-        bail!("no journal");
-    };
+    let state = controller(alloc, shelf, &fabric, mover, disk)?;
     Ok((fabric, seat, state))
 }
 

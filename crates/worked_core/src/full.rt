@@ -154,6 +154,6 @@ pub fn measured<R: Clock>(
     shape: Shape,
     frames: Option<u32>,
 ) -> Result<String> {
-    let shelf = shelf(alloc, shape)?;
+    let shelf = shelf(alloc, shape.modules(), shape.slots())?;
     measured_with(rt, alloc, &shelf, disk_of(alloc)?, frames)
 }

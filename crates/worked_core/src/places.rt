@@ -10,11 +10,10 @@ ghost use Rattle.craft_session.specs.Places.{AreFresh, IsAtOpening, fresh_pass};
 use crate::counts::Counts;
 use crate::element::{shelf, start};
 use crate::kind::LOG_IN;
-use anyhow::{Context, Result, bail, ensure};
+use anyhow::{Result, bail, ensure};
 use craft_session::{Place, serve_session};
 use dxc_causes::NoMemory;
 use dxc_disk::Disk;
-use dxc_num::Shape;
 use dxc_outside::{AlwaysGo, MemClock, MemLink};
 use fabric_words::Fabric;
 use shelf_file::Shelf;
@@ -25,9 +24,11 @@ use user_admin::UserState;
 use worked_common::{add_texts, decimal};
 use xc_core::State;
 
-type Turns<D> = Arc<Turnstile<State<D>>>;
+/// The turnstile of an element.
+pub type Turns<D> = Arc<Turnstile<State<D>>>;
 
-type UsersTurns<U> = Arc<Turnstile<UserState<U>>>;
+/// The turnstile of an element's users.
+pub type UsersTurns<U> = Arc<Turnstile<UserState<U>>>;
 
 /// From each module to the next one, on each slot but the last.
 const CIRCUITS: u64 = 8 * 23;
@@ -58,8 +59,7 @@ fn start_places<D: Disk + Drop, U: Disk + Drop>(
     requires some { 0 < count }
     ensures { IfOk result (λ ps. vec_len ps ≡ count) }
 {
-    let shape = Shape::new(8, 24).context("no such shape")?;
-    let shelf = shelf(alloc, shape)?;
+    let shelf = shelf(alloc, 8, 24)?;
     let Ok(users) = UserState::open(alloc, &shelf, users_disk) else {
         bail!("no users");
     };
@@ -136,8 +136,8 @@ fn seat_all<D: Disk + Drop, U: Disk + Drop>(
     Ok(places)
 }
 
-// Takes the first of some passes.
-fn next_pass(passes: &mut Vec<Pass>) -> Pass
+/// Takes the first of some passes.
+pub fn next_pass(passes: &mut Vec<Pass>) -> Pass
     requires some { 0 < length passes.old.items }
     ensures next { (id : Ident) → (n : ℕ) → AreFresh id n passes.old.items → (result ≡ fresh_pass id n) × AreFresh id (n + 1) passes.new.items }
     ensures fewer { length passes.new.items + 1 ≡ length passes.old.items }
@@ -145,8 +145,8 @@ fn next_pass(passes: &mut Vec<Pass>) -> Pass
     passes.remove(0)
 }
 
-// A turnstile of the state, and its passes.
-fn turns_of<S: Sequential + Drop>(
+/// A turnstile of the state, and its passes.
+pub fn turns_of<S: Sequential + Drop>(
     alloc: Global,
     state: S,
     count: u16,
@@ -164,8 +164,8 @@ fn turns_of<S: Sequential + Drop>(
     Ok((turns, passes))
 }
 
-// The place of passes that have seen nothing.
-fn place_of<D: Disk + Drop, U: Disk + Drop>(
+/// The place of passes that have seen nothing.
+pub fn place_of<D: Disk + Drop, U: Disk + Drop>(
     alloc: Global,
     number: u16,
     pass: Pass,

@@ -213,6 +213,6 @@ fn walk_with<D: Disk + Drop>(alloc: Global, shelf: &Shelf, disk: D) -> Result<St
 
 /// Makes random changes on a new element, with frames between all register writes, and tells what came of them.
 pub fn walk_at_random(alloc: Global, shape: Shape) -> Result<String> {
-    let shelf = shelf(alloc, shape)?;
+    let shelf = shelf(alloc, shape.modules(), shape.slots())?;
     walk_with(alloc, &shelf, disk_of(alloc)?)
 }

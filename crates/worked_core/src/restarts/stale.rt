@@ -10,9 +10,10 @@ ghost use Rattle.xc_core.specs.States.{opening_of};
 ghost use Rattle.craft_session.specs.Seats.{IsSeated};
 ghost use Rattle.craft_session.specs.Places.{IsAtOpening};
 
+use crate::places::{Turns, next_pass, turns_of};
 use crate::restarts::audit::words_in_turn;
 use crate::restarts::beside::{Beside, change_beside};
-use crate::restarts::element::{Turns, next_pass, next_place, next_seat, next_worker, turns_of};
+use crate::restarts::element::{next_place, next_seat, next_worker};
 use crate::restarts::row::same_as_said;
 use crate::restarts::run::serve_at;
 use crate::restarts::start::{Started, start};
@@ -144,7 +145,9 @@ fn seat_two<D: Disk + Drop, U: Disk + Drop>(
     ensures ports { IfOk result (λ s. 1 < ports (opening_of D.state (arc_value s.turns).first).first.fold.table.shape) }
 {
     ensure!(shelf.shape().ports() > 1, "two ports are wanted");
-    let (turns, mut passes) = turns_of(alloc, state, 2)?;
+    let Ok((turns, mut passes)) = turns_of(alloc, state, 2) else {
+        bail!("no memory");
+    };
     let mut users = users_of(alloc, shelf, disk, 1)?;
     let place = next_place(alloc, 0, &mut passes, &mut users, shelf, fabric, &turns)?;
     let pass = next_pass(&mut passes);

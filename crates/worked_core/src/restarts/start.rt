@@ -7,16 +7,16 @@ ghost use Rattle.xc_core.specs.Openings.{Begins};
 ghost use Rattle.xc_core.specs.States.{opening_of};
 ghost use Rattle.craft_session.specs.Places.{IsAtOpening};
 
+use crate::element::{controller, shelf};
 use anyhow::{Context, Result, bail, ensure};
 use dxc_disk::Disk;
 use dxc_num::Shape;
-use dxc_outside::AlwaysGo;
 use fabric_words::{Fabric, MoverSeat, WorkerSeat};
-use shelf_file::{Shelf, shelf_of};
+use shelf_file::Shelf;
 use std::alloc::Global;
 use std::sync::Arc;
-use worked_common::{Levers, Part, RowDisk, Torn, bytes_in, shape_of, shelf_text, small};
-use xc_core::{Core, State};
+use worked_common::{Levers, Part, RowDisk, Torn, bytes_in, shape_of, small};
+use xc_core::State;
 
 /// A controller that has started, on a new fabric with a seat for each worker.
 #[derive(Drop)]
@@ -39,11 +39,7 @@ pub fn disk_of(alloc: Global, row: Part<'_, '_>, levers: &Arc<Levers>) -> Result
 // The shelf of the shape that the row says.
 fn shelf_said(alloc: Global, row: Part<'_, '_>) -> Result<Arc<Shelf>> {
     let (modules, slots) = shape_of(row.last("shelf").context("no shape")?)?;
-    let text = shelf_text(alloc, modules, slots)?;
-    let Ok(shelf) = shelf_of(alloc, text.as_bytes()) else {
-        bail!("no shelf");
-    };
-    Ok(Arc::new(alloc, shelf)?)
+    Ok(Arc::new(alloc, shelf(alloc, modules, slots)?)?)
 }
 
 // A new fabric with the seats at it.
@@ -71,25 +67,6 @@ fn lay(alloc: Global, row: Part<'_, '_>, shape: Shape) -> Result<Laid>
         mover,
         seats,
     })
-}
-
-// The controller on what the disk's journal came to, which writes the registers.
-fn controller<D: Disk + Drop>(
-    alloc: Global,
-    shelf: &Shelf,
-    fabric: &Fabric,
-    mover: MoverSeat,
-    disk: D,
-) -> Result<State<D>>
-    requires new { mover ≡ record { fabric = fabric.now; mover = new_mover fabric.now.size } }
-    requires shape { fabric.now.size.shape ≡ shelf.now.shape }
-    ensures begins { IfOk result (λ s. Begins D.told D.state s) }
-    ensures opening { IfOk result (λ s. IsAtOpening (opening_of D.state s) shelf.now fabric.now) }
-{
-    let Ok(state) = Core::open(alloc, shelf, disk, mover, fabric, &mut AlwaysGo) else {
-        bail!("not opened");
-    };
-    Ok(state)
 }
 
 /// A controller of the row's shelf and workers on what the disk's journal came to.
