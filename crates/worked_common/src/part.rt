@@ -23,7 +23,7 @@ impl<'m, 'a> Part<'m, 'a> {
     /// An error where a line begins with none of these words.
     pub fn known(self, words: &[&str]) -> Result<()> {
         for line in self.lines {
-            ensure!(words.contains(&line.word), "a word isn't known");
+            ensure!((&*words).contains(&line.word), "a word isn't known");
         }
         Ok(())
     }

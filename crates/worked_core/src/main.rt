@@ -90,7 +90,7 @@ fn measure_once<R: Print + Threads + Wait + Clock + Sync>(rt: &R, alloc: Global)
 fn main(rt: HostRuntime) -> Result<()> {
     let mut words = env::args(&rt)?;
     let Some(word) = words.nth(1) else {
-        run_restarts(&rt)?;
+        run_restarts(&rt, &rt)?;
         return measure_once(&rt, rt.alloc());
     };
     let many = number(words.next())?;

@@ -23,9 +23,9 @@ use std::sync::Wait;
 use worked_common::{Part, Tally, decimal, joined, lines_of, why_of};
 
 /// Runs the rows, and writes what came of them.
-pub fn run_restarts(rt: &HostRuntime) -> Result<()> {
+pub fn run_restarts<R: Wait>(rt: &HostRuntime, waiting: &R) -> Result<()> {
     let text = text_of(rt)?;
-    let told = told_of(rt.alloc(), rt, text.as_str())?;
+    let told = told_of(rt.alloc(), waiting, text.as_str())?;
     print!(rt; "{told}")?;
     Ok(())
 }
