@@ -19,22 +19,22 @@ pub struct RowDisk {
 }
 
 impl RowDisk {
-    pub fn new(held: Vec<u8>, shown: Vec<u8>, torn: Torn, levers: Arc<Levers>) -> RowDisk {
+    /// A disk that holds the one bytes and may read as the others. A crash comes once it is dropped.
+    pub fn new(
+        held: Vec<u8>,
+        shown: Vec<u8>,
+        torn: Torn,
+        levers: Arc<Levers>,
+        crash: Option<Crash>,
+    ) -> RowDisk {
         RowDisk {
             held,
             shown,
             torn,
             levers,
-            crash: None,
+            crash,
             faults: 0,
         }
-    }
-
-    /// A disk that crashes once it is dropped.
-    pub fn crashing(self, crash: Crash) -> RowDisk {
-        let mut disk = self;
-        disk.crash = Some(crash);
-        disk
     }
 
     // Counts a fault where the call failed.

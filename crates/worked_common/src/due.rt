@@ -3,7 +3,7 @@ use crate::levers::Levers;
 use crate::link::Kept;
 use crate::office::Office;
 use crate::part::Part;
-use crate::written::{number_otherwise, text_otherwise, written_otherwise};
+use crate::written::{number_otherwise, written_otherwise};
 use anyhow::{Context, Result};
 use std::alloc::Global;
 use std::sync::{Arc, OnceLock};
@@ -104,7 +104,7 @@ fn status_otherwise(
     status: &str,
 ) -> Result<Option<String>> {
     match run.last("end") {
-        Some(end) => text_otherwise(alloc, "the end", status, end),
+        Some(end) => written_otherwise(alloc, "the end", status.as_bytes(), end.as_bytes()),
         None => {
             let wanted = run.number_at("status")?.unwrap_or(0);
             number_otherwise(alloc, "the status", number, wanted)

@@ -8,13 +8,13 @@ use crate::levers::Levers;
 use crate::lines::RowLines;
 use crate::link::RowLink;
 use crate::listener::RowListener;
-use crate::office::{Office, SHELF};
+use crate::office::Office;
 use crate::opener::{Holding, RowOpener};
 use crate::part::Part;
 use crate::torn::Torn;
 use crate::words::{Line, frame_of, joined};
 use anyhow::{Context, Result};
-use dxc_outside::{MemGate, MemLines, MemLink, MemOpener, Name};
+use dxc_outside::{MemGate, MemLines, MemLink, Name};
 use std::alloc::Global;
 use std::sync::Arc;
 
@@ -35,7 +35,7 @@ pub struct Lent {
 /// What the run of these lines is lent, for an element of this name.
 pub fn lend(alloc: Global, sid: &str, run: Part<'_, '_>, due: &mut Due) -> Result<Lent> {
     Ok(Lent {
-        words: words_in(alloc, run)?,
+        words: names_of(alloc, run.last("run").unwrap_or(""))?,
         gate: MemGate::new(run.failing(alloc, "gate")?),
         terminal: link_of(alloc, sid, run.front(&HELD), "the terminal", due)?,
     })
@@ -48,26 +48,20 @@ pub fn opener_of(
     office: &Office<'_>,
     due: &mut Due,
 ) -> Result<RowOpener> {
-    let mut holding = Holding::new(alloc, files_of(alloc, &office.shelf)?);
+    let mut holding = Holding::new(alloc, copy_of(alloc, &office.shelf)?);
     hold_disks(alloc, run, office, due, &mut holding)?;
     hold_listeners(alloc, &mut holding.listeners)?;
     hold_parts(alloc, office.sid, run, &mut holding, due)?;
     Ok(RowOpener::new(alloc, holding, run.failing(alloc, "opener")?))
 }
 
-// The words of the program's line.
-fn words_in(alloc: Global, run: Part<'_, '_>) -> Result<Vec<Name>> {
+/// The words of the program's line.
+pub fn names_of(alloc: Global, line: &str) -> Result<Vec<Name>> {
     let mut words = Vec::new(alloc);
-    for word in run.last("run").unwrap_or("").split(' ') {
+    for word in line.split(' ') {
         words.push(Name::of(joined(alloc, &[word])?))?;
     }
     Ok(words)
-}
-
-// The shelf file, under its name.
-fn files_of(alloc: Global, shelf: &[u8]) -> Result<MemOpener> {
-    let shelf = (Name::of(joined(alloc, &[SHELF])?), copy_of(alloc, shelf)?);
-    Ok(MemOpener::new(alloc, Vec::new(alloc)).with_shelves(vec![in alloc; shelf]?))
 }
 
 fn hold_disks(
@@ -79,8 +73,10 @@ fn hold_disks(
 ) -> Result<()> {
     let journal = copy_of(alloc, &office.journal)?;
     holding.journal = Some(disk_of(alloc, run, journal, office.torn, &due.journal)?);
+    let levers = Arc::try_clone(&due.users)?;
     let users = copy_of(alloc, &office.users)?;
-    holding.users = Some(plain_disk(alloc, users, office.torn, &due.users)?);
+    let disk = RowDisk::new(users, Vec::new(alloc), office.torn, levers, None);
+    holding.users = Some(disk);
     Ok(())
 }
 
@@ -90,12 +86,6 @@ fn hold_listeners(alloc: Global, listeners: &mut Vec<RowListener>) -> Result<()>
         listeners.push(RowListener::new(Vec::new(alloc), Vec::new(alloc)))?;
     }
     Ok(())
-}
-
-// A disk that holds these bytes.
-fn plain_disk(alloc: Global, held: Vec<u8>, torn: Torn, levers: &Arc<Levers>) -> Result<RowDisk> {
-    let levers = Arc::try_clone(levers)?;
-    Ok(RowDisk::new(held, Vec::new(alloc), torn, levers))
 }
 
 /// A disk that holds these bytes, with the calls on it that fail in the run of these lines, and its crash.
@@ -110,14 +100,18 @@ pub fn disk_of(
     if let Some(write) = run.failing(alloc, "writes")?.first() {
         levers.fail_writes(*write, *write);
     }
-    let disk = plain_disk(alloc, held, torn, levers)?;
-    match run.last("crash") {
-        Some(left) => {
-            levers.fail_writes(run.number, u64::MAX);
-            Ok(disk.crashing(Crash::new(alloc, Torn::of(left)?)))
-        }
-        None => Ok(disk),
-    }
+    let crash = crash_of(alloc, run, levers)?;
+    let levers = Arc::try_clone(levers)?;
+    Ok(RowDisk::new(held, Vec::new(alloc), torn, levers, crash))
+}
+
+// The crash that comes in the run, with the first call that it leaves out.
+fn crash_of(alloc: Global, run: Part<'_, '_>, levers: &Levers) -> Result<Option<Crash>> {
+    let Some(left) = run.last("crash") else {
+        return Ok(None);
+    };
+    levers.fail_writes(run.number, u64::MAX);
+    Ok(Some(Crash::new(alloc, Torn::of(left)?)))
 }
 
 // Adds what the workers, the places and the standby are.

@@ -19,7 +19,6 @@ mod office;
 mod opener;
 mod part;
 mod same;
-mod sections;
 mod shelf;
 mod tally;
 mod torn;
@@ -32,21 +31,20 @@ pub use crash::copy_of;
 pub use disk::RowDisk;
 pub use due::{Due, left_by};
 pub use exchange::Exchange;
-pub use lent::{Lent, disk_of, lend, link_of, opener_of};
+pub use lent::{Lent, disk_of, lend, link_of, names_of, opener_of};
 pub use levers::Levers;
 pub use link::{Kept, RowLink};
 pub use noon::NOON;
 pub use office::{Office, bytes_in, bytes_otherwise};
 pub use opener::RowOpener;
 pub use part::Part;
-pub use same::{same_bytes, same_number};
-pub use sections::{Section, is_among, number_said, said, sections_of};
-pub use shelf::shelf_text;
+pub use same::{same_bytes, why_of};
+pub use shelf::{read_part, shelf_text};
 pub use tally::Tally;
 pub use torn::Torn;
-pub use wanted::{add_completed, add_header, add_report, add_wanted};
+pub use wanted::add_report;
 pub use words::{
     IDLE, Line, add_texts, bytes_of, decimal, frame_of, hex_of, joined, lines_of, number_of,
-    numbers_of, shape_of, small, small_of, spelled, two, words_of,
+    shape_of, small, small_of, spelled, two,
 };
-pub use written::{number_otherwise, text_otherwise, written_otherwise};
+pub use written::written_otherwise;

@@ -8,11 +8,11 @@ use std::alloc::Global;
 use std::fs;
 
 /// The names under which a run finds a row's files.
-pub const SHELF: &str = "s";
+const SHELF: &str = "s";
 
-pub const JOURNAL: &str = "j";
+const JOURNAL: &str = "j";
 
-pub const USERS: &str = "j.users";
+const USERS: &str = "j.users";
 
 /// What a row's runs find, one behind the other.
 #[derive(Drop)]

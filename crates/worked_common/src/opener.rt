@@ -6,14 +6,15 @@ use crate::lines::RowLines;
 use crate::link::RowLink;
 use crate::listener::RowListener;
 use crate::noon::NOON;
-use dxc_outside::{MemClock, MemGate, MemOpener, Opened, Opener};
+use crate::shelf::read_part;
+use dxc_outside::{MemClock, MemGate, Opened, Opener};
 use std::alloc::Global;
 
 /// What a run of the program opens, of lists the last one first.
 #[derive(Drop)]
 pub struct Holding {
-    /// It has the shelf file.
-    pub files: MemOpener,
+    /// The shelf file.
+    pub shelf: Vec<u8>,
     pub journal: Option<RowDisk>,
     /// The disk of the users' journal.
     pub users: Option<RowDisk>,
@@ -29,9 +30,9 @@ pub struct Holding {
 
 impl Holding {
     /// The shelf file alone.
-    pub fn new(alloc: Global, files: MemOpener) -> Holding {
+    pub fn new(alloc: Global, shelf: Vec<u8>) -> Holding {
         Holding {
-            files,
+            shelf,
             journal: None,
             users: None,
             lines: Vec::new(alloc),
@@ -103,17 +104,15 @@ impl Opener for RowOpener {
 
     ghost listener_at = { λ _ _. None };
 
-    fn shelf(&mut self, alloc: Global, name: &str, into: &mut Vec<u8>) -> Opened<()> {
+    fn shelf(&mut self, _alloc: Global, _name: &str, into: &mut Vec<u8>) -> Opened<()> {
         match self.opened(Some(())) {
             Opened::Open(()) => {}
             Opened::Failed => return Opened::Failed,
             Opened::NoMemory => return Opened::NoMemory,
         }
-        match self.holding.files.shelf(alloc, name, into) {
-            Opened::Open(()) => Opened::Open(()),
-            // It is there under its name.
-            Opened::Failed => Opened::NoMemory,
-            Opened::NoMemory => Opened::NoMemory,
+        match into.extend_from_slice(read_part(&self.holding.shelf)) {
+            Ok(()) => Opened::Open(()),
+            Err(_) => Opened::NoMemory,
         }
     }
 

@@ -2,67 +2,6 @@ use crate::words::{Line, number_of, two};
 use anyhow::{Result, ensure};
 use std::alloc::Global;
 
-/// The words with which a line may begin.
-const WORDS: [&str; 57] = [
-    "row",
-    "each",
-    "shelf",
-    "shape",
-    "swap",
-    "pad",
-    "sid",
-    "torn",
-    "old",
-    "times",
-    "from",
-    "cut",
-    "change",
-    "people",
-    "run",
-    "status",
-    "end",
-    "any",
-    "after",
-    "users",
-    "length",
-    "piece",
-    "calls",
-    "crash",
-    "fails",
-    "lines",
-    "carried",
-    "place",
-    "caller",
-    "peer",
-    "login",
-    "send",
-    "hex",
-    "byte",
-    "fill",
-    "pieces",
-    "takes",
-    "list",
-    "enters",
-    "retrieves",
-    "lists",
-    "sent",
-    "messages",
-    "bytes",
-    "want",
-    "compld",
-    "compldx",
-    "deny",
-    "rows",
-    "report",
-    "standby",
-    "primary",
-    "joins",
-    "write",
-    "sync",
-    "copy",
-    "at",
-];
-
 /// Lines of a row, one behind the other, and the number for which the row is run.
 #[derive(Clone, Copy)]
 pub struct Part<'m, 'a> {
@@ -73,15 +12,25 @@ pub struct Part<'m, 'a> {
 impl<'m, 'a> Part<'m, 'a> {
     /// What stands behind the word, in the last line that begins with it.
     pub fn last(&self, word: &str) -> Option<&'a str> {
-        let line = self.lines.iter().rev().find(|line| line.word == word)?;
-        Some(line.rest)
+        for line in self.lines.iter().rev() {
+            if line.word == word {
+                return Some(line.rest);
+            }
+        }
+        None
     }
 
-    /// The rows of these lines, the last one first.
-    pub fn rows(self, alloc: Global) -> Result<Vec<Part<'m, 'a>>> {
+    /// An error where a line begins with none of these words.
+    pub fn known(self, words: &[&str]) -> Result<()> {
         for line in self.lines {
-            ensure!(WORDS.contains(&line.word), "a word isn't known");
+            ensure!((&*words).contains(&line.word), "a word isn't known");
         }
+        Ok(())
+    }
+
+    /// The rows of these lines, the last one first. Each line begins with one of these words.
+    pub fn rows(self, alloc: Global, words: &[&str]) -> Result<Vec<Part<'m, 'a>>> {
+        self.known(words)?;
         let head = self.front(&["row"]);
         ensure!(head.lines.is_empty(), "a line stands before the first row");
         self.parts(alloc, &["row"])
@@ -96,13 +45,6 @@ impl<'m, 'a> Part<'m, 'a> {
     pub fn each(&self) -> Result<(u64, u64)> {
         let (first, last) = two(self.last("each").unwrap_or("0 0"))?;
         Ok((number_of(first)?, number_of(last)?))
-    }
-
-    /// The row, run for that number.
-    pub fn at(self, number: u64) -> Part<'m, 'a> {
-        let mut part = self;
-        part.number = number;
-        part
     }
 
     /// Whether a line begins with the word.

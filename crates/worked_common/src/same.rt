@@ -1,4 +1,4 @@
-use crate::written::{number_otherwise, written_otherwise};
+use crate::written::written_otherwise;
 use anyhow::{Error, Result};
 use std::alloc::Global;
 
@@ -10,10 +10,10 @@ pub fn same_bytes(alloc: Global, who: &str, written: &[u8], wanted: &[u8]) -> Re
     }
 }
 
-/// An error where a number is otherwise than it must be.
-pub fn same_number(alloc: Global, what: &str, number: u64, wanted: u64) -> Result<()> {
-    match number_otherwise(alloc, what, number, wanted)? {
-        Some(why) => Err(Error::msg(why)),
-        None => Ok(()),
+/// What a run did otherwise than it must, which ended with this error.
+pub fn why_of(alloc: Global, ended: Result<()>) -> Result<Option<String>> {
+    match ended {
+        Ok(()) => Ok(None),
+        Err(why) => Ok(Some(why.to_string(alloc)?)),
     }
 }

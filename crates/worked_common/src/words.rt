@@ -34,15 +34,6 @@ pub fn two(text: &str) -> Result<(&str, &str)> {
     text.split_once(' ').context("two words are wanted")
 }
 
-/// The words of the text, which are parted by blanks.
-pub fn words_of<'a>(alloc: Global, text: &'a str) -> Result<Vec<&'a str>> {
-    let mut words = Vec::new(alloc);
-    for word in text.split(' ') {
-        words.push(word)?;
-    }
-    Ok(words)
-}
-
 /// The number that the text spells.
 pub fn number_of(text: &str) -> Result<u64> {
     Ok(text.parse::<u64>()?)
@@ -63,15 +54,6 @@ pub fn byte(number: u64) -> Result<u8> {
 /// The number below 65,536 that the text spells.
 pub fn small_of(text: &str) -> Result<u16> {
     small(number_of(text)?)
-}
-
-/// The numbers that the text spells, with a blank between any two.
-pub fn numbers_of(alloc: Global, text: &str) -> Result<Vec<u64>> {
-    let mut numbers = Vec::new(alloc);
-    for word in text.split(' ') {
-        numbers.push(number_of(word)?)?;
-    }
-    Ok(numbers)
 }
 
 /// Two numbers: the modules of an element and the slots of each.

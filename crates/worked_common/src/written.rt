@@ -2,10 +2,10 @@ use crate::words::{decimal, joined};
 use anyhow::Result;
 use std::alloc::Global;
 
-/// What somebody was written otherwise than he must be.
+/// What a text is, or what somebody was written, otherwise than it must be.
 pub fn written_otherwise(
     alloc: Global,
-    who: &str,
+    what: &str,
     written: &[u8],
     wanted: &[u8],
 ) -> Result<Option<String>> {
@@ -13,7 +13,7 @@ pub fn written_otherwise(
         return Ok(None);
     }
     let text = String::from_utf8_lossy(alloc, written)?;
-    Ok(Some(joined(alloc, &[who, " was written ", text.as_str()])?))
+    Ok(Some(joined(alloc, &[what, " was ", text.as_str()])?))
 }
 
 /// What a number is otherwise than it must be.
@@ -28,17 +28,4 @@ pub fn number_otherwise(
     }
     let number = decimal(alloc, number)?;
     Ok(Some(joined(alloc, &[what, " was ", number.as_str()])?))
-}
-
-/// What a text is otherwise than it must be.
-pub fn text_otherwise(
-    alloc: Global,
-    what: &str,
-    text: &str,
-    wanted: &str,
-) -> Result<Option<String>> {
-    if text == wanted {
-        return Ok(None);
-    }
-    Ok(Some(joined(alloc, &[what, " was ", text])?))
 }

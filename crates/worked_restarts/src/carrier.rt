@@ -3,7 +3,7 @@ use crate::row::frames_said;
 use anyhow::Result;
 use dxc_outside::{Gate, GatePlace, Pass1};
 use std::alloc::Global;
-use worked_common::{Line, number_said};
+use worked_common::Part;
 
 /// A gate that stops at one asking, and at each asking has all workers carry a frame.
 #[derive(Drop)]
@@ -37,9 +37,9 @@ impl Carrier {
     }
 
     /// From now on askings are counted from 0, and it stops where the session says so.
-    pub fn set(&mut self, alloc: Global, session: &[Line<'_>]) -> Result<()> {
+    pub fn set(&mut self, alloc: Global, session: Part<'_, '_>) -> Result<()> {
         self.frames = frames_said(alloc, session, "frames")?;
-        self.stop = number_said(session, "stop")?;
+        self.stop = session.number_at("stop")?;
         self.askings = 0;
         self.journal = 0;
         self.registers = 0;

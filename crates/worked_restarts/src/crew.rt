@@ -33,7 +33,7 @@ impl Crew {
 
     /// What that worker wrote of the last frame.
     pub fn frame_by(&self, worker: usize) -> Option<&[u8]> {
-        self.workers.get(worker).map(|worker| worker.output())
+        Some(self.workers.get(worker)?.output())
     }
 }
 

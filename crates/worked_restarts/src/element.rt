@@ -1,10 +1,9 @@
 //! The opening of an element on a disk, with a place for each session of a row.
-ghost use Rattle.std.specs.Prelude.{◌≡◌, ◌<◌, ◌+◌, IfOk, IfSome, ℕ, [], length, true};
+ghost use Rattle.std.specs.Prelude.{◌≡◌, ◌<◌, ◌+◌, IfOk, IfSome, ℕ, length};
 ghost use Rattle.std.specs.Arc.{arc_value};
 ghost use Rattle.fabric_core.specs.State.{new_worker};
 ghost use Rattle.fabric_words.specs.New.{AreNew};
 ghost use Rattle.fabric_words.specs.Seats.{FabricId};
-ghost use Rattle.turnstile.specs.Passing.{Ident};
 ghost use Rattle.user_admin.specs.Openings.{Begins as UsersBegin};
 ghost use Rattle.xc_core.specs.Openings.{Begins};
 ghost use Rattle.xc_core.specs.States.{opening_of};
@@ -13,6 +12,7 @@ ghost use Rattle.craft_session.specs.Places.{AreFresh, IsAtOpening};
 use crate::audit::{Audit, Released};
 use crate::carriage::Carriage;
 use crate::crew::Crew;
+use crate::places::{Turns, next_pass, place_of, turns_of};
 use crate::start::{Started, start};
 use crate::users::{Users, users_disk, users_of};
 use anyhow::{Context, Result, bail, ensure};
@@ -22,12 +22,9 @@ use fabric_words::{Fabric, MoverSeat, WorkerSeat};
 use shelf_file::Shelf;
 use std::alloc::Global;
 use std::sync::{Arc, Wait};
-use turnstile::{Pass, Sequential, Turnstile};
-use worked_common::{Line, RowDisk, small};
+use turnstile::Pass;
+use worked_common::{Part, RowDisk, small};
 use xc_core::{Adopted, Core, State};
-
-/// The turnstile of an element.
-pub type Turns<D> = Arc<Turnstile<State<D>>>;
 
 /// An element on which a row's sessions are served.
 #[derive(Drop)]
@@ -46,7 +43,7 @@ impl Element<RowDisk, MemDisk> {
     /// The element that the row's shelf and the disk's journal describe, for so many sessions, and its workers.
     pub fn open(
         alloc: Global,
-        row: &[Line<'_>],
+        row: Part<'_, '_>,
         disk: RowDisk,
         sessions: usize,
     ) -> Result<(RowElement, Crew)> {
@@ -156,7 +153,9 @@ fn seat_all<D: Disk + Drop, U: Disk + Drop>(
     requires opening { IsAtOpening (opening_of D.state state) (arc_value shelf) (arc_value fabric.now) }
 {
     ensure!(count < 100, "too many sessions");
-    let (turns, mut passes) = turns_of(alloc, state, count + 1)?;
+    let Ok((turns, mut passes)) = turns_of(alloc, state, count + 1) else {
+        bail!("no memory");
+    };
     let mut users = users_of(alloc, &shelf, disk, count + 1)?;
     let pass = next_pass(&mut passes);
     let _ = next_pass(&mut users.passes);
@@ -198,36 +197,6 @@ fn places_of<D: Disk + Drop, U: Disk + Drop>(
     Ok(places)
 }
 
-/// A turnstile of the state, and its passes.
-pub fn turns_of<S: Sequential + Drop>(
-    alloc: Global,
-    state: S,
-    count: u16,
-) -> Result<(Arc<Turnstile<S>>, Vec<Pass>)>
-    requires some { 0 < count }
-    requires stands { S.stands state [] }
-    ensures turns { IfOk result (λ r. ((arc_value r.0).first ≡ state) × ((arc_value r.0).passes ≡ count)) }
-    ensures each { IfOk result (λ r. length r.1.items ≡ count) }
-    ensures fresh { IfOk result (λ r. AreFresh (arc_value r.0).id 0 r.1.items) }
-{
-    let Ok((turns, passes)) = Turnstile::new(alloc, state, count) else {
-        bail!("no memory");
-    };
-    let Ok(turns) = Arc::new(alloc, turns) else {
-        bail!("no memory");
-    };
-    Ok((turns, passes))
-}
-
-/// The pass with the lowest number that is left.
-pub fn next_pass(passes: &mut Vec<Pass>) -> Pass
-    requires some { 0 < length passes.old.items }
-    ensures pass { (id : Ident) → (n : ℕ) → AreFresh id n passes.old.items → (result ≡ record { number = n; free = true; id = id; seen = [] }) × AreFresh id (n + 1) passes.new.items }
-    ensures fewer { length passes.new.items + 1 ≡ length passes.old.items }
-{
-    passes.remove(0)
-}
-
 /// A place for the passes of that number.
 pub fn next_place<D: Disk + Drop, U: Disk + Drop>(
     alloc: Global,
@@ -255,11 +224,16 @@ pub fn next_place<D: Disk + Drop, U: Disk + Drop>(
 {
     let pass = next_pass(passes);
     let users_pass = next_pass(&mut users.passes);
-    let shelf = Arc::try_clone(shelf)?;
-    let fabric = Arc::try_clone(fabric)?;
-    let turns = Arc::try_clone(turns)?;
-    let users = Arc::try_clone(&users.turns)?;
-    Place::new(alloc, pass, users_pass, number, shelf, fabric, turns, users)
-        .ok()
-        .context("no memory")
+    place_of(
+        alloc,
+        number,
+        pass,
+        users_pass,
+        shelf,
+        fabric,
+        turns,
+        &users.turns,
+    )
+    .ok()
+    .context("no memory")
 }

@@ -1,5 +1,5 @@
-//! Runs worked rows of stops, restarts and faults of the disk through sessions on one element, and compares what is written, where the gate was
-//! asked, each frame and each register word with what they say.
+//! Runs worked rows of stops, restarts, faults of the disk and random changes through sessions on one element, and compares what is written, where
+//! the gate was asked, each frame and each register word with what they say.
 #![tactic(auto)]
 
 mod audit;
@@ -8,6 +8,7 @@ mod carriage;
 mod carrier;
 mod crew;
 mod element;
+mod places;
 mod reader;
 mod row;
 mod run;
@@ -15,32 +16,41 @@ mod stale;
 mod start;
 mod users;
 
-use crate::row::spelled_out;
+use crate::row::{WORDS, spelled_out};
 use crate::run::run_row;
 use anyhow::Result;
 use std::alloc::Global;
 use std::fs;
 use std::sync::Wait;
-use worked_common::{Section, Tally, decimal, joined, lines_of, sections_of};
+use worked_common::{Part, Tally, decimal, joined, lines_of, why_of};
 
 fn main(rt: HostRuntime) -> Result<()> {
-    let alloc = rt.alloc();
-    let mut tally = Tally::new(alloc);
     let text = text_of(&rt)?;
-    run_all(alloc, &rt, text.as_str(), &mut tally)?;
-    let count = decimal(alloc, tally.runs)?;
-    let counted = joined(alloc, &[count.as_str(), " rows"])?;
-    let told = tally.told(alloc, counted.as_str())?;
+    let told = told_of(rt.alloc(), &rt, text.as_str())?;
     print!(rt; "{told}")?;
     Ok(())
+}
+
+// What comes of the rows of the text.
+fn told_of<R: Wait>(alloc: Global, rt: &R, text: &str) -> Result<String> {
+    let mut tally = Tally::new(alloc);
+    run_all(alloc, rt, text, &mut tally)?;
+    let count = decimal(alloc, tally.runs)?;
+    let counted = joined(alloc, &[count.as_str(), " rows"])?;
+    tally.told(alloc, counted.as_str())
 }
 
 // Runs and counts the rows of the text.
 fn run_all<R: Wait>(alloc: Global, rt: &R, text: &str, tally: &mut Tally) -> Result<()> {
     let lines = lines_of(alloc, text)?;
-    let parts = sections_of(alloc, &lines, "part")?;
-    for row in &sections_of(alloc, &lines, "row")? {
-        count_row(alloc, rt, row, &parts, tally)?;
+    let all = Part {
+        lines: &lines,
+        number: 0,
+    };
+    all.known(&WORDS)?;
+    let parts = all.parts(alloc, &["part"])?;
+    for row in all.parts(alloc, &["row"])?.iter().rev() {
+        count_row(alloc, rt, *row, &parts, tally)?;
     }
     Ok(())
 }
@@ -49,16 +59,17 @@ fn run_all<R: Wait>(alloc: Global, rt: &R, text: &str, tally: &mut Tally) -> Res
 fn count_row<'a, R: Wait>(
     alloc: Global,
     rt: &R,
-    row: &Section<'a>,
-    parts: &[Section<'a>],
+    row: Part<'_, 'a>,
+    parts: &[Part<'_, 'a>],
     tally: &mut Tally,
 ) -> Result<()> {
-    let lines = spelled_out(alloc, &row.lines, parts)?;
-    let why = match run_row(alloc, rt, &lines) {
-        Ok(()) => None,
-        Err(why) => Some(why.to_string(alloc)?),
+    let lines = spelled_out(alloc, row, parts)?;
+    let spelled = Part {
+        lines: &lines,
+        number: 0,
     };
-    tally.count(alloc, row.name, 0, why)
+    let why = why_of(alloc, run_row(alloc, rt, spelled))?;
+    tally.count(alloc, row.name(), 0, why)
 }
 
 // All parts and then all rows. A part without a name stands between them, so that no other has lines of rows.

@@ -2,7 +2,7 @@ use crate::audit::Audit;
 use crate::carrier::Carrier;
 use crate::crew::Crew;
 use crate::element::{Element, RowElement};
-use crate::row::{exchange_of, is_said, same_as_said};
+use crate::row::same_as_said;
 use crate::stale::run_stale;
 use crate::start::disk_of;
 use crate::users::users_disk;
@@ -12,80 +12,69 @@ use dxc_disk::Disk;
 use dxc_outside::{Gate, MemClock, MemLink};
 use std::alloc::Global;
 use std::sync::Wait;
-use worked_common::{
-    Levers, Line, NOON, Section, frame_of, number_of, number_said, said, same_bytes, sections_of,
-    two,
-};
+use worked_common::{Levers, NOON, Part, exchange_of, frame_of, number_of, same_bytes, two};
+
+/// The element's name, as headers have it.
+const SID: &str = "DXC1";
 
 /// Opens an element for the row and serves its sessions. An error tells the first thing that isn't as it must be.
-pub fn run_row<R: Wait>(alloc: Global, rt: &R, row: &[Line<'_>]) -> Result<()> {
-    let sessions = sections_of(alloc, row, "session")?;
+pub fn run_row<R: Wait>(alloc: Global, rt: &R, row: Part<'_, '_>) -> Result<()> {
+    let sessions = row.parts(alloc, &["session"])?;
     let levers = Levers::new(alloc).ok().context("no memory")?;
     let disk = disk_of(alloc, row, &levers)?;
-    if is_said(row, "held") {
+    if row.has("held") {
         return run_stale(alloc, rt, row, disk, users_disk(alloc)?, &sessions);
     }
     let (element, crew) = Element::open(alloc, row, disk, sessions.len())?;
+    let mut held = Some(element);
     let mut gate = Carrier::new(alloc, crew);
-    serve_all(alloc, rt, element, &mut gate, &levers, &sessions)
+    serve_all(alloc, rt, &mut held, &mut gate, &levers, &sessions)
 }
 
-// Serves the sessions, each on what the one before it left.
+// Serves the sessions, which stand the last one first, each on what the one before it left. Nothing is left where another controller finds the
+// registers strange, as is said.
 fn serve_all<R: Wait>(
     alloc: Global,
     rt: &R,
-    mut element: RowElement,
+    held: &mut Option<RowElement>,
     gate: &mut Carrier,
     levers: &Levers,
-    sessions: &[Section<'_>],
+    sessions: &[Part<'_, '_>],
 ) -> Result<()> {
-    for session in sessions {
-        match serve_on(alloc, rt, element, gate, levers, &session.lines)? {
-            Some(left) => element = left,
-            None => return Ok(()),
-        }
+    for session in sessions.iter().rev() {
+        set(levers, *session)?;
+        hand_on(alloc, rt, held, *session)?;
+        let Some(element) = held.as_mut() else {
+            return Ok(());
+        };
+        set(levers, *session)?;
+        serve(alloc, rt, element, gate, levers, *session)?;
     }
     Ok(())
 }
 
-// Serves the session, by another controller where it says so; what it left. None: that one finds the registers strange, as is said.
-fn serve_on<R: Wait>(
+// Has another controller take over where the session says so. Nothing is held behind it where it finds the registers strange.
+fn hand_on<R: Wait>(
     alloc: Global,
     rt: &R,
-    element: RowElement,
-    gate: &mut Carrier,
-    levers: &Levers,
-    session: &[Line<'_>],
-) -> Result<Option<RowElement>> {
-    set(levers, session)?;
-    let Some(mut element) = heir_of(alloc, rt, element, session)? else {
-        return Ok(None);
-    };
-    set(levers, session)?;
-    serve(alloc, rt, &mut element, gate, levers, session)?;
-    Ok(Some(element))
-}
-
-// The element, or what another controller makes of it. None: that one finds the registers strange.
-fn heir_of<R: Wait>(
-    alloc: Global,
-    rt: &R,
-    element: RowElement,
-    session: &[Line<'_>],
-) -> Result<Option<RowElement>> {
-    let strange = is_said(session, "strange");
-    if !strange && !is_said(session, "adopts") {
-        return Ok(Some(element));
+    held: &mut Option<RowElement>,
+    session: Part<'_, '_>,
+) -> Result<()> {
+    let strange = session.has("strange");
+    if !strange && !session.has("adopts") {
+        return Ok(());
     }
-    let heir = element.handed_on(alloc, rt)?;
-    ensure!(heir.is_none() == strange, "the registers were otherwise");
-    Ok(heir)
+    if let Some(element) = held.take() {
+        *held = element.handed_on(alloc, rt)?;
+    }
+    ensure!(held.is_none() == strange, "the registers were otherwise");
+    Ok(())
 }
 
 // From now on the disk does what the session says.
-fn set(levers: &Levers, session: &[Line<'_>]) -> Result<()> {
-    let failing = number_said(session, "fails")?;
-    levers.set(failing, is_said(session, "shows"));
+fn set(levers: &Levers, session: Part<'_, '_>) -> Result<()> {
+    let failing = session.number_at("fails")?;
+    levers.set(failing, session.has("shows"));
     Ok(())
 }
 
@@ -96,11 +85,11 @@ fn serve<D: Disk + Drop, U: Disk + Drop, R: Wait>(
     element: &mut Element<D, U>,
     gate: &mut Carrier,
     levers: &Levers,
-    session: &[Line<'_>],
+    session: Part<'_, '_>,
 ) -> Result<()> {
     gate.set(alloc, session)?;
     let end = serve_next(alloc, rt, &mut element.places, session, gate)?;
-    ensure!(ends_so(end, is_said(session, "stop")), "it ended otherwise");
+    ensure!(ends_so(end, session.has("stop")), "it ended otherwise");
     compare_counts(alloc, gate, levers, session)?;
     compare_frames(alloc, gate, session)?;
     compare_words(alloc, rt, &mut element.audit, session)
@@ -120,7 +109,7 @@ fn serve_next<D: Disk + Drop, U: Disk + Drop, R: Wait>(
     alloc: Global,
     rt: &R,
     places: &mut Vec<Place<D, U>>,
-    session: &[Line<'_>],
+    session: Part<'_, '_>,
     gate: &mut Carrier,
 ) -> Result<SessionEnd> {
     let mut place = places.pop().context("no place is left")?;
@@ -132,11 +121,11 @@ pub fn serve_at<D: Disk + Drop, U: Disk + Drop, G: Gate, R: Wait>(
     alloc: Global,
     rt: &R,
     place: &mut Place<D, U>,
-    session: &[Line<'_>],
+    session: Part<'_, '_>,
     gate: &mut G,
 ) -> Result<SessionEnd> {
     let mut clock = MemClock::new(vec![in alloc; NOON]?);
-    let exchange = exchange_of(alloc, session)?;
+    let exchange = exchange_of(alloc, SID, session)?;
     let (input, wanted) = (exchange.input, exchange.output);
     let mut link = MemLink::new(input, Vec::new(alloc), Vec::new(alloc), Vec::new(alloc));
     let end = serve_session(place, &mut link, &mut clock, gate, rt);
@@ -149,12 +138,12 @@ fn compare_counts(
     alloc: Global,
     gate: &Carrier,
     levers: &Levers,
-    session: &[Line<'_>],
+    session: Part<'_, '_>,
 ) -> Result<()> {
     same_as_said(alloc, session, "asked", &gate.asked())?;
     let calls = levers.calls();
     same_as_said(alloc, session, "calls", &[calls])?;
-    if let Some(failing) = number_said(session, "fails")? {
+    if let Some(failing) = session.number_at("fails")? {
         ensure!(failing < calls, "no call of the disk failed");
     }
     Ok(())
@@ -165,9 +154,9 @@ fn compare_words<D: Disk + Drop, R: Wait>(
     alloc: Global,
     rt: &R,
     audit: &mut Audit<D>,
-    session: &[Line<'_>],
+    session: Part<'_, '_>,
 ) -> Result<()> {
-    if !is_said(session, "words") {
+    if !session.has("words") {
         return Ok(());
     }
     let words = audit.words(alloc, rt)?;
@@ -175,14 +164,14 @@ fn compare_words<D: Disk + Drop, R: Wait>(
 }
 
 // Compares the frames, in the session and behind it.
-fn compare_frames(alloc: Global, gate: &mut Carrier, session: &[Line<'_>]) -> Result<()> {
+fn compare_frames(alloc: Global, gate: &mut Carrier, session: Part<'_, '_>) -> Result<()> {
     ensure!(!gate.went_astray(), "another frame was carried");
     let crew = &mut gate.crew;
     crew.carry();
-    if let Some(last) = said(session, "last") {
+    if let Some(last) = session.last("last") {
         same_bytes(alloc, "the line", crew.frame(), &frame_of(alloc, last)?)?;
     }
-    for line in session {
+    for line in session.lines {
         if line.word == "by" {
             compare_frame_by(alloc, crew, line.rest)?;
         }

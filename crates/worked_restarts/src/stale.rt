@@ -12,7 +12,8 @@ ghost use Rattle.craft_session.specs.Places.{IsAtOpening};
 
 use crate::audit::words_in_turn;
 use crate::beside::{Beside, change_beside};
-use crate::element::{Turns, next_pass, next_place, next_seat, next_worker, turns_of};
+use crate::element::{next_place, next_seat, next_worker};
+use crate::places::{Turns, next_pass, turns_of};
 use crate::row::same_as_said;
 use crate::run::serve_at;
 use crate::start::{Started, start};
@@ -29,7 +30,7 @@ use shelf_file::Shelf;
 use std::alloc::Global;
 use std::sync::{Arc, Wait};
 use turnstile::{Pass, Turnstile};
-use worked_common::{Line, Section};
+use worked_common::Part;
 use xc_core::State;
 
 /// DS0-2-2.
@@ -46,16 +47,16 @@ const WANTED: Beside = Beside {
     asked_in_all: 19,
 };
 
-/// The row's first session, the entry by another place, and the row's second session. An error tells what isn't as it must be.
+/// The row's first session, the entry by another place, and the row's second session; these stand the last one first. An error tells what isn't as it must be.
 pub fn run_stale<D: Disk + Drop, U: Disk + Drop, R: Wait>(
     alloc: Global,
     rt: &R,
-    row: &[Line<'_>],
+    row: Part<'_, '_>,
     disk: D,
     users: U,
-    sessions: &[Section<'_>],
+    sessions: &[Part<'_, '_>],
 ) -> Result<()> {
-    let [before, behind] = sessions else {
+    let [behind, before] = sessions else {
         bail!("two sessions are wanted");
     };
     let mut held = seat_beside(alloc, row, disk, users)?;
@@ -68,8 +69,8 @@ pub fn run_stale<D: Disk + Drop, U: Disk + Drop, R: Wait>(
         &mut seated.place,
         &mut seated.pass,
         &mut held.late,
-        &before.lines,
-        &behind.lines,
+        *before,
+        *behind,
     )
 }
 
@@ -83,7 +84,7 @@ struct Held<D: Disk, U: Disk> {
 
 fn seat_beside<D: Disk + Drop, U: Disk + Drop>(
     alloc: Global,
-    row: &[Line<'_>],
+    row: Part<'_, '_>,
     disk: D,
     users: U,
 ) -> Result<Held<D, U>>
@@ -144,7 +145,9 @@ fn seat_two<D: Disk + Drop, U: Disk + Drop>(
     ensures ports { IfOk result (λ s. 1 < ports (opening_of D.state (arc_value s.turns).first).first.fold.table.shape) }
 {
     ensure!(shelf.shape().ports() > 1, "two ports are wanted");
-    let (turns, mut passes) = turns_of(alloc, state, 2)?;
+    let Ok((turns, mut passes)) = turns_of(alloc, state, 2) else {
+        bail!("no memory");
+    };
     let mut users = users_of(alloc, shelf, disk, 1)?;
     let place = next_place(alloc, 0, &mut passes, &mut users, shelf, fabric, &turns)?;
     let pass = next_pass(&mut passes);
@@ -172,8 +175,8 @@ fn between<D: Disk + Drop, U: Disk + Drop, R: Wait>(
     place: &mut Place<D, U>,
     pass: &mut Pass,
     late: &mut WorkerSeat,
-    before: &[Line<'_>],
-    behind: &[Line<'_>],
+    before: Part<'_, '_>,
+    behind: Part<'_, '_>,
 ) -> Result<()>
     requires seated { IsSeated D.told D.state pass.old turns.now fabric.now }
     requires ports { 1 < ports (opening_of D.state turns.now.first).first.fold.table.shape }

@@ -4,7 +4,7 @@ ghost use Rattle.std.specs.Arc.{arc_value};
 ghost use Rattle.user_admin.specs.Openings.{Begins as UsersBegin};
 ghost use Rattle.craft_session.specs.Places.{AreFresh};
 
-use crate::element::turns_of;
+use crate::places::turns_of;
 use anyhow::{Result, bail};
 use dxc_disk::{Disk, MemDisk};
 use shelf_file::Shelf;
@@ -44,6 +44,8 @@ pub fn users_of<U: Disk + Drop>(
     let Ok(state) = UserState::open(alloc, shelf, disk) else {
         bail!("no users");
     };
-    let (turns, passes) = turns_of(alloc, state, count)?;
+    let Ok((turns, passes)) = turns_of(alloc, state, count) else {
+        bail!("no memory");
+    };
     Ok(Users { turns, passes })
 }

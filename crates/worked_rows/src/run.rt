@@ -1,7 +1,7 @@
 use anyhow::Result;
 use craft_server::{Status, dxc_run};
 use dxc_host::HostOpener;
-use dxc_outside::{Listener, MemClock, MemSpawner, Opener};
+use dxc_outside::{Link, Listener, MemClock, MemGate, MemSpawner, Name, Opener, Spawner};
 use std::alloc::Global;
 use std::sync::Wait;
 use std::thread::Threads;
@@ -84,18 +84,35 @@ fn status_of<R: Threads + Wait + Copy + Send + 'static, O: Opener>(
 where
     <O::Listener as Listener>::Link: Send + 'static,
 {
-    let mut clock = MemClock::new(vec![in alloc; NOON]?);
     let mut spawner = MemSpawner::<R>::new(run.failing(alloc, "starts")?);
     let mut lent = lend(alloc, sid, run, due)?;
-    Ok(dxc_run(
+    run_program(
         alloc,
         &lent.words,
         opener,
         &mut lent.terminal,
-        &mut clock,
         &mut lent.gate,
         &mut spawner,
         threads,
+    )
+}
+
+/// The status of the program of these words, whose clock stands.
+pub fn run_program<R: Wait, O: Opener, K: Link, P: Spawner>(
+    alloc: Global,
+    words: &[Name],
+    opener: &mut O,
+    terminal: &mut K,
+    gate: &mut MemGate,
+    spawner: &mut P,
+    threads: &R,
+) -> Result<Status>
+where
+    <O::Listener as Listener>::Link: Send + 'static,
+{
+    let mut clock = MemClock::new(vec![in alloc; NOON]?);
+    Ok(dxc_run(
+        alloc, words, opener, terminal, &mut clock, gate, spawner, threads,
     ))
 }
 

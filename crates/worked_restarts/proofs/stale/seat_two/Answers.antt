@@ -8,9 +8,9 @@ use Rattle.worked_restarts.proofs.stale.seat_two.Goals as goal
 
 pub returns-2-clause-seated : goal.returns-2-clause-seated
 returns-2-clause-seated g c =
-    let t : Gate (State g.row.D.Denot) = arc_value c.in_ok-turns.turns in
-    let own = (c.next_pass-pass.ensures.pass t.id 1 c.in_ok-place.ensures.fresh).0 in
-    let first = c.in_ok-turns.ensures.turns.0 in
-    let within : 1 < t.passes = omega (arith, c.in_ok-turns.ensures.turns.1) in
+    let t : Gate (State g.row.D.Denot) = arc_value c.in-Ok.turns in
+    let own = (c.next_pass-pass.ensures.next t.id 1 c.in_ok-place.ensures.fresh).0 in
+    let first = c.in-Ok.ensures.turns.0 in
+    let within : 1 < t.passes = omega (arith, c.in-Ok.ensures.turns.1) in
     let fabric = ap (λ (s : State g.row.D.Denot). (opening_of g.D.Disk.state s).site.fabric) first ∙ c.requires.opening.fabric in
     seated g.D.Disk.told g.D.Disk.state c.next_pass-pass.result t (arc_value c.args.fabric.now) 1 own within fabric

@@ -1,0 +1,40 @@
+ghost use Rattle.std.specs.Prelude.{[], false};
+
+use crate::sessions::link::CueLink;
+use dxc_outside::{Came, Listener};
+use std::sync::Wait;
+
+/// Where one session's caller comes in, and nobody else.
+#[derive(Drop)]
+pub struct OneCaller {
+    caller: Option<CueLink>,
+    ended: bool,
+}
+
+impl OneCaller {
+    /// Nobody calls where there is no caller.
+    pub fn new(caller: Option<CueLink>) -> OneCaller {
+        OneCaller {
+            caller,
+            ended: false,
+        }
+    }
+}
+
+impl Listener for OneCaller {
+    type Link = CueLink;
+
+    ghost told = { ⊥ };
+
+    ghost state = { λ l. record { coming = []; ended = l.ended; faults = 0; sound = false } };
+
+    fn accept<R: Wait>(&mut self, _rt: &R) -> Came<CueLink> {
+        match self.caller.take() {
+            Some(link) => Came::Link(link),
+            None => {
+                self.ended = true;
+                Came::End
+            }
+        }
+    }
+}
