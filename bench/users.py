@@ -1,6 +1,6 @@
-"""The users that commands keep, as docs/FORMATS.md describes them and their journal; writes the rows of crates/worked_users.
+"""The users that commands keep, as docs/FORMATS.md describes them and their journal; writes the rows of crates/worked_disks.
 
-    python3 bench/users.py >crates/worked_users/data/rows.txt
+    python3 bench/users.py >crates/worked_disks/data/users.txt
 """
 import hashlib
 import string
