@@ -1,4 +1,4 @@
-ghost use Rattle.std.specs.Prelude.{◌≡◌, ◌+◌, ◌^◌, ◌<◌, ◌↔◌, [], IsTrue, drop};
+ghost use Rattle.std.specs.Prelude.{◌≡◌, ◌+◌, ◌^◌, ◌<◌, ◌↔◌, [], ◌∷◌, IsTrue, drop};
 
 use arrayvec::ArrayVec;
 use dxc_num::{Leg, Middle, Port};
@@ -45,6 +45,7 @@ impl Rolling {
     ghost use Rattle.roll_engine.specs.declared.rolling.Behind.TheVariants.{Nothing, PartsFrom};
     ghost use Rattle.roll_engine.specs.Rollings.{rest_of};
     ghost use Rattle.roll_engine.specs.Cold.{IsCold, IsColdFrom, cold_start};
+    ghost use Rattle.roll_engine.specs.UnderWay.{unmade};
 
     /// The work, of which so many writes are made.
     pub fn of(work: Work, step: usize) -> Rolling
@@ -55,6 +56,17 @@ impl Rolling {
             step,
             behind: Behind::Nothing,
         }
+    }
+
+    /// Becomes the work of one op, of which no write is made, in place.
+    pub fn begin(&mut self, op: LegOp)
+        ensures ops { self.new.work.ops.items ≡ op ∷ [] }
+        ensures unmade { self.new ≡ unmade self.new.work }
+    {
+        self.work.ops.clear();
+        self.work.ops.push(op);
+        self.step = 0;
+        self.behind = Behind::Nothing;
     }
 
     /// All legs of a matrix, none of which is joined, on a fabric without legs.

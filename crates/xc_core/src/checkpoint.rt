@@ -61,6 +61,8 @@ fn add_rows<D: Disk>(
 /// Writes a checkpoint of the table and its legs, and turns to it. It takes at most 4,600,042 of the disk's room.
 ///
 /// DiskFault is the only error; what the journal stands for is as before in either case.
+// Apart, since few changes need one.
+#[inline(never)]
 pub(crate) fn write_checkpoint<D: Disk>(
     journal: &mut Journal<D>,
     table: &Table,

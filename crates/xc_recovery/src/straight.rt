@@ -1,5 +1,5 @@
 //! Records whose changes are made where their work isn't asked for: it isn't built then.
-ghost use Rattle.std.specs.Prelude.{◌≡◌, ◌⊎◌, [], ◌∷◌, IsTrue, None, Option};
+ghost use Rattle.std.specs.Prelude.{◌≡◌, ◌⊎◌, [], ◌∷◌, IsTrue, None, Option, true};
 ghost use Rattle.dxc_num.specs.declared.port.Middle.{Middle};
 ghost use Rattle.dxc_num.specs.Dimensions.{IsInside};
 ghost use Rattle.dxc_model.specs.Verdicts.{MayTake, effect};
@@ -105,6 +105,20 @@ fn make_one(
     do_task(matrix, table.out(), task, choices[0])
 }
 
+// Makes any change by its work.
+// Apart, since works are large, and a change of one leg pays for no room of one.
+#[inline(never)]
+fn make_all(matrix: &mut Matrix, table: &Table, change: &Change, choices: &[Choice]) -> bool
+    requires placed { IsPlaced table.now matrix.old }
+    requires granted { MayTake table.now change.now }
+    ensures { IsMade result table.now matrix.old change.now choices.now matrix.new }
+{
+    match work_of(matrix, table, change, choices) {
+        Some(_work) => true,
+        None => false,
+    }
+}
+
 fn make_any(matrix: &mut Matrix, table: &Table, change: &Change, choices: &[Choice]) -> bool
     requires placed { IsPlaced table.now matrix.old }
     requires granted { MayTake table.now change.now }
@@ -114,10 +128,7 @@ fn make_any(matrix: &mut Matrix, table: &Table, change: &Change, choices: &[Choi
     if tasks.len() == 1 {
         return make_one(matrix, table, change, tasks[0], choices);
     }
-    match work_of(matrix, table, change, choices) {
-        Some(_work) => true,
-        None => false,
-    }
+    make_all(matrix, table, change, choices)
 }
 
 // Makes a change that the table grants by these choices on the table's matrix. False exactly where they aren't valid for it; the
@@ -152,6 +163,30 @@ fn make_record(table: &mut Table, matrix: &mut Matrix, bytes: &[u8; 64], version
     true
 }
 
+// Takes the last record, and puts its work into `last`.
+// Apart, as `make_all` is.
+#[inline(never)]
+fn take_last(
+    table: &mut Table,
+    matrix: &mut Matrix,
+    bytes: &[u8; 64],
+    version: u8,
+    last: &mut Work,
+) -> bool
+    requires placed { IsPlaced table.old matrix.old }
+    requires version { (version ≡ 1) ⊎ (version ≡ 2) }
+    ensures taken { IsNext result true version table.old matrix.old bytes.now table.new matrix.new last.new.ops.items }
+    ensures placed { IsPlaced table.new matrix.new }
+{
+    match take_record(table, matrix, bytes, version) {
+        Some(work) => {
+            *last = work;
+            true
+        }
+        None => false,
+    }
+}
+
 /// Takes a record as `take_record` does. The work is only built of the last record, and put into `last`.
 pub(crate) fn take_next(
     table: &mut Table,
@@ -169,11 +204,5 @@ pub(crate) fn take_next(
     if !is_last {
         return make_record(table, matrix, bytes, version);
     }
-    match take_record(table, matrix, bytes, version) {
-        Some(work) => {
-            *last = work;
-            true
-        }
-        None => false,
-    }
+    take_last(table, matrix, bytes, version, last)
 }

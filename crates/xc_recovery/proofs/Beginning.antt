@@ -1,0 +1,37 @@
+-- A planned work that a rolling begins.
+use Rattle.std.proofs.Common.{◌≡◌, Bool, true, false, List, ◌∷◌, [], Option, sym, subst}
+use Rattle.std.specs.Bool.{OnTrue, OnFalse}
+use Rattle.dxc_num.specs.declared.port.Middle.{Middle}
+use Rattle.dxc_model.specs.declared.op.Change.{Change}
+use Rattle.dxc_model.specs.Tables.{Board}
+use Rattle.dxc_model.specs.Verdicts.{MayTake}
+use Rattle.roll_plan.specs.declared.op.LegOp.{LegOp}
+use Rattle.paull_matrix.specs.Colourings.{Colouring}
+use Rattle.roll_engine.specs.Rollings.{RollingAt}
+use Rattle.roll_engine.specs.UnderWay.{unmade}
+use Rattle.xc_recovery.specs.declared.leg_task.LegTask.{LegTask}
+use Rattle.xc_recovery.specs.LegTasks.{tasks}
+use Rattle.xc_recovery.specs.ChangeWorks.{Begins, ChangesPlanned, DoesPlanned, IsChangeWork, choices_in}
+use Rattle.xc_recovery.specs.Placings.{IsPlaced}
+use Rattle.xc_recovery.proofs.Placing.{change_leaves}
+use Rattle.xc_recovery.proofs.Shifting.{none_planned, one_planned}
+use Rattle.xc_recovery.proofs.Spelled.{changes_made}
+
+pub begun_unmade : (P : LegOp → Type 0) (r : RollingAt) (b : Bool) → OnTrue b (Begins P r) → OnTrue b (r ≡ unmade r.work)
+begun_unmade P r true begun = begun.3
+begun_unmade P r false begun = tt
+
+-- a work of a change is valid
+pub begun_valid : (t : Board) (c : Colouring) (change : Change) (os : List LegOp) (b : Bool) → IsPlaced t c → MayTake t change → OnTrue b (ChangesPlanned t c change os) → OnTrue b (IsChangeWork t c change os)
+begun_valid t c change os true placed granted planned = change_leaves t c change (choices_in os) os placed granted (changes_made t c change os planned)
+begun_valid t c change os false placed granted planned = tt
+
+-- what begins for the only leg of a change begins its work
+module _ (t : Board) (c : Colouring) (change : Change) (k : LegTask) (only : tasks t change ≡ k ∷ []) (out : Option Middle) (same : out ≡ t.out) where
+  pub begun_planned : (r : RollingAt) (b : Bool) → OnTrue b (Begins (DoesPlanned out c k) r) → OnTrue b (ChangesPlanned t c change r.work.ops.items)
+  begun_planned r true begun = subst (ChangesPlanned t c change) (sym begun.2) (one_planned t c change k begun.0 only (subst (λ (o : Option Middle). DoesPlanned o c k begun.0) same begun.1))
+  begun_planned r false begun = tt
+
+  pub begun_none : (b : Bool) → OnFalse b ((o : LegOp) → ¬ DoesPlanned out c k o) → OnFalse b ((ops : List LegOp) → ¬ ChangesPlanned t c change ops)
+  begun_none true none = tt
+  begun_none false none = none_planned t c change k only (subst (λ (x : Option Middle). (o : LegOp) → ¬ DoesPlanned x c k o) same none)
