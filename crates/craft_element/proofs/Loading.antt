@@ -45,7 +45,7 @@ module _ (disk : MemDisk) (s : Contents) (stops later : ℕ) (status : Status) (
   by_fault (fault.Journal j) is =
       let fails = subst (λ (x : OpenFault MemDisk). Fails mem_state (mem_state disk) s.shape x) is (n.why tt) in
       by_why j.why (n.is ∙ ap of_fault is) (λ bytes bad. (fails bytes bad).0 is_new)
-  by_fault (fault.BadRecord i) is = absurd ((subst (λ (x : OpenFault MemDisk). Fails mem_state (mem_state disk) s.shape x) is (n.why tt)).0 is_new)
+  by_fault (fault.BadRecord i d) is = absurd ((subst (λ (x : OpenFault MemDisk). Fails mem_state (mem_state disk) s.shape x) is (n.why tt)).0 is_new)
   by_fault (fault.Disk d) is = absurd (no_disk_fault (n.is ∙ ap of_fault is))
   by_fault fault.NoMemory is = inl (n.is ∙ ap of_fault is)
   by_fault fault.Stopped is = let stopped = n.is ∙ ap of_fault is in inr (stopped, n.stopped stopped)
@@ -76,7 +76,7 @@ module _ (disk : MemDisk) (s : Contents) (status : Status) (fresh : IsFresh (mem
   users_by_fault (users_fault.Journal j) is =
       let fails = subst (λ (x : UserOpenFault MemDisk). UsersFail mem_state (mem_state disk) s x) is (n.why tt) in
       users_by_why j.why (n.is ∙ ap (λ (x : UserOpenFault MemDisk). status_of_users_fault x) is) (λ bytes bad. (fails bytes bad).0 users_new)
-  users_by_fault (users_fault.BadRecord i) is = absurd ((subst (λ (x : UserOpenFault MemDisk). UsersFail mem_state (mem_state disk) s x) is (n.why tt)).0 users_new)
+  users_by_fault (users_fault.BadRecord i d) is = absurd ((subst (λ (x : UserOpenFault MemDisk). UsersFail mem_state (mem_state disk) s x) is (n.why tt)).0 users_new)
   users_by_fault (users_fault.Disk d) is = absurd (no_users_fault (n.is ∙ ap (λ (x : UserOpenFault MemDisk). status_of_users_fault x) is))
   users_by_fault users_fault.NoMemory is = n.is ∙ ap (λ (x : UserOpenFault MemDisk). status_of_users_fault x) is
 

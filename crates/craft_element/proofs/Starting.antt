@@ -35,7 +35,7 @@ why_disk why_of.Disk was = refl
 
 disk_error : {D : Type 0} (f : UserOpenFault D) → status_of_users_fault f ≡ Disk → IsDiskErr {D = D} (Err f)
 disk_error (users_fault.Journal f) was = why_disk f.why was
-disk_error (users_fault.BadRecord i) was = cc
+disk_error (users_fault.BadRecord i d) was = cc
 disk_error (users_fault.Disk d) was = tt
 disk_error users_fault.NoMemory was = cc
 

@@ -25,7 +25,7 @@ why_words why.Disk is = cc
 
 fault_words : {D : Type 0} (f : OpenFault D) → status_of_fault f ≡ BadWords → ⊥
 fault_words (fault.Journal f) is = why_words f.why is
-fault_words (fault.BadRecord i) is = cc
+fault_words (fault.BadRecord i d) is = cc
 fault_words (fault.Disk d) is = cc
 fault_words fault.NoMemory is = cc
 fault_words fault.Stopped is = cc
@@ -39,7 +39,7 @@ users_why_words why.Disk is = cc
 
 users_fault_words : {D : Type 0} (f : UserOpenFault D) → status_of_users_fault f ≡ BadWords → ⊥
 users_fault_words (users_fault.Journal f) is = users_why_words f.why is
-users_fault_words (users_fault.BadRecord i) is = cc
+users_fault_words (users_fault.BadRecord i d) is = cc
 users_fault_words (users_fault.Disk d) is = cc
 users_fault_words users_fault.NoMemory is = cc
 

@@ -16,7 +16,7 @@ status_of_why why.Disk = Disk
 -- the status of a controller that didn't start
 abbrev pub status_of_fault : {D : Type 0} → OpenFault D → Status
 status_of_fault (fault.Journal f) = status_of_why f.why
-status_of_fault (fault.BadRecord i) = BadJournal (Record i)
+status_of_fault (fault.BadRecord i d) = BadJournal (Record i)
 status_of_fault (fault.Disk d) = Disk
 status_of_fault fault.NoMemory = NoMemory
 status_of_fault fault.Stopped = Stopped
@@ -28,6 +28,6 @@ status_of_users_why why.Disk = Disk
 -- the status of users that weren't taken up
 abbrev pub status_of_users_fault : {D : Type 0} → UserOpenFault D → Status
 status_of_users_fault (users.Journal f) = status_of_users_why f.why
-status_of_users_fault (users.BadRecord i) = BadJournal (UsersRecord i)
+status_of_users_fault (users.BadRecord i d) = BadJournal (UsersRecord i)
 status_of_users_fault (users.Disk d) = Disk
 status_of_users_fault users.NoMemory = NoMemory

@@ -145,7 +145,7 @@ fn not_started<D: Disk + Drop>(fault: OpenFault<D>) -> Status
             JournalWhy::BadHeader(bytes) => Status::BadJournal(JournalBad::Header(bytes)),
             JournalWhy::Disk => Status::Disk,
         },
-        OpenFault::BadRecord(number) => Status::BadJournal(JournalBad::Record(number)),
+        OpenFault::BadRecord(number, _) => Status::BadJournal(JournalBad::Record(number)),
         OpenFault::Disk(_) => Status::Disk,
         OpenFault::NoMemory => Status::NoMemory,
         OpenFault::Stopped => Status::Stopped,
@@ -204,7 +204,7 @@ fn users_not_started<D: Disk + Drop>(fault: UserOpenFault<D>) -> Status
             JournalWhy::BadHeader(bytes) => Status::BadJournal(JournalBad::UsersHeader(bytes)),
             JournalWhy::Disk => Status::Disk,
         },
-        UserOpenFault::BadRecord(number) => Status::BadJournal(JournalBad::UsersRecord(number)),
+        UserOpenFault::BadRecord(number, _) => Status::BadJournal(JournalBad::UsersRecord(number)),
         UserOpenFault::Disk(_) => Status::Disk,
         UserOpenFault::NoMemory => Status::NoMemory,
     }

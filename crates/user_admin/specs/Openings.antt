@@ -13,6 +13,8 @@ use Rattle.journal_core.specs.Opens.{IsRefused, made_head}
 use Rattle.shelf_file.specs.Contents.{Contents}
 use Rattle.user_admin.specs.declared.fault.UserOpenFault.{UserOpenFault}
 use Rattle.user_admin.specs.declared.fault.UserOpenFault.TheVariants.{Journal, BadRecord, Disk, NoMemory}
+use Rattle.user_admin.specs.declared.fold.FoldFault.{FoldFault}
+use Rattle.user_admin.specs.declared.fold.FoldFault.TheVariants as fold
 use Rattle.user_admin.specs.declared.op.UserDone.{UserDone}
 use Rattle.user_admin.specs.declared.op.UserDone.TheVariants.{Done, Denied, Stopped}
 use Rattle.user_admin.specs.declared.state.UserState.{UserState}
@@ -38,26 +40,32 @@ pub record IsOpening (told : Type 0) (file : List ℕ) (shelf : Contents) (o : O
   pub made : told → IsNew file → o.records ≡ []
   pub found : told → ¬ IsNew file → (head : Head) × FileStands shelf.shape head o.records file
 
--- the record of this number is the first of the file that means no change that fits
-pub record HasBadRecord (file : List ℕ) (shelf : Contents) (i : ℕ) : Type 0 where
+-- the record of this number is the first of the file that means no change that fits, and the file that is left has the same records
+pub record HasBadRecord (file left : List ℕ) (shelf : Contents) (i : ℕ) : Type 0 where
   pub head : Head
   pub records : List (List ℕ)
   pub stands : FileStands shelf.shape head records file
+  pub stays : FileStands shelf.shape head records left
   pub users : Users
   pub bad : IsBadRecord (shelf_users shelf) records i users
 
 -- why they weren't taken up; faults of the disk are told by their count, and want of memory by nothing
 abbrev pub Fails : {D : Type 0} → (D → DiskState) → DiskState → Contents → UserOpenFault D → Type 0
 Fails state a shelf (Journal fault) = (bytes : List ℕ) → fault.why ≡ why.BadHeader bytes → ¬ IsNew a.reads_as × IsRefused shelf.shape a (state fault.disk) bytes
-Fails state a shelf (BadRecord i) = ¬ IsNew a.reads_as × HasBadRecord a.reads_as shelf i
+Fails state a shelf (BadRecord i d) = ¬ IsNew a.reads_as × HasBadRecord a.reads_as (state d).reads_as shelf i
 Fails state a shelf (Disk d) = Unit {0}
 Fails state a shelf NoMemory = Unit {0}
+
+-- why the records of a journal on this disk couldn't be taken
+abbrev pub read_fault : {D : Type 0} → FoldFault → D → UserOpenFault D
+read_fault (fold.BadRecord i) d = BadRecord i d
+read_fault fold.Disk d = Disk d
 
 -- a call on the disk failed
 abbrev pub IsDiskErr : {D : Type 0} → Result (UserState D) (UserOpenFault D) → Type 0
 IsDiskErr (Ok s) = ⊥
 IsDiskErr (Err (Journal fault)) = fault.why ≡ why.Disk
-IsDiskErr (Err (BadRecord i)) = ⊥
+IsDiskErr (Err (BadRecord i d)) = ⊥
 IsDiskErr (Err (Disk d)) = Unit {0}
 IsDiskErr (Err NoMemory) = ⊥
 
@@ -65,7 +73,7 @@ IsDiskErr (Err NoMemory) = ⊥
 abbrev pub disk_of : {D : Type 0} → Result (UserState D) (UserOpenFault D) → Option D
 disk_of (Ok s) = Some s.journal.0
 disk_of (Err (Journal fault)) = Some fault.disk
-disk_of (Err (BadRecord i)) = None
+disk_of (Err (BadRecord i d)) = Some d
 disk_of (Err (Disk d)) = Some d
 disk_of (Err NoMemory) = None
 

@@ -6,8 +6,8 @@ use journal_core::JournalFault;
 pub enum UserOpenFault<D: Disk> {
     /// The journal couldn't be opened: its header isn't one of the shelf's shape, or its disk failed.
     Journal(JournalFault<D>),
-    /// The record of this number, from 0, is the first that means no change that fits.
-    BadRecord(u32),
+    /// The record of this number, from 0, is the first that means no change that fits. The disk comes back.
+    BadRecord(u32, D),
     /// The disk failed while the records were read. Only where its count of faults rose.
     Disk(D),
     NoMemory,

@@ -6,7 +6,7 @@ ghost use Rattle.dxc_disk.specs.Disks.{IsSound, LeavesOnly, Spends};
 ghost use Rattle.journal_core.specs.Books.{IsReady};
 ghost use Rattle.user_admin.specs.declared.op.UserEntry.{UserEntry as Entry};
 ghost use Rattle.user_admin.specs.Histories.{Opening};
-ghost use Rattle.user_admin.specs.Openings.{Begins, Fails, IsDiskErr, IsOpening, LeavesOpened, asked_at, disk_of};
+ghost use Rattle.user_admin.specs.Openings.{Begins, Fails, IsDiskErr, IsOpening, LeavesOpened, asked_at, disk_of, read_fault};
 ghost use Rattle.user_admin.specs.Spellable.{NamesUid};
 ghost use Rattle.user_admin.specs.States.{ChangedIs, IsFileAfter, IsFileWithChange, StandsFor, opening_of};
 ghost use Rattle.user_admin.specs.Verdicts.{IsChanging, login, refusal, rows_in};
@@ -96,6 +96,16 @@ impl<D: Disk> UserOrigin<D> {
     }
 }
 
+// Why the records couldn't be taken.
+fn unread<D: Disk + Drop>(fault: FoldFault, journal: Journal<D>) -> UserOpenFault<D>
+    ensures { result ≡ read_fault fault journal.0 }
+{
+    match fault {
+        FoldFault::BadRecord(i) => UserOpenFault::BadRecord(i, journal.close()),
+        FoldFault::Disk => UserOpenFault::Disk(journal.close()),
+    }
+}
+
 impl<D: Disk + Drop> UserState<D> {
     /// The users that the shelf describes, after the changes that the disk's journal stands for. In a new file a journal of the shelf's shape
     /// and equipped modules is made.
@@ -124,8 +134,7 @@ impl<D: Disk + Drop> UserState<D> {
         let _count = journal.count();
         match fold(&mut journal, &mut lists) {
             Ok(()) => {}
-            Err(FoldFault::BadRecord(i)) => return Err(UserOpenFault::BadRecord(i)),
-            Err(FoldFault::Disk) => return Err(UserOpenFault::Disk(journal.close())),
+            Err(fault) => return Err(unread(fault, journal)),
         }
         let origin = UserOrigin::of(shelf, &lists.users, &journal);
         Ok(UserState {

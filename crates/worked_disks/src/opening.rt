@@ -28,7 +28,7 @@ fn disk_of(alloc: Global, bytes: Vec<u8>) -> Result<MemDisk> {
 fn refusal_text<D: Disk>(alloc: Global, fault: &UserOpenFault<D>) -> Result<Vec<u8>> {
     let mut text = Vec::new(alloc);
     match fault {
-        UserOpenFault::BadRecord(i) => {
+        UserOpenFault::BadRecord(i, _) => {
             let number = decimal(alloc, *i as u64)?;
             add_texts(&["record ", number.as_str()], &mut text)?;
         }

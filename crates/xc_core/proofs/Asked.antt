@@ -16,7 +16,7 @@ not_asked _ not = refl
 -- nor was it for a fault that isn't its stop
 pub none_asked : {D : Type 0} (state : D → DiskState) (asked : List GatePlace → Type 0) (e : OpenFault D) → e ≢ fault.Stopped → asked [] → OpenAsked state asked (Err e)
 none_asked state asked (fault.Journal j) not is = is
-none_asked state asked (fault.BadRecord i) not is = is
+none_asked state asked (fault.BadRecord i d) not is = is
 none_asked state asked (fault.Disk d) not is = is
 none_asked state asked fault.NoMemory not is = is
 none_asked state asked fault.Stopped not is = absurd (not refl)

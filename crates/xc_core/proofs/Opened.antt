@@ -116,19 +116,23 @@ bad_header d h a b w bytes is old new =
     let not_new : IsNew a.reads_as → ⊥ = λ n. subst (λ (x : JournalWhy). Founds d h b (Err x)) is (new n).founds in
     (not_new, subst (λ (x : JournalWhy). Finds d a b (Err x)) is (old not_new).finds)
 
--- a journal that was opened lists what its file stands for
-listed_once : (d : Dimensions) (h : Head) (records : List (List ℕ)) (b : DiskState) (book : Book) → IsDisk b → IsWhole book → book.to_mend ≡ false → book.turning ≡ false → IsOpened d b book → Stands d h records b.reads_as → listed book b.reads_as ≡ records
-listed_once d h records b book disk whole mended still opened stands =
+-- the file of a journal that was opened stands for its list
+opened_stands : (d : Dimensions) (b : DiskState) (book : Book) → IsDisk b → IsWhole book → book.to_mend ≡ false → book.turning ≡ false → IsOpened d b book → Stands d book.head (listed book b.reads_as) b.reads_as
+opened_stands d b book disk whole mended still opened =
     let here : Stands book.shape book.head (listed book b.reads_as) b.reads_as = ⊎_elim
     (λ old. old)
     (λ other. ⊎_elim (λ more. absurd (never mended more.0)) (λ turn. absurd (never (untried book whole still) turn.0)) other)
     (kept_stands b book whole opened.kept b.reads_as disk.reads_now) in
-    stands_once d h book.head records (listed book b.reads_as) b.reads_as stands (subst (λ (x : Dimensions). Stands x book.head (listed book b.reads_as) b.reads_as) opened.shape_is here)
+    subst (λ (x : Dimensions). Stands x book.head (listed book b.reads_as) b.reads_as) opened.shape_is here
+
+-- and for no other
+listed_once : (d : Dimensions) (h : Head) (records : List (List ℕ)) (b : DiskState) (book : Book) → IsDisk b → IsWhole book → book.to_mend ≡ false → book.turning ≡ false → IsOpened d b book → Stands d h records b.reads_as → listed book b.reads_as ≡ records
+listed_once d h records b book disk whole mended still opened stands = stands_once d h book.head records (listed book b.reads_as) b.reads_as stands (opened_stands d b book disk whole mended still opened)
 
 -- nor is one with a bad record
-pub bad_record : (d : Dimensions) (h : Head) (a b : DiskState) (book : Book) (i : ℕ) (t : Board) (c : Colouring) → IsDisk b → IsWhole book → book.to_mend ≡ false → book.turning ≡ false → ((IsNew a.reads_as → ⊥) → OpensOld d a b (Ok book)) → (IsNew a.reads_as → OpensNew d h a b (Ok book))
-    → Replays book.shape book.head (listed book b.reads_as) (Err (BadRecord i)) t c → (IsNew a.reads_as → ⊥) × HasBadRecord a.reads_as d i
-bad_record d h a b book i t c disk whole mended still old new bad =
+pub bad_record : (d : Dimensions) (h : Head) (a b : DiskState) (book : Book) (i : ℕ) (t : Board) (c : Colouring) (left : List ℕ) → left ≡ b.reads_as → IsDisk b → IsWhole book → book.to_mend ≡ false → book.turning ≡ false → ((IsNew a.reads_as → ⊥) → OpensOld d a b (Ok book)) → (IsNew a.reads_as → OpensNew d h a b (Ok book))
+    → Replays book.shape book.head (listed book b.reads_as) (Err (BadRecord i)) t c → (IsNew a.reads_as → ⊥) × HasBadRecord a.reads_as left d i
+bad_record d h a b book i t c left same disk whole mended still old new bad =
     let not_new : IsNew a.reads_as → ⊥ = λ n.
     let f = (new n).founds in
     absurd (let low : i < length {A = List ℕ} [] = subst (λ (l : List (List ℕ)). i < length l) (listed_once d h [] b book disk whole mended still f.0 f.2) bad.0 in omega (arith, low)) in
@@ -138,6 +142,7 @@ bad_record d h a b book i t c disk whole mended still old new bad =
         head = book.head;
         records = listed book b.reads_as;
         stands = found.1;
+        stays = subst (λ (f : List ℕ). Stands d book.head (listed book b.reads_as) f) (sym same) (opened_stands d b book disk whole mended still found.0);
         table = t;
         colours = c;
         bad = subst (λ (x : Dimensions). Replays x book.head (listed book b.reads_as) (Err (BadRecord i)) t c) found.0.shape_is bad;

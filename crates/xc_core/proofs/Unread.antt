@@ -25,20 +25,20 @@ abbrev pub as_read : ReplayFault → Result Work ReplayFault
 as_read fault = Err fault
 
 -- what the fault says where the disk tells, the shape under either name
-pub unread_fails : {D : Type 0} (state : D → DiskState) (d e : Dimensions) (head : Head) (a b : DiskState) (book : Book) (t : Board) (m : Colouring) (left : D) → d ≡ e → IsDisk b → IsWhole book → book.to_mend ≡ false → book.turning ≡ false → ((IsNew a.reads_as → ⊥) → OpensOld d a b (Ok book)) → (IsNew a.reads_as → OpensNew d head a b (Ok book))
+pub unread_fails : {D : Type 0} (state : D → DiskState) (d e : Dimensions) (head : Head) (a b : DiskState) (book : Book) (t : Board) (m : Colouring) (left : D) → d ≡ e → (state left).reads_as ≡ b.reads_as → IsDisk b → IsWhole book → book.to_mend ≡ false → book.turning ≡ false → ((IsNew a.reads_as → ⊥) → OpensOld d a b (Ok book)) → (IsNew a.reads_as → OpensNew d head a b (Ok book))
     → (fault : ReplayFault) → Replays book.shape book.head (listed book b.reads_as) (as_read fault) t m → Fails state a e (read_fault fault left)
-unread_fails state d e head a b book t m left same disk whole mended still old new (BadRecord i) bad =
-    let refused = bad_record d head a b book i t m disk whole mended still old new bad in
-    (refused.0, subst (λ (x : Dimensions). HasBadRecord a.reads_as x i) same refused.1)
-unread_fails state d e head a b book t m left same disk whole mended still old new Disk bad = tt
+unread_fails state d e head a b book t m left same looked disk whole mended still old new (BadRecord i) bad =
+    let refused = bad_record d head a b book i t m (state left).reads_as looked disk whole mended still old new bad in
+    (refused.0, subst (λ (x : Dimensions). HasBadRecord a.reads_as (state left).reads_as x i) same refused.1)
+unread_fails state d e head a b book t m left same looked disk whole mended still old new Disk bad = tt
 
--- what holds of the disk holds where it is handed back
+-- what holds of the disk holds of the one that is handed back
 pub unread_disk : {D : Type 0} (fault : ReplayFault) (d : D) (P : D → Type 0) → P d → IfSome (disk_of_fault (read_fault fault d)) P
-unread_disk (BadRecord i) d P is = tt
+unread_disk (BadRecord i) d P is = is
 unread_disk Disk d P is = is
 
 pub unread_cause : {D : Type 0} (state : D → DiskState) (fault : ReplayFault) (d : D) (a b : ℕ) → a ≤ b → b ≤ (state d).faults → (IsErrOf (as_read fault) Disk → Rose b (state d).faults) → IfSome (disk_of_fault (read_fault fault d)) (λ x. HasCause a (state x).faults (IsDiskFault (read_fault fault d)))
-unread_cause state (BadRecord i) d a b called looked rose = tt
+unread_cause state (BadRecord i) d a b called looked rose = fault_on a b (state d).faults ⊥ called looked (λ none. absurd none)
 unread_cause state Disk d a b called looked rose = fault_on a b (state d).faults (Unit {0}) called looked (λ _. rose refl)
 
 pub unread_sound : {D : Type 0} (fault : ReplayFault) (d : D) → (IsErrOf (as_read fault) Disk → ⊥) → IsDiskFault (read_fault fault d) → ⊥

@@ -27,7 +27,7 @@ disk_started (Err e) = disk_of_fault e
 
 -- why a journal on this disk couldn't be read
 abbrev pub read_fault : {D : Type 0} → ReplayFault → D → OpenFault D
-read_fault (replay.BadRecord i) d = open_fault.BadRecord i
+read_fault (replay.BadRecord i) d = open_fault.BadRecord i d
 read_fault replay.Disk d = open_fault.Disk d
 
 -- memory for a journal of this shape

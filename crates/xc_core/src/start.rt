@@ -103,7 +103,7 @@ fn failed<D: Disk + Drop>(fault: ReplayFault, journal: Journal<D>) -> OpenFault<
     ensures { result ≡ read_fault fault journal.0 }
 {
     match fault {
-        ReplayFault::BadRecord(i) => OpenFault::BadRecord(i),
+        ReplayFault::BadRecord(i) => OpenFault::BadRecord(i, journal.close()),
         ReplayFault::Disk => OpenFault::Disk(journal.close()),
     }
 }

@@ -106,7 +106,7 @@ returns-clause-ok g c =
 
 pub returns-in-Err-replay-clause-fails : goal.returns-in-Err-replay-clause-fails
 returns-in-Err-replay-clause-fails g c told = subst (λ (e : OpenFault g.row.D.Denot). Fails g.D.Disk.state (g.D.Disk.state c.args.disk) c.args.shelf.now.shape e) (sym c.failed.ensures)
-    (unread_fails g.D.Disk.state c.shape-shape.result c.args.shelf.now.shape (made_head c.equipped.result) (g.D.Disk.state c.args.disk) (g.D.Disk.state c.in-Ok-open.journal.0) c.in-Ok-open.journal.1 c.replay.new.table c.replay.new.matrix c.replay.new.journal.0 c.shape-shape.ensures (g.met.D.Disk.is_disk c.in-Ok-open.journal.0 told) c.in-Ok-open.ensures.whole.0 c.in-Ok-open.ensures.whole.2 c.in-Ok-open.ensures.whole.3 (c.in-Ok-open.ensures.old told) (c.in-Ok-open.ensures.is_new told)
+    (unread_fails g.D.Disk.state c.shape-shape.result c.args.shelf.now.shape (made_head c.equipped.result) (g.D.Disk.state c.args.disk) (g.D.Disk.state c.in-Ok-open.journal.0) c.in-Ok-open.journal.1 c.replay.new.table c.replay.new.matrix c.replay.new.journal.0 c.shape-shape.ensures (c.in-Err-replay.ensures.looks told).same (g.met.D.Disk.is_disk c.in-Ok-open.journal.0 told) c.in-Ok-open.ensures.whole.0 c.in-Ok-open.ensures.whole.2 c.in-Ok-open.ensures.whole.3 (c.in-Ok-open.ensures.old told) (c.in-Ok-open.ensures.is_new told)
     c.in-Err-replay.fault (c.in-Err-replay.ensures.told told))
 
 pub returns-in-Err-replay-clause-any_moment : goal.returns-in-Err-replay-clause-any_moment

@@ -1,5 +1,6 @@
 use Rattle.std.proofs.Common.{ℕ, ◌≤◌, Err, Ok, sym, ◌∙◌, ap, subst, arith}
 use Rattle.std.specs.FinMap.{len}
+use Rattle.std.specs.Prelude.{IfSome}
 use Rattle.dxc_causes.specs.Causes.{HasCause}
 use Rattle.dxc_disk.specs.Disks.{Spends}
 use Rattle.dxc_disk.proofs.DiskSteps.{spends_more}
@@ -7,16 +8,17 @@ use Rattle.dxc_disk.proofs.LookSteps.{looks_same}
 use Rattle.dxc_num.specs.Dimensions.{Dimensions}
 use Rattle.journal_core.specs.Books.{listed}
 use Rattle.journal_core.specs.Opens.{IsRefused, OpensNew, OpensOld, made_head}
-use Rattle.user_admin.specs.declared.fold.FoldFault.{FoldFault}
+use Rattle.user_admin.specs.declared.fault.UserOpenFault.{UserOpenFault}
 use Rattle.user_admin.specs.declared.state.Lists.{Lists}
 use Rattle.user_admin.specs.Users.{Users, shelf_users}
 use Rattle.user_admin.specs.Changes.{most_users}
 use Rattle.user_admin.specs.Files.{FoldsTo}
 use Rattle.user_admin.specs.Journals.{Replays}
-use Rattle.user_admin.specs.Openings.{HasBadRecord, LeavesOpened}
+use Rattle.user_admin.specs.Openings.{Fails, IsDiskErr, LeavesOpened, disk_of}
 use Rattle.user_admin.proofs.Described.{few_described}
 use Rattle.user_admin.proofs.FromFile.{described_users}
-use Rattle.user_admin.proofs.Opened.{bad_header, bad_record, fold_room, fold_sound, leaves_opened, opened}
+use Rattle.user_admin.proofs.Opened.{bad_header, fold_room, fold_sound, leaves_opened, opened}
+use Rattle.user_admin.proofs.Unread.{as_opened, as_taken, unread_cause, unread_disk, unread_fails, unread_sound}
 use Rattle.user_admin.proofs.state.UserState.open.Goals as goal
 
 pub fold-requires : goal.fold-requires
@@ -46,50 +48,47 @@ returns-in-Err-clause-room g c = spends_more 65_545 131_081 (g.D.Disk.state c.ar
 pub returns-in-Err-clause-sound : goal.returns-in-Err-clause-sound
 returns-in-Err-clause-sound g c = λ sound is. c.in-Err.ensures.sound (record { margin = sound.margin; enough = omega (arith, sound.enough) }) is
 
-pub returns-in-Err-BadRecord-clause-fails : goal.returns-in-Err-BadRecord-clause-fails
-returns-in-Err-BadRecord-clause-fails g c told =
+pub returns-in-Err-fold-clause-fails : goal.returns-in-Err-fold-clause-fails
+returns-in-Err-fold-clause-fails g c told =
     let shelf = c.args.shelf.now in
     let a = g.D.Disk.state c.args.disk in
     let j = c.in-Ok-open.journal in
     let b = g.D.Disk.state j.0 in
-    let e = c.deref_mut.ensures.value ∙ c.in-Ok.ensures.ok in
-    let described = ap (λ (l : Lists). l.described) e ∙ c.of-described.ensures in
-    let bad = subst (λ (w : Users × FoldFault). Replays w.0 (listed j.1 b.reads_as) (Err w.1) c.fold.new.lists.users) (λ k. (described k, c.in-Err-BadRecord.field-0-is k)) (c.in-Err-BadRecord.ensures.told told) in
-    let refused = bad_record shelf (made_head c.equipped.result) a b j.1 c.in-Err-BadRecord.i c.fold.new.lists.users (g.met.D.Disk.is_disk j.0 told) c.in-Ok-open.ensures.whole.0 c.in-Ok-open.ensures.whole.2 c.in-Ok-open.ensures.whole.3
+    let described = ap (λ (l : Lists). l.described) (c.deref_mut.ensures.value ∙ c.in-Ok.ensures.ok) ∙ c.of-described.ensures in
+    subst (λ (e : UserOpenFault g.row.D.Denot). Fails g.D.Disk.state a shelf e) (sym c.unread.ensures)
+    (unread_fails g.D.Disk.state shelf (made_head c.equipped.result) a b j.1 c.fold.new.lists.users c.fold.new.journal.0 (c.fold.ensures.looks told).same (g.met.D.Disk.is_disk j.0 told) c.in-Ok-open.ensures.whole.0 c.in-Ok-open.ensures.whole.2 c.in-Ok-open.ensures.whole.3
     (λ old. subst (λ (d : Dimensions). OpensOld d a b (Ok j.1)) c.shape.ensures (c.in-Ok-open.ensures.old told old))
-    (λ new. subst (λ (d : Dimensions). OpensNew d (made_head c.equipped.result) a b (Ok j.1)) c.shape.ensures (c.in-Ok-open.ensures.is_new told new)) bad in
-    (refused.0, subst (λ (n : ℕ). HasBadRecord a.reads_as shelf n) (sym c.in-Err-BadRecord.i-is) refused.1)
+    (λ new. subst (λ (d : Dimensions). OpensNew d (made_head c.equipped.result) a b (Ok j.1)) c.shape.ensures (c.in-Ok-open.ensures.is_new told new))
+    c.in-Err-fold.fault (subst (λ (u : Users). Replays u (listed j.1 b.reads_as) (as_taken c.in-Err-fold.fault) c.fold.new.lists.users) described (c.in-Err-fold.ensures.told told)))
 
-pub returns-in-Err-Disk-clause-any_moment : goal.returns-in-Err-Disk-clause-any_moment
-returns-in-Err-Disk-clause-any_moment g c told =
+pub returns-in-Err-fold-clause-any_moment : goal.returns-in-Err-fold-clause-any_moment
+returns-in-Err-fold-clause-any_moment g c told =
     let a = g.D.Disk.state c.args.disk in
     let j = c.in-Ok-open.journal in
     let b = g.D.Disk.state j.0 in
-    subst (λ (d : g.row.D.Denot). LeavesOpened c.args.shelf.now a (g.D.Disk.state d)) (sym c.close.ensures)
-    (leaves_opened c.args.shelf.now a b (g.D.Disk.state c.fold.new.journal.0) (Ok j.1) (g.met.D.Disk.is_disk j.0 told)
+    subst (λ (e : UserOpenFault g.row.D.Denot). IfSome (disk_of (as_opened e)) (λ d. LeavesOpened c.args.shelf.now a (g.D.Disk.state d))) (sym c.unread.ensures)
+    (unread_disk c.in-Err-fold.fault c.fold.new.journal.0 (λ d. LeavesOpened c.args.shelf.now a (g.D.Disk.state d)) (leaves_opened c.args.shelf.now a b (g.D.Disk.state c.fold.new.journal.0) (Ok j.1) (g.met.D.Disk.is_disk j.0 told)
     (λ old. subst (λ (d : Dimensions). OpensOld d a b (Ok j.1)) c.shape.ensures (c.in-Ok-open.ensures.old told old))
     (λ new. subst (λ (w : Dimensions × ℕ). OpensNew w.0 (made_head w.1) a b (Ok j.1)) (λ k. (c.shape.ensures k, c.equipped.ensures.value k)) (c.in-Ok-open.ensures.is_new told new))
-    (c.fold.ensures.looks told))
+    (c.fold.ensures.looks told)))
 
-pub returns-in-Err-Disk-clause-room : goal.returns-in-Err-Disk-clause-room
-returns-in-Err-Disk-clause-room g c =
+pub returns-in-Err-fold-clause-room : goal.returns-in-Err-fold-clause-room
+returns-in-Err-fold-clause-room g c =
     let a = g.D.Disk.state c.args.disk in
     let j = c.in-Ok-open.journal in
-    subst (λ (d : g.row.D.Denot). Spends 131_081 a (g.D.Disk.state d)) (sym c.close.ensures)
-    (fold_room 65_545 a (g.D.Disk.state j.0) (g.D.Disk.state c.fold.new.journal.0) j.1 c.in-Ok-open.ensures.whole.0 c.in-Ok-open.ensures.room c.fold.ensures.room)
+    subst (λ (e : UserOpenFault g.row.D.Denot). IfSome (disk_of (as_opened e)) (λ d. Spends 131_081 a (g.D.Disk.state d))) (sym c.unread.ensures)
+    (unread_disk c.in-Err-fold.fault c.fold.new.journal.0 (λ d. Spends 131_081 a (g.D.Disk.state d)) (fold_room 65_545 a (g.D.Disk.state j.0) (g.D.Disk.state c.fold.new.journal.0) j.1 c.in-Ok-open.ensures.whole.0 c.in-Ok-open.ensures.room c.fold.ensures.room))
 
-pub returns-in-Err-Disk-clause-sound : goal.returns-in-Err-Disk-clause-sound
-returns-in-Err-Disk-clause-sound g c = λ sound _.
+pub returns-in-Err-fold-clause-sound : goal.returns-in-Err-fold-clause-sound
+returns-in-Err-fold-clause-sound g c = λ sound.
     let j = c.in-Ok-open.journal in
-    c.in-Err-Disk.ensures.sound (fold_sound 65_545 (g.D.Disk.state c.args.disk) (g.D.Disk.state j.0) j.1 c.in-Ok-open.ensures.whole.0 c.in-Ok-open.ensures.cause.later c.in-Ok-open.ensures.room sound) (ap (λ (e : FoldFault). Err e) c.in-Err-Disk.field-0-is)
+    subst (λ (e : UserOpenFault g.row.D.Denot). IsDiskErr (as_opened e) → ⊥) (sym c.unread.ensures)
+    (unread_sound c.in-Err-fold.fault c.fold.new.journal.0 (c.in-Err-fold.ensures.sound (fold_sound 65_545 (g.D.Disk.state c.args.disk) (g.D.Disk.state j.0) j.1 c.in-Ok-open.ensures.whole.0 c.in-Ok-open.ensures.cause.later c.in-Ok-open.ensures.room sound)))
 
-pub returns-in-Err-Disk-clause-cause : goal.returns-in-Err-Disk-clause-cause
-returns-in-Err-Disk-clause-cause g c =
-    let a = g.D.Disk.state c.args.disk in
-    let first = c.in-Ok-open.ensures.cause.later in
-    let rose = c.in-Err-Disk.ensures.cause.cause (ap (λ (e : FoldFault). Err e) c.in-Err-Disk.field-0-is) in
-    subst (λ (d : g.row.D.Denot). HasCause a.faults (g.D.Disk.state d).faults (Unit {0})) (sym c.close.ensures)
-    (record { later = omega (arith, first, c.in-Err-Disk.ensures.cause.later); cause = λ _. omega (arith, first, rose) })
+pub returns-in-Err-fold-clause-cause : goal.returns-in-Err-fold-clause-cause
+returns-in-Err-fold-clause-cause g c =
+    subst (λ (e : UserOpenFault g.row.D.Denot). IfSome (disk_of (as_opened e)) (λ d. HasCause (g.D.Disk.state c.args.disk).faults (g.D.Disk.state d).faults (IsDiskErr (as_opened e)))) (sym c.unread.ensures)
+    (unread_cause g.D.Disk.state c.in-Err-fold.fault c.fold.new.journal.0 (g.D.Disk.state c.args.disk).faults (g.D.Disk.state c.in-Ok-open.journal.0).faults c.in-Ok-open.ensures.cause.later c.in-Err-fold.ensures.cause.later c.in-Err-fold.ensures.cause.cause)
 
 pub returns-clause-ok : goal.returns-clause-ok
 returns-clause-ok g c =
