@@ -8,9 +8,6 @@ use Rattle.craft_jobs.specs.Counts.{RoseBy}
 use Rattle.craft_jobs.specs.Starts.{AreStarts, IsLastFailed}
 use Rattle.craft_jobs.proofs.Counting.{rose_more}
 
-pub none_yet : (s : SpawnerState) → AreStarts 0 s s Running
-none_yet s = record { running = λ is. (omega arith, refl); no_more = omega arith; later = omega arith; failed = λ is. cc }
-
 -- one more job was started
 pub one_more : (n : ℕ) (first old new : SpawnerState) (s : Started) → s ≡ Running → AreStarts n first old Running → IsStart old new s → AreStarts (n + 1) first new Running
 one_more n first old new s is so_far start =

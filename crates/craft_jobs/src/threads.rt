@@ -21,12 +21,12 @@ fn start_each<J: Task + Send + Drop + 'static, P: Spawner, R: Wait>(
 }
 
 /// Starts the workers' jobs, and the sessions' behind them where none of these failed.
-fn start_all<
-    J: Task + Send + Drop + 'static,
-    K: Task + Send + Drop + 'static,
-    P: Spawner,
-    R: Wait,
->(spawner: &mut P, workers: Vec<J>, sessions: Vec<K>, rt: &R) -> Started
+fn start_all<J: Task + Send + Drop + 'static, K: Task + Send + Drop + 'static, P: Spawner, R: Wait>(
+    spawner: &mut P,
+    workers: Vec<J>,
+    sessions: Vec<K>,
+    rt: &R,
+) -> Started
     ensures { AreStarts (vec_len workers + vec_len sessions) (P.state spawner.old) (P.state spawner.new) result }
 {
     match start_each(spawner, workers, rt) {

@@ -1,5 +1,5 @@
 -- The load mode: its seat, how its session ends, and what that left.
-use Rattle.std.proofs.Common.{◌≡◌, ◌≢◌, ◌↔◌, ◌<◌, ◌≤◌, ◌++◌, ◌^◌, arith, ℕ, Bool, true, false, IsTrue, List, [], ◌∷◌, Option, Result, Ok, Err, length, slice_index_or, inl, inr, refl, sym, ◌∙◌, ap, subst}
+use Rattle.std.proofs.Common.{◌≡◌, ◌≢◌, ◌↔◌, ◌<◌, ◌≤◌, ◌++◌, ◌^◌, arith, ℕ, Bool, true, false, IsTrue, List, [], ◌∷◌, append-nil, Option, Result, Ok, Err, length, slice_index_or, inl, inr, refl, sym, ◌∙◌, ap, subst}
 use Rattle.std.specs.Prelude.{IfSome, MatchResult}
 use Rattle.std.specs.Arc.{arc_value}
 use Rattle.dxc_causes.specs.Causes.{Counted, Rose}
@@ -76,18 +76,14 @@ nobody_else : (es : List Entry) → Each (λ e. e.place ≢ 0) es → Each (λ e
 nobody_else [] others numbers = refl
 nobody_else (e ∷ es) others numbers = absurd (others.0 (let low = numbers.0 in omega (arith, low)))
 
-nothing_behind : (h : List Entry) → h ++ [] ≡ h
-nothing_behind [] = refl
-nothing_behind (e ∷ h) = ap (λ (l : List Entry). e ∷ l) (nothing_behind h)
-
 left_alone : (o : Opening) (h : List Entry) (s : Stock) → IsLeft 0 1 o h s → IsStockAfter o h s
-left_alone o h s left = subst (λ (l : List Entry). IsStockAfter o l s) (ap (λ (es : List Entry). h ++ es) (nobody_else left.later left.others left.numbers) ∙ nothing_behind h) left.after
+left_alone o h s left = subst (λ (l : List Entry). IsStockAfter o l s) (ap (λ (es : List Entry). h ++ es) (nobody_else left.later left.others left.numbers) ∙ append-nil h) left.after
 
 module _ (told users_told : Type 0) {D U : Type 0} (state : D → DiskState) (users_state : U → DiskState) (number : ℕ) (x : Element D U) (el : IsLoadElement told users_told state users_state x) where
-  o : Opening
+  abbrev o : Opening
   o = opening_of state x.controller.state
 
-  p : UsersOpening
+  abbrev p : UsersOpening
   p = users_opening users_state x.users
 
   -- a session on the load's element, summed up
