@@ -495,6 +495,7 @@ script_of disk_told told clock_told disk users_disk k l c d s old new users then
 pub script_seen : (disk_told told clock_told : Type 0) (disk users_disk : DiskState) (k l : LinkState) (c d : List Moment) (s : Contents) (old new : SeatAt) (users then_users : UserSeatAt) → IsOpeningOf disk old.opening → IsUsersOpeningOf users_disk users.opening
     → old.seen ≡ [] → users.seen ≡ [] → old.place ≡ 0 → new.places ≡ 1 → then_users.places ≡ 1 → AreNumbered new.places new.seen → AreUsersNumbered then_users.places then_users.seen
     → SawNoneAstray disk_told new.seen → IsServed (language s) told clock_told k l c d old new users then_users End → (w : WroteAll disk_told disk users_disk old.place old.opening users.opening clock_told c d s told k l) × Saw old.opening new.seen w.answered.walk.history
+unfolding wrote_all session_alone answered
 script_seen disk_told told clock_told disk users_disk k l c d s old new users then_users is users_is none no_users zero one users_one numbers users_numbers never x =
     let now : Now = record { seen = new.seen; users = then_users.seen; attending = x.attending } in
     let session = session_alone told clock_told k l c d s old new users then_users End is.ready none no_users x in

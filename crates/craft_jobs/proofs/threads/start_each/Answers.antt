@@ -22,12 +22,12 @@ loop-job-preserved g c =
     let count = length_more c.loop-job.yielded c.in-Some.job in
     record {
       started = subst (λ (n : ℕ). AreStarts n first new Running) (sym count) more;
-      left = let one = c.in-Some.ensures.len in let left = c.loop-job.invariant.left in omega (arith, one, left, count);
+      left = let one = c.in-Some.ensures.steps.1 in let left = c.loop-job.invariant.left in omega (arith, one, left, count);
     }
 
 pub returns-in-Failed : goal.returns-in-Failed
 returns-in-Failed g c =
-    let one = c.in-Some.ensures.len in
+    let one = c.in-Some.ensures.steps.1 in
     let left = c.loop-job.invariant.left in
     let more : length c.loop-job.yielded < vec_len c.args.jobs = omega (arith, one, left) in
     next_failed (length c.loop-job.yielded) (vec_len c.args.jobs) (g.P.Spawner.state c.args.spawner.now) (g.P.Spawner.state c.loop-job.spawner) (g.P.Spawner.state c.start.new.self) c.start.result c.in-Failed.is more c.loop-job.invariant.started c.start.ensures

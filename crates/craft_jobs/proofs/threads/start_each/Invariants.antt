@@ -1,6 +1,6 @@
 use Rattle.std.proofs.Common.{◌≡◌, ◌+◌, length}
 use Rattle.std.specs.Prelude.{vec_len}
-use Rattle.std_alloc.specs.Vec.Iter.{into_iter_len}
+use Rattle.std.specs.Vec.Iter.{into_iter_len}
 use Rattle.dxc_outside.specs.declared.spawner.Started.TheVariants.{Running}
 use Rattle.craft_jobs.specs.Starts.{AreStarts}
 use Rattle.craft_jobs.proofs.threads.start_each.Given as goal
