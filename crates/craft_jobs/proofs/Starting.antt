@@ -4,8 +4,7 @@ use Rattle.dxc_causes.specs.Causes.{Counted}
 use Rattle.dxc_outside.specs.declared.spawner.Started.{Started}
 use Rattle.dxc_outside.specs.declared.spawner.Started.TheVariants.{Running, Failed}
 use Rattle.dxc_outside.specs.Threads.{SpawnerState, IsStart, IsWait}
-use Rattle.craft_jobs.specs.Counts.{RoseBy}
-use Rattle.craft_jobs.specs.Starts.{AreStarts, IsLastFailed}
+use Rattle.craft_jobs.specs.Starts.{AreStarts}
 use Rattle.craft_jobs.proofs.Counting.{rose_more}
 
 -- one more job was started
