@@ -9,7 +9,7 @@ pub stock_of-requires-clause-pass : goal.stock_of-requires-clause-pass
 stock_of-requires-clause-pass g c = subst (λ (t : Gate (State g.row.D.Denot)). HasPass t c.into_pass-pass.result.0) (sym c.deref.ensures) c.into_pass-pass.ensures.pass
 
 pub stock_of-requires-clause-room : goal.stock_of-requires-clause-room
-stock_of-requires-clause-room g c = room_given g.D.Disk.state _ _ _ _ c.deref.ensures c.into_pass-pass.ensures.seat _ c.requires
+stock_of-requires-clause-room g c = room_given g.D.Disk.state c.into_pass-pass.result.0 _ _ _ c.deref.ensures c.into_pass-pass.ensures.seat _ c.requires
 
 pub returns : goal.returns
-returns g c = left_given g.D.Disk.state _ _ _ _ c.deref.ensures c.into_pass-pass.ensures.seat _ c.stock_of.ensures.left
+returns g c = left_given g.D.Disk.state c.into_pass-pass.result.0 _ _ _ c.deref.ensures c.into_pass-pass.ensures.seat _ c.stock_of.ensures.left
