@@ -57,7 +57,7 @@ module _ (disk : MemDisk) (s : Contents) (stops later : ℕ) (status : Status) (
 -- it started or not
 pub load_started : (disk : MemDisk) (s : Contents) (stops later : ℕ) (r : Result (Controller MemDisk) Status) → IsFresh (mem_state disk) [] [] (2 ^ 21) → IsLoadShelf s
     → MatchResult r (IsStarted (Unit {0}) mem_state disk s 1) (NotStarted (Unit {0}) mem_state disk s stops later) → MatchResult r IsLoadController (NotLoaded stops later)
-load_started disk s stops later (Ok x) fresh shelf started = (disk, fresh.content, (s, shelf, started))
+load_started disk s stops later (Ok x) fresh shelf started = (disk, fresh, (s, shelf, started))
 load_started disk s stops later (Err e) fresh shelf not = not_loaded disk s stops later e fresh not
 
 -- on such a disk the users are taken up, unless memory is wanting

@@ -1,7 +1,9 @@
 -- The element of the load mode: how it starts, on new disks in memory.
-use Rattle.std.specs.Prelude.{◌≡◌, ◌⊎◌, ℕ, []}
+use Rattle.std.specs.Prelude.{◌≡◌, ◌⊎◌, ◌^◌, ℕ, []}
 use Rattle.dxc_causes.specs.Causes.{Rose}
 use Rattle.dxc_disk.specs.declared.mem_disk.MemDisk.{MemDisk}
+use Rattle.dxc_disk.specs.Disks.{DiskState}
+use Rattle.dxc_disk.specs.Fresh.{IsFresh}
 use Rattle.dxc_disk.specs.MemView.{mem_state}
 use Rattle.shelf_file.specs.Contents.{Contents}
 use Rattle.dxc_load.specs.LoadShelf.{IsLoadShelf}
@@ -11,13 +13,31 @@ use Rattle.craft_element.specs.declared.opening.Controller.{Controller}
 use Rattle.craft_element.specs.declared.opening.Element.{Element}
 use Rattle.craft_element.specs.Openings.{AreUsersStarted, IsStarted}
 
+-- a new disk, none of whose calls is to fail, and one for the users
+abbrev pub IsLoadDisk : DiskState → Type 0
+IsLoadDisk s = IsFresh s [] [] (2 ^ 21)
+
+abbrev pub IsLoadUsersDisk : DiskState → Type 0
+IsLoadUsersDisk s = IsFresh s [] [] (2 ^ 18)
+
 -- a controller of the load
 abbrev pub IsLoadController : Controller MemDisk → Type 0
-IsLoadController x = (disk : MemDisk) × ((mem_state disk).reads_as ≡ []) × ((s : Contents) × IsLoadShelf s × IsStarted (Unit {0}) mem_state disk s 1 x)
+IsLoadController x = (disk : MemDisk) × IsLoadDisk (mem_state disk) × ((s : Contents) × IsLoadShelf s × IsStarted (Unit {0}) mem_state disk s 1 x)
 
--- with its users
+-- the load's element on such disks of any kind
+pub record IsLoadElement (told users_told : Type 0) {D U : Type 0} (state : D → DiskState) (users_state : U → DiskState) (x : Element D U) : Type 0 where
+  pub shelf : Contents
+  pub is_shelf : IsLoadShelf shelf
+  pub disk : D
+  pub fresh : IsLoadDisk (state disk)
+  pub started : IsStarted told state disk shelf 1 x.controller
+  pub users_disk : U
+  pub users_fresh : IsLoadUsersDisk (users_state users_disk)
+  pub users_started : AreUsersStarted users_told users_state users_disk shelf x.users
+
+-- and in memory
 abbrev pub IsLoadStarted : Element MemDisk MemDisk → Type 0
-IsLoadStarted x = (c : IsLoadController x.controller) × ((disk : MemDisk) × ((mem_state disk).reads_as ≡ []) × AreUsersStarted (Unit {0}) mem_state disk c.2.0 x.users)
+IsLoadStarted x = IsLoadElement (Unit {0}) (Unit {0}) mem_state mem_state x
 
 -- memory was wanting, or the gate stopped
 abbrev pub NotLoaded : (stops later : ℕ) → Status → Type 0

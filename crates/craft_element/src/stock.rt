@@ -1,7 +1,10 @@
 //! What the sessions of a place left.
-ghost use Rattle.std.specs.Prelude.{◌≡◌, ◌≤◌, true, IfSome, vec_capacity};
+ghost use Rattle.std.specs.Prelude.{◌≤◌, List, IfSome, vec_capacity};
 ghost use Rattle.dxc_num.specs.Dimensions.{ports};
+ghost use Rattle.dxc_model.specs.declared.entry.Entry.{Entry};
+ghost use Rattle.xc_core.specs.Seeing.{Saw};
 ghost use Rattle.xc_core.specs.States.{opening_of};
+ghost use Rattle.xc_core.specs.Turns.{HasPass};
 ghost use Rattle.craft_element.specs.Stocks.{IsLeft, IsStock};
 
 use dxc_disk::Disk;
@@ -17,15 +20,17 @@ pub struct Stock {
     pub switches: u64,
 }
 
-// None where a place has the Provisioner.
+// None where a place has the Provisioner, or a restart is due.
 fn stock_in<D: Disk + Drop>(state: &State<D>, rows: &mut Vec<Conn>) -> Option<Stock>
     requires room { ports state.now.table.shape ≤ vec_capacity rows.old }
     ensures stock { IfSome result (IsStock state.now) }
-    ensures room { vec_capacity rows.new ≡ vec_capacity rows.old }
 {
     let Home::In(provisioner) = &state.home else {
         return None;
     };
+    if provisioner.p.halted() {
+        return None;
+    }
     state.table.rows(Selection::All, rows);
     Some(Stock {
         connections: rows.len() as u64,
@@ -33,25 +38,20 @@ fn stock_in<D: Disk + Drop>(state: &State<D>, rows: &mut Vec<Conn>) -> Option<St
     })
 }
 
-/// Looks at the state by a pass that nothing else uses; it waits for its turn, and while a place has the Provisioner. `rows` has room for
-/// all connections.
+/// Looks at the state by one turn of the pass, which leaves no entry. None: a place has the Provisioner, or a restart is due. `rows` has
+/// room for all connections.
 pub fn stock_of<D: Disk + Drop, R: Wait>(
     pass: &mut Pass,
     turns: &Turnstile<State<D>>,
     rows: &mut Vec<Conn>,
     rt: &R,
-) -> Stock
-    requires pass { (pass.old.free ≡ true) × (pass.old.id ≡ turns.now.id) }
+) -> Option<Stock>
+    requires pass { HasPass turns.now pass.old }
     requires room { ports (opening_of D.state turns.now.first).first.fold.table.shape ≤ vec_capacity rows.old }
-    ensures left { IsLeft D.told D.state (opening_of D.state turns.now.first) result }
+    ensures left { (h : List Entry) → Saw (opening_of D.state turns.now.first) pass.old.seen h → IfSome result (IsLeft pass.old.number turns.now.passes (opening_of D.state turns.now.first) h) }
 {
-    for _ in rt.forever() {
-        let turn = turns.enter(pass, rt);
-        let stock = stock_in(turn.state(), rows);
-        turns.back(pass, turn);
-        if let Some(stock) = stock {
-            return stock;
-        }
-    }
-    unreachable!()
+    let turn = turns.enter(pass, rt);
+    let stock = stock_in(turn.state(), rows);
+    turns.back(pass, turn);
+    stock
 }

@@ -1,3 +1,4 @@
 pub mod Counts
 pub mod Missing
 pub mod Standbys
+pub mod Starts

@@ -1,6 +1,5 @@
-ghost use Rattle.std.specs.Prelude.{◌≡◌, ◌≤◌, ◌+◌, vec_len, true};
-ghost use Rattle.dxc_causes.specs.Causes.{HasCause};
-ghost use Rattle.craft_jobs.specs.Counts.{RoseBy};
+ghost use Rattle.std.specs.Prelude.{◌≡◌, ◌+◌, vec_len, true};
+ghost use Rattle.craft_jobs.specs.Starts.{AreStarts};
 
 use dxc_outside::{Spawner, Started, Task};
 use std::sync::Wait;
@@ -11,9 +10,7 @@ fn start_each<J: Task + Send + Drop + 'static, P: Spawner, R: Wait>(
     jobs: Vec<J>,
     rt: &R,
 ) -> Started
-    ensures running { result ≡ Started.Running → RoseBy (vec_len jobs) (P.state spawner.old).starts (P.state spawner.new).starts }
-    ensures no_more { (P.state spawner.new).starts ≤ (P.state spawner.old).starts + vec_len jobs }
-    ensures cause { HasCause (P.state spawner.old).faults (P.state spawner.new).faults (result ≡ Started.Failed) }
+    ensures { AreStarts (vec_len jobs) (P.state spawner.old) (P.state spawner.new) result }
 {
     for job in jobs {
         if let Started::Failed = spawner.start(job, rt) {
@@ -21,6 +18,21 @@ fn start_each<J: Task + Send + Drop + 'static, P: Spawner, R: Wait>(
         }
     }
     Started::Running
+}
+
+/// Starts the workers' jobs, and the sessions' behind them where none of these failed.
+fn start_all<J: Task + Send + Drop + 'static, K: Task + Send + Drop + 'static, P: Spawner, R: Wait>(
+    spawner: &mut P,
+    workers: Vec<J>,
+    sessions: Vec<K>,
+    rt: &R,
+) -> Started
+    ensures { AreStarts (vec_len workers + vec_len sessions) (P.state spawner.old) (P.state spawner.new) result }
+{
+    match start_each(spawner, workers, rt) {
+        Started::Running => start_each(spawner, sessions, rt),
+        Started::Failed => Started::Failed,
+    }
 }
 
 /// Runs the workers' jobs and the sessions' jobs, started in this order, to their ends. Where a start fails no further job is started;
@@ -31,15 +43,10 @@ pub fn run_all<
     P: Spawner,
     R: Wait,
 >(spawner: &mut P, workers: Vec<J>, sessions: Vec<K>, rt: &R) -> Started
-    ensures running { result ≡ Started.Running → RoseBy (vec_len workers + vec_len sessions) (P.state spawner.old).starts (P.state spawner.new).starts }
-    ensures no_more { (P.state spawner.new).starts ≤ (P.state spawner.old).starts + (vec_len workers + vec_len sessions) }
-    ensures cause { HasCause (P.state spawner.old).faults (P.state spawner.new).faults (result ≡ Started.Failed) }
+    ensures starts { AreStarts (vec_len workers + vec_len sessions) (P.state spawner.old) (P.state spawner.new) result }
     ensures waited { (P.state spawner.new).waited ≡ true }
 {
-    let started = match start_each(spawner, workers, rt) {
-        Started::Running => start_each(spawner, sessions, rt),
-        Started::Failed => Started::Failed,
-    };
+    let started = start_all(spawner, workers, sessions, rt);
     spawner.wait_all(rt);
     started
 }

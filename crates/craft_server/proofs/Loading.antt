@@ -1,18 +1,43 @@
--- The load mode: its seat, and how its session ends.
-use Rattle.std.proofs.Common.{◌≡◌, ◌≢◌, ◌↔◌, ◌<◌, ◌^◌, arith, ℕ, Bool, true, false, IsTrue, List, [], ◌∷◌, length, slice_index_or, inl, inr, refl, sym, ◌∙◌}
+-- The load mode: its seat, how its session ends, and what that left.
+use Rattle.std.proofs.Common.{◌≡◌, ◌≢◌, ◌↔◌, ◌<◌, ◌≤◌, ◌++◌, ◌^◌, arith, ℕ, Bool, true, false, IsTrue, List, [], ◌∷◌, append-nil, Option, Result, Ok, Err, length, slice_index_or, inl, inr, refl, sym, ◌∙◌, ap, subst}
+use Rattle.std.specs.Prelude.{IfSome, MatchResult}
+use Rattle.std.specs.Arc.{arc_value}
 use Rattle.dxc_causes.specs.Causes.{Counted, Rose}
+use Rattle.dxc_disk.specs.Disks.{DiskState}
+use Rattle.dxc_num.specs.Dimensions.{ports}
 use Rattle.dxc_outside.specs.Links.{LinkState}
+use Rattle.dxc_model.specs.declared.entry.Entry.{Entry}
 use Rattle.fabric_core.specs.State.{new_worker}
 use Rattle.fabric_words.specs.declared.worker.WorkerSeat.{WorkerSeat}
 use Rattle.fabric_words.specs.New.{AreNew}
 use Rattle.fabric_words.specs.Seats.{FabricId}
+use Rattle.shelf_file.specs.Contents.{Contents}
+use Rattle.turnstile.specs.Passing.{Gate, Token}
+use Rattle.turnstile.specs.Turning.{Each}
+use Rattle.user_admin.specs.Histories.{Opening as UsersOpening}
+use Rattle.user_admin.specs.Openings.{IsOpening as IsUsersOpening}
+use Rattle.user_admin.specs.States.{opening_of as users_opening}
+use Rattle.xc_core.specs.declared.state.State.{State}
+use Rattle.xc_core.specs.Openings.{IsOpening}
+use Rattle.xc_core.specs.Seeing.{Saw}
+use Rattle.xc_core.specs.States.{Opening, opening_of}
 use Rattle.craft_session.specs.declared.end.SessionEnd.{SessionEnd}
 use Rattle.craft_session.specs.declared.end.SessionEnd.TheVariants.{End, Spent}
+use Rattle.craft_session.specs.Places.{place_at}
+use Rattle.craft_session.specs.Seats.{PlaceAt, SeatAt, seat_at}
+use Rattle.craft_session.proofs.Scripts.{script_seen}
+use Rattle.dxc_load.specs.declared.summary.Summary.{Summary}
+use Rattle.dxc_load.specs.Sending.{link_state, unread}
 use Rattle.craft_words.specs.declared.status.Status.{Status}
 use Rattle.craft_words.specs.declared.status.Status.TheVariants.{BadWords}
 use Rattle.craft_words.specs.declared.status.Status.TheVariants as Status_of
+use Rattle.craft_element.specs.declared.opening.Element.{Element}
+use Rattle.craft_element.specs.declared.stock.Stock.{Stock}
+use Rattle.craft_element.specs.Loads.{IsLoadElement, NotLoaded}
+use Rattle.craft_element.specs.Stocks.{IsLeft, IsStockAfter}
 use Rattle.craft_element.proofs.Wording.{sent_words}
-use Rattle.craft_server.specs.Loads.{IsLoad}
+use Rattle.craft_server.specs.Loads.{IsLoad, IsLoadedOn, IsLoadServed, IsSummed, load_moments, stock_in}
+use Rattle.craft_server.proofs.Starting.{of_disk, users_of_disk}
 
 -- the first of a fabric's new seats
 pub first_new : (f : FabricId) (n : ℕ) (seats : List WorkerSeat) (d : WorkerSeat) → AreNew f n seats → 0 < length seats → (slice_index_or seats 0 d).reader ≡ record { fabric = f; worker = new_worker n }
@@ -34,3 +59,64 @@ no_read_fault rose = absurd (omega (arith, rose))
 pub not_spent : (ended : Bool) (reads : ℕ) (e : SessionEnd) → e ≡ Spent → (e ≡ End) ↔ IsTrue ended → Counted 0 reads (2 ^ 32) → (ended ≡ false → reads < 2 ^ 21) → ⊥
 not_spent true reads e is ended counted few = let no : Spent ≡ End = sym is ∙ ended.1 refl in cc
 not_spent false reads e is ended counted few = let low = few refl in absurd (omega (arith, counted.reached, low))
+
+-- what the pass finds that a place gave up
+module _ {D : Type 0} (state : D → DiskState) (p : Token) (t u : Gate (State D)) (s : SeatAt) (same : u ≡ t) (is : seat_at state p t ≡ s) where
+  given_up : seat_at state p u ≡ s
+  given_up = ap (λ (v : Gate (State D)). seat_at state p v) same ∙ is
+
+  pub room_given : (room : ℕ) → ports s.opening.first.fold.table.shape ≤ room → ports (opening_of state u.first).first.fold.table.shape ≤ room
+  room_given room enough = subst (λ (x : SeatAt). ports x.opening.first.fold.table.shape ≤ room) (sym given_up) enough
+
+  pub left_given : (r : Option Stock) → ((h : List Entry) → Saw (opening_of state u.first) p.seen h → IfSome r (IsLeft p.number u.passes (opening_of state u.first) h)) → (h : List Entry) → Saw s.opening s.seen h → IfSome r (IsLeft s.place s.places s.opening h)
+  left_given r left = subst (λ (x : SeatAt). (h : List Entry) → Saw x.opening x.seen h → IfSome r (IsLeft x.place x.places x.opening h)) given_up left
+
+-- of one place nobody else leaves an entry
+nobody_else : (es : List Entry) → Each (λ e. e.place ≢ 0) es → Each (λ e. e.place < 1) es → es ≡ []
+nobody_else [] others numbers = refl
+nobody_else (e ∷ es) others numbers = absurd (others.0 (let low = numbers.0 in omega (arith, low)))
+
+left_alone : (o : Opening) (h : List Entry) (s : Stock) → IsLeft 0 1 o h s → IsStockAfter o h s
+left_alone o h s left = subst (λ (l : List Entry). IsStockAfter o l s) (ap (λ (es : List Entry). h ++ es) (nobody_else left.later left.others left.numbers) ∙ append-nil h) left.after
+
+module _ (told users_told : Type 0) {D U : Type 0} (state : D → DiskState) (users_state : U → DiskState) (number : ℕ) (x : Element D U) (el : IsLoadElement told users_told state users_state x) where
+  abbrev o : Opening
+  o = opening_of state x.controller.state
+
+  abbrev p : UsersOpening
+  p = users_opening users_state x.users
+
+  -- a session on the load's element, summed up
+  summed_on : (place : PlaceAt) (k : LinkState) (v : Summary) → place ≡ place_at (arc_value x.controller.shelf) o p 1 0 → k ≡ unread number → IsSummed told place k v → IsLoadedOn told users_told state users_state number v
+  summed_on place k v is unread_is s =
+      let l = link_state s.link in
+      let first = place_at el.shelf o p 1 0 in
+      let at : place ≡ first = is ∙ ap (λ (y : Contents). place_at y o p 1 0) el.started.shelf in
+      let served = subst (λ (q : PlaceAt). IsLoadServed told q s.new (unread number) l) at (subst (λ (m : LinkState). IsLoadServed told place s.new m l) unread_is s.served) in
+      let seen = script_seen told (Unit {0}) (Unit {0}) (state el.disk) (users_state el.users_disk) (unread number) l load_moments load_moments el.shelf first.seat s.new.seat first.users s.new.users
+      (of_disk told state el.disk el.shelf 1 x.controller el.started) (users_of_disk users_told users_state el.users_disk el.shelf x.users el.users_started) refl refl refl served.seat.2 served.users.2 served.numbers served.users_numbers served.astray served.session in
+      let seat = s.new.seat in
+      let left = subst (λ (y : Opening). (h : List Entry) → Saw y seat.seen h → IsLeft seat.place seat.places y h (stock_in v)) served.seat.0 s.left in
+      let h = seen.0.answered.walk.history in
+      record {
+        shelf = el.shelf;
+        is_shelf = el.is_shelf;
+        fabric = arc_value x.controller.fabric;
+        disk = el.disk;
+        fresh = el.fresh;
+        opening = o;
+        opened = subst (λ (file : List ℕ). IsOpening told file el.shelf (arc_value x.controller.fabric) o) el.fresh.content el.started.opening;
+        users_disk = el.users_disk;
+        users_fresh = el.users_fresh;
+        users_opening = p;
+        users_opened = subst (λ (file : List ℕ). IsUsersOpening users_told file el.shelf p) el.users_fresh.content el.users_started.opening;
+        link = s.link;
+        wrote = seen.0;
+        all_read = served.all_read;
+        left = left_alone o h (stock_in v) (subst (λ (n : ℕ). IsLeft n 1 o h (stock_in v)) served.seat.1 (subst (λ (n : ℕ). IsLeft seat.place n o h (stock_in v)) served.seat.2 (left h seen.1)));
+        sum = s.sum;
+      }
+
+  pub loaded_on : (place : PlaceAt) (k : LinkState) (stops later : ℕ) (r : Result Summary Status) → place ≡ place_at (arc_value x.controller.shelf) o p 1 0 → k ≡ unread number → MatchResult r (IsSummed told place k) (NotLoaded stops later) → MatchResult r (IsLoadedOn told users_told state users_state number) (NotLoaded stops later)
+  loaded_on place k stops later (Ok v) is unread_is s = summed_on place k v is unread_is s
+  loaded_on place k stops later (Err e) is unread_is not = not

@@ -1,8 +1,10 @@
 -- What became of the jobs of a controller that is served.
 use Rattle.std.proofs.Common.{◌≡◌, ◌≢◌, ◌≤◌, ◌+◌, ◌∙◌, ℕ, arith, true, inl, inr, refl, sym}
 use Rattle.dxc_causes.specs.Causes.{Rose}
+use Rattle.dxc_outside.specs.declared.spawner.Started.{Started}
+use Rattle.dxc_outside.specs.declared.spawner.Started.TheVariants.{Running, Failed}
 use Rattle.dxc_outside.specs.Threads.{SpawnerState}
-use Rattle.craft_jobs.specs.Counts.{RoseBy}
+use Rattle.craft_jobs.specs.Starts.{AreStarts}
 use Rattle.craft_jobs.proofs.Counting.{rose_behind}
 use Rattle.craft_words.specs.declared.status.Status.{Status}
 use Rattle.craft_words.specs.declared.status.Status.TheVariants.{Done, CannotOpen, NoThread, NoMemory}
@@ -10,10 +12,10 @@ use Rattle.craft_server.specs.Serving.{IsServing}
 
 module _ (jobs faults later : ℕ) (old new : SpawnerState) where
   -- all were started
-  pub all_started : RoseBy jobs old.starts new.starts → new.starts ≤ old.starts + jobs → new.waited ≡ true → IsServing jobs faults later old new Done
-  all_started risen no_more waited = record {
-    done = λ is. risen;
-    no_more = no_more;
+  pub all_started : (started : Started) → started ≡ Running → AreStarts jobs old new started → new.waited ≡ true → IsServing jobs faults later old new Done
+  all_started started is starts waited = record {
+    done = λ _. (starts.running is).0;
+    no_more = starts.no_more;
     waited = λ is. waited;
     no_thread = λ is. cc;
     cannot_open = λ is. cc;
@@ -22,12 +24,12 @@ module _ (jobs faults later : ℕ) (old new : SpawnerState) where
   }
 
   -- one wasn't
-  pub not_all_started : Rose old.faults new.faults → new.starts ≤ old.starts + jobs → new.waited ≡ true → IsServing jobs faults later old new NoThread
-  not_all_started rose no_more waited = record {
-    done = λ is. cc;
-    no_more = no_more;
-    waited = λ is. waited;
-    no_thread = λ is. rose;
+  pub not_all_started : (started : Started) → started ≡ Failed → AreStarts jobs old new started → new.waited ≡ true → IsServing jobs faults later old new NoThread
+  not_all_started started is starts waited = record {
+    done = λ e. cc;
+    no_more = starts.no_more;
+    waited = λ _. waited;
+    no_thread = λ _. starts.failed is;
     cannot_open = λ is. cc;
     not_started = λ is. elim is [ inl bad ↦ cc | inr bad ↦ cc ];
     only = λ a not. absurd (not refl);

@@ -1,53 +1,96 @@
 -- What the load mode does.
-use Rattle.std.specs.Prelude.{◌≡◌, ◌⊎◌, ◌*◌, ℕ, [], ◌∷◌}
+use Rattle.std.specs.Prelude.{◌≡◌, ◌⊎◌, ◌*◌, ℕ, true, List, [], ◌∷◌}
+use Rattle.dxc_disk.specs.Disks.{DiskState}
 use Rattle.dxc_disk.specs.MemView.{mem_state}
+use Rattle.dxc_outside.specs.declared.clock.Moment.{Moment}
 use Rattle.dxc_outside.specs.declared.send.Sent.{Sent}
 use Rattle.dxc_outside.specs.Links.{LinkState, IsSent}
-use Rattle.fabric_core.specs.declared.worker.Worker.{Worker}
+use Rattle.dxc_model.specs.declared.entry.Entry.{Entry}
 use Rattle.fabric_words.specs.Seats.{FabricId}
 use Rattle.shelf_file.specs.Contents.{Contents}
 use Rattle.user_admin.specs.Histories.{Opening as UsersOpening}
 use Rattle.user_admin.specs.Openings.{IsOpening as IsUsersOpening}
+use Rattle.user_admin.specs.Turns.{AreNumbered as AreUsersNumbered}
 use Rattle.xc_core.specs.Openings.{IsOpening}
+use Rattle.xc_core.specs.Seeing.{Saw}
 use Rattle.xc_core.specs.States.{Opening}
+use Rattle.xc_core.specs.Turns.{AreNumbered, SawNoneAstray}
 use Rattle.craft_session.specs.declared.end.SessionEnd.TheVariants.{End}
 use Rattle.craft_session.specs.Meanings.{language}
-use Rattle.craft_session.specs.Seats.{SeatAt, UserSeatAt}
+use Rattle.craft_session.specs.Scripts.{WroteAll}
+use Rattle.craft_session.specs.Seats.{IsSameSeat, IsSameUserSeat, PlaceAt}
 use Rattle.craft_session.specs.Sessions.{IsServed}
+use Rattle.dxc_load.specs.declared.link.LoadLink.{LoadLink}
 use Rattle.dxc_load.specs.declared.summary.Summary.{Summary}
 use Rattle.dxc_load.specs.Carrying.{carried_in}
 use Rattle.dxc_load.specs.Codes.{coded_in, compld, deny}
 use Rattle.dxc_load.specs.LoadShelf.{IsLoadShelf}
 use Rattle.dxc_load.specs.Script.{load_moment}
-use Rattle.dxc_load.specs.Sending.{unread}
+use Rattle.dxc_load.specs.Sending.{link_state, unread, worker_of}
 use Rattle.dxc_load.specs.Summaries.{summary_line}
 use Rattle.craft_words.specs.declared.status.Status.{Status}
-use Rattle.craft_element.specs.Loads.{NotLoaded}
-use Rattle.craft_session.specs.Places.{place_at}
 use Rattle.craft_words.specs.Statuses.{status_of_sent}
-use Rattle.craft_element.specs.Stocks.{IsLeft}
+use Rattle.craft_element.specs.declared.stock.Stock.{Stock}
+use Rattle.craft_element.specs.Loads.{IsLoadDisk, IsLoadUsersDisk, NotLoaded}
+use Rattle.craft_element.specs.Stocks.{IsLeft, IsStockAfter}
 
--- The script was sent to a session on new journals, and all of it was read. The codes are those of its responses, connections and switches are what
--- it left, and the bytes are those that a worker noted in 10,000 frames.
-pub record IsLoaded (number : ℕ) (v : Summary) : Type 0 where
+-- what the clock of the load gives, however often it is asked
+abbrev pub load_moments : List Moment
+load_moments = load_moment ∷ []
+
+-- a session was served at a place to the end of its link
+pub record IsLoadServed (disk_told : Type 0) (old new : PlaceAt) (k l : LinkState) : Type 0 where
+  pub session : IsServed (language old.shelf) (Unit {0}) (Unit {0}) k l load_moments load_moments old.seat new.seat old.users new.users End
+  pub seat : IsSameSeat old.seat new.seat
+  pub users : IsSameUserSeat old.users new.users
+  pub numbers : AreNumbered new.seat.places new.seat.seen
+  pub users_numbers : AreUsersNumbered new.users.places new.users.seen
+  pub astray : SawNoneAstray disk_told new.seat.seen
+  pub ended : l.ended ≡ true
+  pub all_read : l.left ≡ []
+
+-- what the summary says of connections and switches
+abbrev pub stock_in : Summary → Stock
+stock_in v = record { connections = v.connections; switches = v.switches }
+
+-- the codes are those that were written to the link, and the bytes those that its worker noted in 10,000 frames
+pub record IsSumOf (link : LoadLink) (v : Summary) : Type 0 where
+  pub completed : v.codes.completed ≡ coded_in compld (link_state link).written
+  pub denied : v.codes.denied ≡ coded_in deny (link_state link).written
+  pub frames : (worker_of link).frame ≡ 2 * 10000
+  pub carried : v.carried ≡ carried_in (worker_of link).notes
+
+-- such a session was summed up, with what stands behind the history that its place has seen
+pub record IsSummed (disk_told : Type 0) (old : PlaceAt) (k : LinkState) (v : Summary) : Type 0 where
+  pub new : PlaceAt
+  pub link : LoadLink
+  pub served : IsLoadServed disk_told old new k (link_state link)
+  pub left : (h : List Entry) → Saw new.seat.opening new.seat.seen h → IsLeft new.seat.place new.seat.places new.seat.opening h (stock_in v)
+  pub sum : IsSumOf link v
+
+-- The script was sent to one session, alone on new journals, and all of it was read. Connections and switches are what its own history comes to;
+-- codes and bytes are those of its link.
+pub record IsLoadedOn (told users_told : Type 0) {D U : Type 0} (state : D → DiskState) (users_state : U → DiskState) (number : ℕ) (v : Summary) : Type 0 where
   pub shelf : Contents
   pub is_shelf : IsLoadShelf shelf
   pub fabric : FabricId
+  pub disk : D
+  pub fresh : IsLoadDisk (state disk)
   pub opening : Opening
-  pub opened : IsOpening (Unit {0}) [] shelf fabric opening
-  pub link : LinkState
+  pub opened : IsOpening told [] shelf fabric opening
+  pub users_disk : U
+  pub users_fresh : IsLoadUsersDisk (users_state users_disk)
   pub users_opening : UsersOpening
-  pub users_opened : IsUsersOpening (Unit {0}) [] shelf users_opening
-  pub seat : SeatAt
-  pub users : UserSeatAt
-  pub served : IsServed (language shelf) (Unit {0}) (Unit {0}) (unread number) link (load_moment ∷ []) (load_moment ∷ []) (place_at shelf opening users_opening 2 0).seat seat (place_at shelf opening users_opening 2 0).users users End
-  pub all_read : link.left ≡ []
-  pub completed : v.codes.completed ≡ coded_in compld link.written
-  pub denied : v.codes.denied ≡ coded_in deny link.written
-  pub left : IsLeft (Unit {0}) mem_state opening (record { connections = v.connections; switches = v.switches })
-  pub worker : Worker
-  pub frames : worker.frame ≡ 2 * 10000
-  pub carried : v.carried ≡ carried_in worker.notes
+  pub users_opened : IsUsersOpening users_told [] shelf users_opening
+  pub link : LoadLink
+  pub wrote : WroteAll told (state disk) (users_state users_disk) 0 opening users_opening (Unit {0}) load_moments load_moments shelf (Unit {0}) (unread number) (link_state link)
+  pub all_read : (link_state link).left ≡ []
+  pub left : IsStockAfter opening wrote.answered.walk.history (stock_in v)
+  pub sum : IsSumOf link v
+
+-- on journals in memory
+abbrev pub IsLoaded : ℕ → Summary → Type 0
+IsLoaded number v = IsLoadedOn (Unit {0}) (Unit {0}) mem_state mem_state number v
 
 -- the summary was written to the link, or a part of it where a write failed; or nothing was, and why
 abbrev pub IsLoad : (number : ℕ) (told : Type 0) (k l : LinkState) (stops later : ℕ) → Status → Type 0

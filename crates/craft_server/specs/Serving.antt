@@ -7,6 +7,7 @@ use Rattle.craft_words.specs.declared.line.Line.TheVariants.{Script, Check, Serv
 use Rattle.craft_words.specs.declared.status.Status.{Status}
 use Rattle.craft_words.specs.declared.status.Status.TheVariants.{Done, CannotOpen, NoThread, NoMemory}
 use Rattle.craft_jobs.specs.Counts.{RoseBy}
+use Rattle.craft_jobs.specs.Starts.{IsLastFailed}
 use Rattle.craft_element.specs.Openings.{Named, named}
 
 -- a line of the mode serve, with 1 to 8 workers
@@ -48,7 +49,8 @@ pub record IsServing (jobs faults later : ℕ) (old new : SpawnerState) (status 
   pub no_more : new.starts ≤ old.starts + jobs
   -- and those that were have ended
   pub waited : (status ≡ Done) ⊎ (status ≡ NoThread) → new.waited ≡ true
-  pub no_thread : status ≡ NoThread → Rose old.faults new.faults
+  -- no job was started behind the one whose start failed
+  pub no_thread : status ≡ NoThread → IsLastFailed jobs old new
   pub cannot_open : status ≡ CannotOpen → Rose faults later
   pub not_started : (status ≡ CannotOpen) ⊎ (status ≡ NoMemory) → new ≡ old
   pub only : status ≢ Done → status ≢ NoThread → status ≢ CannotOpen → status ≡ NoMemory

@@ -1,22 +1,147 @@
 //! The load script, run by one session on journals in memory.
-ghost use Rattle.std.specs.Prelude.{◌≡◌, ◌≤◌, MatchResult};
-ghost use Rattle.craft_element.specs.Loads.{NotLoaded};
-ghost use Rattle.craft_server.specs.Loads.{IsLoad, IsLoaded};
+ghost use Rattle.std.specs.Prelude.{◌≡◌, ◌≤◌, ◌^◌, List, IfOk, IfSome, MatchResult, length, vec_capacity};
+ghost use Rattle.std.specs.Arc.{arc_value};
+ghost use Rattle.dxc_num.specs.Dimensions.{ports};
+ghost use Rattle.dxc_model.specs.declared.entry.Entry.{Entry};
+ghost use Rattle.fabric_words.specs.New.{AreNew};
+ghost use Rattle.dxc_load.specs.Script.{load_shape as shape_of_load};
+ghost use Rattle.dxc_load.specs.Sending.{link_state, unread};
+ghost use Rattle.xc_core.specs.Seeing.{Saw};
+ghost use Rattle.craft_element.specs.Loads.{IsLoadElement, NotLoaded};
+ghost use Rattle.craft_element.specs.Stocks.{IsLeft};
+ghost use Rattle.craft_server.specs.Loads.{IsLoad, IsLoaded, IsLoadedOn, IsLoadServed, IsSummed};
 
-use crate::places::open_place;
+use crate::places::lone_place;
 use arrayvec::ArrayVec;
-use craft_element::{Controller, Element, load_element, stock_of};
-use craft_session::{SessionEnd, serve_session};
+use craft_element::{Controller, Element, Stock, load_element, stock_of};
+use craft_session::{Place, SessionEnd, serve_session};
 use craft_words::Status;
+use dxc_causes::NoMemory;
+use dxc_disk::Disk;
 use dxc_load::{LoadClock, LoadLink, Summary, codes_in};
+use dxc_model::Conn;
 use dxc_outside::{Gate, Link, write_all};
+use fabric_words::{Fabric, WorkerSeat};
 use std::alloc::Global;
-use std::sync::Wait;
+use std::sync::{Arc, Wait};
 
 /// How many bytes of responses are kept.
 const WRITTEN_ROOM: usize = 1 << 21;
 
-// Serves the script of that number, and tells what it came to.
+// The link of the script of that number, with the first of the seats.
+fn load_link(
+    alloc: Global,
+    number: u64,
+    fabric: Arc<Fabric>,
+    mut seats: Vec<WorkerSeat>,
+) -> Result<LoadLink, NoMemory>
+    requires shape { (arc_value fabric).size.shape ≡ shape_of_load }
+    requires seats { AreNew (arc_value fabric) 0 seats.items }
+    requires one { length seats.items ≡ 1 }
+    ensures { IfOk result (λ l. link_state l ≡ unread number) }
+{
+    let written = Vec::with_capacity(alloc, WRITTEN_ROOM)?;
+    Ok(LoadLink::new(number, fabric, seats.remove(0), written))
+}
+
+// Serves the script at the place.
+fn serve_load<D: Disk + Drop, U: Disk + Drop, G: Gate, R: Wait>(
+    place: &mut Place<D, U>,
+    link: &mut LoadLink,
+    gate: &mut G,
+    rt: &R,
+) -> Result<(), Status>
+    requires unread { (link_state link.old).reads ≡ 0 }
+    ensures served { MatchResult result (λ _. IsLoadServed D.told place.old place.new (link_state link.old) (link_state link.new)) (NotLoaded (G.stops gate.old) (G.stops gate.new)) }
+    ensures unstopped { MatchResult result (λ _. G.stops gate.new ≡ G.stops gate.old) (λ _. G.stops gate.old ≤ G.stops gate.new) }
+{
+    let end = serve_session(place, link, &mut LoadClock, gate, rt);
+    // Its clause tells that not all reads were made before the script's end.
+    let _reads = link.reads();
+    match end {
+        SessionEnd::End => Ok(()),
+        // There was no room for what it wrote.
+        SessionEnd::WriteFault => Err(Status::NoMemory),
+        SessionEnd::Stopped => Err(Status::Stopped),
+        SessionEnd::ReadFault => unreachable!(),
+        SessionEnd::Spent => unreachable!(),
+    }
+}
+
+// What the sessions of the place left. None: a restart is due.
+fn left_by<D: Disk + Drop, U: Disk + Drop, R: Wait>(
+    place: Place<D, U>,
+    rows: &mut Vec<Conn>,
+    rt: &R,
+) -> Option<Stock>
+    requires { ports place.seat.opening.first.fold.table.shape ≤ vec_capacity rows.old }
+    ensures { (h : List Entry) → Saw place.seat.opening place.seat.seen h → IfSome result (IsLeft place.seat.place place.seat.places place.seat.opening h) }
+{
+    let (mut pass, turns) = place.into_pass();
+    stock_of(&mut pass, &turns, rows, rt)
+}
+
+// Serves the script of the link at the place, and sums it up.
+fn summed<D: Disk + Drop, U: Disk + Drop, G: Gate, R: Wait>(
+    mut place: Place<D, U>,
+    mut link: LoadLink,
+    rows: &mut Vec<Conn>,
+    gate: &mut G,
+    rt: &R,
+) -> Result<Summary, Status>
+    requires unread { (link_state link).reads ≡ 0 }
+    requires room { ports place.seat.opening.first.fold.table.shape ≤ vec_capacity rows.old }
+    ensures summed { MatchResult result (IsSummed D.told place (link_state link)) (NotLoaded (G.stops gate.old) (G.stops gate.new)) }
+    ensures unstopped { MatchResult result (λ _. G.stops gate.new ≡ G.stops gate.old) (λ _. G.stops gate.old ≤ G.stops gate.new) }
+{
+    match serve_load(&mut place, &mut link, gate, rt) {
+        Ok(()) => {}
+        Err(status) => return Err(status),
+    }
+    let Some(stock) = left_by(place, rows, rt) else {
+        // A call of the journal's disk failed, which had no room.
+        return Err(Status::NoMemory);
+    };
+    Ok(Summary {
+        codes: codes_in(link.written()),
+        connections: stock.connections,
+        switches: stock.switches,
+        carried: link.carried(),
+    })
+}
+
+// Serves the script of that number on the element, and sums it up.
+fn load_on<D: Disk + Drop, U: Disk + Drop, G: Gate, R: Wait>(
+    alloc: Global,
+    number: u64,
+    element: Element<D, U>,
+    gate: &mut G,
+    rt: &R,
+) -> Result<Summary, Status>
+    requires { IsLoadElement D.told U.told D.state U.state element }
+    ensures loaded { MatchResult result (IsLoadedOn D.told U.told D.state U.state number) (NotLoaded (G.stops gate.old) (G.stops gate.new)) }
+    ensures unstopped { MatchResult result (λ _. G.stops gate.new ≡ G.stops gate.old) (λ _. G.stops gate.old ≤ G.stops gate.new) }
+{
+    let Element { controller, users } = element;
+    let Controller {
+        shelf,
+        fabric,
+        seats,
+        state,
+    } = controller;
+    let Ok(mut rows) = Vec::with_capacity(alloc, shelf.shape().ports() as usize) else {
+        return Err(Status::NoMemory);
+    };
+    let Ok(place) = lone_place(alloc, &shelf, &fabric, state, users) else {
+        return Err(Status::NoMemory);
+    };
+    let Ok(link) = load_link(alloc, number, fabric, seats) else {
+        return Err(Status::NoMemory);
+    };
+    summed(place, link, &mut rows, gate, rt)
+}
+
+// The same on journals in memory.
 fn loaded<G: Gate, R: Wait>(
     alloc: Global,
     number: u64,
@@ -24,43 +149,12 @@ fn loaded<G: Gate, R: Wait>(
     rt: &R,
 ) -> Result<Summary, Status>
     ensures loaded { MatchResult result (IsLoaded number) (NotLoaded (G.stops gate.old) (G.stops gate.new)) }
-    ensures unstopped { MatchResult result (λ v. G.stops gate.new ≡ G.stops gate.old) (λ s. G.stops gate.old ≤ G.stops gate.new) }
+    ensures unstopped { MatchResult result (λ _. G.stops gate.new ≡ G.stops gate.old) (λ _. G.stops gate.old ≤ G.stops gate.new) }
 {
-    let Element { controller, users } = load_element(alloc, gate)?;
-    let Controller {
-        shelf,
-        fabric,
-        mut seats,
-        state,
-    } = controller;
-    let (Ok(mut rows), Ok(written)) = (
-        Vec::with_capacity(alloc, shelf.shape().ports() as usize),
-        Vec::with_capacity(alloc, WRITTEN_ROOM),
-    ) else {
-        return Err(Status::NoMemory);
-    };
-    let Ok((mut place, mut pass, turns)) = open_place(alloc, &shelf, &fabric, state, users) else {
-        return Err(Status::NoMemory);
-    };
-    let mut link = LoadLink::new(number, fabric, seats.remove(0), written);
-    let end = serve_session(&mut place, &mut link, &mut LoadClock, gate, rt);
-    // Its clause tells that not all reads were made before the script's end.
-    let _reads = link.reads();
-    match end {
-        SessionEnd::End => {}
-        // There was no room for what it wrote.
-        SessionEnd::WriteFault => return Err(Status::NoMemory),
-        SessionEnd::Stopped => return Err(Status::Stopped),
-        SessionEnd::ReadFault => unreachable!(),
-        SessionEnd::Spent => unreachable!(),
+    match load_element(alloc, gate) {
+        Ok(element) => load_on(alloc, number, element, gate, rt),
+        Err(status) => Err(status),
     }
-    let stock = stock_of(&mut pass, &turns, &mut rows, rt);
-    Ok(Summary {
-        codes: codes_in(link.written()),
-        connections: stock.connections,
-        switches: stock.switches,
-        carried: link.carried(),
-    })
 }
 
 /// Runs the load script of that number, and writes its summary to the terminal.

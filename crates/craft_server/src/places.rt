@@ -1,5 +1,5 @@
 //! The places of one state, and of its users.
-ghost use Rattle.std.specs.Prelude.{◌≡◌, ◌<◌, ◌+◌, ℕ, [], true, IfOk, length, vec_len};
+ghost use Rattle.std.specs.Prelude.{◌≡◌, ◌<◌, ◌+◌, ℕ, [], IfOk, length, vec_len};
 ghost use Rattle.std.specs.Arc.{arc_value};
 ghost use Rattle.user_admin.specs.Openings.{Begins as UsersBegin};
 ghost use Rattle.user_admin.specs.States.{opening_of as users_opening};
@@ -19,7 +19,7 @@ use turnstile::{Pass, Sequential, Turnstile};
 use user_admin::UserState;
 use xc_core::State;
 
-pub(crate) type Turns<D> = Arc<Turnstile<State<D>>>;
+type Turns<D> = Arc<Turnstile<State<D>>>;
 
 type UsersTurns<U> = Arc<Turnstile<UserState<U>>>;
 
@@ -113,25 +113,19 @@ fn place_of<D: Disk + Drop, U: Disk + Drop>(
     Place::new(alloc, pass, users_pass, number, shelf, fabric, turns, users)
 }
 
-/// The one place at the state and at the users, and a pass of the state that no session uses.
-pub(crate) fn open_place<D: Disk + Drop, U: Disk + Drop>(
+/// The one place at the state and at the users.
+pub(crate) fn lone_place<D: Disk + Drop, U: Disk + Drop>(
     alloc: Global,
     shelf: &Arc<Shelf>,
     fabric: &Arc<Fabric>,
     state: State<D>,
     users: UserState<U>,
-) -> Result<(Place<D, U>, Pass, Turns<D>), NoMemory>
+) -> Result<Place<D, U>, NoMemory>
     requires begins { Begins D.told D.state state }
     requires users_begin { UsersBegin U.told U.state users }
     requires opening { IsAtOpening (opening_of D.state state) (arc_value shelf.now) (arc_value fabric.now) }
-    ensures turns { IfOk result (λ r. (arc_value r.2).first ≡ state) }
-    ensures place { IfOk result (λ r. r.0 ≡ place_at (arc_value shelf.now) (opening_of D.state state) (users_opening U.state users) 2 0) }
-    ensures pass { IfOk result (λ r. (r.1.free ≡ true) × (r.1.id ≡ (arc_value r.2).id)) }
+    ensures { IfOk result (λ p. p ≡ place_at (arc_value shelf.now) (opening_of D.state state) (users_opening U.state users) 1 0) }
 {
-    let (turns, mut passes) = turns_of(alloc, state, 2)?;
-    let (users, mut users_passes) = turns_of(alloc, users, 2)?;
-    let pass = next_pass(&mut passes);
-    let users_pass = next_pass(&mut users_passes);
-    let place = place_of(alloc, 0, pass, users_pass, shelf, fabric, &turns, &users)?;
-    Ok((place, next_pass(&mut passes), turns))
+    let mut places = open_places(alloc, shelf, fabric, state, users, 1)?;
+    Ok(places.remove(0))
 }

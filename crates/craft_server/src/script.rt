@@ -3,7 +3,7 @@ ghost use Rattle.craft_element.specs.Openings.{Opens, named, sources};
 ghost use Rattle.craft_server.specs.Scripts.{RanSession};
 ghost use Rattle.craft_server.specs.Statuses.{status_of};
 
-use crate::places::open_places;
+use crate::places::lone_place;
 use craft_element::{Controller, Element, Names, WORKERS, open};
 use craft_session::{SessionEnd, serve_session};
 use craft_words::Status;
@@ -33,10 +33,9 @@ pub(crate) fn run_script<O: Opener, K: Link, C: Clock, G: Gate, R: Wait>(
         seats: _,
         state,
     } = controller;
-    let Ok(mut places) = open_places(alloc, &shelf, &fabric, state, users, 1) else {
+    let Ok(mut place) = lone_place(alloc, &shelf, &fabric, state, users) else {
         return Status::NoMemory;
     };
-    let mut place = places.remove(0);
     after_session(serve_session(&mut place, terminal, clock, gate, rt))
 }
 

@@ -468,18 +468,39 @@ users_mine : (own : ℕ) → own ≡ 0 → (h : List UserEntry) → Each (λ e. 
 users_mine own zero [] a = tt
 users_mine own zero (e ∷ es) a = (omega (arith, zero, a.0), users_mine own zero es a.1)
 
+-- with one pass all that was seen is of its place
+seen_mine : (own places : ℕ) (seen : List Gv) → own ≡ 0 → places ≡ 1 → AreNumbered places seen → (h : List Entry) → seen ≡ codes h → AllByRecursion (λ e. e.place ≡ own) h
+seen_mine own places seen zero one numbers h is = mine_of own zero h (subst (λ (n : ℕ). Each (λ e. e.place < n) h) one (numbers h is))
+
+users_seen_mine : (own places : ℕ) (seen : List Gv) → own ≡ 0 → places ≡ 1 → AreUsersNumbered places seen → (h : List UserEntry) → seen ≡ user_codes h → AllByRecursion (λ e. e.place ≡ own) h
+users_seen_mine own places seen zero one numbers h is = users_mine own zero h (subst (λ (n : ℕ). Each (λ e. e.place < n) h) one (numbers h is))
+
+-- the session of a place that had seen nothing
+session_alone : (told clock_told : Type 0) (k l : LinkState) (c d : List Moment) (s : Contents) (old new : SeatAt) (users then_users : UserSeatAt) (end : SessionEnd) → old.opening.due ≡ false → old.seen ≡ [] → users.seen ≡ [] → (x : IsServed (language s) told clock_told k l c d old new users then_users end)
+    → IsSession (language s) told clock_told k l c d (record { opening = old.opening; users = users.opening; place = old.place; before = []; users_before = [] }) (record { seen = new.seen; users = then_users.seen; attending = x.attending }) end
+session_alone told clock_told k l c d s old new users then_users end ready none no_users x =
+    let nothing : x.before ≡ [] = no_codes x.before (sym (seen_all old.opening old.seen x.before ready x.saw) ∙ none) in
+    let no_user : x.users_before ≡ [] = no_user_codes x.users_before (sym x.users_saw.codes_are ∙ no_users) in
+    subst (λ (h : List Entry × List UserEntry). IsSession (language s) told clock_told k l c d (record { opening = old.opening; users = users.opening; place = old.place; before = h.0; users_before = h.1 }) (record { seen = new.seen; users = then_users.seen; attending = x.attending }) end) (λ i. (nothing i, no_user i)) x.session
+
 -- What the one session of turnstiles with one pass wrote, on the openings of two disks.
 pub script_of : (disk_told told clock_told : Type 0) (disk users_disk : DiskState) (k l : LinkState) (c d : List Moment) (s : Contents) (old new : SeatAt) (users then_users : UserSeatAt) (end : SessionEnd) → IsOpeningOf disk old.opening → IsUsersOpeningOf users_disk users.opening
     → old.seen ≡ [] → users.seen ≡ [] → old.place ≡ 0 → users.place ≡ 0 → new.places ≡ 1 → then_users.places ≡ 1 → AreNumbered new.places new.seen → AreUsersNumbered then_users.places then_users.seen
     → SawNoneAstray disk_told new.seen → IsServed (language s) told clock_told k l c d old new users then_users end → IsScript disk_told disk users_disk old.place old.opening users.opening clock_told c d s told k l end
 script_of disk_told told clock_told disk users_disk k l c d s old new users then_users end is users_is none no_users zero users_zero one users_one numbers users_numbers never x =
-    let nothing : x.before ≡ [] = no_codes x.before (sym (seen_all old.opening old.seen x.before is.ready x.saw) ∙ none) in
-    let no_user : x.users_before ≡ [] = no_user_codes x.users_before (sym x.users_saw.codes_are ∙ no_users) in
     let now : Now = record { seen = new.seen; users = then_users.seen; attending = x.attending } in
-    let mine = λ (h : List Entry) (is_codes : new.seen ≡ codes h). mine_of old.place zero h (subst (λ (n : ℕ). Each (λ e. e.place < n) h) one (numbers h is_codes)) in
-    let mine_users = λ (h : List UserEntry) (is_codes : then_users.seen ≡ user_codes h). users_mine old.place zero h (subst (λ (n : ℕ). Each (λ e. e.place < n) h) users_one (users_numbers h is_codes)) in
-    scripted disk_told disk users_disk old.place old.opening users.opening is users_is told clock_told k l c d s now mine never mine_users end
-    (subst (λ (h : List Entry × List UserEntry). IsSession (language s) told clock_told k l c d (record { opening = old.opening; users = users.opening; place = old.place; before = h.0; users_before = h.1 }) now end) (λ i. (nothing i, no_user i)) x.session)
+    scripted disk_told disk users_disk old.place old.opening users.opening is users_is told clock_told k l c d s now (seen_mine old.place new.places new.seen zero one numbers) never (users_seen_mine old.place then_users.places then_users.seen zero users_one users_numbers) end
+    (session_alone told clock_told k l c d s old new users then_users end is.ready none no_users x)
+
+-- Where it ended with its link, all that its seat has seen is the history of what it wrote.
+pub script_seen : (disk_told told clock_told : Type 0) (disk users_disk : DiskState) (k l : LinkState) (c d : List Moment) (s : Contents) (old new : SeatAt) (users then_users : UserSeatAt) → IsOpeningOf disk old.opening → IsUsersOpeningOf users_disk users.opening
+    → old.seen ≡ [] → users.seen ≡ [] → old.place ≡ 0 → new.places ≡ 1 → then_users.places ≡ 1 → AreNumbered new.places new.seen → AreUsersNumbered then_users.places then_users.seen
+    → SawNoneAstray disk_told new.seen → IsServed (language s) told clock_told k l c d old new users then_users End → (w : WroteAll disk_told disk users_disk old.place old.opening users.opening clock_told c d s told k l) × Saw old.opening new.seen w.answered.walk.history
+unfolding wrote_all session_alone answered
+script_seen disk_told told clock_told disk users_disk k l c d s old new users then_users is users_is none no_users zero one users_one numbers users_numbers never x =
+    let now : Now = record { seen = new.seen; users = then_users.seen; attending = x.attending } in
+    let session = session_alone told clock_told k l c d s old new users then_users End is.ready none no_users x in
+    (wrote_all disk_told disk users_disk old.place old.opening users.opening is users_is told clock_told k l c d s now (seen_mine old.place new.places new.seen zero one numbers) never (users_seen_mine old.place then_users.places then_users.seen zero users_one users_numbers) session, session.past.saw)
 
 -- an opening of a disk is one, by what the call tells of the disk that the state has at home
 pub opening_of_disk : {D : Type 0} (told failed : Type 0) (state : D → DiskState) → ((x : D) → CountsOn (state x)) → (disk : D) (s : State D) → Begins told state s → IfSome (disk_home s.home) (λ d. HasCause (state disk).faults (state d).faults failed) → IfSome (disk_home s.home) (λ d. Spends opening_room (state disk) (state d))

@@ -2,6 +2,7 @@ ghost use Rattle.std.specs.Prelude.{◌≡◌, ◌<◌, ◌≤◌, IfOk, vec_cap
 ghost use Rattle.dxc_model.specs.Histories.{kept};
 ghost use Rattle.std.specs.Arc.{arc_value};
 ghost use Rattle.xc_core.specs.States.{opening_of};
+ghost use Rattle.xc_core.specs.Turns.{HasPass};
 ghost use Rattle.craft_session.specs.Seats.{IsSeated, IsUserSeated, seat_at, user_seat_at};
 
 use crate::attending::Attending;
@@ -105,5 +106,25 @@ impl<D: Disk + Drop, U: Disk + Drop> Place<D, U> {
             text: ArrayVec::new(),
         };
         Ok(Place { desk, piece })
+    }
+
+    /// The pass of its seat at the state, and the turnstile, when its sessions are over.
+    pub fn into_pass(self) -> (Pass, Arc<Turnstile<State<D>>>)
+        ensures seat { seat_at D.state result.0 (arc_value result.1) ≡ self.seat }
+        ensures pass { HasPass (arc_value result.1) result.0 }
+    {
+        let Place { desk, piece: _ } = self;
+        let Desk {
+            shelf: _,
+            seat,
+            users: _,
+            attending: _,
+            reader: _,
+            answer: _,
+            rows: _,
+            changes: _,
+            text: _,
+        } = desk;
+        seat.into_pass()
     }
 }

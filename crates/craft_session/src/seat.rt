@@ -8,7 +8,7 @@ ghost use Rattle.dxc_model.specs.declared.entry.Entry.{Entry};
 ghost use Rattle.dxc_model.specs.Histories.{kept};
 ghost use Rattle.dxc_model.specs.Operations.{IsApt};
 ghost use Rattle.xc_core.specs.Seeing.{Saw};
-ghost use Rattle.xc_core.specs.Turns.{AreNumbered, LookIs, MarkIs, RowsAre, SawNoneAstray};
+ghost use Rattle.xc_core.specs.Turns.{AreNumbered, HasPass, LookIs, MarkIs, RowsAre, SawNoneAstray};
 ghost use Rattle.craft_session.specs.Askings.{ChangeAsked, WarmAsked};
 ghost use Rattle.craft_session.specs.Changing.{ChangedIs, WarmRestartIs};
 ghost use Rattle.craft_session.specs.Gated.{Entered};
@@ -70,6 +70,19 @@ impl<D: Disk + Drop> Seat<D> {
     {
         // What the pass has seen is told by the type.
         let _ = &self.pass;
+    }
+
+    /// Its pass and the turnstile, for turns that no session takes.
+    pub fn into_pass(self) -> (Pass, Arc<Turnstile<State<D>>>)
+        ensures seat { seat_at D.state result.0 (arc_value result.1) ≡ self }
+        ensures pass { HasPass (arc_value result.1) result.0 }
+    {
+        let Seat {
+            pass,
+            turns,
+            fabric: _,
+        } = self;
+        (pass, turns)
     }
 
     /// Gives the connections of a selection. It waits for the turn alone.

@@ -1,5 +1,6 @@
-ghost use Rattle.std.specs.Prelude.{[], ◌≤◌, length, IfOk};
+ghost use Rattle.std.specs.Prelude.{[], ◌≡◌, IfOk};
 
+use crate::held::Held;
 use dxc_outside::{Frame, Lines, Opened, Put};
 use std::alloc::Global;
 use std::fs::{File, OpenOptions};
@@ -7,14 +8,15 @@ use std::io;
 use std::os::unix::fs::FileExt;
 use std::rt::Files;
 
-/// Lines over two files of the operating system. They tell nothing of their content. Frames are read and written at their
-/// places, so that a frame that failed is whole at the next try.
+/// Lines over two files of the operating system. They tell nothing of their content. A read takes what the input gives at once, up to 64 KiB,
+/// and no frame may be longer. Frames that are written are held until the input is to be read again, or until they have no room; so who
+/// trickles frames into the input sees what comes of each at once. Output is written at its place: a frame that failed is whole at the
+/// next try.
 #[derive(Drop)]
 pub struct FileLines {
     input: File,
-    output: File,
-    read_to: u64,
-    written_to: u64,
+    ahead: Held,
+    output: Output,
     ended: bool,
     read_faults: u64,
     write_faults: u64,
@@ -34,21 +36,19 @@ impl FileLines {
         let Ok(to) = format!(in alloc; "{name}.{worker}.out") else {
             return Opened::NoMemory;
         };
+        let (Ok(ahead), Ok(held)) = (Held::new(alloc), Held::new(alloc)) else {
+            return Opened::NoMemory;
+        };
         match open_both(files, from.as_str(), to.as_str()) {
-            Ok((input, output)) => Opened::Open(FileLines::new(input, output)),
+            Ok((input, file)) => Opened::Open(FileLines {
+                input,
+                ahead,
+                output: Output { file, held, end: 0 },
+                ended: false,
+                read_faults: 0,
+                write_faults: 0,
+            }),
             Err(_) => Opened::Failed,
-        }
-    }
-
-    fn new(input: File, output: File) -> FileLines {
-        FileLines {
-            input,
-            output,
-            read_to: 0,
-            written_to: 0,
-            ended: false,
-            read_faults: 0,
-            write_faults: 0,
         }
     }
 }
@@ -63,18 +63,39 @@ fn open_both<R: Files<File = File>>(files: &R, from: &str, to: &str) -> io::Resu
     Ok((input, output))
 }
 
-// How many bytes there are from that place on, as far as the buffer goes.
-fn fill(file: &File, at: u64, into: &mut [u8]) -> io::Result<usize>
-    ensures { IfOk result (λ n. n ≤ length into.new) }
+// Reads on until so many bytes are ahead, or the file has no more; how many are ahead.
+fn fetch(file: &mut File, ahead: &mut Held, count: usize) -> io::Result<usize>
+    ensures { IfOk result (λ n. n ≡ ahead.new) }
 {
-    let mut count = 0;
-    while count < into.len() {
-        match file.read_at(&mut into[count..], at.saturating_add(count as u64))? {
-            0 => return Ok(count),
-            more => count += more,
+    while ahead.count() < count {
+        if ahead.read_more(file)? == 0 {
+            return Ok(ahead.count());
         }
     }
-    Ok(count)
+    Ok(ahead.count())
+}
+
+/// The file of the output, the frames that it hasn't got yet, and the place behind those that it has.
+#[derive(Drop)]
+struct Output {
+    file: File,
+    held: Held,
+    end: u64,
+}
+
+impl Output {
+    // Holds a frame that may wait and has room. Another one is written, behind what is held.
+    fn write(&mut self, frame: &[u8], may_wait: bool) -> io::Result<()> {
+        if may_wait && self.held.put(frame) {
+            return Ok(());
+        }
+        self.file.write_all_at(self.held.bytes(), self.end)?;
+        self.end = self.end.saturating_add(self.held.count() as u64);
+        self.held.clear();
+        self.file.write_all_at(frame, self.end)?;
+        self.end = self.end.saturating_add(frame.len() as u64);
+        Ok(())
+    }
 }
 
 impl Lines for FileLines {
@@ -90,13 +111,13 @@ impl Lines for FileLines {
 
     fn read_frame(&mut self, into: &mut [u8]) -> Frame {
         self.ended = false;
-        match fill(&self.input, self.read_to, into) {
+        match fetch(&mut self.input, &mut self.ahead, into.len()) {
             Ok(0) => {
                 self.ended = true;
                 Frame::End
             }
-            Ok(count) if count == into.len() => {
-                self.read_to = self.read_to.saturating_add(count as u64);
+            Ok(count) if count >= into.len() => {
+                self.ahead.take(into);
                 Frame::Whole
             }
             _ => {
@@ -107,11 +128,12 @@ impl Lines for FileLines {
     }
 
     fn write_frame(&mut self, from: &[u8]) -> Put {
-        if self.output.write_all_at(from, self.written_to).is_err() {
+        // A whole frame ahead: the input isn't read before the next write.
+        let may_wait = self.ahead.count() >= from.len();
+        if self.output.write(from, may_wait).is_err() {
             self.write_faults = self.write_faults.saturating_add(1);
             return Put::Failed;
         }
-        self.written_to = self.written_to.saturating_add(from.len() as u64);
         Put::Took(from.len())
     }
 }

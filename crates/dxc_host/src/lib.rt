@@ -3,6 +3,7 @@
 #![tactic(auto)]
 
 mod file_lines;
+mod held;
 mod host_clock;
 mod host_opener;
 mod shown;

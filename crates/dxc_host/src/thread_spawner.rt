@@ -10,6 +10,7 @@ pub struct ThreadSpawner<T> {
     starts: u64,
     waited: bool,
     faults: u64,
+    last_failed: bool,
 }
 
 impl<T: Threads + Wait + Copy + Send + Drop + 'static> ThreadSpawner<T> {
@@ -21,6 +22,7 @@ impl<T: Threads + Wait + Copy + Send + Drop + 'static> ThreadSpawner<T> {
             starts: 0,
             waited: true,
             faults: 0,
+            last_failed: false,
         }
     }
 }
@@ -28,12 +30,13 @@ impl<T: Threads + Wait + Copy + Send + Drop + 'static> ThreadSpawner<T> {
 impl<T: Threads + Wait + Copy + Send + Drop + 'static> Spawner for ThreadSpawner<T> {
     type Threads = T;
 
-    ghost state = { λ s. record { starts = s.starts; waited = s.waited; faults = s.faults } };
+    ghost state = { λ s. record { starts = s.starts; waited = s.waited; faults = s.faults; last_failed = s.last_failed } };
 
     /// The place for the thread's handle is taken before the thread is started, so that no job is lost for want of it.
     fn way(&mut self) -> Way<T> {
         if self.running.reserve(1).is_err() {
             self.faults = self.faults.saturating_add(1);
+            self.last_failed = true;
             return Way::Refused;
         }
         Way::Thread(self.threads)
@@ -42,11 +45,13 @@ impl<T: Threads + Wait + Copy + Send + Drop + 'static> Spawner for ThreadSpawner
     fn ran(&mut self) {
         self.starts = self.starts.saturating_add(1);
         self.waited = false;
+        self.last_failed = false;
     }
 
     fn keep(&mut self, handle: JoinHandle<()>) {
         self.starts = self.starts.saturating_add(1);
         self.waited = false;
+        self.last_failed = false;
         if let Err(refused) = self.running.push(handle) {
             refused.value.join(&self.threads);
         }
@@ -54,6 +59,7 @@ impl<T: Threads + Wait + Copy + Send + Drop + 'static> Spawner for ThreadSpawner
 
     fn refused(&mut self) {
         self.faults = self.faults.saturating_add(1);
+        self.last_failed = true;
     }
 
     fn wait_all<R: Wait>(&mut self, _rt: &R) {

@@ -34,11 +34,11 @@ fn frames_go_from_file_to_file(rt: HostRuntime) -> Result<(), Fail> {
     assert!(rt; lines.write_frame(&frame) == Put::Took(3));
     assert!(rt; lines.read_frame(&mut frame) == Frame::Whole);
     assert!(rt; lines.write_frame(&frame) == Put::Took(3));
+    let written = fs::read(&rt, "lines_test.3.out")?;
+    assert!(rt; written.as_slice() == b"abcdef".as_slice());
     assert!(rt;
         lines.read_frame(&mut frame) == Frame::Failed,
         "a rest of two bytes"
     );
-    let written = fs::read(&rt, "lines_test.3.out")?;
-    assert!(rt; written.as_slice() == b"abcdef".as_slice());
     Ok(())
 }

@@ -1,10 +1,10 @@
 use Rattle.std.proofs.Common.{◌≤◌, ◌++◌, sym, ◌∙◌, ap, subst}
-use Rattle.std.specs.Prelude.{vec_capacity}
+use Rattle.std.specs.Prelude.{IfSome, vec_capacity}
 use Rattle.dxc_num.specs.Dimensions.{Dimensions, ports}
 use Rattle.xc_core.specs.declared.state.State.{State}
 use Rattle.xc_core.specs.States.{began, opening_of}
 use Rattle.xc_core.proofs.Turning.{state_shape}
-use Rattle.craft_element.proofs.Stocking.{found_stands, stock_after}
+use Rattle.craft_element.proofs.Stocking.{found_stands, left_at}
 use Rattle.craft_element.specs.Stocks.{IsStock}
 use Rattle.craft_element.proofs.stock.stock_of.Goals as goal
 
@@ -16,17 +16,14 @@ stock_in-stock-requires g c =
     let f = c.enter-turn.ensures.found in
     let x = c.enter-turn.result.state in
     record {
-      room = subst (λ (d : Dimensions). ports d ≤ vec_capacity c.loop.rows)
-          (sym (ap (λ (s : State g.row.D.Denot). s.table.shape) c.state.ensures ∙ state_shape told state o x (began o.due ++ (f.begun ++ f.later)) (found_stands told state o x (f.begun ++ f.later) f.opening_is f.stands_for))) c.loop.invariant.room;
+      room = subst (λ (d : Dimensions). ports d ≤ vec_capacity c.args.rows.now)
+          (sym (ap (λ (s : State g.row.D.Denot). s.table.shape) c.state.ensures ∙ state_shape told state o x (began o.due ++ (f.begun ++ f.later)) (found_stands told state o x (f.begun ++ f.later) f.opening_is f.stands_for))) c.requires.room;
     }
 
-pub returns-in-Some-stock : goal.returns-in-Some-stock
-returns-in-Some-stock g c =
-    let told = g.D.Disk.told in
-    let state = g.D.Disk.state in
-    let o = opening_of state c.args.turns.now.first in
-    let f = c.enter-turn.ensures.found in
-    let x = c.enter-turn.result.state in
-    let h = f.begun ++ f.later in
-    let all = began o.due ++ h in
-    record { left = (all, stock_after told state o x all c.in-Some-stock.stock (found_stands told state o x h f.opening_is f.stands_for) (subst (λ (s : State g.row.D.Denot). IsStock s c.in-Some-stock.stock) c.state.ensures c.in-Some-stock.ensures.stock)) }
+pub returns : goal.returns
+returns g c = record {
+  left = λ h saw.
+      let stock = c.stock_in-stock in
+      left_at g.D.Disk.told g.D.Disk.state (opening_of g.D.Disk.state c.args.turns.now.first) c.args.pass.now.number c.enter-turn.result.own c.args.turns.now.passes h c.args.pass.now.seen c.enter-turn.result.seen c.enter-turn.result.state stock.result c.enter-turn.ensures.turn.1 c.enter-turn.ensures.found saw
+      (subst (λ (s : State g.row.D.Denot). IfSome stock.result (IsStock s)) c.state.ensures stock.ensures.stock);
+}

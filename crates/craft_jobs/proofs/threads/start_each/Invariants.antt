@@ -1,10 +1,12 @@
-use Rattle.std.proofs.Common.{◌≤◌, ◌+◌, length}
-use Rattle.craft_jobs.specs.Counts.{RoseBy}
+use Rattle.std.proofs.Common.{◌≡◌, ◌+◌, length}
+use Rattle.std.specs.Prelude.{vec_len}
+use Rattle.std.specs.Vec.Iter.{into_iter_len}
+use Rattle.dxc_outside.specs.declared.spawner.Started.TheVariants.{Running}
+use Rattle.craft_jobs.specs.Starts.{AreStarts}
 use Rattle.craft_jobs.proofs.threads.start_each.Given as goal
 
 abbrev pub invariant-loop-job : goal.invariant-loop-job
 invariant-loop-job g l = record {
-  risen : RoseBy (length l.yielded) (g.P.Spawner.state l.fn.spawner).starts (g.P.Spawner.state l.spawner).starts;
-  no_more : (g.P.Spawner.state l.spawner).starts ≤ (g.P.Spawner.state l.fn.spawner).starts + length l.yielded;
-  later : (g.P.Spawner.state l.fn.spawner).faults ≤ (g.P.Spawner.state l.spawner).faults;
+  started : AreStarts (length l.yielded) (g.P.Spawner.state l.fn.spawner) (g.P.Spawner.state l.spawner) Running;
+  left : length l.yielded + into_iter_len l.job-iterator ≡ vec_len l.fn.jobs;
 }

@@ -1,20 +1,18 @@
-use Rattle.std.proofs.Common.{◌<◌, ◌∙◌, ℕ, rules, inl, inr, length, refl, subst}
-use Rattle.std.specs.Arc.{arc_value}
-use Rattle.user_admin.specs.States.{opening_of as users_opening}
+use Rattle.std.proofs.Common.{ℕ, inl, inr, refl, subst}
 use Rattle.xc_core.specs.States.{opening_of}
-use Rattle.craft_server.proofs.Scripting.{IsEnd, first_place, ran_session}
+use Rattle.craft_server.proofs.Scripting.{IsEnd, ran_session}
 use Rattle.craft_element.proofs.Starting.{begun, users_began}
 use Rattle.craft_server.proofs.Starting.{opened_at}
 use Rattle.craft_server.proofs.script.run_script.Goals as goal
 
-pub open_places-requires-clause-begins : goal.open_places-requires-clause-begins
-open_places-requires-clause-begins g c = c.in-Ok.ensures.opened.0.1.begins
+pub lone_place-requires-clause-begins : goal.lone_place-requires-clause-begins
+lone_place-requires-clause-begins g c = c.in-Ok.ensures.opened.0.1.begins
 
-pub open_places-requires-clause-users_begin : goal.open_places-requires-clause-users_begin
-open_places-requires-clause-users_begin g c = c.in-Ok.ensures.opened.1.1.begins
+pub lone_place-requires-clause-users_begin : goal.lone_place-requires-clause-users_begin
+lone_place-requires-clause-users_begin g c = c.in-Ok.ensures.opened.1.1.begins
 
-pub open_places-requires-clause-opening : goal.open_places-requires-clause-opening
-open_places-requires-clause-opening g c = let h = c.in-Ok.ensures.opened.0 in opened_at g.O.Journal.Disk.told g.O.Journal.Disk.state h.0.disk h.0.shelf _ c.in-Ok.element.controller h.1
+pub lone_place-requires-clause-opening : goal.lone_place-requires-clause-opening
+lone_place-requires-clause-opening g c = let h = c.in-Ok.ensures.opened.0 in opened_at g.O.Journal.Disk.told g.O.Journal.Disk.state h.0.disk h.0.shelf _ c.in-Ok.element.controller h.1
 
 pub returns-in-Err : goal.returns-in-Err
 returns-in-Err g c = inl (c.in-Err.ensures.opened, (refl, refl))
@@ -31,16 +29,13 @@ returns g c =
     let k = g.K.Link.state c.args.terminal.now in
     let l = g.K.Link.state c.serve_session.new.link in
     let later = g.G.Gate.stops c.serve_session.new.gate in
-    let ps = c.in-Ok-open_places in
     let e = c.serve_session.ensures in
-    let some : 0 < length ps.places.items = search (rules, ps.ensures.each) in
-    let is = c.remove-place.ensures.value ∙ first_place (arc_value x.shelf) (opening_of state x.state) (users_opening state users) 1 ps.places.items c.remove-place.result ps.ensures.places some in
     let ended : IsEnd k l (g.G.Gate.stops c.open.new.gate) later c.serve_session.result = record { ended = e.end; read_fault = e.read_fault; write_fault = e.write_fault; stopped = e.stopped; unstopped = e.unstopped; spent = e.spent } in
     inr (
       f,
       opening_of state x.state,
       begun told state f.disk f.shelf _ x st,
       users_began told state g.O.Opener.told _ _ f.shelf users u,
-      ran_session told state g.K.Link.told g.C.Clock.told k l (g.C.Clock.coming c.args.clock.now) (g.C.Clock.coming c.serve_session.new.clock) (g.G.Gate.stops c.args.gate.now) later f.shelf f.disk u.0.disk _ x users c.remove-place.result c.serve_session.new.place c.serve_session.result c.after_session.result st u.1 is e.seat e.users e.numbers e.users_numbers e.astray e.session
+      ran_session told state g.K.Link.told g.C.Clock.told k l (g.C.Clock.coming c.args.clock.now) (g.C.Clock.coming c.serve_session.new.clock) (g.G.Gate.stops c.args.gate.now) later f.shelf f.disk u.0.disk _ x users c.in-Ok-lone_place.place c.serve_session.new.place c.serve_session.result c.after_session.result st u.1 c.in-Ok-lone_place.ensures e.seat e.users e.numbers e.users_numbers e.astray e.session
           (subst (λ (n : ℕ). IsEnd k l n later c.serve_session.result) c.in-Ok.ensures.unstopped ended) c.after_session.ensures,
     )

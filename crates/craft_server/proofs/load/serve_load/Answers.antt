@@ -1,0 +1,52 @@
+use Rattle.std.proofs.Common.{◌<◌, ◌^◌, ◌∙◌, ℕ, inl, inr, refl, sym, subst}
+use Rattle.dxc_causes.specs.Causes.{Counted}
+use Rattle.craft_session.specs.declared.end.SessionEnd.{SessionEnd}
+use Rattle.craft_session.specs.Meanings.{language}
+use Rattle.craft_session.specs.Sessions.{IsServed}
+use Rattle.dxc_load.specs.Sending.{link_state}
+use Rattle.craft_server.specs.Loads.{load_moments}
+use Rattle.craft_server.proofs.Loading.{no_read_fault, not_spent}
+use Rattle.craft_server.proofs.load.serve_load.Goals as goal
+
+pub unreachable-requires : goal.unreachable-requires
+unreachable-requires g c = no_read_fault (c.serve_session-end.ensures.read_fault c.in-ReadFault.is)
+
+pub unreachable-requires-in-Spent : goal.unreachable-requires-in-Spent
+unreachable-requires-in-Spent g c =
+    let l = link_state c.serve_session-end.new.link in
+    let e = c.serve_session-end.ensures in
+    let counted = subst (λ (n : ℕ). Counted n l.reads (2 ^ 32)) c.requires.unread (e.spent c.in-Spent.is) in
+    not_spent l.ended l.reads c.serve_session-end.result c.in-Spent.is e.end counted (λ on. subst (λ (n : ℕ). n < 2 ^ 21) c.reads-reads.ensures.value (c.reads-reads.ensures.few on))
+
+pub returns-in-End-clause-served : goal.returns-in-End-clause-served
+returns-in-End-clause-served g c =
+    let old = c.args.place.now in
+    let new = c.serve_session-end.new.place in
+    let k = link_state c.args.link.now in
+    let l = link_state c.serve_session-end.new.link in
+    let e = c.serve_session-end.ensures in
+    record {
+      session = subst (λ (end : SessionEnd). IsServed (language old.shelf) (Unit {0}) (Unit {0}) k l load_moments load_moments old.seat new.seat old.users new.users end) c.in-End.is e.session;
+      seat = e.seat;
+      users = e.users;
+      numbers = e.numbers;
+      users_numbers = e.users_numbers;
+      astray = e.astray;
+      ended = e.end.0 c.in-End.is;
+      all_read = e.all_read tt c.in-End.is;
+    }
+
+pub returns-in-End-clause-unstopped : goal.returns-in-End-clause-unstopped
+returns-in-End-clause-unstopped g c = c.serve_session-end.ensures.unstopped (λ is. let bad = sym c.in-End.is ∙ is in cc)
+
+pub returns-in-WriteFault-clause-served : goal.returns-in-WriteFault-clause-served
+returns-in-WriteFault-clause-served g c = inl refl
+
+pub returns-in-WriteFault-clause-unstopped : goal.returns-in-WriteFault-clause-unstopped
+returns-in-WriteFault-clause-unstopped g c = c.serve_session-end.ensures.later
+
+pub returns-in-Stopped-clause-served : goal.returns-in-Stopped-clause-served
+returns-in-Stopped-clause-served g c = inr (refl, c.serve_session-end.ensures.stopped c.in-Stopped.is)
+
+pub returns-in-Stopped-clause-unstopped : goal.returns-in-Stopped-clause-unstopped
+returns-in-Stopped-clause-unstopped g c = c.serve_session-end.ensures.later
