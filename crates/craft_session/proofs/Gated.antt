@@ -72,7 +72,7 @@ module _ (o : Opening) (place : ℕ) (asked : List GatePlace → Type 0) (h : Li
     take_by (took.Denied q) were x = entered_at false false (entry place op (refused q)) (asked_before q) (denies op q) were x.0
     take_by took.Stopped were x = entered_at false false (entry place op Cut) (Journal ∷ []) (stops_first op) were x.0
     take_by took.Halted were x = entered_back were x.0
-    take_by took.Waits were x = entered_back were x
+    take_by took.Waits were x = entered_back were x.0
 
     -- the turn in which a change was to begin
     pub entered_take : (t : Took D) (out : Bool) → takes_out t ≡ out → asked (asked_at_take t) → TookIs told state o place h op seen t → Entered o place asked false out h seen
@@ -85,7 +85,7 @@ module _ (o : Opening) (place : ℕ) (asked : List GatePlace → Type 0) (h : Li
       | inr one ↦ entered_at false false (entry place op (Failed q)) (Journal ∷ []) (fails_behind op q) one x.0
     ]
     mend_by restarting.Stopped were x = entered_at false false (entry place Restart Cut) (Journal ∷ []) (stops_first Restart) were x.0
-    mend_by restarting.Waits were x = entered_back were x
+    mend_by restarting.Waits were x = entered_back were x.0
 
     -- that in which a restart was
     pub entered_mend : (t : Restarting D) (out : Bool) → restarts_out t ≡ out → RestartAsked asked t → RestartIs told state o place h op seen t → Entered o place asked false out h seen
