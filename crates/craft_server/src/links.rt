@@ -8,7 +8,7 @@ use dxc_outside::{Came, Clock, Gate, Listener};
 use std::sync::Wait;
 
 /// How the serving of callers ended.
-#[derive(Clone, Copy, Debug, PartialEq, Eq)]
+#[derive(Clone, Copy, PartialEq, Eq)]
 pub enum LinksEnd {
     /// The listener said End.
     End,

@@ -4,7 +4,7 @@ ghost use Rattle.dxc_load.specs.Codes.{HasNoCode, HasNone, IsBehind, IsNextCode,
 use memchr::memchr;
 
 /// How many commands were answered with each completion code.
-#[derive(Clone, Copy, Debug, PartialEq, Eq)]
+#[derive(Clone, Copy, PartialEq, Eq)]
 pub struct Codes {
     pub completed: u64,
     pub denied: u64,

@@ -8,7 +8,7 @@ use arrayvec::ArrayVec;
 use itoa::Buffer;
 
 /// What a run of the whole script came to.
-#[derive(Clone, Copy, Debug, PartialEq, Eq)]
+#[derive(Clone, Copy, PartialEq, Eq)]
 pub struct Summary {
     /// Of the commands' responses.
     pub codes: Codes,

@@ -4,7 +4,7 @@ ghost use Rattle.dxc_model.specs.Labels.{is_label as reads_as_label, is_label_by
 use std::marker::Model;
 
 /// What an office calls a connection: at most 24 bytes of ASCII text without `"`. An empty one is none.
-#[derive(Clone, Copy, Debug)]
+#[derive(Clone, Copy)]
 pub struct Label {
     bytes: [u8; 24],
     // Two bytes, so that a connection has 32: it then is copied by two moves.

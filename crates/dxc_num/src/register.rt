@@ -1,7 +1,7 @@
 use crate::port::{Leg, Middle, Port};
 
 /// One register of the network, a 64-bit word.
-#[derive(Clone, Copy, Debug, PartialEq, Eq)]
+#[derive(Clone, Copy, PartialEq, Eq)]
 pub enum Reg {
     /// Which slot of an input module goes to a middle.
     In(u16, Middle),
@@ -12,7 +12,7 @@ pub enum Reg {
 }
 
 /// What a write does to the path of a leg.
-#[derive(Clone, Copy, Debug, PartialEq, Eq)]
+#[derive(Clone, Copy, PartialEq, Eq)]
 pub enum WriteKind {
     SetIn,
     SetMid,
@@ -23,7 +23,7 @@ pub enum WriteKind {
 }
 
 /// One write of a register on the path of a leg over a middle.
-#[derive(Clone, Copy, Debug, PartialEq, Eq)]
+#[derive(Clone, Copy, PartialEq, Eq)]
 pub struct RegWrite {
     pub kind: WriteKind,
     pub leg: Leg,

@@ -4,7 +4,7 @@ use crate::port::{Middle, Port};
 use std::marker::Model;
 
 /// How many modules a network has, and how many slots a module has a side: 2 to 64 by 1 to 96.
-#[derive(Clone, Copy, Debug, PartialEq, Eq)]
+#[derive(Clone, Copy, PartialEq, Eq)]
 pub struct Shape {
     modules: u16,
     slots: u16,

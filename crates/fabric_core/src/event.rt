@@ -4,7 +4,7 @@ ghost use Rattle.fabric_core.specs.Allowed.{actor_of};
 use dxc_num::{Leg, Middle, Port};
 
 /// One atomic step on one word: of the worker whose number it names, or of the mover.
-#[derive(Clone, Copy, Debug, PartialEq, Eq)]
+#[derive(Clone, Copy, PartialEq, Eq)]
 pub enum CoreEvent {
     /// A worker begins a frame.
     Begin(u16),
@@ -33,7 +33,7 @@ pub enum CoreEvent {
 }
 
 /// Who takes a step.
-#[derive(Clone, Copy, Debug, PartialEq, Eq)]
+#[derive(Clone, Copy, PartialEq, Eq)]
 pub enum Actor {
     /// The worker of this number.
     Worker(u16),

@@ -23,7 +23,7 @@ use dxc_num::{Leg, Middle, Route, Shape};
 use std::alloc::Global;
 
 /// The registers, and all else that the mover alone changes.
-#[derive(Debug, Drop)]
+#[derive(Drop)]
 pub struct Mover {
     pub registers: Registers,
     /// For each output its established leg.

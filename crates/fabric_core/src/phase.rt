@@ -1,7 +1,7 @@
 use dxc_num::{Leg, Middle};
 
 /// What the mover is about: the path that is not, or no longer, an established leg's.
-#[derive(Clone, Copy, Debug, PartialEq, Eq)]
+#[derive(Clone, Copy, PartialEq, Eq)]
 pub enum Phase {
     /// Each path is an established leg's.
     Rest,

@@ -12,7 +12,7 @@ use std::alloc::Global;
 
 /// The words of the registers, in the order in which they lie. 0 is none. An IN word is a slot plus one, a MID word an input module
 /// plus one, an OUT word the number of a switch times 256 plus a middle plus one.
-#[derive(Debug, Drop)]
+#[derive(Drop)]
 pub struct Registers {
     pub ins: Row<u64>,
     pub mids: Row<u64>,

@@ -5,7 +5,7 @@ use std::alloc::Global;
 use std::marker::Model;
 
 /// A list that the core can grow and change in place. Contracts see its items.
-#[derive(Debug, Drop)]
+#[derive(Drop)]
 pub struct Row<T: Drop> {
     items: Vec<T>,
 }

@@ -4,7 +4,7 @@ ghost use Rattle.fabric_core.specs.Passing.{seen_of, seen_after};
 use crate::row::Row;
 
 /// What the looks at one worker's frame word tell so far.
-#[derive(Clone, Copy, Debug, PartialEq, Eq, Default)]
+#[derive(Clone, Copy, PartialEq, Eq, Default)]
 pub struct Seen {
     /// The first odd number, or 0.
     pub first: u64,

@@ -16,7 +16,7 @@ use std::alloc::Global;
 use std::marker::Model;
 
 /// A state of the fabric that some list of allowed events reaches from the start.
-#[derive(Debug, Drop)]
+#[derive(Drop)]
 pub struct CoreState {
     pub(crate) size: Size,
     pub(crate) mover: Mover,

@@ -16,7 +16,7 @@ use dxc_num::{Middle, Port, Shape};
 use std::alloc::Global;
 
 /// What a worker that follows an output has found so far.
-#[derive(Clone, Copy, Debug, PartialEq, Eq)]
+#[derive(Clone, Copy, PartialEq, Eq)]
 pub enum Hold {
     /// Nothing.
     Empty,
@@ -52,7 +52,7 @@ impl Hold {
 }
 
 /// What a worker notes, load by load.
-#[derive(Clone, Copy, Debug, PartialEq, Eq)]
+#[derive(Clone, Copy, PartialEq, Eq)]
 pub enum Note {
     /// The OUT word of an output.
     OutWord {
@@ -76,7 +76,7 @@ pub enum Note {
 }
 
 /// What one worker alone changes.
-#[derive(Debug, Drop)]
+#[derive(Drop)]
 pub struct Worker {
     pub number: u16,
     /// Its frame word: odd while a frame runs.

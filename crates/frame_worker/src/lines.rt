@@ -9,7 +9,7 @@ use dxc_outside::{Frame, Gate, GatePlace, Lines, Pass1, Put};
 use fabric_words::{Fabric, WorkerSeat};
 
 /// Why a worker stopped carrying frames.
-#[derive(Clone, Copy, Debug, PartialEq, Eq)]
+#[derive(Clone, Copy, PartialEq, Eq)]
 pub enum LinesEnd {
     /// The lines said End.
     End,

@@ -9,7 +9,7 @@ use std::alloc::Global;
 use std::marker::Model;
 
 /// The legs of each row, or of each column, by middle, with the middles that are free there.
-#[derive(Debug, Drop)]
+#[derive(Drop)]
 pub struct Index {
     shape: Shape,
     legs: Vec<Option<Leg>>,

@@ -18,7 +18,7 @@ mod conditions;
 /// A colouring of a network's legs by middles. No middle stands twice in a row, and none twice in a column.
 ///
 /// Only `new` takes memory.
-#[derive(Debug, Drop)]
+#[derive(Drop)]
 pub struct Matrix {
     shape: Shape,
     routes: Vec<Option<Route>>,

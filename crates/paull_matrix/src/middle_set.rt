@@ -5,7 +5,7 @@ use dxc_num::Middle;
 use std::marker::Model;
 
 /// A set of middles below 128.
-#[derive(Clone, Copy, Debug, PartialEq, Eq)]
+#[derive(Clone, Copy, PartialEq, Eq)]
 pub struct MiddleSet {
     bits: u128,
 }

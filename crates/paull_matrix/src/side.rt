@@ -1,5 +1,5 @@
 /// A side of the network: rows are its input modules, columns its output modules.
-#[derive(Clone, Copy, Debug, PartialEq, Eq)]
+#[derive(Clone, Copy, PartialEq, Eq)]
 pub enum Side {
     Row,
     Column,

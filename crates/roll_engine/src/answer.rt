@@ -1,5 +1,5 @@
 /// How far a call came.
-#[derive(Clone, Copy, Debug, PartialEq, Eq)]
+#[derive(Clone, Copy, PartialEq, Eq)]
 pub enum Advance {
     /// All writes are made.
     Done,
@@ -10,7 +10,7 @@ pub enum Advance {
 }
 
 /// What came of one write.
-#[derive(Clone, Copy, Debug, PartialEq, Eq)]
+#[derive(Clone, Copy, PartialEq, Eq)]
 pub(crate) enum Step {
     Made,
     InFrame(u64),

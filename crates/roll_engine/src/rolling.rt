@@ -11,7 +11,7 @@ mod next;
 mod parts;
 
 /// What comes behind the work in hand.
-#[derive(Clone, Copy, Debug, PartialEq, Eq)]
+#[derive(Clone, Copy, PartialEq, Eq)]
 pub enum Behind {
     /// Nothing.
     Nothing,
@@ -25,7 +25,7 @@ pub enum Behind {
 ///
 /// A cold one clears the path that the mover is about, parts each leg that stands, and joins each leg of a matrix, one by one: it has the
 /// part or the join of one leg in hand.
-#[derive(Debug, Drop)]
+#[derive(Drop)]
 pub struct Rolling {
     work: Work,
     step: usize,

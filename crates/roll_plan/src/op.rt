@@ -5,7 +5,7 @@ use arrayvec::ArrayVec;
 use dxc_num::{Leg, Middle};
 
 /// How a new leg comes to its middle (Paull 1962).
-#[derive(Clone, Copy, Debug, PartialEq, Eq)]
+#[derive(Clone, Copy, PartialEq, Eq)]
 pub enum Chain {
     /// The middle is free at both ends.
     Direct,
@@ -27,14 +27,14 @@ impl Default for Chain {
 }
 
 /// The middle of a new leg, and how it comes to be free for it.
-#[derive(Clone, Copy, Debug, PartialEq, Eq, Default)]
+#[derive(Clone, Copy, PartialEq, Eq, Default)]
 pub struct Choice {
     pub middle: Middle,
     pub chain: Chain,
 }
 
 /// A leg goes from one middle to another, the new path made before the old one is left.
-#[derive(Clone, Copy, Debug, PartialEq, Eq, Default)]
+#[derive(Clone, Copy, PartialEq, Eq, Default)]
 pub struct Move {
     pub leg: Leg,
     pub from: Middle,
@@ -42,7 +42,7 @@ pub struct Move {
 }
 
 /// What is done for one leg, or for the legs of one middle.
-#[derive(Debug, PartialEq, Eq, Drop)]
+#[derive(PartialEq, Eq, Drop)]
 pub enum LegOp {
     /// The leg is joined at the middle of the choice, after these moves.
     Join {

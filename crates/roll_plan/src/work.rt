@@ -7,7 +7,7 @@ use arrayvec::ArrayVec;
 use dxc_num::RegWrite;
 
 /// One command's change of the registers: an op for each leg, in order.
-#[derive(Debug, PartialEq, Eq, Drop)]
+#[derive(PartialEq, Eq, Drop)]
 pub struct Work {
     pub ops: ArrayVec<LegOp, 2>,
 }

@@ -14,7 +14,7 @@ use std::marker::Model;
 use tl1_text::{Ctag, Sid};
 
 /// Whether a line was kept.
-#[derive(Clone, Copy, Debug, PartialEq, Eq)]
+#[derive(Clone, Copy, PartialEq, Eq)]
 pub enum Fits {
     /// It is in the block.
     Kept,
@@ -23,7 +23,7 @@ pub enum Fits {
 }
 
 /// The completion code of a response (GR-831).
-#[derive(Clone, Copy, Debug, PartialEq, Eq)]
+#[derive(Clone, Copy, PartialEq, Eq)]
 pub enum Code {
     /// The command was done.
     Compld,

@@ -2,7 +2,7 @@ use dxc_model::Op;
 use tl1_text::Span;
 
 /// What a unit asks for. Spans are parts of the unit's text.
-#[derive(Clone, Copy, Debug, PartialEq, Eq)]
+#[derive(Clone, Copy, PartialEq, Eq)]
 pub enum Command {
     /// ACT-USER: the user's name and password.
     ActUser { uid: Span, pid: Span },

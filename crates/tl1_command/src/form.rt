@@ -5,7 +5,7 @@ ghost use Rattle.tl1_command.specs.Meanings.{is_required as must_be, params_name
 use dxc_model::CommandCode;
 
 /// Whether a command names a parameter.
-#[derive(Clone, Copy, Debug, PartialEq, Eq)]
+#[derive(Clone, Copy, PartialEq, Eq)]
 pub enum Need {
     Never,
     Optional,
@@ -33,7 +33,7 @@ impl Need {
 
 /// How many AIDs a command names, whether these have to be there, whether the first parameter of the first payload block
 /// has, and whether the second one is a label.
-#[derive(Clone, Copy, Debug, PartialEq, Eq)]
+#[derive(Clone, Copy, PartialEq, Eq)]
 pub struct Form {
     pub aids: usize,
     pub aid: Need,

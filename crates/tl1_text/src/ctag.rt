@@ -9,7 +9,7 @@ use std::marker::Model;
 
 /// A correlation tag (GR-831), by which a response names its command: one to six ASCII letters and digits that
 /// aren't all `0`, echoed as written.
-#[derive(Debug, PartialEq, Eq, Drop)]
+#[derive(PartialEq, Eq, Drop)]
 pub struct Ctag {
     text: ArrayVec<u8, 6>,
 }

@@ -3,7 +3,7 @@ ghost use Rattle.tl1_text.specs.Grammar.{is_plain as plain, is_inner as inner};
 ghost use Rattle.tl1_text.specs.Walk.{is_outside as outside, takes_plain as plain_may_follow, after as behind, ArePlain};
 
 /// Where a reader stands in a parameter.
-#[derive(Clone, Copy, Debug, PartialEq, Eq)]
+#[derive(Clone, Copy, PartialEq, Eq)]
 pub enum Place {
     /// Before its first byte.
     Start,

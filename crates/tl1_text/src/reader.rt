@@ -11,7 +11,7 @@ use std::marker::Model;
 const LIMIT: usize = 2048;
 
 /// What a piece of the stream ended.
-#[derive(Clone, Copy, Debug, PartialEq, Eq)]
+#[derive(Clone, Copy, PartialEq, Eq)]
 pub enum UnitKind {
     /// A unit of at most 2,048 bytes.
     Whole,
@@ -22,7 +22,7 @@ pub enum UnitKind {
 }
 
 /// How many bytes of a piece were taken, and what ended with the last of them.
-#[derive(Clone, Copy, Debug, PartialEq, Eq)]
+#[derive(Clone, Copy, PartialEq, Eq)]
 pub struct Fed {
     pub taken: usize,
     pub unit: UnitKind,

@@ -6,7 +6,7 @@ use std::marker::Model;
 
 /// A source identifier (GR-831), by which a network element is named in its messages and in a command's TID: 1 to
 /// 20 ASCII letters, digits and `-`, of which the first is a letter.
-#[derive(Debug, PartialEq, Eq, Drop)]
+#[derive(PartialEq, Eq, Drop)]
 pub struct Sid {
     text: ArrayVec<u8, 20>,
 }

@@ -3,7 +3,7 @@ ghost use Rattle.std.specs.Prelude.{◌≡◌, ◌≤◌};
 use arrayvec::ArrayVec;
 
 /// The bytes of a unit from `start` up to `end`.
-#[derive(Clone, Copy, Default, Debug, PartialEq, Eq)]
+#[derive(Clone, Copy, Default, PartialEq, Eq)]
 pub struct Span {
     pub start: u16,
     pub end: u16,
@@ -33,11 +33,11 @@ impl Span {
 }
 
 /// The blocks of a unit: command code, TID, AID block, CTAG, general block, and payload blocks.
-#[derive(Debug, Drop)]
+#[derive(Drop)]
 pub struct Blocks {
     pub block: ArrayVec<Span, 10>,
 }
 
 /// The unit isn't in the grammar.
-#[derive(Clone, Copy, Debug, PartialEq, Eq)]
+#[derive(Clone, Copy, PartialEq, Eq)]
 pub struct BadText;

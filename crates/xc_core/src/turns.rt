@@ -167,7 +167,7 @@ pub fn rows<D: Disk + Drop, R: Wait>(
 }
 
 /// What a look at the changes found.
-#[derive(Clone, Copy, Debug, PartialEq, Eq)]
+#[derive(Clone, Copy, PartialEq, Eq)]
 pub struct Looked {
     pub since: Since,
     /// The number of the newest change.
