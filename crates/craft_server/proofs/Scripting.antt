@@ -1,5 +1,5 @@
 -- One session was served on a controller that was opened.
-use Rattle.std.proofs.Common.{◌≡◌, ◌≢◌, ◌<◌, ◌↔◌, ◌^◌, ◌⊎◌, arith, ℕ, List, [], ◌∷◌, IsTrue, inl, inr, length, slice_index_or, refl, sym, ◌∙◌, ap, subst}
+use Rattle.std.proofs.Common.{◌≡◌, ◌≢◌, ◌↔◌, ◌^◌, ◌⊎◌, ℕ, List, IsTrue, inl, inr, refl, sym, ◌∙◌, ap, subst}
 use Rattle.std.specs.Arc.{arc_value}
 use Rattle.dxc_causes.specs.Causes.{Rose, Counted}
 use Rattle.dxc_disk.specs.Disks.{DiskState}
@@ -22,7 +22,7 @@ use Rattle.craft_element.specs.declared.opening.Controller.{Controller}
 use Rattle.craft_words.specs.declared.status.Status.{Status}
 use Rattle.craft_words.specs.declared.status.Status.TheVariants.{Done, Link, Stopped as Was_stopped, Spent as Ran_out}
 use Rattle.craft_element.specs.Openings.{AreUsersStarted, IsStarted}
-use Rattle.craft_session.specs.Places.{ArePlaces, place_at}
+use Rattle.craft_session.specs.Places.{place_at}
 use Rattle.craft_server.specs.Scripts.{RanSession}
 use Rattle.craft_server.specs.Statuses.{status_of}
 use Rattle.craft_server.proofs.Starting.{of_disk, users_of_disk}
@@ -63,11 +63,6 @@ spent_at ReadFault is = cc
 spent_at WriteFault is = cc
 spent_at Stopped is = cc
 spent_at Spent is = refl
-
--- the first of the places
-pub first_place : (s : Contents) (o : Opening) (u : UsersOpening) (places : ℕ) (ps : List PlaceAt) (d : PlaceAt) → ArePlaces s o u places 0 ps → 0 < length ps → slice_index_or ps 0 d ≡ place_at s o u places 0
-first_place s o u places [] d all some = absurd (omega arith)
-first_place s o u places (p ∷ ps) d all some = all.0
 
 module _ {D : Type 0} (disk_told : Type 0) (state : D → DiskState) (told clock_told : Type 0) (k l : LinkState) (c d : List Moment) (stops later : ℕ) (s : Contents) (disk users_disk : D) where
   -- what the session at its one place did

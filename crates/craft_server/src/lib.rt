@@ -5,7 +5,6 @@ mod jobs;
 mod links;
 mod load;
 mod mirrored;
-mod places;
 mod run;
 mod script;
 mod serve;

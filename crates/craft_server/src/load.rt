@@ -11,9 +11,9 @@ ghost use Rattle.craft_element.specs.Loads.{IsLoadElement, NotLoaded};
 ghost use Rattle.craft_element.specs.Stocks.{IsLeft};
 ghost use Rattle.craft_server.specs.Loads.{IsLoad, IsLoaded, IsLoadedOn, IsLoadServed, IsSummed};
 
-use crate::places::lone_place;
 use arrayvec::ArrayVec;
 use craft_element::{Controller, Element, Stock, load_element, stock_of};
+use craft_session::places::lone_place;
 use craft_session::{Place, SessionEnd, serve_session};
 use craft_words::Status;
 use dxc_causes::NoMemory;

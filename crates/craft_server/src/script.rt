@@ -3,8 +3,8 @@ ghost use Rattle.craft_element.specs.Openings.{Opens, named, sources};
 ghost use Rattle.craft_server.specs.Scripts.{RanSession};
 ghost use Rattle.craft_server.specs.Statuses.{status_of};
 
-use crate::places::lone_place;
 use craft_element::{Controller, Element, Names, WORKERS, open};
+use craft_session::places::lone_place;
 use craft_session::{SessionEnd, serve_session};
 use craft_words::Status;
 use dxc_outside::{Clock, Gate, Link, Opener};

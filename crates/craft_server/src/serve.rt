@@ -12,10 +12,10 @@ ghost use Rattle.craft_server.specs.Serving.{IsServe, IsServing, named_in, peer_
 
 use crate::jobs::session_jobs;
 use crate::mirrored::serve_mirrored;
-use crate::places::open_places;
 use crate::sessions::SessionJob;
 use craft_element::{Controller, Element, Names, open};
 use craft_jobs::{FrameJob, frame_jobs, run_all};
+use craft_session::places::open_places;
 use craft_words::{Line, Status};
 use dxc_disk::Disk;
 use dxc_outside::{Clock, Gate, Lines, Listener, Opener, Spawner, Started};

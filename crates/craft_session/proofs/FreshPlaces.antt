@@ -46,6 +46,11 @@ pub places_more : (s : Contents) (o : Opening) (u : UsersOpening) (places n : �
 places_more s o u places n [] p all is = let same : n + 0 ≡ n = omega arith in (is ∙ ap (place_at s o u places) same, tt)
 places_more s o u places n (x ∷ xs) p all is = let same : n + suc (length xs) ≡ n + 1 + length xs = omega arith in (all.0, places_more s o u places (n + 1) xs p all.1 (is ∙ ap (place_at s o u places) same))
 
+-- the first of the places
+pub first_place : (s : Contents) (o : Opening) (u : UsersOpening) (places : ℕ) (ps : List PlaceAt) (d : PlaceAt) → ArePlaces s o u places 0 ps → 0 < length ps → slice_index_or ps 0 d ≡ place_at s o u places 0
+first_place s o u places [] d all some = absurd (omega arith)
+first_place s o u places (p ∷ ps) d all some = all.0
+
 -- who has seen nothing has seen no number
 none_numbered : (passes : ℕ) → AreNumbered passes []
 none_numbered passes [] is = tt

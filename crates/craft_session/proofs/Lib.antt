@@ -7,7 +7,6 @@ pub mod Listing
 pub mod Changing
 pub mod Gating
 pub mod Gated
-pub mod Effects
 pub mod Acted
 pub mod Walking
 pub mod Seating
@@ -19,8 +18,6 @@ pub mod Answering
 pub mod Telling
 pub mod Playing
 pub mod Meanwhiles
-pub mod Once
 pub mod Hearings
-pub mod Completing
 pub mod Scripts
 pub mod FreshPlaces

@@ -1,5 +1,5 @@
--- What others do between two steps of a session, and what they do to it where there are none.
-use Rattle.std.proofs.Common.{◌≡◌, ℕ, List, [], ◌∷◌, ◌++◌, refl, sym, ◌∙◌, ap, append_assoc, append-nil, inl, inr, subst}
+-- Between two steps of a session that is alone nothing is done.
+use Rattle.std.proofs.Common.{◌≡◌, ℕ, List, [], ◌∷◌, ◌++◌, refl, ◌∙◌, ap, inl, inr, subst}
 use Rattle.std.specs.List.{AllByRecursion}
 use Rattle.dxc_model.specs.declared.cause.Cause.{Cause}
 use Rattle.dxc_model.specs.declared.cause.Cause.TheVariants.{DiskFault}
@@ -9,33 +9,13 @@ use Rattle.dxc_model.specs.declared.entry.Outcome.TheVariants.{Failed, Taken}
 use Rattle.dxc_model.specs.declared.entry.Entry.{Entry}
 use Rattle.dxc_model.specs.Tables.{Board}
 use Rattle.dxc_model.specs.Steps.{IsFault, made}
-use Rattle.dxc_model.specs.Histories.{IsInDoubt, changes_of, table_after}
-use Rattle.dxc_model.proofs.Growth.{changes_append, table_append}
+use Rattle.dxc_model.specs.Histories.{IsInDoubt, table_after}
 use Rattle.craft_session.specs.declared.attending.Attending.{Attending}
-use Rattle.craft_session.specs.Plain.{At, Excuse, alone, among, standing}
+use Rattle.craft_session.specs.Plain.{At, Excuse, alone, standing}
 use Rattle.craft_session.specs.Scripts.{IsEnded, IsOwn}
 use Rattle.craft_session.specs.Walks.{IsUnused}
-use Rattle.craft_session.proofs.Changing.{each_append}
 use Rattle.craft_session.proofs.Playing.{apart, stood_still}
 
-module _ (place : ℕ) where
-  pub among_stays : (a : At) → among place a a
-  among_stays a = ([], tt, λ i. record { table = a.table; changes = sym (append-nil a.changes) i; attending = a.attending })
-
-  pub among_onward : (a b c : At) → among place a b → among place b c → among place a c
-  among_onward a b c (es, first, is) (fs, next, also) =
-      let table : c.table ≡ table_after a.table (es ++ fs) = ap (λ (x : At). x.table) also ∙ ap (λ (x : At). table_after x.table fs) is ∙ sym (table_append a.table es fs) in
-      let changes : c.changes ≡ a.changes ++ changes_of (es ++ fs) = ap (λ (x : At). x.changes) also ∙ ap (λ (x : At). x.changes ++ changes_of fs) is ∙ append_assoc a.changes (changes_of es) (changes_of fs) ∙ ap (λ (cs : List Change). a.changes ++ cs) (sym (changes_append es fs)) in
-      let attending : c.attending ≡ a.attending = ap (λ (x : At). x.attending) also ∙ ap (λ (x : At). x.attending) is in
-      (es ++ fs, each_append (IsUnused place) es fs first next, λ i. record { table = table i; changes = changes i; attending = attending i })
-
-  pub among_keeps : (a b : At) → among place a b → b.attending ≡ a.attending
-  among_keeps a b (es, unused, is) = ap (λ (x : At). x.attending) is
-
-  pub among_passed : (t : Board) (h : List Entry) (e : Entry) (s : Attending) → IsUnused place e → among place (standing t h s) (standing t (h ++ e ∷ []) s)
-  among_passed t h e s unused = (e ∷ [], (unused, tt), λ i. record { table = table_append t h (e ∷ []) i; changes = changes_append h (e ∷ []) i; attending = s })
-
--- alone
 pub alone_onward : (a b c : At) → alone a b → alone b c → alone a c
 alone_onward a b c is also = also ∙ is
 

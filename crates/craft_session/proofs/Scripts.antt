@@ -1,10 +1,8 @@
 -- What a session wrote that was alone on what a journal came to.
 use Rattle.std.specs.List.{AllByRecursion}
-use Rattle.std.proofs.Common.{◌≡◌, ◌≢◌, ◌⊎◌, ◌≤◌, ◌<◌, ◌+◌, ◌*◌, ℕ, false, length, length-append, List, [], ◌∷◌, ◌++◌, Option, None, refl, sym, ◌∙◌, ap, subst, arith, inl, inr}
+use Rattle.std.proofs.Common.{◌≡◌, ◌≢◌, ◌⊎◌, ◌≤◌, ◌<◌, ◌+◌, ◌*◌, ℕ, false, length, length-append, List, [], ◌∷◌, ◌++◌, None, refl, sym, ◌∙◌, ap, subst, arith, inl, inr}
 use Rattle.turnstile.specs.Turning.{Each}
-use Rattle.std.specs.Prelude.{IfSome}
-use Rattle.dxc_causes.specs.Causes.{HasCause}
-use Rattle.dxc_disk.specs.Disks.{CountsOn, DiskState, Spends}
+use Rattle.dxc_disk.specs.Disks.{DiskState}
 use Rattle.dxc_outside.specs.declared.clock.Moment.{Moment}
 use Rattle.dxc_outside.specs.Items.{Item}
 use Rattle.dxc_outside.specs.Links.{LinkState}
@@ -22,19 +20,14 @@ use Rattle.dxc_model.specs.Histories.{GoesOn, IsCut, IsFailedRestart, IsLegal, I
 use Rattle.dxc_model.proofs.Lasting.{lasts_before, lasts_no_more}
 use Rattle.tl1_text.specs.Units.{Input, IsRest, IsStream}
 use Rattle.user_admin.specs.declared.op.UserEntry.{UserEntry}
-use Rattle.user_admin.specs.declared.state.UserState.{UserState}
 use Rattle.user_admin.specs.Histories.{Opening as UsersOpening}
-use Rattle.user_admin.specs.Openings.{Begins as UsersBegins}
-use Rattle.user_admin.specs.States.{opening_of as users_opening}
 use Rattle.user_admin.specs.Turns.{AreNumbered as AreUsersNumbered, codes as user_codes}
 use Rattle.dxc_model.specs.declared.user.SessionUser.{SessionUser}
 use Rattle.shelf_file.specs.Contents.{Contents}
 use base.Stored.{Gv}
 use Rattle.xc_core.specs.Seeing.{Saw, codes, entry}
 use Rattle.xc_core.proofs.Began.{seen_all}
-use Rattle.xc_core.specs.declared.state.State.{State}
-use Rattle.xc_core.specs.Openings.{Begins, disk_home}
-use Rattle.xc_core.specs.States.{IsPaid, LimitBehind, Opening, cost, fault_in, faults_in, IsNeverAstray, most_room, opening_of, room_in, rules_of}
+use Rattle.xc_core.specs.States.{IsPaid, LimitBehind, Opening, cost, fault_in, faults_in, IsNeverAstray, most_room, room_in, rules_of}
 use Rattle.xc_core.specs.Turns.{AreNumbered, SawNoneAstray}
 use Rattle.craft_session.specs.declared.ask.Ask.{Ask}
 use Rattle.craft_session.specs.declared.ask.Ask.TheVariants.{Refused, LogsIn, LogsOut, Completes, Allows, Inhibits, Lists, Restarts, Changes}
@@ -44,7 +37,6 @@ use Rattle.craft_session.specs.Asks.{Language, Reply, user_after}
 use Rattle.craft_session.specs.Happenings.{Happening, Request, unit, bytes_in, inputs_in, units_in}
 use Rattle.craft_session.specs.Meanings.{language}
 use Rattle.craft_session.specs.PlainUsers.{ConsultsAlone, IsUsersOpeningOf}
-use Rattle.craft_session.specs.Rooms.{opening_room}
 use Rattle.craft_session.specs.Plain.{Excuse, Plays, alone, said_in, standing}
 use Rattle.craft_session.specs.Runs.{Run, Walk, begins, passes, responds, waits, looks}
 use Rattle.craft_session.specs.Scripts.{Answered, AnsweredInPart, AnsweredToStop, AnsweredToUsersStop, IsEnded, IsOpeningOf, IsOwn, IsOwnHistory, IsScript, IsUnsoundBy, WroteAll, command_room, excused_on, opened, room_of}
@@ -501,31 +493,3 @@ script_seen disk_told told clock_told disk users_disk k l c d s old new users th
     let now : Now = record { seen = new.seen; users = then_users.seen; attending = x.attending } in
     let session = session_alone told clock_told k l c d s old new users then_users End is.ready none no_users x in
     (wrote_all disk_told disk users_disk old.place old.opening users.opening is users_is told clock_told k l c d s now (seen_mine old.place new.places new.seen zero one numbers) never (users_seen_mine old.place then_users.places then_users.seen zero users_one users_numbers) session, session.past.saw)
-
--- an opening of a disk is one, by what the call tells of the disk that the state has at home
-pub opening_of_disk : {D : Type 0} (told failed : Type 0) (state : D → DiskState) → ((x : D) → CountsOn (state x)) → (disk : D) (s : State D) → Begins told state s → IfSome (disk_home s.home) (λ d. HasCause (state disk).faults (state d).faults failed) → IfSome (disk_home s.home) (λ d. Spends opening_room (state disk) (state d))
-    → (opening_of state s).due ≡ false → IsOpeningOf (state disk) (opening_of state s)
-opening_of_disk {D} told failed state counts disk s x cause spends ready =
-    let d = x.disk in
-    let caused = subst (λ (y : Option D). IfSome y (λ d2. HasCause (state disk).faults (state d2).faults failed)) x.is_home cause in
-    let spent = subst (λ (y : Option D). IfSome y (λ d2. Spends opening_room (state disk) (state d2))) x.is_home spends in
-    let on = counts d in
-    record {
-      later = omega (arith, caused.later, x.faults);
-      room = λ roomy. let left = (spent roomy).room in omega (arith, left, x.room);
-      margin = λ roomy. let left = (spent roomy).margin in omega (arith, left, x.faults, x.margin);
-      counts = λ some. let below = on (omega (arith, some, x.room)) in omega (arith, below, x.faults);
-      ready = ready;
-    }
-
--- and so is one of a users' disk
-pub users_opening_of_disk : {D : Type 0} (told failed : Type 0) (state : D → DiskState) → ((x : D) → CountsOn (state x)) → (disk : D) (s : UserState D) → UsersBegins told state s → HasCause (state disk).faults (state s.journal.0).faults failed → Spends opening_room (state disk) (state s.journal.0)
-    → IsUsersOpeningOf (state disk) (users_opening state s)
-users_opening_of_disk {D} told failed state counts disk s x cause spends =
-    let on = counts s.journal.0 in
-    record {
-      later = omega (arith, cause.later, x.faults);
-      room = λ roomy. let left = (spends roomy).room in omega (arith, left, x.room);
-      margin = λ roomy. let left = (spends roomy).margin in omega (arith, left, x.faults, x.margin);
-      counts = λ some. let below = on (omega (arith, some, x.room)) in omega (arith, below, x.faults);
-    }

@@ -1,15 +1,14 @@
 -- At which places a session's gate was asked for the entries that it made.
-use Rattle.std.specs.Prelude.{◌≡◌, ◌≢◌, ◌≤◌, ◌==◌, ◌+◌, if◌then◌else◌, ℕ, Bool, true, false, List, [], ◌∷◌, ◌++◌, replicate, Option}
+use Rattle.std.specs.Prelude.{◌≡◌, ◌≢◌, ◌+◌, ℕ, Bool, true, false, List, [], ◌∷◌, ◌++◌, replicate, Option}
 use base.Stored.{Gv}
 use Rattle.turnstile.specs.Turning.{Each}
 use Rattle.dxc_outside.specs.declared.gate.GatePlace.{GatePlace}
-use Rattle.dxc_outside.specs.declared.gate.GatePlace.TheVariants.{Journal, Register, Finish}
+use Rattle.dxc_outside.specs.declared.gate.GatePlace.TheVariants.{Journal, Register}
 use Rattle.dxc_model.specs.declared.cause.Cause.{Cause}
 use Rattle.dxc_model.specs.declared.op.Change.{Change}
 use Rattle.dxc_model.specs.declared.op.Op.{Op}
 use Rattle.dxc_model.specs.declared.op.Op.TheVariants.{Restart}
 use Rattle.dxc_model.specs.declared.entry.Entry.{Entry}
-use Rattle.dxc_model.specs.declared.entry.Outcome.{Outcome}
 use Rattle.dxc_model.specs.declared.entry.Outcome.TheVariants.{Done, Failed, Answered, Restarted, Cut, Taken}
 use Rattle.user_admin.specs.declared.op.UserChange.{UserChange}
 use Rattle.user_admin.specs.declared.op.UserEntry.{UserEntry}
@@ -90,31 +89,3 @@ AreUsersEntered u asked then_seen = (h : List UserEntry) → SawUsers u.opening 
 -- behind what both seats of a place had seen
 abbrev pub AreEntered : SeatAt → UserSeatAt → (List GatePlace → Type 0) → List Gv → List Gv → Type 0
 AreEntered s u asked then_seen then_users = (h : List Entry) (g : List UserEntry) → Saw s.opening s.seen h → SawUsers u.opening u.seen g → BothEntered s.opening u.opening s.place u.place asked h g then_seen then_users
-
--- which entries took effect, and which a stop cut
-abbrev pub effect_in : Outcome → ℕ
-effect_in (Done c) = 1
-effect_in (Restarted c) = 1
-effect_in _ = 0
-
-abbrev pub cut_in : Outcome → ℕ
-cut_in Cut = 1
-cut_in _ = 0
-
--- how many of the place's own
-unfoldable pub count_own : (Outcome → ℕ) → ℕ → List Entry → ℕ
-count_own f place [] = 0
-count_own f place (e ∷ es) = (if e.place == place then f e.outcome else 0) + count_own f place es
-
--- how often the gate was asked behind the writes of a work
-unfoldable pub ends_in : List GatePlace → ℕ
-ends_in [] = 0
-ends_in (Finish ∷ ps) = 1 + ends_in ps
-ends_in (_ ∷ ps) = ends_in ps
-
--- once for each entry of the place's own that took effect, and for no other but those that a stop cut
-abbrev pub AsksForEffects : ℕ → List Entry → List GatePlace → Type 0
-AsksForEffects place es ps = (count_own effect_in place es ≤ ends_in ps) × (ends_in ps ≤ count_own effect_in place es + count_own cut_in place es)
-
-abbrev pub EffectsAreAsked : Type 0
-EffectsAreAsked = (place users_place : ℕ) (es : List Entry) (us : List UserEntry) (ps : List GatePlace) → AreGated place users_place es us ps → AsksForEffects place es ps

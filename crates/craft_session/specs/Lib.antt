@@ -20,6 +20,4 @@ pub mod Plain
 pub mod Rooms
 pub mod PlainUsers
 pub mod Scripts
-pub mod Entering
-pub mod Laws
 pub mod Places

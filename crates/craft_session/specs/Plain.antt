@@ -1,6 +1,5 @@
 -- The plain session: one table, one user, one happening after the other. Meanwhile others may change the table.
 use Rattle.std.specs.Prelude.{◌≡◌, ◌⊎◌, ℕ, Bool, true, false, Option, Some, None, Result, Ok, Err, List, [], ◌∷◌, ◌++◌, length, option_to_list}
-use Rattle.turnstile.specs.Turning.{Each}
 use Rattle.dxc_model.specs.declared.cause.Cause.{Cause}
 use Rattle.dxc_model.specs.declared.cause.Cause.TheVariants.{DiskFault}
 use Rattle.dxc_model.specs.declared.op.Change.{Change}
@@ -17,7 +16,7 @@ use Rattle.craft_session.specs.Asks.{Reply, completed, completed_rows, restarted
 use Rattle.craft_session.specs.Happenings.{Happening, unit, quiet}
 use Rattle.craft_session.specs.Notices.{AreReported, notices}
 use Rattle.craft_session.specs.Runs.{Walk}
-use Rattle.craft_session.specs.Walks.{IsUnused, attending_after}
+use Rattle.craft_session.specs.Walks.{attending_after}
 
 -- the table, the changes that led to it, who is logged in and where reports stand
 pub record At : Type 0 where
@@ -44,10 +43,6 @@ Meanwhile = At → At → Type 0
 -- nothing, where the session is alone
 abbrev pub alone : Meanwhile
 alone a b = b ≡ a
-
--- entries that no unit of the place uses, else
-abbrev pub among : ℕ → Meanwhile
-among place a b = (es : List Entry) × Each (IsUnused place) es × (b ≡ record { table = table_after a.table es; changes = a.changes ++ changes_of es; attending = a.attending })
 
 -- a change that the table grants is made, unless it meets a limit
 abbrev pub Makes : Change → Option Cause → Reply → Option Change → Type 0

@@ -13,10 +13,9 @@ use Rattle.user_admin.specs.Histories.{IsLegal, MayCome, Opening, change_in, fai
 use Rattle.user_admin.specs.States.{most_room}
 use Rattle.user_admin.specs.Users.{Users}
 use Rattle.user_admin.specs.Verdicts.{login}
-use Rattle.tl1_text.specs.Units.{Input}
 use Rattle.craft_session.specs.Asks.{Language, user_after}
 use Rattle.craft_session.specs.Consulting.{Consults}
-use Rattle.craft_session.specs.Happenings.{Happening, Request, unit, quiet}
+use Rattle.craft_session.specs.Happenings.{Happening, unit, quiet}
 use Rattle.craft_session.specs.Hearing.{Heard, Wanted, unasked, found, nothing, to_look, to_do, heard_of}
 use Rattle.craft_session.specs.Rooms.{opening_room}
 
@@ -39,12 +38,6 @@ abbrev pub PlaysUsers : {U M : Type 0} → Language U M → List ℕ → Type 0 
 PlaysUsers l sid excused users s [] then_users then_s = (then_users ≡ users) × (then_s ≡ s)
 PlaysUsers l sid excused users s (unit u ∷ hs) then_users then_s = (next : Users) × HearsOf sid excused users (l.wants s u) (l.heard u) next × PlaysUsers l sid excused next (user_after s (l.asks s u)) hs then_users then_s
 PlaysUsers l sid excused users s (quiet ∷ hs) then_users then_s = PlaysUsers l sid excused users s hs then_users then_s
-
--- what happened, without what was heard
-abbrev pub bare : List (Happening Request) → List (Happening Input)
-bare [] = []
-bare (unit u ∷ hs) = unit u.input ∷ bare hs
-bare (quiet ∷ hs) = quiet ∷ bare hs
 
 -- what opening and so many commands may take of it
 abbrev pub users_room_of : ℕ → ℕ

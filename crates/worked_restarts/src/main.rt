@@ -8,7 +8,6 @@ mod carriage;
 mod carrier;
 mod crew;
 mod element;
-mod places;
 mod reader;
 mod row;
 mod run;

@@ -4,8 +4,8 @@ ghost use Rattle.std.specs.Arc.{arc_value};
 ghost use Rattle.user_admin.specs.Openings.{Begins as UsersBegin};
 ghost use Rattle.craft_session.specs.Places.{AreFresh};
 
-use crate::places::turns_of;
 use anyhow::{Result, bail};
+use craft_session::places::turns_of;
 use dxc_disk::{Disk, MemDisk};
 use shelf_file::Shelf;
 use std::alloc::Global;

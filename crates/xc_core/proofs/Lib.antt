@@ -1,4 +1,3 @@
-pub mod Moves
 pub mod Reckoning
 pub mod Crossing
 pub mod Granting
@@ -15,7 +14,6 @@ pub mod Within
 pub mod Turning
 pub mod Reported
 pub mod Meeting
-pub mod Mirrored
 pub mod Restarting
 pub mod Restored
 pub mod Giving
@@ -29,5 +27,4 @@ pub mod Began
 pub mod Opened
 pub mod Unread
 pub mod Adoption
-pub mod Succeeding
 pub mod Asked

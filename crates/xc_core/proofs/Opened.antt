@@ -1,8 +1,7 @@
 -- A start of the controller: the disk's journal, its replay, and the joins of all legs.
-use Rattle.std.proofs.Common.{◌≡◌, ◌≢◌, ◌⊎◌, inl, inr, ⊎_elim, ℕ, ◌-◌, ◌<◌, ◌≤◌, ◌^◌, append-nil, Bool, true, length-append, false, List, [], ◌++◌, length, None, Some, Result, Ok, Err, refl, sym, ◌∙◌, ap, subst, arith}
-use Rattle.std.specs.Prelude.{IfSome, replicate, slice_index}
+use Rattle.std.proofs.Common.{◌≡◌, ◌⊎◌, inl, ⊎_elim, ℕ, ◌-◌, ◌<◌, ◌≤◌, ◌^◌, append-nil, Bool, true, length-append, false, List, [], ◌++◌, length, None, Some, Result, Ok, Err, refl, sym, ◌∙◌, ap, subst, arith}
+use Rattle.std.specs.Prelude.{IfSome, replicate}
 use Rattle.std.proofs.lemmas.List.{length-replicate, length-take}
-use Rattle.std.proofs.lemmas.Bool.Decides.{leb_tells}
 use Rattle.dxc_num.specs.Dimensions.{Dimensions, IsInLimits, ports}
 use Rattle.dxc_disk.specs.Disks.{DiskState, IsDisk, IsSettled, Looks}
 use Rattle.dxc_disk.proofs.LookSteps.{looks_settled}
@@ -24,7 +23,8 @@ use Rattle.journal_core.specs.Books.{IsKept, IsWhole, area, is_tried, listed}
 use Rattle.journal_core.specs.Opens.{Finds, Founds, IsOpened, IsRefused, OpensNew, OpensOld, made_head}
 use Rattle.journal_core.proofs.BookMends.{kept_stands}
 use Rattle.journal_core.proofs.HeaderSteps.{never}
-use Rattle.journal_core.proofs.StandSteps.{head_once, stands_once}
+use Rattle.journal_core.proofs.OpenSteps.{new_or_not}
+use Rattle.journal_core.proofs.StandSteps.{stands_once}
 use Rattle.paull_matrix.specs.Colourings.{Colouring, IsProperColouring, no_legs}
 use Rattle.roll_plan.specs.declared.op.LegOp.{LegOp}
 use Rattle.roll_plan.specs.declared.work.Work.{Work}
@@ -62,7 +62,6 @@ use Rattle.xc_core.specs.States.{IsHomeAfter, IsReadyOrHalted, Opening, StandsFo
 use Rattle.xc_core.specs.Openings.{Begins, HasBadRecord, IsFoldOf, IsOpening, LeavesOpened, Opens, disk_home}
 use Rattle.xc_core.proofs.Began.{began_astray, began_changes, began_faults, began_holder, began_legal, began_paid, began_turns, began_unstopped}
 use Rattle.xc_core.proofs.Journalling.{looked_on, untried}
-use Rattle.xc_core.proofs.Staging.{comes_once}
 use Rattle.xc_core.proofs.Granting.{few_ports}
 
 -- a cold rolling begins on a new fabric
@@ -87,27 +86,6 @@ switched_once z i c r s m m' new start a none =
     let whole = ap switches_in split in
     let empty : length m.log ≡ 0 = ap (λ (x : Mover). length x.log) new in
     omega (arith, counted, joined, whole, empty)
-
-le_or_lt : (a b : ℕ) → (a ≤ b) ⊎ (b < a)
-le_or_lt a b = ⊎_elim (λ x. inl x.1) (λ x. inr x.1) (leb_tells a b)
-
-is_or_not : (a b : ℕ) → (a ≡ b) ⊎ (a ≢ b)
-is_or_not a b = ⊎_elim
-    (λ le. ⊎_elim (λ ge. inl (omega (arith, le, ge))) (λ lt. inr (omega (arith, lt))) (le_or_lt b a))
-    (λ gt. inr (omega (arith, gt)))
-    (le_or_lt a b)
-
-new_or_old : (file : List ℕ) → IsNew file ⊎ (IsNew file → ⊥)
-new_or_old file = ⊎_elim
-    (λ few. inl (inl few))
-    (λ some. ⊎_elim
-    (λ short. ⊎_elim
-    (λ set. inr (λ new. ⊎_elim (λ x. omega (arith, some, x)) (λ x. x.1 set) new))
-    (λ unset. inl (inr (short, unset)))
-    (is_or_not (slice_index file 0) 165))
-    (λ long. inr (λ new. ⊎_elim (λ x. omega (arith, some, x)) (λ x. omega (arith, long, x.0)) new))
-    (le_or_lt (length file) 33))
-    (le_or_lt (length file) 1)
 
 -- a file that was refused for its header isn't new
 pub bad_header : (d : Dimensions) (h : Head) (a b : DiskState) (w : JournalWhy) (bytes : List ℕ) → w ≡ BadHeader bytes → ((IsNew a.reads_as → ⊥) → OpensOld d a b (Err w)) → (IsNew a.reads_as → OpensNew d h a b (Err w))
@@ -201,10 +179,10 @@ module _ {D : Type 0} (told : Type 0) (state : D → DiskState) (shelf : Content
 
   -- the journal was well kept when it was opened
   was_kept : told → IsKept b book
-  was_kept k = ⊎_elim (λ n. (r.new k n).founds.0.kept) (λ not. (r.old k not).finds.0.kept) (new_or_old a.reads_as)
+  was_kept k = ⊎_elim (λ n. (r.new k n).founds.0.kept) (λ not. (r.old k not).finds.0.kept) (new_or_not a.reads_as)
 
   was_settled : told → IsSettled b
-  was_settled k = ⊎_elim (λ n. (r.new k n).founds.0.settled) (λ not. (r.old k not).finds.0.settled) (new_or_old a.reads_as)
+  was_settled k = ⊎_elim (λ n. (r.new k n).founds.0.settled) (λ not. (r.old k not).finds.0.settled) (new_or_not a.reads_as)
 
   now_kept : told → IsKept (state j.0) j.1
   now_kept k = r.kept k (was_kept k)
@@ -377,28 +355,3 @@ state_is x h d s is kept = is ∙ (λ i. record { table = kept.table i; reports 
 -- what holds of the disk in its box holds of the disk that is home
 pub home_disk : {D : Type 0} (P : D → Type 0) (s : State D) (t : Board) (r : Recent) (d : Boxed D) (o : Origin D) → s ≡ record { table = t; reports = r; home = In d; origin = o } → P d.value.p.journal.0 → IfSome (disk_home s.home) P
 home_disk {D} P s t r d o is here = subst (λ (y : State D). IfSome (disk_home y.home) P) (sym is) here
-
--- a file, a shelf and a fabric have one opening
-pub openings_once : (told : Type 0) → told → (file : List ℕ) (shelf : Contents) (fabric other : FabricId) (o p : Opening) → IsOpening told file shelf fabric o → IsOpening told file shelf other p → (o.records ≡ p.records) × (o.first ≡ p.first)
-openings_once told x file shelf fabric other o p a b =
-    let same = ⊎_elim (λ n. one_made n) (λ not. one_found not) (new_or_old file) in
-    let mine = comes_at o a in
-    let others = subst (λ (w : Head × List (List ℕ)). ComesTo shelf.shape w.0 w.1 p.first.fold.table p.first.fold.colours p.first.fold.work) (λ k. (sym same.0 k, sym same.1 k)) (comes_at p b) in
-    let one = comes_once shelf.shape a.folded.head o.records o.first.fold.table p.first.fold.table o.first.fold.colours p.first.fold.colours o.first.fold.work p.first.fold.work mine others in
-    let switches = a.switches ∙ ap (λ (c : Colouring). switches_in (joins_of c)) one.1 ∙ sym b.switches in
-    let changes = a.changes ∙ sym b.changes in (
-      same.1,
-      λ k. record { fold = record { table = one.0 k; colours = one.1 k; work = one.2 k; switches = switches k }; changes = changes k },
-    )
-  where
-    comes_at : {i : FabricId} (q : Opening) → (is : IsOpening told file shelf i q) → ComesTo shelf.shape is.folded.head q.records q.first.fold.table q.first.fold.colours q.first.fold.work
-    comes_at q is = subst (λ (rs : List (List ℕ)). ComesTo shelf.shape is.folded.head rs q.first.fold.table q.first.fold.colours q.first.fold.work) (is.folded.same x) is.folded.comes
-
-    one_made : IsNew file → (a.folded.head ≡ b.folded.head) × (o.records ≡ p.records)
-    one_made n = ((a.made x n).0 ∙ sym (b.made x n).0, (a.made x n).1 ∙ sym (b.made x n).1)
-
-    one_found : (IsNew file → ⊥) → (a.folded.head ≡ b.folded.head) × (o.records ≡ p.records)
-    one_found not =
-        let here = a.found x not in
-        let there = b.found x not in
-        (sym (head_once shelf.shape a.folded.head b.folded.head o.records p.records file a.limits.most_modules here there), sym (stands_once shelf.shape a.folded.head b.folded.head o.records p.records file here there))

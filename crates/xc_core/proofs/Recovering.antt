@@ -2,7 +2,7 @@
 use Rattle.std.specs.Prelude.{IfSome}
 use Rattle.std.proofs.Common.{◌≡◌, ◌≢◌, inr, ℕ, ◌<◌, ◌≤◌, ◌^◌, List, length, Option, Some, None, sym, refl, ap, ◌∙◌, subst, arith}
 use Rattle.dxc_disk.specs.Disks.{DiskState}
-use Rattle.dxc_num.specs.Dimensions.{Dimensions, IsInLimits}
+use Rattle.dxc_num.specs.Dimensions.{Dimensions}
 use Rattle.dxc_model.specs.declared.op.Change.{Change}
 use Rattle.dxc_model.specs.Tables.{Board}
 use Rattle.fabric_core.specs.declared.size.Size.{Size}
@@ -34,7 +34,7 @@ use Rattle.xc_core.specs.Restarts.{HasWay, IsHalted, IsListOf, LastIs, Lists, Re
 use Rattle.xc_core.specs.Recoveries.{Finds, IsAstray, IsCold, IsNeither, IsWarm, Reads, RecoveredIs, ResumedIs}
 use Rattle.xc_core.specs.Endings.{IfCold, IfWarm}
 use Rattle.xc_core.proofs.Halting.{few_changes, taken_few, taken_more, taken_placed}
-use Rattle.xc_core.proofs.Staging.{IsAtStage, IsWorkOf, at_stage, comes_once, last_stage, taken_once, way_fits, way_limits}
+use Rattle.xc_core.proofs.Staging.{IsAtStage, IsWorkOf, at_stage, comes_once, last_stage, taken_once, way_fits}
 
 module _ {D : Type 0} (told : Type 0) (state : D → DiskState) (b : Past) (p : Provisioner D) (ops : List LegOp) (h : Reads told state b p ops) where
   abbrev z : Size
@@ -51,9 +51,6 @@ module _ {D : Type 0} (told : Type 0) (state : D → DiskState) (b : Past) (p : 
 
   pub way_few : length m.log ≤ 2 ^ 48
   way_few = let room = h.halted.way.on_way.under_way.room in omega (arith, room)
-
-  limits : IsInLimits b.fold.table.shape
-  limits = way_limits b p h.halted.past h.halted.way
 
   pub beside : (t : Board) → b.fold.table ≡ t → IsBeside b p.second p.matrix t p.doubt p.spent
   beside t same = record {

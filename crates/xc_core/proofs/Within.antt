@@ -92,10 +92,6 @@ module _ {D : Type 0} (told : Type 0) (state : D → DiskState) (counts : (d : D
     abbrev p : Provisioner D
     p = d.value.p
 
-    -- the Provisioner that was taken may begin
-    pub may_begin : (b : Past) × IsHome told state b p × (b.fold.table ≡ s.table)
-    may_begin = (st.now, (ready_home told state o s h st d is ready).home, sym st.table)
-
     -- what the planning left of it
     module _ (own : ℕ) (op : Op) (e : Boxed D) (ground : ground_of e.value.p ≡ ground_of p) (later : (state p.journal.0).faults ≤ (state e.value.p.journal.0).faults) (spent : Spends most_room (state p.journal.0) (state e.value.p.journal.0))
         (how : Begun) (begins : (b : Past) → IsHome told state b p → b.fold.table ≡ s.table → BegunIs told state b op p e.value.p e.value.rolling how) where

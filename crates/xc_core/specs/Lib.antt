@@ -16,5 +16,3 @@ pub mod Askings
 pub mod Openings
 pub mod Starts
 pub mod Adoptions
-pub mod Laws
-pub mod Mirrorings

@@ -8,7 +8,6 @@ mod checkpoint;
 mod fault;
 mod inside;
 mod keep;
-pub mod laws;
 mod limit;
 mod opening;
 mod origin;

@@ -1,0 +1,4 @@
+pub mod Moves
+pub mod Openings
+pub mod Succeeding
+pub mod Mirrored

@@ -1,8 +1,0 @@
-use Rattle.std.proofs.Common.{refl}
-use Rattle.craft_session.specs.PlainUsers.{IsUsersUnsoundBy}
-use Rattle.craft_session.proofs.Hearings.{hearings_once}
-use Rattle.craft_session.proofs.laws.hearings_are_one.Goals as goal
-
-pub returns : goal.returns
-returns c = λ s sid n room other_room users then_users also_users t then_t also_t hs gs enough also p q same.
-    hearings_once (IsUsersUnsoundBy 0 room n) (IsUsersUnsoundBy 0 other_room n) (λ x. x refl enough) (λ x. x refl also) sid s users then_users also_users t then_t also_t hs gs p q same

@@ -1,8 +1,0 @@
-use Rattle.xc_core.proofs.Mirrored.{standbys_stand, start_command}
-use Rattle.xc_core.proofs.laws.standbys_stand_for_commands.Goals as goal
-
-pub returns-clause-start : goal.returns-clause-start
-returns-clause-start g c = start_command g.D.Disk.told g.D.Disk.state
-
-pub returns-clause-stands : goal.returns-clause-stands
-returns-clause-stands g c = standbys_stand g.D.Disk.told g.D.Disk.state g.met.D.Disk.is_disk
