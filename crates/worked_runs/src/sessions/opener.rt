@@ -1,5 +1,6 @@
 ghost use Rattle.std.specs.Prelude.{None, ◌≢◌};
 
+use crate::clock::standing;
 use crate::sessions::gate::CuedGate;
 use crate::sessions::lines::WatchedLines;
 use crate::sessions::link::CueLink;
@@ -7,7 +8,7 @@ use crate::sessions::listener::OneCaller;
 use dxc_disk::MemDisk;
 use dxc_outside::{MemClock, MemLink, Opened, Opener};
 use std::alloc::Global;
-use worked_common::{NOON, read_part};
+use worked_common::read_part;
 
 /// Hands out what a row has, whatever the name, of lists the last one first.
 #[derive(Drop)]
@@ -91,9 +92,7 @@ impl Opener for SessionsOpener {
     }
 
     fn clock(&mut self) -> MemClock {
-        let mut moments = Vec::new(self.alloc);
-        let _ = moments.push(NOON);
-        MemClock::new(moments)
+        standing(self.alloc)
     }
 
     fn gate(&mut self) -> CuedGate {

@@ -10,7 +10,8 @@ mod opener;
 mod read;
 mod row;
 
-use crate::run::run_program;
+use crate::Program;
+use crate::clock::standing;
 use crate::sessions::cue::Script;
 use crate::sessions::gate::{Cued, CuedGate};
 use crate::sessions::lines::WatchedLines;
@@ -22,7 +23,7 @@ use crate::sessions::row::{Size, carried_of, last_frames, stands_of};
 use anyhow::{Context, Result, ensure};
 use dxc_disk::MemDisk;
 use dxc_host::ThreadSpawner;
-use dxc_outside::{Listener, MemGate, MemLink, Opener};
+use dxc_outside::{Listener, MemGate, MemLink, Name, Opener};
 use std::alloc::Global;
 use std::fs;
 use std::sync::{Arc, Wait};
@@ -30,26 +31,41 @@ use std::thread::Threads;
 use worked_common::{Part, decimal, joined, names_of, same_bytes, small};
 
 /// Serves the row's sessions and workers on a new journal, with its gates cued for its number. An error tells what isn't as it must be.
-pub fn serve_row<R: Threads + Wait + Copy + Send + Drop + 'static>(
+pub fn serve_row<X: Program, R: Threads + Wait + Copy + Send + Drop + 'static>(
+    program: &X,
     rt: &HostRuntime,
     threads: &R,
     row: Part<'_, '_>,
 ) -> Result<()> {
     let alloc = rt.alloc();
-    let sessions = row.parts(alloc, &["session"])?;
     let workers = small(row.number_at("workers")?.unwrap_or(1))?;
+    let sessions = row.parts(alloc, &["session"])?;
     let meeting = Meeting::new(alloc, sessions.len(), workers as usize)?;
     let meeting = Arc::new(alloc, meeting)?;
-    let status = status_of(rt, threads, row, &sessions, workers, &meeting)?;
+    serve_sessions(program, rt, threads, row, &sessions, workers, &meeting)
+}
+
+// Serves these sessions and so many workers, and compares what they leave.
+fn serve_sessions<X: Program, R: Threads + Wait + Copy + Send + Drop + 'static>(
+    program: &X,
+    rt: &HostRuntime,
+    threads: &R,
+    row: Part<'_, '_>,
+    sessions: &[Part<'_, '_>],
+    workers: u16,
+    meeting: &Arc<Meeting>,
+) -> Result<()> {
+    let status = status_of(program, rt, threads, row, sessions, workers, meeting)?;
     ensure!(status == 0, "it ended with another status");
     ensure!(!meeting.is_given_up(), "a thread was waited for in vain");
     ensure!(meeting.astray() == 0, "bytes went astray");
-    compare_sessions(alloc, row, &sessions, &meeting)?;
-    compare_frames(alloc, row, sessions.len(), workers, &meeting)
+    compare_sessions(rt.alloc(), row, sessions, meeting)?;
+    compare_frames(rt.alloc(), row, sessions.len(), workers, meeting)
 }
 
 // The number of the status that the program ends with.
-fn status_of<R: Threads + Wait + Copy + Send + Drop + 'static>(
+fn status_of<X: Program, R: Threads + Wait + Copy + Send + Drop + 'static>(
+    program: &X,
     rt: &HostRuntime,
     threads: &R,
     row: Part<'_, '_>,
@@ -57,13 +73,16 @@ fn status_of<R: Threads + Wait + Copy + Send + Drop + 'static>(
     workers: u16,
     meeting: &Arc<Meeting>,
 ) -> Result<u8> {
-    let mut opener = opener_of(rt, row, sessions, workers, meeting)?;
-    serve(rt.alloc(), threads, &mut opener, workers)
+    let (shelf, _) = Size::of(row)?;
+    let mut opener = SessionsOpener::new(rt.alloc(), fs::read(rt, shelf)?);
+    hold(rt, row, sessions, workers, meeting, &mut opener)?;
+    serve(program, rt.alloc(), threads, &mut opener, workers)
 }
 
 // Serves what the opener has, with so many workers. Nobody reads or writes at the terminal, and the gate that is asked while the controller starts
 // goes on.
-fn serve<R: Threads + Wait + Copy + Send + Drop + 'static, O: Opener>(
+fn serve<X: Program, R: Threads + Wait + Copy + Send + Drop + 'static, O: Opener>(
+    program: &X,
     alloc: Global,
     threads: &R,
     opener: &mut O,
@@ -72,52 +91,47 @@ fn serve<R: Threads + Wait + Copy + Send + Drop + 'static, O: Opener>(
 where
     <O::Listener as Listener>::Link: Send + 'static,
 {
-    let count = decimal(alloc, workers as u64)?;
-    let line = joined(alloc, &["serve s j address lines ", count.as_str()])?;
-    let words = names_of(alloc, line.as_str())?;
+    let words = words_of(alloc, workers)?;
     let mut terminal = MemLink::new(
         Vec::new(alloc),
         Vec::new(alloc),
         Vec::new(alloc),
         Vec::new(alloc),
     );
+    let mut clock = standing(alloc);
     let mut gate = MemGate::new(Vec::new(alloc));
     let mut spawner = ThreadSpawner::new(*threads, Vec::new(alloc));
-    let status = run_program(
+    let status = program.run(
         alloc,
         &words,
         opener,
         &mut terminal,
+        &mut clock,
         &mut gate,
         &mut spawner,
         threads,
-    )?;
+    );
     Ok(status.number())
 }
 
-// What the row's run opens.
-fn opener_of(
+fn words_of(alloc: Global, workers: u16) -> Result<Vec<Name>> {
+    let count = decimal(alloc, workers as u64)?;
+    let line = joined(alloc, &["serve s j address lines ", count.as_str()])?;
+    names_of(alloc, line.as_str())
+}
+
+// Adds what the row's run opens.
+fn hold(
     rt: &HostRuntime,
     row: Part<'_, '_>,
     sessions: &[Part<'_, '_>],
     workers: u16,
     meeting: &Arc<Meeting>,
-) -> Result<SessionsOpener> {
-    let alloc = rt.alloc();
-    let (shelf, size) = Size::of(row)?;
-    let mut opener = SessionsOpener::new(alloc, fs::read(rt, shelf)?);
-    hold_disks(alloc, &mut opener.disks)?;
-    hold_sessions(rt, row, sessions, meeting, &mut opener)?;
-    hold_workers(
-        alloc,
-        row,
-        size,
-        sessions.len(),
-        workers,
-        meeting,
-        &mut opener,
-    )?;
-    Ok(opener)
+    opener: &mut SessionsOpener,
+) -> Result<()> {
+    hold_disks(rt.alloc(), &mut opener.disks)?;
+    hold_sessions(rt, row, sessions, meeting, opener)?;
+    hold_workers(rt.alloc(), row, sessions.len(), workers, meeting, opener)
 }
 
 // Adds the disks of the journal and of the users' journal.
@@ -149,17 +163,17 @@ fn hold_sessions(
 fn hold_workers(
     alloc: Global,
     row: Part<'_, '_>,
-    size: Size,
     sessions: usize,
     workers: u16,
     meeting: &Arc<Meeting>,
     opener: &mut SessionsOpener,
 ) -> Result<()> {
+    let (_, size) = Size::of(row)?;
     for number in (0..workers).rev() {
-        let known = carried_of(alloc, size, row)?;
-        let meeting = Arc::try_clone(meeting)?;
         let worker = size.worker(number, workers);
         let place = sessions.saturating_add(number as usize);
+        let meeting = Arc::try_clone(meeting)?;
+        let known = carried_of(alloc, size, row)?;
         let lines = WatchedLines::new(meeting, worker, place, known, Vec::new(alloc));
         opener.lines.push(lines)?;
         opener.gates.push(CuedGate::new(None))?;
