@@ -3,8 +3,8 @@ use crate::blocks::add_blocks;
 use crate::entries::Entries;
 use crate::exchange::Exchange;
 use crate::part::Part;
-use crate::wanted::add_completed;
-use crate::words::{Line, add_texts, byte, bytes_of};
+use crate::wanted::add_times_completed;
+use crate::words::{Line, add_hex, add_texts, byte};
 use anyhow::Result;
 use std::alloc::Global;
 
@@ -37,52 +37,32 @@ fn take_line(
     exchange: &mut Exchange,
 ) -> Result<()> {
     match line.word {
-        "byte" => exchange.input.push(byte(part.number_in(line.rest)?)?)?,
-        "sent" => exchange
-            .output
-            .extend_from_slice(&bytes_of(alloc, line.rest)?)?,
-        "enters" | "retrieves" | "lists" => {
-            let pairs = Entries::of(line.rest)?.pairs(alloc)?;
-            take_pairs(alloc, sid, line.word, &pairs, exchange)?;
-        }
+        "byte" => add_byte(part, line.rest, &mut exchange.input),
+        "sent" => add_hex(line.rest, &mut exchange.output),
+        "enters" => enter(alloc, sid, Entries::of(line.rest)?, exchange),
+        "retrieves" => retrieve(alloc, sid, Entries::of(line.rest)?, exchange),
+        "lists" => Entries::of(line.rest)?.add_all(alloc, "", ":1WAY\n", &mut exchange.output),
         _ => {
-            let _ = exchange.take(alloc, sid, line.word, line.rest)?;
+            let _ = exchange.take(sid, line.word, line.rest)?;
+            Ok(())
         }
     }
+}
+
+fn add_byte(part: Part<'_, '_>, text: &str, into: &mut Vec<u8>) -> Result<()> {
+    let byte = byte(part.number_in(text)?)?;
+    into.push(byte)?;
     Ok(())
 }
 
-// What is done with these connections.
-fn take_pairs(
-    alloc: Global,
-    sid: &str,
-    word: &str,
-    pairs: &[String],
-    exchange: &mut Exchange,
-) -> Result<()> {
-    match word {
-        "enters" => enter(sid, pairs, exchange),
-        "retrieves" => {
-            add_texts(&["RTRV-CRS-T0:::1;"], &mut exchange.input)?;
-            add_blocks(alloc, sid, pairs, &mut exchange.output)
-        }
-        _ => list(pairs, &mut exchange.output),
-    }
+fn enter(alloc: Global, sid: &str, entries: Entries, exchange: &mut Exchange) -> Result<()> {
+    entries.add_all(alloc, "ENT-CRS-T0::", ":1;", &mut exchange.input)?;
+    add_times_completed(sid, entries.count as u64, "1", &mut exchange.output)
 }
 
-fn enter(sid: &str, pairs: &[String], exchange: &mut Exchange) -> Result<()> {
-    for pair in pairs {
-        add_texts(&["ENT-CRS-T0::", pair.as_str(), ":1;"], &mut exchange.input)?;
-        add_completed(sid, "1", &mut exchange.output)?;
-    }
-    Ok(())
-}
-
-fn list(pairs: &[String], into: &mut Vec<u8>) -> Result<()> {
-    for pair in pairs {
-        add_texts(&[pair.as_str(), ":1WAY\n"], into)?;
-    }
-    Ok(())
+fn retrieve(alloc: Global, sid: &str, entries: Entries, exchange: &mut Exchange) -> Result<()> {
+    add_texts(&["RTRV-CRS-T0:::1;"], &mut exchange.input)?;
+    add_blocks(alloc, sid, entries, &mut exchange.output)
 }
 
 // Where the message of that number ends, from 1, by the first semicolon in it; 0 is in front of all.

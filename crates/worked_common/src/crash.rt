@@ -1,4 +1,4 @@
-use crate::torn::Torn;
+use crate::torn::{Torn, overwrite};
 use std::alloc::{AllocError, Global};
 
 /// A write that no sync came behind, and what it wrote over.
@@ -49,7 +49,8 @@ impl Crash {
     /// Leaves what the crash leaves.
     pub fn come(&self, held: &mut Vec<u8>) -> Result<(), AllocError> {
         for write in self.writes.iter().rev() {
-            take_back(held, write);
+            overwrite(held, write.at, &write.over)?;
+            held.truncate(write.length);
         }
         for write in &self.writes {
             self.left.leave(held, write.at, &write.bytes)?;
@@ -63,15 +64,4 @@ pub fn copy_of(alloc: Global, bytes: &[u8]) -> Result<Vec<u8>, AllocError> {
     let mut copy = Vec::new(alloc);
     copy.extend_from_slice(bytes)?;
     Ok(copy)
-}
-
-// What the disk held before the write.
-fn take_back(held: &mut Vec<u8>, write: &Write) {
-    let end = write.at.saturating_add(write.over.len());
-    if let Some(range) = held.as_mut_slice().get_mut(write.at..end) {
-        if range.len() == write.over.len() {
-            range.copy_from_slice(&write.over);
-        }
-    }
-    held.truncate(write.length);
 }

@@ -1,5 +1,5 @@
 //! Many connections: each port's to the one so many behind it.
-use crate::words::{decimal, joined, shape_of, small_of, two};
+use crate::words::{Line, add_texts, decimal, shape_of, small_of};
 use anyhow::Result;
 use std::alloc::Global;
 
@@ -8,45 +8,61 @@ use std::alloc::Global;
 pub struct Entries {
     modules: u16,
     slots: u16,
-    count: u16,
+    pub count: u16,
     step: u16,
 }
 
 impl Entries {
     /// The four numbers of the text.
     pub fn of(text: &str) -> Result<Entries> {
-        let (modules, rest) = two(text)?;
-        let (slots, rest) = two(rest)?;
-        let (count, step) = shape_of(rest)?;
+        let modules = Line::of(text);
+        let slots = Line::of(modules.rest);
+        let (count, step) = shape_of(slots.rest)?;
         Ok(Entries {
-            modules: small_of(modules)?,
-            slots: small_of(slots)?,
+            modules: small_of(modules.word)?,
+            slots: small_of(slots.word)?,
             count,
             step,
         })
     }
 
-    /// The names of each port and of the one it is connected to, in the table's order.
-    pub fn pairs(self, alloc: Global) -> Result<Vec<String>> {
-        let mut pairs = Vec::new(alloc);
+    /// Appends the names of each port and of the one it is connected to, in the table's order, between these texts.
+    pub fn add_all(
+        self,
+        alloc: Global,
+        front: &str,
+        behind: &str,
+        into: &mut Vec<u8>,
+    ) -> Result<()> {
         for port in 0..self.count {
-            pairs.push(self.pair(alloc, port)?)?;
+            self.add(alloc, port, front, behind, into)?;
         }
-        Ok(pairs)
+        Ok(())
     }
 
-    fn pair(self, alloc: Global, port: u16) -> Result<String> {
+    /// The same of one port.
+    pub fn add(
+        self,
+        alloc: Global,
+        port: u16,
+        front: &str,
+        behind: &str,
+        into: &mut Vec<u8>,
+    ) -> Result<()> {
         let ports = self.modules.saturating_mul(self.slots);
         let to = port.saturating_add(self.step).checked_rem(ports);
-        let from = self.name(alloc, port)?;
-        let to = self.name(alloc, to.unwrap_or(0))?;
-        joined(alloc, &[from.as_str(), ",", to.as_str()])
+        self.add_name(alloc, front, port, into)?;
+        self.add_name(alloc, ",", to.unwrap_or(0), into)?;
+        add_texts(&[behind], into)
     }
 
-    fn name(self, alloc: Global, port: u16) -> Result<String> {
+    fn add_name(self, alloc: Global, front: &str, port: u16, into: &mut Vec<u8>) -> Result<()> {
         let module = port.checked_div(self.slots).unwrap_or(0) as u64 + 1;
         let slot = port.checked_rem(self.slots).unwrap_or(0) as u64 + 1;
-        let (module, slot) = (decimal(alloc, module)?, decimal(alloc, slot)?);
-        joined(alloc, &["DS0-", module.as_str(), "-", slot.as_str()])
+        add_texts(
+            &[front, "DS0-", decimal(alloc, module)?.as_str(), "-"],
+            into,
+        )?;
+        add_texts(&[decimal(alloc, slot)?.as_str()], into)
     }
 }

@@ -1,5 +1,5 @@
 use crate::wanted::{add_completed, add_wanted};
-use crate::words::{add_texts, bytes_of, number_of, two};
+use crate::words::{Line, add_hex, add_texts, number_of, two};
 use anyhow::Result;
 use std::alloc::Global;
 
@@ -22,11 +22,11 @@ impl Exchange {
     }
 
     /// Takes a line of its own, for an element of this name; false where the word is none of its own.
-    pub fn take(&mut self, alloc: Global, sid: &str, word: &str, rest: &str) -> Result<bool> {
+    pub fn take(&mut self, sid: &str, word: &str, rest: &str) -> Result<bool> {
         let taken = match word {
             "login" => self.take_login(sid, rest),
             "send" => add_texts(&[rest], &mut self.input),
-            "hex" => self.take_hex(alloc, rest),
+            "hex" => add_hex(rest, &mut self.input),
             "fill" => self.take_fill(rest),
             "pieces" => self.take_pieces(rest),
             "list" => add_texts(&[rest, "\n"], &mut self.output),
@@ -36,11 +36,6 @@ impl Exchange {
         Ok(true)
     }
 
-    fn take_hex(&mut self, alloc: Global, rest: &str) -> Result<()> {
-        self.input.extend_from_slice(&bytes_of(alloc, rest)?)?;
-        Ok(())
-    }
-
     fn take_login(&mut self, sid: &str, rest: &str) -> Result<()> {
         let (uid, tag) = two(rest)?;
         add_texts(&["ACT-USER::", uid, ":", tag, "::bc;"], &mut self.input)?;
@@ -48,9 +43,9 @@ impl Exchange {
     }
 
     fn take_fill(&mut self, rest: &str) -> Result<()> {
-        let (count, text) = two(rest)?;
-        for _ in 0..number_of(count)? {
-            add_texts(&[text], &mut self.input)?;
+        let line = Line::of(rest);
+        for _ in 0..number_of(line.word)? {
+            add_texts(&[line.rest], &mut self.input)?;
         }
         Ok(())
     }

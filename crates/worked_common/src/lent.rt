@@ -12,7 +12,7 @@ use crate::office::Office;
 use crate::opener::{Holding, RowOpener};
 use crate::part::Part;
 use crate::torn::Torn;
-use crate::words::{Line, frame_of, joined};
+use crate::words::{Line, add_frame, joined};
 use anyhow::{Context, Result};
 use dxc_outside::{MemGate, MemLines, MemLink, Name};
 use std::alloc::Global;
@@ -213,7 +213,7 @@ fn frames_of(alloc: Global, text: &str, count: u64) -> Result<Vec<u8>> {
             break;
         }
         left -= 1;
-        bytes.extend_from_slice(&frame_of(alloc, frame)?)?;
+        add_frame(frame, &mut bytes)?;
     }
     Ok(bytes)
 }

@@ -1,9 +1,9 @@
 use crate::part::Part;
 use crate::shelf::shelf_text;
 use crate::torn::Torn;
-use crate::words::{Line, byte, bytes_of, hex_of, joined, number_of, shape_of, two};
+use crate::words::{Line, add_hex, byte, hex_of, joined, number_of, shape_of, two};
 use crate::written::number_otherwise;
-use anyhow::{Context, Result};
+use anyhow::{Context, Result, ensure};
 use std::alloc::Global;
 use std::fs;
 
@@ -53,11 +53,11 @@ impl<'a> Office<'a> {
     // Takes a line on the journals, in a row that is run for that number.
     fn take(&mut self, alloc: Global, line: Line<'_>, number: u64) -> Result<()> {
         match line.word {
-            "old" => add_bytes(alloc, line.rest, &mut self.journal),
-            "times" => add_times(alloc, line.rest, &mut self.journal),
+            "old" => add_bytes(line.rest, &mut self.journal),
+            "times" => add_times(line.rest, &mut self.journal),
             "from" => fill_to(&mut self.journal, number_of(line.rest)? as usize),
             "change" => turn(&mut self.journal, number as usize, number_of(line.rest)?),
-            "people" => add_bytes(alloc, line.rest, &mut self.users),
+            "people" => add_bytes(line.rest, &mut self.users),
             "cut" => {
                 self.journal.truncate(number as usize);
                 Ok(())
@@ -162,12 +162,10 @@ fn shelf_of(rt: &HostRuntime, head: Part<'_, '_>) -> Result<Vec<u8>> {
 
 // The text with each of one text replaced by another; ~ is a line's end in them.
 fn swapped(alloc: Global, text: &[u8], texts: &str) -> Result<Vec<u8>> {
+    let texts = replaced(alloc, texts, "~", "\n")?;
     let (old, new) = texts.split_once('|').context("two texts are wanted")?;
-    let old = replaced(alloc, old, "~", "\n")?;
-    let new = replaced(alloc, new, "~", "\n")?;
     let text = String::from_utf8_lossy(alloc, text)?;
-    let text = replaced(alloc, text.as_str(), old.as_str(), new.as_str())?;
-    Ok(text.into_bytes())
+    Ok(replaced(alloc, text.as_str(), old, new)?.into_bytes())
 }
 
 fn replaced(alloc: Global, text: &str, old: &str, new: &str) -> Result<String> {
@@ -175,11 +173,13 @@ fn replaced(alloc: Global, text: &str, old: &str, new: &str) -> Result<String> {
 }
 
 // Appends the bytes so often.
-fn add_times(alloc: Global, rest: &str, into: &mut Vec<u8>) -> Result<()> {
-    let (times, digits) = two(rest)?;
-    let bytes = bytes_in(alloc, digits)?;
+fn add_times(rest: &str, into: &mut Vec<u8>) -> Result<()> {
+    let Line {
+        word: times,
+        rest: digits,
+    } = Line::of(rest);
     for _ in 0..number_of(times)? {
-        into.extend_from_slice(&bytes)?;
+        add_bytes(digits, into)?;
     }
     Ok(())
 }
@@ -187,11 +187,8 @@ fn add_times(alloc: Global, rest: &str, into: &mut Vec<u8>) -> Result<()> {
 // Turns these bits of the byte at a place.
 fn turn(bytes: &mut Vec<u8>, at: usize, bits: u64) -> Result<()> {
     let bits = byte(bits)?;
-    let byte = bytes
-        .as_mut_slice()
-        .get_mut(at)
-        .context("there is no such byte")?;
-    *byte ^= bits;
+    ensure!(at < bytes.len(), "there is no such byte");
+    bytes[at] ^= bits;
     Ok(())
 }
 
@@ -204,19 +201,21 @@ fn fill_to(bytes: &mut Vec<u8>, length: usize) -> Result<()> {
 /// The bytes that hexadecimal digits spell; blanks between them fall away. `00*N` stands for so many zeros.
 pub fn bytes_in(alloc: Global, text: &str) -> Result<Vec<u8>> {
     let mut bytes = Vec::new(alloc);
-    add_bytes(alloc, text, &mut bytes)?;
+    add_bytes(text, &mut bytes)?;
     Ok(bytes)
 }
 
-fn add_bytes(alloc: Global, text: &str, into: &mut Vec<u8>) -> Result<()> {
+fn add_bytes(text: &str, into: &mut Vec<u8>) -> Result<()> {
     for word in text.split(' ') {
-        match word.strip_prefix("00*") {
-            Some(count) => {
-                let length = into.len().saturating_add(number_of(count)? as usize);
-                fill_to(into, length)?;
-            }
-            None => into.extend_from_slice(&bytes_of(alloc, word)?)?,
-        }
+        add_word(word, into)?;
     }
     Ok(())
+}
+
+fn add_word(word: &str, into: &mut Vec<u8>) -> Result<()> {
+    let Some(count) = word.strip_prefix("00*") else {
+        return add_hex(word, into);
+    };
+    let length = into.len().saturating_add(number_of(count)? as usize);
+    fill_to(into, length)
 }

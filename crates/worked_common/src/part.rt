@@ -12,12 +12,13 @@ pub struct Part<'m, 'a> {
 impl<'m, 'a> Part<'m, 'a> {
     /// What stands behind the word, in the last line that begins with it.
     pub fn last(&self, word: &str) -> Option<&'a str> {
-        for line in self.lines.iter().rev() {
+        let mut last = None;
+        for line in self.lines {
             if line.word == word {
-                return Some(line.rest);
+                last = Some(line.rest);
             }
         }
-        None
+        last
     }
 
     /// An error where a line begins with none of these words.
@@ -75,9 +76,9 @@ impl<'m, 'a> Part<'m, 'a> {
         let mut numbers = Vec::new(alloc);
         for line in self.lines {
             if line.word == "fails" {
-                let (what, texts) = two(line.rest)?;
-                if what == kind {
-                    self.add_numbers(texts, &mut numbers)?;
+                let calls = Line::of(line.rest);
+                if calls.word == kind {
+                    self.add_numbers(calls.rest, &mut numbers)?;
                 }
             }
         }
@@ -105,7 +106,8 @@ impl<'m, 'a> Part<'m, 'a> {
     pub fn parts(self, alloc: Global, words: &[&str]) -> Result<Vec<Part<'m, 'a>>> {
         let mut parts = Vec::new(alloc);
         let mut last = self.lines.len();
-        for at in (0..self.lines.len()).rev() {
+        for behind in 0..self.lines.len() {
+            let at = self.lines.len() - 1 - behind;
             if self.begins(at, words) {
                 parts.push(self.between(at, last))?;
                 last = at;

@@ -1,4 +1,4 @@
-use crate::words::{decimal, joined};
+use crate::words::{decimal, joined, push_texts};
 use anyhow::Result;
 use std::alloc::Global;
 
@@ -27,9 +27,8 @@ impl Tally {
         };
         self.failed = self.failed.saturating_add(1);
         let at = decimal(alloc, at)?;
-        let line = joined(alloc, &[name, ", ", at.as_str(), ": ", why.as_str(), "\n"])?;
-        self.report.push_str(line.as_str())?;
-        Ok(())
+        let texts = [name, ", ", at.as_str(), ": ", why.as_str(), "\n"];
+        push_texts(&texts, &mut self.report)
     }
 
     /// A line for each run that failed, and one that says what was counted.

@@ -46,12 +46,13 @@ impl Torn {
 
 /// Writes the bytes there; what is lacking in front of them is filled with zeros.
 pub fn overwrite(held: &mut Vec<u8>, at: usize, bytes: &[u8]) -> Result<(), AllocError> {
-    if held.len() < at {
-        held.resize(at, 0)?;
+    let Some(end) = at.checked_add(bytes.len()) else {
+        return Err(AllocError);
+    };
+    if held.len() < end {
+        held.resize(end, 0)?;
     }
-    let over = bytes.len().min(held.len() - at);
-    held[at..at + over].copy_from_slice(&bytes[..over]);
-    held.extend_from_slice(&bytes[over..])?;
+    held[at..end].copy_from_slice(bytes);
     Ok(())
 }
 

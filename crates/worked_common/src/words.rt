@@ -1,6 +1,6 @@
 //! What a line of a row is made of. Programs take apart and put together texts by these calls alone: what stands behind them is then proved once.
 
-use anyhow::{Context, Result, ensure};
+use anyhow::{Context, Result, bail, ensure};
 use std::alloc::Global;
 use std::fmt::Debug;
 
@@ -21,7 +21,7 @@ impl<'a> Line<'a> {
 /// The lines of the text that say something: they aren't empty, and don't begin with #.
 pub fn lines_of<'a>(alloc: Global, text: &'a str) -> Result<Vec<Line<'a>>> {
     let mut lines = Vec::new(alloc);
-    for line in text.lines() {
+    for line in text.split('\n') {
         if !line.is_empty() && !line.starts_with('#') {
             lines.push(Line::of(line))?;
         }
@@ -70,10 +70,16 @@ pub fn decimal(alloc: Global, number: u64) -> Result<String> {
 /// The texts one behind the other.
 pub fn joined(alloc: Global, texts: &[&str]) -> Result<String> {
     let mut all = String::new(alloc);
-    for text in texts {
-        all.push_str(text)?;
-    }
+    push_texts(texts, &mut all)?;
     Ok(all)
+}
+
+/// Appends the texts one behind the other.
+pub fn push_texts(texts: &[&str], into: &mut String) -> Result<()> {
+    for text in texts {
+        into.push_str(text)?;
+    }
+    Ok(())
 }
 
 /// The bytes of the texts one behind the other.
@@ -86,15 +92,36 @@ pub fn add_texts(texts: &[&str], into: &mut Vec<u8>) -> Result<()> {
 
 /// The bytes that the hexadecimal digits spell; blanks between them fall away.
 pub fn bytes_of(alloc: Global, text: &str) -> Result<Vec<u8>> {
-    let mut digits = Vec::new(alloc);
-    for byte in text.bytes() {
-        if byte != b' ' {
-            digits.push(byte)?;
+    let mut bytes = Vec::new(alloc);
+    add_hex(text, &mut bytes)?;
+    Ok(bytes)
+}
+
+/// Appends these bytes.
+pub fn add_hex(text: &str, into: &mut Vec<u8>) -> Result<()> {
+    let mut high = None;
+    for digit in text.as_bytes() {
+        if *digit != b' ' {
+            high = add_digit(*digit, high, into)?;
         }
     }
-    hex::decode(alloc, &digits)
-        .ok()
-        .context("no hexadecimal bytes")
+    ensure!(high.is_none(), "half a byte");
+    Ok(())
+}
+
+// Appends a byte where this is its second digit. Its first digit else.
+fn add_digit(digit: u8, high: Option<u8>, into: &mut Vec<u8>) -> Result<Option<u8>> {
+    let value = match digit {
+        b'0'..=b'9' => digit - b'0',
+        b'a'..=b'f' => digit - b'a' + 10,
+        b'A'..=b'F' => digit - b'A' + 10,
+        _ => bail!("no hexadecimal bytes"),
+    };
+    let Some(high) = high else {
+        return Ok(Some(value));
+    };
+    into.push(high << 4 | value)?;
+    Ok(None)
 }
 
 /// The hexadecimal digits of the bytes.
@@ -108,10 +135,16 @@ pub const IDLE: u8 = 0x7F;
 /// The bytes of a frame, in which a dot stands for an idle output.
 pub fn frame_of(alloc: Global, text: &str) -> Result<Vec<u8>> {
     let mut frame = Vec::new(alloc);
-    for byte in text.bytes() {
-        frame.push(if byte == b'.' { IDLE } else { byte })?;
-    }
+    add_frame(text, &mut frame)?;
     Ok(frame)
+}
+
+/// Appends these bytes.
+pub fn add_frame(text: &str, into: &mut Vec<u8>) -> Result<()> {
+    for byte in text.as_bytes() {
+        into.push(if *byte == b'.' { IDLE } else { *byte })?;
+    }
+    Ok(())
 }
 
 /// The value as its type is spelled.

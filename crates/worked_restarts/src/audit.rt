@@ -1,90 +1,86 @@
 //! What the registers hold between sessions.
-ghost use Rattle.std.specs.Prelude.{◌≡◌, ◌↔◌, IfOk, IfSome, IsTrue, List};
+ghost use Rattle.std.specs.Prelude.{◌≡◌, IfOk, IfSome, List};
 ghost use Rattle.std.specs.Arc.{arc_value};
 ghost use Rattle.dxc_model.specs.declared.entry.Entry.{Entry};
-ghost use Rattle.fabric_words.specs.Places.{IsRegInside};
-ghost use Rattle.xc_core.specs.States.{Opening, StandsFor};
+ghost use Rattle.xc_core.specs.States.{Opening, StandsFor, opening_of};
+ghost use Rattle.craft_session.specs.Places.{IsAtOpening};
 ghost use Rattle.craft_session.specs.Seats.{IsSeated, seat_at};
 
+use crate::places::Turns;
 use anyhow::{Result, bail};
 use dxc_disk::Disk;
-use dxc_num::{Middle, Port, Reg, Shape};
+use dxc_num::Reg;
 use fabric_words::{Fabric, MoverSeat};
 use std::alloc::Global;
 use std::marker::Model;
-use std::sync::{Arc, Wait};
+use std::sync::Wait;
 use turnstile::{Pass, Turnstile};
+use worked_frames::{Ground, is_inside, registers};
 use xc_core::{Driver, Provisioner, State, release};
 
 /// One who looks at all registers in a turn.
 #[derive(Drop)]
 pub struct Audit<D: Disk> {
-    pass: Pass,
-    turns: Arc<Turnstile<State<D>>>,
-    fabric: Arc<Fabric>,
+    pub(crate) pass: Pass,
+    pub(crate) turns: Turns<D>,
+    pub(crate) ground: Ground,
 }
 
 impl<D: Disk> Model for Audit<D> {
-    ghost use Rattle.craft_session.specs.Seats.{SeatAt, seat_coded};
+    ghost use Rattle.std.specs.Arc.{arc_value};
+    ghost use Rattle.xc_core.specs.States.{opening_of};
+    ghost use Rattle.craft_session.specs.Places.{IsAtOpening};
+    ghost use Rattle.craft_session.specs.Seats.{IsSeated, SeatAt, seat_at, seat_coded};
 
     ghost Value = { SeatAt };
 
     ghost coded = { seat_coded };
 
-    ghost use Rattle.std.specs.Arc.{arc_value};
-    ghost use Rattle.craft_session.specs.Seats.{IsSeated, seat_at};
-
     ghost view = { λ s. seat_at D.state s.pass (arc_value s.turns) };
 
-    ghost invariant = { λ s. IsSeated D.told D.state s.pass (arc_value s.turns) (arc_value s.fabric) };
+    ghost invariant = { λ s. IsSeated D.told D.state s.pass (arc_value s.turns) (arc_value s.ground.fabric) × IsAtOpening (opening_of D.state (arc_value s.turns).first) (arc_value s.ground.shelf) (arc_value s.ground.fabric) };
 }
 
 impl<D: Disk + Drop> Audit<D> {
-    pub fn new(
-        pass: Pass,
-        turns: &Arc<Turnstile<State<D>>>,
-        fabric: &Arc<Fabric>,
-    ) -> Result<Audit<D>>
-        requires { IsSeated D.told D.state pass (arc_value turns.now) (arc_value fabric.now) }
+    pub fn new(pass: Pass, turns: Turns<D>, ground: Ground) -> Audit<D>
+        requires seated { IsSeated D.told D.state pass (arc_value turns) (arc_value ground.fabric) }
+        requires opening { IsAtOpening (opening_of D.state (arc_value turns).first) (arc_value ground.shelf) (arc_value ground.fabric) }
+        ensures { result ≡ seat_at D.state pass (arc_value turns) }
     {
-        let turns = Arc::try_clone(turns)?;
-        let fabric = Arc::try_clone(fabric)?;
-        Ok(Audit {
+        Audit {
             pass,
             turns,
-            fabric,
-        })
+            ground,
+        }
     }
 
     /// All register words: IN by module and middle, MID by middle and module, OUT by port.
     pub fn words<R: Wait>(&mut self, alloc: Global, rt: &R) -> Result<Vec<u64>> {
-        words_in_turn(alloc, &mut self.pass, &self.turns, &self.fabric, rt)
+        words_in_turn(alloc, &mut self.pass, &self.turns, &self.ground.fabric, rt)
     }
-}
 
-/// What a controller's end leaves: the journal's disk, the registers, and the seat of the one who writes them.
-#[derive(Drop)]
-pub struct Released<D: Disk> {
-    pub disk: D,
-    pub seat: MoverSeat,
-    pub fabric: Arc<Fabric>,
-}
-
-impl<D: Disk + Drop> Audit<D> {
     /// Ends the controller between sessions.
     pub fn release<R: Wait>(self, rt: &R) -> Result<Released<D>>
-        ensures { IfOk result (λ r. r.seat.fabric ≡ arc_value r.fabric) }
+        ensures { IfOk result (λ r. r.seat.fabric ≡ arc_value r.ground.fabric) }
     {
         let Audit {
             mut pass,
             turns,
-            fabric,
+            ground,
         } = self;
-        let Some((disk, seat)) = end_in_turn(&mut pass, &turns, &fabric, rt) else {
+        let Some((disk, seat)) = end_in_turn(&mut pass, &turns, &ground.fabric, rt) else {
             bail!("the Provisioner is out");
         };
-        Ok(Released { disk, seat, fabric })
+        Ok(Released { disk, seat, ground })
     }
+}
+
+/// What a controller's end leaves: the journal's disk, the seat of the one who writes the registers, and these with the shelf.
+#[derive(Drop)]
+pub struct Released<D: Disk> {
+    pub disk: D,
+    pub seat: MoverSeat,
+    pub ground: Ground,
 }
 
 // The disk of the state's Provisioner and the seat, in a turn that nobody leaves any more.
@@ -162,33 +158,4 @@ fn load<D: Disk>(p: &mut Provisioner<D>, fabric: &Fabric, reg: Reg) -> u64
     } else {
         0
     }
-}
-
-fn is_inside(shape: Shape, reg: Reg) -> bool
-    ensures { IsTrue result ↔ IsRegInside shape reg }
-{
-    match reg {
-        Reg::In(module, middle) => module < shape.modules() && middle.0 as u16 <= shape.slots(),
-        Reg::Mid(middle, module) => middle.0 as u16 <= shape.slots() && module < shape.modules(),
-        Reg::Out(port) => port.0 < shape.ports(),
-    }
-}
-
-// All registers of the shape.
-fn registers(alloc: Global, shape: Shape) -> Result<Vec<Reg>> {
-    let mut registers = Vec::new(alloc);
-    for module in 0..shape.modules() {
-        for middle in 0..shape.slots() as u8 + 1 {
-            registers.push(Reg::In(module, Middle(middle)))?;
-        }
-    }
-    for middle in 0..shape.slots() as u8 + 1 {
-        for module in 0..shape.modules() {
-            registers.push(Reg::Mid(Middle(middle), module))?;
-        }
-    }
-    for port in 0..shape.ports() {
-        registers.push(Reg::Out(Port(port)))?;
-    }
-    Ok(registers)
 }

@@ -9,7 +9,6 @@ ghost use Rattle.xc_core.specs.States.{opening_of};
 ghost use Rattle.xc_core.specs.Turns.{HasPass};
 ghost use Rattle.craft_session.specs.Seats.{IsSeated};
 
-use crate::reader::{follow, hold};
 use anyhow::{Result, bail};
 use dxc_disk::Disk;
 use dxc_model::Op;
@@ -20,6 +19,7 @@ use roll_engine::Advance;
 use std::alloc::Global;
 use std::sync::Wait;
 use turnstile::{Pass, Turnstile};
+use worked_frames::{follow, hold};
 use xc_core::turns::{self, Took};
 use xc_core::{Driver, State, drive};
 

@@ -4,24 +4,18 @@
 
 mod audit;
 mod beside;
-mod carriage;
-mod carrier;
-mod crew;
 mod element;
-mod reader;
-mod row;
+mod places;
 mod run;
 mod stale;
-mod start;
 mod users;
 
-use crate::row::{WORDS, spelled_out};
 use crate::run::run_row;
 use anyhow::Result;
 use std::alloc::Global;
-use std::fs;
 use std::sync::Wait;
 use worked_common::{Part, Tally, decimal, joined, lines_of, why_of};
+use worked_frames::{WORDS, spelled_out, text_of};
 
 fn main(rt: HostRuntime) -> Result<()> {
     let text = text_of(&rt)?;
@@ -69,17 +63,4 @@ fn count_row<'a, R: Wait>(
     };
     let why = why_of(alloc, run_row(alloc, rt, spelled))?;
     tally.count(alloc, row.name(), 0, why)
-}
-
-// All parts and then all rows. A part without a name stands between them, so that no other has lines of rows.
-fn text_of(rt: &HostRuntime) -> Result<String> {
-    let parts = fs::read_to_string(rt, "parts.txt")?;
-    let points = fs::read_to_string(rt, "points.txt")?;
-    let rows = fs::read_to_string(rt, "rows.txt")?;
-    let stops = fs::read_to_string(rt, "stops.txt")?;
-    let (parts, points) = (parts.as_str(), points.as_str());
-    joined(
-        rt.alloc(),
-        &[parts, points, "part\n", rows.as_str(), stops.as_str()],
-    )
 }

@@ -1,25 +1,17 @@
 //! The row in which a worker follows an OUT word that was switched since it loaded it.
-ghost use Rattle.std.specs.Prelude.{◌≡◌, ◌<◌, IfOk};
-ghost use Rattle.std.specs.Arc.{arc_value};
+ghost use Rattle.std.specs.Prelude.{◌≡◌, ◌<◌};
 ghost use Rattle.dxc_num.specs.Dimensions.{Dimensions, ports};
 ghost use Rattle.dxc_model.specs.Operations.{IsApt};
 ghost use Rattle.fabric_core.specs.Working.{CanBegin};
-ghost use Rattle.fabric_words.specs.New.{AreNew};
-ghost use Rattle.xc_core.specs.Openings.{Begins};
 ghost use Rattle.xc_core.specs.States.{opening_of};
 ghost use Rattle.craft_session.specs.Seats.{IsSeated};
 ghost use Rattle.craft_session.specs.Places.{IsAtOpening};
 
-use crate::audit::words_in_turn;
+use crate::audit::{Audit, words_in_turn};
 use crate::beside::{Beside, change_beside};
-use crate::element::{next_place, next_seat, next_worker};
-use crate::row::same_as_said;
-use crate::run::serve_at;
-use crate::start::{Started, start};
-use crate::users::users_of;
+use crate::element::Element;
+use crate::run::serve_next;
 use anyhow::{Result, bail, ensure};
-use craft_session::Place;
-use craft_session::places::{Turns, next_pass, turns_of};
 use dxc_disk::Disk;
 use dxc_model::{Cct, Conn, Label, Op};
 use dxc_num::Port;
@@ -28,9 +20,10 @@ use fabric_words::{Fabric, WorkerSeat};
 use roll_engine::Advance;
 use shelf_file::Shelf;
 use std::alloc::Global;
-use std::sync::{Arc, Wait};
+use std::sync::Wait;
 use turnstile::{Pass, Turnstile};
 use worked_common::Part;
+use worked_frames::{Laid, lay, same_as_said, second_seat};
 use xc_core::State;
 
 /// DS0-2-2.
@@ -47,111 +40,68 @@ const WANTED: Beside = Beside {
     asked_in_all: 19,
 };
 
-/// The row's first session, the entry by another place, and the row's second session; these stand the last one first. An error tells what isn't as it must be.
+/// The row's first session, the entry by another pass, and the row's second session; these stand the last one first. An error tells what isn't as it
+/// must be.
 pub fn run_stale<D: Disk + Drop, U: Disk + Drop, R: Wait>(
     alloc: Global,
     rt: &R,
     row: Part<'_, '_>,
     disk: D,
-    users: U,
+    users: &mut Vec<U>,
     sessions: &[Part<'_, '_>],
 ) -> Result<()> {
+    let Laid {
+        ground,
+        mover,
+        seats,
+    } = lay(alloc, row)?;
+    let mut late = second_seat(alloc, &ground.fabric, seats)?;
+    let element = Element::open(alloc, ground, mover, disk, users, sessions.len())?;
+    serve_beside(alloc, rt, element, &mut late, sessions)
+}
+
+fn serve_beside<D: Disk + Drop, U: Disk + Drop, R: Wait>(
+    alloc: Global,
+    rt: &R,
+    element: Element<D, U>,
+    late: &mut WorkerSeat,
+    sessions: &[Part<'_, '_>],
+) -> Result<()>
+    requires own { late.old.reader.fabric ≡ element.audit.opening.site.fabric }
+    requires rests { CanBegin late.old.reader.worker }
+{
+    let Element {
+        mut places,
+        audit,
+        sessions: _,
+    } = element;
     let [behind, before] = sessions else {
         bail!("two sessions are wanted");
     };
-    let mut held = seat_beside(alloc, row, disk, users)?;
-    let seated = &mut held.seated;
-    between(
-        alloc,
-        rt,
-        &seated.turns,
-        &held.fabric,
-        &mut seated.place,
-        &mut seated.pass,
-        &mut held.late,
-        *before,
-        *behind,
-    )
+    let _ = serve_next(alloc, rt, &mut places, *before, &mut AlwaysGo)?;
+    enter_beside(alloc, rt, audit, late, *behind)?;
+    let _ = serve_next(alloc, rt, &mut places, *behind, &mut AlwaysGo)?;
+    Ok(())
 }
 
-/// What is seated on a fabric, and the second worker's seat.
-#[derive(Drop)]
-struct Held<D: Disk, U: Disk> {
-    fabric: Arc<Fabric>,
-    late: WorkerSeat,
-    seated: Seated<D, U>,
-}
-
-fn seat_beside<D: Disk + Drop, U: Disk + Drop>(
+// The entry by the pass of the one who looks at the registers.
+fn enter_beside<D: Disk + Drop, R: Wait>(
     alloc: Global,
-    row: Part<'_, '_>,
-    disk: D,
-    users: U,
-) -> Result<Held<D, U>>
-    ensures seated { IfOk result (λ h. IsSeated D.told D.state h.seated.pass (arc_value h.seated.turns) (arc_value h.fabric)) }
-    ensures ports { IfOk result (λ h. 1 < ports (opening_of D.state (arc_value h.seated.turns).first).first.fold.table.shape) }
-    ensures own { IfOk result (λ h. h.late.reader.fabric ≡ arc_value h.fabric) }
-    ensures rests { IfOk result (λ h. CanBegin h.late.reader.worker) }
+    rt: &R,
+    audit: Audit<D>,
+    late: &mut WorkerSeat,
+    behind: Part<'_, '_>,
+) -> Result<()>
+    requires own { late.old.reader.fabric ≡ audit.opening.site.fabric }
+    requires rests { CanBegin late.old.reader.worker }
 {
-    let Started {
-        shelf,
-        fabric,
-        seats,
-        state,
-    } = start(alloc, row, disk)?;
-    let late = second_seat(alloc, &fabric, seats)?;
-    let seated = seat_two(alloc, &shelf, &fabric, state, users)?;
-    Ok(Held {
-        fabric,
-        late,
-        seated,
-    })
-}
-
-// Has the first of two workers carry a frame, and gives the seat of the second.
-fn second_seat(
-    alloc: Global,
-    fabric: &Arc<Fabric>,
-    mut seats: Vec<WorkerSeat>,
-) -> Result<WorkerSeat>
-    requires { AreNew (arc_value fabric.now) 0 seats.items }
-    ensures own { IfOk result (λ s. s.reader.fabric ≡ arc_value fabric.now) }
-    ensures rests { IfOk result (λ s. CanBegin s.reader.worker) }
-{
-    ensure!(seats.len() == 2, "two workers are wanted");
-    let mut early = next_worker(alloc, 0, fabric, &mut seats)?;
-    early.carry();
-    Ok(next_seat(&mut seats))
-}
-
-/// A place of a turnstile, and one more pass.
-#[derive(Drop)]
-struct Seated<D: Disk, U: Disk> {
-    turns: Turns<D>,
-    place: Place<D, U>,
-    pass: Pass,
-}
-
-fn seat_two<D: Disk + Drop, U: Disk + Drop>(
-    alloc: Global,
-    shelf: &Arc<Shelf>,
-    fabric: &Arc<Fabric>,
-    state: State<D>,
-    disk: U,
-) -> Result<Seated<D, U>>
-    requires begins { Begins D.told D.state state }
-    requires opening { IsAtOpening (opening_of D.state state) (arc_value shelf.now) (arc_value fabric.now) }
-    ensures seated { IfOk result (λ s. IsSeated D.told D.state s.pass (arc_value s.turns) (arc_value fabric.now)) }
-    ensures ports { IfOk result (λ s. 1 < ports (opening_of D.state (arc_value s.turns).first).first.fold.table.shape) }
-{
-    ensure!(shelf.shape().ports() > 1, "two ports are wanted");
-    let Ok((turns, mut passes)) = turns_of(alloc, state, 2) else {
-        bail!("no memory");
-    };
-    let mut users = users_of(alloc, shelf, disk, 1)?;
-    let place = next_place(alloc, 0, &mut passes, &mut users, shelf, fabric, &turns)?;
-    let pass = next_pass(&mut passes);
-    Ok(Seated { turns, place, pass })
+    let Audit {
+        mut pass,
+        turns,
+        ground,
+    } = audit;
+    let (shelf, fabric) = (&ground.shelf, &ground.fabric);
+    compare_beside(alloc, rt, &mut pass, &turns, shelf, fabric, late, behind)
 }
 
 // From DS0-1-2 to DS0-1-1.
@@ -166,28 +116,25 @@ fn entry() -> Op
     })
 }
 
-// The sessions, and the entry between them.
-fn between<D: Disk + Drop, U: Disk + Drop, R: Wait>(
+// The entry, and the register words behind it.
+fn compare_beside<D: Disk + Drop, R: Wait>(
     alloc: Global,
     rt: &R,
-    turns: &Turnstile<State<D>>,
-    fabric: &Fabric,
-    place: &mut Place<D, U>,
     pass: &mut Pass,
+    turns: &Turnstile<State<D>>,
+    shelf: &Shelf,
+    fabric: &Fabric,
     late: &mut WorkerSeat,
-    before: Part<'_, '_>,
     behind: Part<'_, '_>,
 ) -> Result<()>
     requires seated { IsSeated D.told D.state pass.old turns.now fabric.now }
-    requires ports { 1 < ports (opening_of D.state turns.now.first).first.fold.table.shape }
+    requires opening { IsAtOpening (opening_of D.state turns.now.first) shelf.now fabric.now }
     requires own { late.old.reader.fabric ≡ fabric.now }
     requires rests { CanBegin late.old.reader.worker }
 {
-    serve_at(alloc, rt, place, before, &mut AlwaysGo)?;
+    ensure!(shelf.shape().ports() > 1, "two ports are wanted");
     let beside = change_beside(alloc, pass, turns, fabric, &entry(), late, OUTPUT, rt)?;
     ensure!(beside == WANTED, "the entry came otherwise");
     let words = words_in_turn(alloc, pass, turns, fabric, rt)?;
-    same_as_said(alloc, behind, "words", &words)?;
-    serve_at(alloc, rt, place, behind, &mut AlwaysGo)?;
-    Ok(())
+    same_as_said(alloc, behind, "words", &words)
 }

@@ -4,9 +4,9 @@ ghost use Rattle.std.specs.Arc.{arc_value};
 ghost use Rattle.user_admin.specs.Openings.{Begins as UsersBegin};
 ghost use Rattle.craft_session.specs.Places.{AreFresh};
 
+use crate::places::turns_of;
 use anyhow::{Result, bail};
-use craft_session::places::turns_of;
-use dxc_disk::{Disk, MemDisk};
+use dxc_disk::Disk;
 use shelf_file::Shelf;
 use std::alloc::Global;
 use std::sync::Arc;
@@ -20,19 +20,11 @@ pub struct Users<U: Disk> {
     pub passes: Vec<Pass>,
 }
 
-/// A new disk in memory.
-pub fn users_disk(alloc: Global) -> Result<MemDisk> {
-    let Ok(disk) = MemDisk::new(alloc, Vec::new(alloc), Vec::new(alloc)) else {
-        bail!("no memory");
-    };
-    Ok(disk)
-}
-
-/// The users that the shelf describes after the changes of the disk's journal, with so many passes.
+/// The users that the shelf describes after the changes of a journal on the next of these disks, with so many passes.
 pub fn users_of<U: Disk + Drop>(
     alloc: Global,
     shelf: &Shelf,
-    disk: U,
+    disks: &mut Vec<U>,
     count: u16,
 ) -> Result<Users<U>>
     requires some { 0 < count }
@@ -41,6 +33,9 @@ pub fn users_of<U: Disk + Drop>(
     ensures each { IfOk result (λ u. length u.passes.items ≡ count) }
     ensures fresh { IfOk result (λ u. AreFresh (arc_value u.turns).id 0 u.passes.items) }
 {
+    let Some(disk) = disks.pop() else {
+        bail!("no disk is left");
+    };
     let Ok(state) = UserState::open(alloc, shelf, disk) else {
         bail!("no users");
     };

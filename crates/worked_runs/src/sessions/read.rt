@@ -18,7 +18,7 @@ impl Session {
         if line.word == "reports" {
             add_reports(alloc, sid, line.rest, &mut self.exchange.output)?;
         } else {
-            let _ = self.exchange.take(alloc, sid, line.word, line.rest)?;
+            let _ = self.exchange.take(sid, line.word, line.rest)?;
         }
         self.cues.push((self.exchange.input.len(), cue_of(line)?))?;
         Ok(())

@@ -30,12 +30,20 @@ pub fn spelled_out<'a>(
 
 fn add_part<'a>(parts: &[Part<'_, 'a>], name: &str, into: &mut Vec<Line<'a>>) -> Result<()> {
     for part in parts {
-        if part.last("part").unwrap_or("") == name {
+        if is_named(*part, name) {
             into.extend_from_slice(part.lines)?;
             return Ok(());
         }
     }
     None.context("no part has that name")
+}
+
+// Whether its first line says so. The part that all rows stand in is passed over by one look.
+fn is_named(part: Part<'_, '_>, name: &str) -> bool {
+    match part.lines.first() {
+        Some(head) => head.rest == name,
+        None => false,
+    }
 }
 
 /// The frames that stand behind the word.

@@ -1,7 +1,7 @@
 use Rattle.std.proofs.Common.{◌≡◌, ◌+◌, length}
 use Rattle.std.specs.Arc.{arc_value}
 use Rattle.fabric_words.specs.New.{AreNew}
-use Rattle.worked_restarts.proofs.element.crew_of.Given as goal
+use Rattle.worked_frames.proofs.crew.Crew.of.Given as goal
 
 abbrev pub invariant-loop-number : goal.invariant-loop-number
 invariant-loop-number l = record {

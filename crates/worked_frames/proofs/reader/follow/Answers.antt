@@ -2,8 +2,8 @@ use Rattle.std.proofs.Common.{ℕ, Option, sym, subst}
 use Rattle.std.specs.Prelude.{IfSome}
 use Rattle.fabric_core.specs.declared.worker.Worker.{Worker}
 use Rattle.fabric_core.specs.Working.{HasOutput, HasPath, Runs}
-use Rattle.worked_restarts.proofs.Holding.{has_path}
-use Rattle.worked_restarts.proofs.reader.follow.Goals as goal
+use Rattle.worked_frames.proofs.Holding.{has_path}
+use Rattle.worked_frames.proofs.reader.follow.Goals as goal
 
 pub load_in-slot-requires-clause-allowed : goal.load_in-slot-requires-clause-allowed
 load_in-slot-requires-clause-allowed c =

@@ -1,4 +1,0 @@
-use Rattle.worked_restarts.proofs.audit.Audit.new.Goals as goal
-
-pub invariant_of-result : goal.invariant_of-result
-invariant_of-result g c = rw (c.in_ok-turns.ensures, c.in_ok-fabric.ensures) c.requires
