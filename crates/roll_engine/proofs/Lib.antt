@@ -11,3 +11,4 @@ pub mod Leading
 pub mod Outputs
 pub mod UnderWay
 pub mod Asking
+pub mod Replacing

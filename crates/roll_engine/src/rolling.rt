@@ -59,12 +59,18 @@ impl Rolling {
     }
 
     /// Becomes the work of one op, of which no write is made, in place.
+    #[tactic(auto, using(crate::proofs::Replacing::only_set))]
     pub fn begin(&mut self, op: LegOp)
         ensures ops { self.new.work.ops.items ≡ op ∷ [] }
         ensures unmade { self.new ≡ unmade self.new.work }
     {
-        self.work.ops.clear();
-        self.work.ops.push(op);
+        // One op in the place of one costs no clearing of a place that is large.
+        if self.work.ops.len() == 1 {
+            self.work.ops[0] = op;
+        } else {
+            self.work.ops.clear();
+            self.work.ops.push(op);
+        }
         self.step = 0;
         self.behind = Behind::Nothing;
     }
