@@ -1,9 +1,11 @@
 -- The load mode: its seat, how its session ends, and what that left.
 use Rattle.std.proofs.Common.{◌≡◌, ◌≢◌, ◌↔◌, ◌<◌, ◌≤◌, ◌++◌, ◌^◌, arith, ℕ, Bool, true, false, IsTrue, List, [], ◌∷◌, append-nil, Option, Result, Ok, Err, length, slice_index_or, inl, inr, refl, sym, ◌∙◌, ap, subst}
-use Rattle.std.specs.Prelude.{IfSome, MatchResult}
+use Rattle.std.specs.Prelude.{IfOk, IfSome, MatchResult}
 use Rattle.std.specs.Arc.{arc_value}
 use Rattle.dxc_causes.specs.Causes.{Counted, Rose}
+use Rattle.dxc_disk.specs.declared.mem_disk.MemDisk.{MemDisk}
 use Rattle.dxc_disk.specs.Disks.{DiskState}
+use Rattle.dxc_disk.specs.MemView.{mem_state}
 use Rattle.dxc_num.specs.Dimensions.{ports}
 use Rattle.dxc_outside.specs.Links.{LinkState}
 use Rattle.dxc_model.specs.declared.entry.Entry.{Entry}
@@ -33,16 +35,33 @@ use Rattle.craft_words.specs.declared.status.Status.TheVariants.{BadWords}
 use Rattle.craft_words.specs.declared.status.Status.TheVariants as Status_of
 use Rattle.craft_element.specs.declared.opening.Element.{Element}
 use Rattle.craft_element.specs.declared.stock.Stock.{Stock}
-use Rattle.craft_element.specs.Loads.{IsLoadElement, NotLoaded}
+use Rattle.craft_element.specs.Loads.{IsLoadElement, IsLoadStarted, NotLoaded}
 use Rattle.craft_element.specs.Stocks.{IsLeft, IsStockAfter}
 use Rattle.craft_element.proofs.Wording.{sent_words}
-use Rattle.craft_server.specs.Loads.{IsLoad, IsLoadedOn, IsLoadServed, IsSummed, load_moments, stock_in}
+use Rattle.craft_server.specs.Loads.{IsLoad, IsLoaded, IsLoadedOn, IsLoadServed, IsSummed, LoadsOn, load_moments, stock_in}
 use Rattle.craft_server.proofs.Starting.{of_disk, users_of_disk}
 
 -- the first of a fabric's new seats
 pub first_new : (f : FabricId) (n : ℕ) (seats : List WorkerSeat) (d : WorkerSeat) → AreNew f n seats → 0 < length seats → (slice_index_or seats 0 d).reader ≡ record { fabric = f; worker = new_worker n }
 first_new f n [] d all some = absurd (omega (arith, some))
 first_new f n (x ∷ xs) d all some = all.0
+
+-- of an element that was opened, and of none
+pub if_started : {A : Type 0} (P : A → Type 0) (Q : Status → Type 0) (r : Result A Status) → MatchResult r P Q → IfOk r P
+if_started P Q (Ok x) is = is
+if_started P Q (Err s) is = tt
+
+pub on_started : {A : Type 0} (P : A → Type 0) (r : Result A Status) (x : A) → r ≡ Ok x → IfOk r P → P x
+on_started P r x is has = subst (λ p. IfOk p P) is has
+
+module _ (number stops mid later : ℕ) (r : Result Summary Status) where
+  pub loaded_by : (x : Result (Element MemDisk MemDisk) Status) → MatchResult x IsLoadStarted (NotLoaded stops mid) → MatchResult x (λ e. mid ≡ stops) (λ s. stops ≤ mid) → LoadsOn (Unit {0}) (Unit {0}) mem_state mem_state number x mid later r → MatchResult r (IsLoaded number) (NotLoaded stops later)
+  loaded_by (Ok e) started same told = subst (λ (n : ℕ). MatchResult r (IsLoaded number) (NotLoaded n later)) same told.0
+  loaded_by (Err s) not up told = subst (λ (p : Result Summary Status). MatchResult p (IsLoaded number) (NotLoaded stops later)) (sym told.0) (subst (λ (n : ℕ). NotLoaded stops n s) (sym told.1) not)
+
+  pub stops_by : (x : Result (Element MemDisk MemDisk) Status) → MatchResult x (λ e. mid ≡ stops) (λ s. stops ≤ mid) → LoadsOn (Unit {0}) (Unit {0}) mem_state mem_state number x mid later r → MatchResult r (λ v. later ≡ stops) (λ s. stops ≤ later)
+  stops_by (Ok e) same told = subst (λ (n : ℕ). MatchResult r (λ v. later ≡ n) (λ s. n ≤ later)) same told.1
+  stops_by (Err s) up told = subst (λ (p : Result Summary Status). MatchResult p (λ v. later ≡ stops) (λ e. stops ≤ later)) (sym told.0) (subst (λ (n : ℕ). stops ≤ n) (sym told.1) up)
 
 -- no status of the load is that of words which aren't understood
 pub load_words : (number : ℕ) (told : Type 0) (k l : LinkState) (stops later : ℕ) (status : Status) → IsLoad number told k l stops later status → status ≢ BadWords

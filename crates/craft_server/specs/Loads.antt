@@ -1,5 +1,5 @@
 -- What the load mode does.
-use Rattle.std.specs.Prelude.{◌≡◌, ◌⊎◌, ◌*◌, ℕ, true, List, [], ◌∷◌}
+use Rattle.std.specs.Prelude.{◌≡◌, ◌≤◌, ◌⊎◌, ◌*◌, ℕ, true, List, [], ◌∷◌, Result, Err, MatchResult}
 use Rattle.dxc_disk.specs.Disks.{DiskState}
 use Rattle.dxc_disk.specs.MemView.{mem_state}
 use Rattle.dxc_outside.specs.declared.clock.Moment.{Moment}
@@ -30,6 +30,7 @@ use Rattle.dxc_load.specs.Sending.{link_state, unread, worker_of}
 use Rattle.dxc_load.specs.Summaries.{summary_line}
 use Rattle.craft_words.specs.declared.status.Status.{Status}
 use Rattle.craft_words.specs.Statuses.{status_of_sent}
+use Rattle.craft_element.specs.declared.opening.Element.{Element}
 use Rattle.craft_element.specs.declared.stock.Stock.{Stock}
 use Rattle.craft_element.specs.Loads.{IsLoadDisk, IsLoadUsersDisk, NotLoaded}
 use Rattle.craft_element.specs.Stocks.{IsLeft, IsStockAfter}
@@ -87,6 +88,11 @@ pub record IsLoadedOn (told users_told : Type 0) {D U : Type 0} (state : D → D
   pub all_read : (link_state link).left ≡ []
   pub left : IsStockAfter opening wrote.answered.walk.history (stock_in v)
   pub sum : IsSumOf link v
+
+-- the same where the element was opened, by the stops before and after
+abbrev pub LoadsOn : (told users_told : Type 0) {D U : Type 0} (state : D → DiskState) (users_state : U → DiskState) (number : ℕ) → Result (Element D U) Status → (stops later : ℕ) → Result Summary Status → Type 0
+LoadsOn told users_told state users_state number opened stops later r =
+    MatchResult opened (λ x. MatchResult r (IsLoadedOn told users_told state users_state number) (NotLoaded stops later) × MatchResult r (λ v. later ≡ stops) (λ s. stops ≤ later)) (λ s. (r ≡ Err s) × (later ≡ stops))
 
 -- on journals in memory
 abbrev pub IsLoaded : ℕ → Summary → Type 0

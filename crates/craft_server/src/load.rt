@@ -1,5 +1,5 @@
 //! The load script, run by one session on journals in memory.
-ghost use Rattle.std.specs.Prelude.{◌≡◌, ◌≤◌, ◌^◌, List, IfOk, IfSome, MatchResult, length, vec_capacity};
+ghost use Rattle.std.specs.Prelude.{◌≡◌, ◌≤◌, ◌^◌, List, [], IfOk, IfSome, MatchResult, length, vec_capacity};
 ghost use Rattle.std.specs.Arc.{arc_value};
 ghost use Rattle.dxc_num.specs.Dimensions.{ports};
 ghost use Rattle.dxc_model.specs.declared.entry.Entry.{Entry};
@@ -9,7 +9,7 @@ ghost use Rattle.dxc_load.specs.Sending.{link_state, unread};
 ghost use Rattle.xc_core.specs.Seeing.{Saw};
 ghost use Rattle.craft_element.specs.Loads.{IsLoadElement, NotLoaded};
 ghost use Rattle.craft_element.specs.Stocks.{IsLeft};
-ghost use Rattle.craft_server.specs.Loads.{IsLoad, IsLoaded, IsLoadedOn, IsLoadServed, IsSummed};
+ghost use Rattle.craft_server.specs.Loads.{IsLoad, IsLoaded, IsLoadedOn, IsLoadServed, IsSummed, LoadsOn};
 
 use arrayvec::ArrayVec;
 use craft_element::{Controller, Element, Stock, load_element, stock_of};
@@ -28,20 +28,33 @@ use std::sync::{Arc, Wait};
 /// How many bytes of responses are kept.
 const WRITTEN_ROOM: usize = 1 << 21;
 
-// The link of the script of that number, with the first of the seats.
+/// How many connections there can be: one at each port of 8 modules of 24 slots.
+const CONNECTIONS: usize = 192;
+
+// Room for all connections, and for what is written to the link.
+fn rooms(alloc: Global) -> Result<(Vec<Conn>, Vec<u8>), NoMemory>
+    ensures rows { IfOk result (λ r. ports shape_of_load ≤ vec_capacity r.0) }
+    ensures written { IfOk result (λ r. (r.1.items ≡ []) × (2 ^ 21 ≤ vec_capacity r.1)) }
+{
+    let rows = Vec::with_capacity(alloc, CONNECTIONS)?;
+    let written = Vec::with_capacity(alloc, WRITTEN_ROOM)?;
+    Ok((rows, written))
+}
+
+// The link of the script of that number, with the first of the seats. What is written to it is kept in that room.
 fn load_link(
-    alloc: Global,
     number: u64,
     fabric: Arc<Fabric>,
     mut seats: Vec<WorkerSeat>,
-) -> Result<LoadLink, NoMemory>
+    written: Vec<u8>,
+) -> LoadLink
     requires shape { (arc_value fabric).size.shape ≡ shape_of_load }
     requires seats { AreNew (arc_value fabric) 0 seats.items }
     requires one { length seats.items ≡ 1 }
-    ensures { IfOk result (λ l. link_state l ≡ unread number) }
+    requires room { (written.items ≡ []) × (2 ^ 21 ≤ vec_capacity written) }
+    ensures { link_state result ≡ unread number }
 {
-    let written = Vec::with_capacity(alloc, WRITTEN_ROOM)?;
-    Ok(LoadLink::new(number, fabric, seats.remove(0), written))
+    LoadLink::new(number, fabric, seats.remove(0), written)
 }
 
 // Serves the script at the place.
@@ -84,17 +97,17 @@ fn left_by<D: Disk + Drop, U: Disk + Drop, R: Wait>(
 // Serves the script of the link at the place, and sums it up.
 fn summed<D: Disk + Drop, U: Disk + Drop, G: Gate, R: Wait>(
     mut place: Place<D, U>,
-    mut link: LoadLink,
+    link: &mut LoadLink,
     rows: &mut Vec<Conn>,
     gate: &mut G,
     rt: &R,
 ) -> Result<Summary, Status>
-    requires unread { (link_state link).reads ≡ 0 }
+    requires unread { (link_state link.old).reads ≡ 0 }
     requires room { ports place.seat.opening.first.fold.table.shape ≤ vec_capacity rows.old }
-    ensures summed { MatchResult result (IsSummed D.told place (link_state link)) (NotLoaded (G.stops gate.old) (G.stops gate.new)) }
+    ensures summed { MatchResult result (IsSummed D.told place (link_state link.old)) (NotLoaded (G.stops gate.old) (G.stops gate.new)) }
     ensures unstopped { MatchResult result (λ _. G.stops gate.new ≡ G.stops gate.old) (λ _. G.stops gate.old ≤ G.stops gate.new) }
 {
-    match serve_load(&mut place, &mut link, gate, rt) {
+    match serve_load(&mut place, link, gate, rt) {
         Ok(()) => {}
         Err(status) => return Err(status),
     }
@@ -115,10 +128,14 @@ fn load_on<D: Disk + Drop, U: Disk + Drop, G: Gate, R: Wait>(
     alloc: Global,
     number: u64,
     element: Element<D, U>,
+    rows: &mut Vec<Conn>,
+    written: Vec<u8>,
     gate: &mut G,
     rt: &R,
 ) -> Result<Summary, Status>
-    requires { IsLoadElement D.told U.told D.state U.state element }
+    requires element { IsLoadElement D.told U.told D.state U.state element }
+    requires rows { ports shape_of_load ≤ vec_capacity rows.old }
+    requires written { (written.items ≡ []) × (2 ^ 21 ≤ vec_capacity written) }
     ensures loaded { MatchResult result (IsLoadedOn D.told U.told D.state U.state number) (NotLoaded (G.stops gate.old) (G.stops gate.new)) }
     ensures unstopped { MatchResult result (λ _. G.stops gate.new ≡ G.stops gate.old) (λ _. G.stops gate.old ≤ G.stops gate.new) }
 {
@@ -129,16 +146,32 @@ fn load_on<D: Disk + Drop, U: Disk + Drop, G: Gate, R: Wait>(
         seats,
         state,
     } = controller;
-    let Ok(mut rows) = Vec::with_capacity(alloc, shelf.shape().ports() as usize) else {
-        return Err(Status::NoMemory);
-    };
     let Ok(place) = lone_place(alloc, &shelf, &fabric, state, users) else {
         return Err(Status::NoMemory);
     };
-    let Ok(link) = load_link(alloc, number, fabric, seats) else {
-        return Err(Status::NoMemory);
-    };
-    summed(place, link, &mut rows, gate, rt)
+    let mut link = load_link(number, fabric, seats, written);
+    summed(place, &mut link, rows, gate, rt)
+}
+
+// The same where the element was opened. Generic over its disks, since whoever owns a disk in memory pays for each of its parts.
+fn load_opened<D: Disk + Drop, U: Disk + Drop, G: Gate, R: Wait>(
+    alloc: Global,
+    number: u64,
+    opened: Result<Element<D, U>, Status>,
+    rows: &mut Vec<Conn>,
+    written: Vec<u8>,
+    gate: &mut G,
+    rt: &R,
+) -> Result<Summary, Status>
+    requires element { IfOk opened (IsLoadElement D.told U.told D.state U.state) }
+    requires rows { ports shape_of_load ≤ vec_capacity rows.old }
+    requires written { (written.items ≡ []) × (2 ^ 21 ≤ vec_capacity written) }
+    ensures { LoadsOn D.told U.told D.state U.state number opened (G.stops gate.old) (G.stops gate.new) result }
+{
+    match opened {
+        Ok(element) => load_on(alloc, number, element, rows, written, gate, rt),
+        Err(status) => Err(status),
+    }
 }
 
 // The same on journals in memory.
@@ -151,10 +184,11 @@ fn loaded<G: Gate, R: Wait>(
     ensures loaded { MatchResult result (IsLoaded number) (NotLoaded (G.stops gate.old) (G.stops gate.new)) }
     ensures unstopped { MatchResult result (λ _. G.stops gate.new ≡ G.stops gate.old) (λ _. G.stops gate.old ≤ G.stops gate.new) }
 {
-    match load_element(alloc, gate) {
-        Ok(element) => load_on(alloc, number, element, gate, rt),
-        Err(status) => Err(status),
-    }
+    let Ok((mut rows, written)) = rooms(alloc) else {
+        return Err(Status::NoMemory);
+    };
+    let opened = load_element(alloc, gate);
+    load_opened(alloc, number, opened, &mut rows, written, gate, rt)
 }
 
 /// Runs the load script of that number, and writes its summary to the terminal.

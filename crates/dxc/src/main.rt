@@ -1,16 +1,8 @@
 //! The controller of a digital cross-connect.
 #![tactic(auto)]
 
-mod help;
-mod streams;
-mod why;
-mod words;
-
-use crate::help::told_by_itself;
-use crate::streams::held_streams;
-use crate::why::{Why, fault_text};
-use crate::words::words_given;
 use craft_server::{Status, dxc_run};
+use dxc_console::{held_streams, help_asked, tell_status, words_given};
 use dxc_host::{HostClock, HostOpener, TermLink, ThreadSpawner};
 use dxc_outside::AlwaysGo;
 use std::io::{self, IsTerminal};
@@ -25,11 +17,8 @@ fn main(rt: HostRuntime) -> ExitCode {
         Status::CannotOpen
     } else if words_given(&rt, &mut words).is_err() {
         Status::NoMemory
-    } else if let Some(text) = told_by_itself(&words) {
-        match print!(rt; "{text}") {
-            Ok(()) => Status::Done,
-            Err(_) => Status::Link,
-        }
+    } else if let Some(status) = help_asked(&rt, &words) {
+        status
     } else {
         dxc_run(
             alloc,
@@ -42,10 +31,6 @@ fn main(rt: HostRuntime) -> ExitCode {
             &rt,
         )
     };
-    // What can't be written there changes no status.
-    let _ = eprint!(rt; "{}", fault_text(status));
-    if rt.stderr().is_terminal() {
-        let _ = eprint!(rt; "{}", Why::new(status, &words));
-    }
+    tell_status(&rt, status, &words, rt.stderr().is_terminal());
     ExitCode::from(status.number())
 }

@@ -17,3 +17,6 @@ new-requires-clause-unused c =
     let some : 0 < length c.args.seats.items = omega (arith, c.requires.one) in
     let is : c.remove.result.reader.worker ≡ new_worker 0 = ap (λ (w : WorkerSeat). w.reader.worker) c.remove.ensures.value ∙ ap (λ (r : Reader). r.worker) (first_new (arc_value c.args.fabric) 0 c.args.seats.items c.remove.result c.requires.seats some) in
     is ∙ sym (ap (λ (w : Worker). new_worker w.number) is)
+
+pub new-requires-clause-room : goal.new-requires-clause-room
+new-requires-clause-room c = c.requires.room

@@ -1,14 +1,22 @@
-use Rattle.std.proofs.Common.{◌≡◌, ◌≤◌, ℕ, subst}
-use Rattle.std.specs.Prelude.{MatchResult}
-use Rattle.craft_element.specs.Loads.{NotLoaded}
-use Rattle.craft_server.specs.Loads.{IsLoaded}
+use Rattle.std.proofs.Common.{arith, inl, refl}
+use Rattle.craft_element.specs.Loads.{IsLoadStarted, NotLoaded}
+use Rattle.craft_server.proofs.Loading.{if_started, loaded_by, stops_by}
 use Rattle.craft_server.proofs.load.loaded.Goals as goal
 
-pub load_on-requires : goal.load_on-requires
-load_on-requires g c = c.in-Ok.ensures.started
+pub load_opened-requires-clause-element : goal.load_opened-requires-clause-element
+load_opened-requires-clause-element g c = if_started IsLoadStarted (NotLoaded (g.G.Gate.stops c.args.gate.now) (g.G.Gate.stops c.load_element-opened.new.gate)) c.load_element-opened.result c.load_element-opened.ensures.started
 
-pub returns-in-Ok-clause-loaded : goal.returns-in-Ok-clause-loaded
-returns-in-Ok-clause-loaded g c = subst (λ (n : ℕ). MatchResult c.load_on.result (IsLoaded c.args.number) (NotLoaded n (g.G.Gate.stops c.load_on.new.gate))) c.in-Ok.ensures.unstopped c.load_on.ensures.loaded
+pub load_opened-requires-clause-rows : goal.load_opened-requires-clause-rows
+load_opened-requires-clause-rows g c = c.in-Ok.ensures.rows
 
-pub returns-in-Ok-clause-unstopped : goal.returns-in-Ok-clause-unstopped
-returns-in-Ok-clause-unstopped g c = let later = g.G.Gate.stops c.load_on.new.gate in subst (λ (n : ℕ). MatchResult c.load_on.result (λ v. later ≡ n) (λ s. n ≤ later)) c.in-Ok.ensures.unstopped c.load_on.ensures.unstopped
+pub load_opened-requires-clause-written : goal.load_opened-requires-clause-written
+load_opened-requires-clause-written g c = c.in-Ok.ensures.written
+
+pub returns-in_default-clause-loaded : goal.returns-in_default-clause-loaded
+returns-in_default-clause-loaded g c = inl refl
+
+pub returns-clause-loaded : goal.returns-clause-loaded
+returns-clause-loaded g c = loaded_by c.args.number (g.G.Gate.stops c.args.gate.now) (g.G.Gate.stops c.load_element-opened.new.gate) (g.G.Gate.stops c.load_opened.new.gate) c.load_opened.result c.load_element-opened.result c.load_element-opened.ensures.started c.load_element-opened.ensures.unstopped c.load_opened.ensures
+
+pub returns-clause-unstopped : goal.returns-clause-unstopped
+returns-clause-unstopped g c = stops_by c.args.number (g.G.Gate.stops c.args.gate.now) (g.G.Gate.stops c.load_element-opened.new.gate) (g.G.Gate.stops c.load_opened.new.gate) c.load_opened.result c.load_element-opened.result c.load_element-opened.ensures.unstopped c.load_opened.ensures

@@ -1,3 +1,4 @@
+use craft_words::Status;
 use dxc_outside::Name;
 
 const HELP: &str = "dxc: the controller of a digital cross-connect
@@ -52,8 +53,17 @@ Status: 0 done, 2 words not understood, 3 shelf file refused, 4 journal refused,
 
 const VERSION: &str = "dxc 0.1.0\n";
 
-/// What the one word `--help` or `--version` asks for.
-pub fn told_by_itself(words: &[Name]) -> Option<&'static str> {
+/// Prints what the one word `--help` or `--version` asks for, and gives the status that the program then ends with. None: the words ask for neither.
+pub fn help_asked<R: Print>(rt: &R, words: &[Name]) -> Option<Status> {
+    let text = told_by_itself(words)?;
+    match print!(rt; "{text}") {
+        Ok(()) => Some(Status::Done),
+        Err(_) => Some(Status::Link),
+    }
+}
+
+// The text that the words ask for.
+fn told_by_itself(words: &[Name]) -> Option<&'static str> {
     match words {
         [word] => match word.text() {
             "--help" => Some(HELP),

@@ -1,10 +1,20 @@
-use craft_server::{JournalBad, Status};
+use craft_words::{JournalBad, Status};
 use dxc_outside::Name;
 use shelf_file::{ShelfFault, ShelfKey};
 use std::fmt::{self, Display, Formatter, Write};
 
-/// The line that tells of a status other than Done.
-pub fn fault_text(status: Status) -> &'static str {
+/// Tells of a status other than Done on standard error: by a line of its own, and where that is a terminal, by a second one on what the
+/// status holds. What can't be written there changes no status.
+pub fn tell_status<R: Eprint>(rt: &R, status: Status, words: &[Name], is_terminal: bool) {
+    let _ = eprint!(rt; "{}", fault_text(status));
+    if is_terminal {
+        let why = Why { status, words };
+        let _ = eprint!(rt; "{why}");
+    }
+}
+
+// The line that tells of a status other than Done.
+fn fault_text(status: Status) -> &'static str {
     match status {
         Status::Done => "",
         Status::BadWords => "dxc: words not understood\n",
@@ -22,17 +32,11 @@ pub fn fault_text(status: Status) -> &'static str {
     }
 }
 
-/// What the status holds, as a line for whoever reads a terminal. Nothing of a PID, a salt or a digest is in it.
+// What the status holds, as a line for whoever reads a terminal. Nothing of a PID, a salt or a digest is in it.
 #[derive(Drop)]
-pub struct Why<'a> {
+struct Why<'a> {
     status: Status,
     words: &'a [Name],
-}
-
-impl<'a> Why<'a> {
-    pub fn new(status: Status, words: &'a [Name]) -> Why<'a> {
-        Why { status, words }
-    }
 }
 
 impl Display for Why<'_> {
@@ -58,7 +62,7 @@ impl Display for Why<'_> {
     }
 }
 
-/// How many words a line of the mode has with the mode itself, at least and at most; None: there is no such mode.
+// How many words a line of the mode has with the mode itself, at least and at most; None: there is no such mode.
 fn words_of(mode: &str) -> Option<(usize, usize)> {
     match mode {
         "script" | "check" | "standby" => Some((3, 3)),
@@ -68,7 +72,7 @@ fn words_of(mode: &str) -> Option<(usize, usize)> {
     }
 }
 
-/// The word of a mode that stands for a number; None: it has none.
+// The word of a mode that stands for a number; None: it has none.
 fn number_of_mode<'a>(mode: &str, words: &'a [Name]) -> Option<&'a Name> {
     match mode {
         "serve" => words.get(5),
@@ -77,7 +81,7 @@ fn number_of_mode<'a>(mode: &str, words: &'a [Name]) -> Option<&'a Name> {
     }
 }
 
-/// The first word that stands in no line of the program.
+// The first word that stands in no line of the program.
 fn word_at_fault(words: &[Name]) -> Option<&Name> {
     let mode = words.first()?;
     let Some((least, most)) = words_of(mode.text()) else {
@@ -135,7 +139,7 @@ fn write_shelf_fault<W: Write>(f: &mut Formatter<W>, fault: ShelfFault) -> fmt::
     }
 }
 
-/// The key, at the top or of a user, which are counted from 1.
+// The key, at the top or of a user, which are counted from 1.
 fn write_key<W: Write>(f: &mut Formatter<W>, key: ShelfKey, user: u16, what: &str) -> fmt::Result {
     match user {
         0 => writeln!(f, "dxc: key {} {what}", key_name(key)),

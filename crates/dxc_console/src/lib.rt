@@ -1,0 +1,12 @@
+//! What the program says by itself, and what it is given: its words, its help, the texts of faults and the standard streams.
+#![tactic(auto)]
+
+mod help;
+mod streams;
+mod why;
+mod words;
+
+pub use help::help_asked;
+pub use streams::held_streams;
+pub use why::tell_status;
+pub use words::words_given;
