@@ -3,42 +3,54 @@
 
 use anyhow::Result;
 use craft_server::{Status, dxc_run};
-use dxc_outside::{Clock, Gate, Link, Listener, Name, Opener, Spawner};
+use dxc_outside::{Link, Listener, Opener, Spawner};
 use std::alloc::Global;
 use std::sync::Wait;
-use worked_runs::{Over, Program, run_files};
+use std::thread::Threads;
+use worked_runs::{Beside, Over, Turn, run_files};
 
-/// The program's one call.
-struct OneCall;
-
-impl Program for OneCall {
-    fn run<O: Opener, K: Link, C: Clock, G: Gate, P: Spawner, R: Wait>(
-        &self,
-        alloc: Global,
-        words: &[Name],
-        opener: &mut O,
-        terminal: &mut K,
-        clock: &mut C,
-        gate: &mut G,
-        spawner: &mut P,
-        threads: &R,
-    ) -> Status
-    where
-        <O::Listener as Listener>::Link: Send + 'static,
-    {
-        dxc_run(
-            alloc, words, opener, terminal, clock, gate, spawner, threads,
-        )
-    }
-}
+const FILES: [(&str, Over); 5] = [
+    ("rows.txt", Over::Files),
+    ("journals.txt", Over::Fakes),
+    ("faults.txt", Over::Fakes),
+    ("standbys.txt", Over::Fakes),
+    ("sessions.txt", Over::Threads),
+];
 
 fn main(rt: HostRuntime) -> Result<()> {
-    let files = [
-        ("rows.txt", Over::Files),
-        ("journals.txt", Over::Fakes),
-        ("faults.txt", Over::Fakes),
-        ("standbys.txt", Over::Fakes),
-        ("sessions.txt", Over::Threads),
-    ];
-    run_files(&OneCall, &rt, &rt, &files)
+    run_all(&rt, &rt)
+}
+
+fn run_all<R: Threads + Wait + Copy + Send + Drop + 'static>(
+    rt: &HostRuntime,
+    threads: &R,
+) -> Result<()> {
+    let alloc = rt.alloc();
+    let program = |turn: &mut Turn<R>| match turn {
+        Turn::Files(opener, beside) => run(alloc, opener, beside, threads),
+        Turn::Fakes(opener, beside) => run(alloc, opener, beside, threads),
+        Turn::Threads(opener, beside) => run(alloc, opener, beside, threads),
+    };
+    run_files(&program, rt, threads, &FILES)
+}
+
+fn run<O: Opener, K: Link, P: Spawner, R: Wait>(
+    alloc: Global,
+    opener: &mut O,
+    beside: &mut Beside<K, P>,
+    threads: &R,
+) -> Status
+where
+    <O::Listener as Listener>::Link: Send + 'static,
+{
+    dxc_run(
+        alloc,
+        &beside.words,
+        opener,
+        &mut beside.terminal,
+        &mut beside.clock,
+        &mut beside.gate,
+        &mut beside.spawner,
+        threads,
+    )
 }

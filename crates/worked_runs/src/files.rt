@@ -1,8 +1,9 @@
-use crate::Program;
 use crate::run::run_row;
 use crate::sessions::serve_row;
+use crate::turn::Turn;
 use crate::words::{RUN_WORDS, SESSION_WORDS};
 use anyhow::Result;
+use craft_words::Status;
 use std::alloc::Global;
 use std::fs;
 use std::sync::Wait;
@@ -21,12 +22,14 @@ pub enum Over {
 }
 
 /// Runs each row of the files of these names through the program, and writes what came of them.
-pub fn run_files<X: Program, R: Threads + Wait + Copy + Send + Drop + 'static>(
-    program: &X,
+pub fn run_files<R: Threads + Wait + Copy + Send + Drop + 'static, F: Fn(&mut Turn<R>) -> Status>(
+    program: &F,
     rt: &HostRuntime,
     threads: &R,
     files: &[(&str, Over)],
-) -> Result<()> {
+) -> Result<()>
+    requires { F.IsAlwaysCallable program.now }
+{
     for (name, over) in files {
         let text = fs::read_to_string(rt, name)?;
         let told = told_of(program, rt, threads, name, text.as_str(), *over)?;
@@ -36,14 +39,16 @@ pub fn run_files<X: Program, R: Threads + Wait + Copy + Send + Drop + 'static>(
 }
 
 // What comes of the rows of a file's text.
-fn told_of<X: Program, R: Threads + Wait + Copy + Send + Drop + 'static>(
-    program: &X,
+fn told_of<R: Threads + Wait + Copy + Send + Drop + 'static, F: Fn(&mut Turn<R>) -> Status>(
+    program: &F,
     rt: &HostRuntime,
     threads: &R,
     name: &str,
     text: &str,
     over: Over,
-) -> Result<String> {
+) -> Result<String>
+    requires { F.IsAlwaysCallable program.now }
+{
     let lines = lines_of(rt.alloc(), text)?;
     let all = Part {
         lines: &lines,
@@ -65,14 +70,16 @@ fn rows_of<'m, 'a>(alloc: Global, all: Part<'m, 'a>, over: Over) -> Result<Vec<P
 }
 
 // Runs a row for each of its numbers.
-fn run_all<X: Program, R: Threads + Wait + Copy + Send + Drop + 'static>(
-    program: &X,
+fn run_all<R: Threads + Wait + Copy + Send + Drop + 'static, F: Fn(&mut Turn<R>) -> Status>(
+    program: &F,
     rt: &HostRuntime,
     threads: &R,
     row: Part<'_, '_>,
     over: Over,
     tally: &mut Tally,
-) -> Result<()> {
+) -> Result<()>
+    requires { F.IsAlwaysCallable program.now }
+{
     let (first, last) = row.each()?;
     for number in first..=last {
         let lines = row.lines;
@@ -83,16 +90,18 @@ fn run_all<X: Program, R: Threads + Wait + Copy + Send + Drop + 'static>(
 }
 
 // What isn't as it must be in the run of a row for one number.
-fn run_one<X: Program, R: Threads + Wait + Copy + Send + Drop + 'static>(
-    program: &X,
+fn run_one<R: Threads + Wait + Copy + Send + Drop + 'static, F: Fn(&mut Turn<R>) -> Status>(
+    program: &F,
     rt: &HostRuntime,
     threads: &R,
     row: Part<'_, '_>,
     over: Over,
-) -> Result<Option<String>> {
+) -> Result<Option<String>>
+    requires { F.IsAlwaysCallable program.now }
+{
     match over {
-        Over::Files => run_row(program, rt, threads, row, true),
-        Over::Fakes => run_row(program, rt, threads, row, false),
+        Over::Files => run_row(program, rt, row, true),
+        Over::Fakes => run_row(program, rt, row, false),
         Over::Threads => why_of(rt.alloc(), serve_row(program, rt, threads, row)),
     }
 }

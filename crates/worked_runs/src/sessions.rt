@@ -10,20 +10,21 @@ mod opener;
 mod read;
 mod row;
 
-use crate::Program;
 use crate::clock::standing;
 use crate::sessions::cue::Script;
 use crate::sessions::gate::{Cued, CuedGate};
 use crate::sessions::lines::WatchedLines;
 use crate::sessions::link::CueLink;
 use crate::sessions::meeting::Meeting;
-use crate::sessions::opener::SessionsOpener;
+pub use crate::sessions::opener::SessionsOpener;
 use crate::sessions::read::{Session, act_of, session_of};
 use crate::sessions::row::{Size, carried_of, last_frames, stands_of};
+use crate::turn::{Beside, Turn};
 use anyhow::{Context, Result, ensure};
+use craft_words::Status;
 use dxc_disk::MemDisk;
 use dxc_host::ThreadSpawner;
-use dxc_outside::{Listener, MemGate, MemLink, Name, Opener};
+use dxc_outside::{MemGate, MemLink, Name};
 use std::alloc::Global;
 use std::fs;
 use std::sync::{Arc, Wait};
@@ -31,12 +32,14 @@ use std::thread::Threads;
 use worked_common::{Part, decimal, joined, names_of, same_bytes, small};
 
 /// Serves the row's sessions and workers on a new journal, with its gates cued for its number. An error tells what isn't as it must be.
-pub fn serve_row<X: Program, R: Threads + Wait + Copy + Send + Drop + 'static>(
-    program: &X,
+pub fn serve_row<R: Threads + Wait + Copy + Send + Drop + 'static, F: Fn(&mut Turn<R>) -> Status>(
+    program: &F,
     rt: &HostRuntime,
     threads: &R,
     row: Part<'_, '_>,
-) -> Result<()> {
+) -> Result<()>
+    requires { F.IsAlwaysCallable program.now }
+{
     let alloc = rt.alloc();
     let workers = small(row.number_at("workers")?.unwrap_or(1))?;
     let sessions = row.parts(alloc, &["session"])?;
@@ -46,15 +49,17 @@ pub fn serve_row<X: Program, R: Threads + Wait + Copy + Send + Drop + 'static>(
 }
 
 // Serves these sessions and so many workers, and compares what they leave.
-fn serve_sessions<X: Program, R: Threads + Wait + Copy + Send + Drop + 'static>(
-    program: &X,
+fn serve_sessions<R: Threads + Wait + Copy + Send + Drop + 'static, F: Fn(&mut Turn<R>) -> Status>(
+    program: &F,
     rt: &HostRuntime,
     threads: &R,
     row: Part<'_, '_>,
     sessions: &[Part<'_, '_>],
     workers: u16,
     meeting: &Arc<Meeting>,
-) -> Result<()> {
+) -> Result<()>
+    requires { F.IsAlwaysCallable program.now }
+{
     let status = status_of(program, rt, threads, row, sessions, workers, meeting)?;
     ensure!(status == 0, "it ended with another status");
     ensure!(!meeting.is_given_up(), "a thread was waited for in vain");
@@ -63,55 +68,56 @@ fn serve_sessions<X: Program, R: Threads + Wait + Copy + Send + Drop + 'static>(
     compare_frames(rt.alloc(), row, sessions.len(), workers, meeting)
 }
 
-// The number of the status that the program ends with.
-fn status_of<X: Program, R: Threads + Wait + Copy + Send + Drop + 'static>(
-    program: &X,
+// The number of the status that the program ends with. Nobody reads or writes at the terminal, and the gate that is asked while the controller
+// starts goes on.
+fn status_of<R: Threads + Wait + Copy + Send + Drop + 'static, F: Fn(&mut Turn<R>) -> Status>(
+    program: &F,
     rt: &HostRuntime,
     threads: &R,
     row: Part<'_, '_>,
     sessions: &[Part<'_, '_>],
     workers: u16,
     meeting: &Arc<Meeting>,
-) -> Result<u8> {
+) -> Result<u8>
+    requires { F.IsAlwaysCallable program.now }
+{
+    let words = words_of(rt.alloc(), workers)?;
+    let opener = opener_of(rt, row, sessions, workers, meeting)?;
+    let beside = beside_of(rt.alloc(), words, *threads);
+    Ok(program(&mut Turn::Threads(opener, beside)).number())
+}
+
+// What the row's run opens.
+fn opener_of(
+    rt: &HostRuntime,
+    row: Part<'_, '_>,
+    sessions: &[Part<'_, '_>],
+    workers: u16,
+    meeting: &Arc<Meeting>,
+) -> Result<SessionsOpener> {
     let (shelf, _) = Size::of(row)?;
     let mut opener = SessionsOpener::new(rt.alloc(), fs::read(rt, shelf)?);
     hold(rt, row, sessions, workers, meeting, &mut opener)?;
-    serve(program, rt.alloc(), threads, &mut opener, workers)
+    Ok(opener)
 }
 
-// Serves what the opener has, with so many workers. Nobody reads or writes at the terminal, and the gate that is asked while the controller starts
-// goes on.
-fn serve<X: Program, R: Threads + Wait + Copy + Send + Drop + 'static, O: Opener>(
-    program: &X,
+fn beside_of<R: Threads + Wait + Copy + Send + Drop + 'static>(
     alloc: Global,
-    threads: &R,
-    opener: &mut O,
-    workers: u16,
-) -> Result<u8>
-where
-    <O::Listener as Listener>::Link: Send + 'static,
-{
-    let words = words_of(alloc, workers)?;
-    let mut terminal = MemLink::new(
-        Vec::new(alloc),
-        Vec::new(alloc),
-        Vec::new(alloc),
-        Vec::new(alloc),
-    );
-    let mut clock = standing(alloc);
-    let mut gate = MemGate::new(Vec::new(alloc));
-    let mut spawner = ThreadSpawner::new(*threads, Vec::new(alloc));
-    let status = program.run(
-        alloc,
-        &words,
-        opener,
-        &mut terminal,
-        &mut clock,
-        &mut gate,
-        &mut spawner,
-        threads,
-    );
-    Ok(status.number())
+    words: Vec<Name>,
+    threads: R,
+) -> Beside<MemLink, ThreadSpawner<R>> {
+    Beside {
+        words,
+        terminal: MemLink::new(
+            Vec::new(alloc),
+            Vec::new(alloc),
+            Vec::new(alloc),
+            Vec::new(alloc),
+        ),
+        clock: standing(alloc),
+        gate: MemGate::new(Vec::new(alloc)),
+        spawner: ThreadSpawner::new(threads, Vec::new(alloc)),
+    }
 }
 
 fn words_of(alloc: Global, workers: u16) -> Result<Vec<Name>> {
