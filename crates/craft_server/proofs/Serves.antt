@@ -1,5 +1,5 @@
 -- What became of the jobs of a controller that is served.
-use Rattle.std.proofs.Common.{◌≡◌, ◌≢◌, ◌≤◌, ◌+◌, ◌∙◌, ℕ, arith, true, inl, inr, refl, sym}
+use Rattle.std.proofs.Common.{◌≡◌, ◌≢◌, ◌≤◌, ◌∙◌, ℕ, arith, true, inl, inr, refl, sym}
 use Rattle.dxc_causes.specs.Causes.{Rose}
 use Rattle.dxc_outside.specs.declared.spawner.Started.{Started}
 use Rattle.dxc_outside.specs.declared.spawner.Started.TheVariants.{Running, Failed}

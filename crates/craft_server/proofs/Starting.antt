@@ -1,5 +1,5 @@
 -- A controller that was opened, and its users, as sessions begin on them.
-use Rattle.std.proofs.Common.{◌≡◌, ℕ, sym, ◌∙◌, ap}
+use Rattle.std.proofs.Common.{ℕ, sym, ◌∙◌, ap}
 use Rattle.std.specs.Arc.{arc_value}
 use Rattle.dxc_disk.specs.Disks.{DiskState}
 use Rattle.shelf_file.specs.Contents.{Contents}

@@ -1,12 +1,12 @@
-ghost use Rattle.std.specs.Prelude.{◌≡◌};
-ghost use Rattle.craft_words.specs.Lines.{IsLine};
+ghost use Rattle.std.specs.Prelude.{◌≡◌, ◌≢◌};
+ghost use Rattle.craft_words.specs.Lines.{IsInRange, IsLine};
 ghost use Rattle.craft_words.specs.declared.line.Line.{Line as ALine};
-ghost use Rattle.craft_element.specs.Openings.{sources};
-ghost use Rattle.craft_server.specs.Runs.{IsRun, lent, told_by};
+ghost use Rattle.craft_element.specs.Openings.{named, sources};
+ghost use Rattle.craft_server.specs.Runs.{IsRun, IsRunOf, lent, told_by};
 
 use crate::load::run_load;
 use crate::script::run_script;
-use crate::serve_all;
+use crate::serve::serve_line;
 use craft_element::{Names, run_check};
 use craft_jobs::run_standby;
 use craft_words::{Line, Status, WordsFault, line_of};
@@ -39,30 +39,51 @@ where
     ensures words { result ≡ Status.BadWords → (l : ALine) → IsLine words.now l → ⊥ }
     ensures run { IsRun (told_by O.told O.Journal.told K.told C.told O.Peer.told O.Listener.told O.Listener.Link.told) O.Journal.state O.Peer.state O.Listener.state O.Listener.Link.state (O.listener_at opener.old) words.now (lent (sources (O.state opener.old) (O.journal_at opener.old) (G.stops gate.old)) (K.state terminal.old) (C.coming clock.old) (P.state spawner.old)) (lent (sources (O.state opener.new) (O.journal_at opener.new) (G.stops gate.new)) (K.state terminal.new) (C.coming clock.new) (P.state spawner.new)) result }
 {
-    let line = match line_of(alloc, words) {
-        Ok(line) => line,
-        Err(WordsFault::BadWords) => return Status::BadWords,
-        Err(WordsFault::NoMemory) => return Status::NoMemory,
-    };
-    match &line {
+    match line_of(alloc, words) {
+        Ok(line) => run_line(alloc, &line, opener, terminal, clock, gate, spawner, rt),
+        Err(WordsFault::BadWords) => Status::BadWords,
+        Err(WordsFault::NoMemory) => Status::NoMemory,
+    }
+}
+
+// Runs a line that `dxc_run` holds: with nothing to drop here, five modes cost the proof a fifth.
+fn run_line<O: Opener, K: Link, C: Clock, G: Gate, P: Spawner, R: Wait>(
+    alloc: Global,
+    line: &Line,
+    opener: &mut O,
+    terminal: &mut K,
+    clock: &mut C,
+    gate: &mut G,
+    spawner: &mut P,
+    rt: &R,
+) -> Status
+where
+    <O::Listener as Listener>::Link: Send + 'static,
+    ensures words { IsInRange line.now → result ≢ Status.BadWords }
+    ensures run { IsInRange line.now → IsRunOf (told_by O.told O.Journal.told K.told C.told O.Peer.told O.Listener.told O.Listener.Link.told) O.Journal.state O.Peer.state O.Listener.state O.Listener.Link.state (O.listener_at opener.old) line.now (lent (sources (O.state opener.old) (O.journal_at opener.old) (G.stops gate.old)) (K.state terminal.old) (C.coming clock.old) (P.state spawner.old)) (lent (sources (O.state opener.new) (O.journal_at opener.new) (G.stops gate.new)) (K.state terminal.new) (C.coming clock.new) (P.state spawner.new)) result }
+{
+    match line {
         Line::Script { shelf, journal } => {
-            let names = Names {
-                shelf: shelf.text(),
-                journal: journal.text(),
-            };
+            let names = names_of(shelf, journal);
             run_script(alloc, opener, names, terminal, clock, gate, rt)
         }
         Line::Check { shelf, journal } => {
-            let names = Names {
-                shelf: shelf.text(),
-                journal: journal.text(),
-            };
+            let names = names_of(shelf, journal);
             run_check(alloc, opener, names, terminal, gate)
         }
-        Line::Serve { .. } => serve_all(alloc, opener, &line, gate, spawner, rt),
+        Line::Serve { .. } => serve_line(alloc, opener, line, gate, spawner, rt),
         Line::Standby { journal, address } => {
             run_standby(alloc, opener, journal.text(), address.text(), rt)
         }
         Line::Load { number } => run_load(alloc, *number, terminal, gate, rt),
+    }
+}
+
+fn names_of<'a>(shelf: &'a Name, journal: &'a Name) -> Names<'a>
+    ensures { named result.shelf.now result.journal.now ≡ named shelf.now journal.now }
+{
+    Names {
+        shelf: shelf.text(),
+        journal: journal.text(),
     }
 }

@@ -1,5 +1,5 @@
 //! Sessions and frame workers, side by side.
-ghost use Rattle.std.specs.Prelude.{◌≡◌, ◌≤◌, ◌+◌, ℕ, length, vec_len, None, IsSome};
+ghost use Rattle.std.specs.Prelude.{◌≡◌, ◌↔◌, ◌≤◌, IsTrue, ◌+◌, ℕ, length, vec_len, None, IsSome};
 ghost use Rattle.std.specs.Arc.{arc_value};
 ghost use Rattle.fabric_words.specs.New.{AreNew};
 ghost use Rattle.user_admin.specs.Openings.{Begins as UsersBegin};
@@ -177,5 +177,38 @@ where
     match peer {
         None => serve_alone(alloc, opener, names, site, gate, spawner, rt),
         Some(peer) => serve_mirrored(alloc, opener, names, peer.text(), site, gate, spawner, rt),
+    }
+}
+
+/// Serves a line of `serve`, as each is that words spell. BadWords: it is none.
+// Without a `requires`, which costs a caller that holds the whole program more than this test.
+pub(crate) fn serve_line<O: Opener, G: Gate, P: Spawner, R: Wait>(
+    alloc: Global,
+    opener: &mut O,
+    line: &Line,
+    gate: &mut G,
+    spawner: &mut P,
+    rt: &R,
+) -> Status
+where
+    <O::Listener as Listener>::Link: Send + 'static,
+    ensures alone { IsServe line.now → peer_of line.now ≡ None → Opens O.told O.Journal.told O.Journal.state (named_in line.now) (sources (O.state opener.old) (O.journal_at opener.old) (G.stops gate.old)) (sources (O.state opener.new) (O.journal_at opener.new) (G.stops gate.new)) (P.state spawner.new ≡ P.state spawner.old) (λ f o u. (G.stops gate.new ≡ G.stops gate.old) × IsServing (workers_in line.now + 16) (O.state opener.old).faults (O.state opener.new).faults (P.state spawner.old) (P.state spawner.new) result) result }
+    ensures mirrored { IsServe line.now → IsSome (peer_of line.now) → Mirrors O.Journal.told O.Peer.told O.Journal.state O.Peer.state O.told (named_in line.now) (sources (O.state opener.old) (O.journal_at opener.old) (G.stops gate.old)) (sources (O.state opener.new) (O.journal_at opener.new) (G.stops gate.new)) (P.state spawner.new ≡ P.state spawner.old) (λ f o u. (G.stops gate.new ≡ G.stops gate.old) × IsServing (workers_in line.now + 16) (O.state opener.old).faults (O.state opener.new).faults (P.state spawner.old) (P.state spawner.new) result) result }
+{
+    if is_serve(line) {
+        serve_all(alloc, opener, line, gate, spawner, rt)
+    } else {
+        Status::BadWords
+    }
+}
+
+fn is_serve(line: &Line) -> bool
+    ensures { IsTrue result ↔ IsServe line.now }
+{
+    match line {
+        Line::Serve { workers, .. } => 1 <= *workers && *workers <= 8,
+        Line::Script { .. } | Line::Check { .. } | Line::Standby { .. } | Line::Load { .. } => {
+            false
+        }
     }
 }

@@ -1,4 +1,4 @@
-use Rattle.std.proofs.Common.{Err, Ok, Result, refl, subst, sym}
+use Rattle.std.proofs.Common.{Err, Result, refl, subst, sym}
 use Rattle.craft_element.specs.declared.opening.Element.{Element}
 use Rattle.craft_element.specs.Loads.{IsLoadElement}
 use Rattle.craft_words.specs.declared.status.Status.{Status}
