@@ -9,8 +9,8 @@ use Rattle.worked_restarts.proofs.element.seat_all.Goals as goal
 pub new-audit-requires-clause-seated : goal.new-audit-requires-clause-seated
 new-audit-requires-clause-seated g c =
     let t : Gate (State g.row.D.Denot) = arc_value c.in-Ok.turns in
-    let own = (c.next_pass-pass.ensures.next t.id c.count c.in-Ok-2.ensures.fresh).0 in
+    let own = (c.next_pass-pass.ensures.next t.id c.min-count.result c.in-Ok-places_of.ensures.fresh).0 in
     let first = c.in-Ok.ensures.turns.0 in
-    let within : c.count < t.passes = omega (arith, c.in-Ok.ensures.turns.1) in
+    let within : c.min-count.result < t.passes = omega (arith, c.in-Ok.ensures.turns.1) in
     let fabric = ap (λ (s : State g.row.D.Denot). (opening_of g.D.Disk.state s).site.fabric) first ∙ c.requires.opening.fabric in
-    seated g.D.Disk.told g.D.Disk.state c.next_pass-pass.result t (arc_value c.args.ground.fabric) c.count own within fabric
+    seated g.D.Disk.told g.D.Disk.state c.next_pass-pass.result t (arc_value c.args.ground.fabric) c.min-count.result own within fabric
