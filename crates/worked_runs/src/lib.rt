@@ -2,7 +2,6 @@
 //! link and line, the journals and the calls on them with what they say.
 #![tactic(auto)]
 
-mod clock;
 mod files;
 mod run;
 mod sessions;

@@ -1,24 +1,5 @@
 //! Rows of several sessions at once: each session and each frame worker runs on a thread of its own.
 
-mod cue;
-mod gate;
-mod lines;
-mod link;
-mod listener;
-mod meeting;
-mod opener;
-mod read;
-mod row;
-
-use crate::clock::standing;
-use crate::sessions::cue::Script;
-use crate::sessions::gate::{Cued, CuedGate};
-use crate::sessions::lines::WatchedLines;
-use crate::sessions::link::CueLink;
-use crate::sessions::meeting::Meeting;
-pub use crate::sessions::opener::SessionsOpener;
-use crate::sessions::read::{Session, act_of, session_of};
-use crate::sessions::row::{Size, carried_of, last_frames, stands_of};
 use crate::turn::{Beside, Turn};
 use anyhow::{Context, Result, ensure};
 use craft_words::Status;
@@ -30,6 +11,10 @@ use std::fs;
 use std::sync::{Arc, Wait};
 use std::thread::Threads;
 use worked_common::{Part, decimal, joined, names_of, same_bytes, small};
+use worked_meetings::{
+    CueLink, Cued, CuedGate, Meeting, Script, Session, SessionsOpener, Size, WatchedLines, act_of,
+    carried_of, last_frames, session_of, standing, stands_of,
+};
 
 /// Serves the row's sessions and workers on a new journal, with its gates cued for its number. An error tells what isn't as it must be.
 pub fn serve_row<R: Threads + Wait + Copy + Send + Drop + 'static, F: Fn(&mut Turn<R>) -> Status>(

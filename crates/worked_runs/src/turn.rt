@@ -1,5 +1,3 @@
-use crate::clock::standing;
-use crate::sessions::SessionsOpener;
 use anyhow::Result;
 use dxc_host::{HostOpener, ThreadSpawner};
 use dxc_outside::{MemClock, MemGate, MemLink, MemSpawner, Name};
@@ -7,6 +5,7 @@ use std::alloc::Global;
 use std::sync::Wait;
 use std::thread::Threads;
 use worked_common::{Due, Lent, Part, RowLink, RowOpener, lend};
+use worked_meetings::{SessionsOpener, standing};
 
 /// A run of the program: its opener, and what it is lent beside that.
 #[derive(Drop)]

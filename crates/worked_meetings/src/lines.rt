@@ -1,7 +1,7 @@
 ghost use Rattle.std.specs.Prelude.{[]};
 
-use crate::sessions::meeting::Meeting;
-use crate::sessions::row::Carried;
+use crate::meeting::Meeting;
+use crate::row::Carried;
 use dxc_outside::{Frame, Lines, Put};
 use std::sync::Arc;
 use std::thread::yield_now;

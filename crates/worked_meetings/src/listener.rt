@@ -1,6 +1,6 @@
 ghost use Rattle.std.specs.Prelude.{[], false};
 
-use crate::sessions::link::CueLink;
+use crate::link::CueLink;
 use dxc_outside::{Came, Listener};
 use std::sync::Wait;
 

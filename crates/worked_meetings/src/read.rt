@@ -1,7 +1,7 @@
 //! What the lines of a session say.
 
-use crate::sessions::cue::Cue;
-use crate::sessions::gate::Act;
+use crate::cue::Cue;
+use crate::gate::Act;
 use anyhow::Result;
 use std::alloc::Global;
 use worked_common::{Exchange, Line, Part, add_report, decimal, number_of, two};

@@ -1,4 +1,4 @@
-use crate::sessions::meeting::Meeting;
+use crate::meeting::Meeting;
 use dxc_outside::{Gate, GatePlace, Pass1};
 use std::sync::Arc;
 

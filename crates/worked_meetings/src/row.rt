@@ -1,7 +1,7 @@
 //! The element of a row, and the connections that its frames are to carry.
 
-use crate::sessions::lines::{Worker, byte_of};
-use crate::sessions::meeting::Meeting;
+use crate::lines::{Worker, byte_of};
+use crate::meeting::Meeting;
 use anyhow::{Context, Result, ensure};
 use std::alloc::Global;
 use worked_common::{IDLE, Part, number_of, shape_of, small_of, two};

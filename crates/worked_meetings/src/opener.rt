@@ -1,10 +1,10 @@
 ghost use Rattle.std.specs.Prelude.{None, ◌≢◌};
 
 use crate::clock::standing;
-use crate::sessions::gate::CuedGate;
-use crate::sessions::lines::WatchedLines;
-use crate::sessions::link::CueLink;
-use crate::sessions::listener::OneCaller;
+use crate::gate::CuedGate;
+use crate::lines::WatchedLines;
+use crate::link::CueLink;
+use crate::listener::OneCaller;
 use dxc_disk::MemDisk;
 use dxc_outside::{MemClock, MemLink, Opened, Opener};
 use std::alloc::Global;

@@ -1,6 +1,6 @@
 ghost use Rattle.std.specs.Prelude.{[], false};
 
-use crate::sessions::cue::Script;
+use crate::cue::Script;
 use dxc_outside::{Got, Link, Put};
 
 /// The link of a session: it gives what its script says, and keeps what is written. Where its session is over it is dropped, and

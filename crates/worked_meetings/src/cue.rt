@@ -1,7 +1,7 @@
 ghost use Rattle.std.specs.Prelude.{◌<◌, ◌≤◌, length};
 ghost use Rattle.dxc_outside.specs.Items.{FitsBuffer};
 
-use crate::sessions::meeting::Meeting;
+use crate::meeting::Meeting;
 use dxc_outside::Got;
 use std::sync::Arc;
 
