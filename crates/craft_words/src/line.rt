@@ -41,7 +41,7 @@ pub enum Line {
 }
 
 /// Why the words give no line.
-#[derive(Clone, Copy, PartialEq, Eq)]
+#[derive(Clone, Copy, Debug, PartialEq, Eq)]
 pub enum WordsFault {
     /// They are no line of the program.
     BadWords,

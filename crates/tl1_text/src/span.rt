@@ -39,5 +39,5 @@ pub struct Blocks {
 }
 
 /// The unit isn't in the grammar.
-#[derive(Clone, Copy, PartialEq, Eq)]
+#[derive(Clone, Copy, Debug, PartialEq, Eq)]
 pub struct BadText;
