@@ -1,4 +1,4 @@
-/* A frame by the same words in plain C: three loads an output, and nothing proved. The network is that of crates/bench_core. */
+/* A frame by the same words in plain C: three loads an output, and nothing proved. The network is that of bench/frames. */
 #include <stdint.h>
 #include <stdio.h>
 #include <stdlib.h>
@@ -89,4 +89,6 @@ int main(int argc, char **argv)
         measure(8, 24, count);
     if (modules == 0 || modules == 32)
         measure(32, 32, count);
+    if (modules == 0 || modules == 64)
+        measure(64, 96, count);
 }

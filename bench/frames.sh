@@ -35,4 +35,5 @@ for which in proved plain; do
     valgrind="valgrind --tool=callgrind --callgrind-out-file=/dev/null"
     echo "8 by 24: $(instructions $which 8 192) instructions a byte"
     echo "32 by 32: $(instructions $which 32 1024) instructions a byte"
+    echo "64 by 96: $(instructions $which 64 6144) instructions a byte"
 done
