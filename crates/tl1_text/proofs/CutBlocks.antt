@@ -89,17 +89,8 @@ module _ (unit : List ℕ) (spans : List Span) (cut : IsCut unit spans) where
   none : (a b c d : Bool) → a ≡ false → (a && b && c && d) ≡ false
   none a b c d is = rw is (refl)
 
-  no_code : (a b : Bool) → b ≡ false → (a && b) ≡ false
-  no_code true b is = is
-  no_code false b is = refl
-
   pub too_few : length spans < 4 → blocks_of unit ≡ None
   too_few few =
       let bs : List Block = cut.blocks in
       let test : nat_le 4 (length bs) ≡ false = grind (arith, nat_tests, few, as_many) in
       refused (none (nat_le 4 (length bs)) (nat_le (length bs) 10) (list_all are_few bs) (are_words 3 false (code_of bs)) test)
-
-  pub not_code : (d : Span) → 4 ≤ length spans → are_words 3 false (text_at unit (get_or spans 0 d)) ≡ false → blocks_of unit ≡ None
-  not_code d least code =
-      let bs : List Block = cut.blocks in
-      refused (no_code (nat_le 4 (length bs) && nat_le (length bs) 10 && list_all are_few bs) (are_words 3 false (code_of bs)) (ap (λ (t : List ℕ). are_words 3 false t) (first bs spans d blocks_are (omega (arith, least))) ∙ code))

@@ -6,14 +6,13 @@ use Rattle.std.proofs.lemmas.Bool.Decides.{nat_tests}
 use Rattle.std.proofs.lemmas.List.{map-append, length-map, drop_all}
 use Rattle.std.proofs.lemmas.List.Elements.{All-append, All-cons, All-nil}
 use Rattle.std.proofs.lemmas.List.Folds.{list_all-append}
-use Rattle.tl1_text.specs.declared.cutting.Cutting.{Cutting}
 use Rattle.tl1_text.specs.declared.place.Place.{Place}
 use Rattle.tl1_text.specs.declared.place.Place.TheVariants.{Start}
 use Rattle.tl1_text.specs.declared.span.Span.{Span}
 use Rattle.tl1_text.specs.Grammar.{Block, are_few, code_of}
 use Rattle.tl1_text.specs.Walk.{is_outside, after, Rest, nothing, all_blocks, with_colon, with_comma, with_byte, walk, are_words, are_command, if_command, blocks_of}
 use Rattle.tl1_text.specs.Spans.{IsIn, text_at}
-use Rattle.tl1_text.specs.Cuts.{resumed, reading, IsCutTo, IsCut}
+use Rattle.tl1_text.specs.Cuts.{resumed, reading, Cutting, IsCutTo, IsCut}
 use Rattle.tl1_text.proofs.Walks.{map_twice, both}
 use Rattle.tl1_text.proofs.Finds.{valued, grow}
 use Rattle.tl1_text.proofs.Slices.{drop_first, slice_none, slice_more}
@@ -48,10 +47,18 @@ too_long done others b many =
 one_in : {X : Type 0} (P : X → Type 0) (x : X) → P x → All P (x ∷ [])
 one_in P x is = All-cons P x [] is (All-nil P)
 
+no_list : {X : Type 0} (xs : List X) → length xs ≡ 0 → xs ≡ []
+no_list [] is = refl
+no_list (x ∷ xs) is = absurd (omega (arith, is))
+
+first_code : (done : List Block) (b : Block) (bs : List Block) → done ≡ [] → code_of (done ++ b ∷ bs) ≡ b.text
+first_code [] b bs is = refl
+first_code (d ∷ done) b bs is = cc
+
 module _ (unit : List ℕ) (at : ℕ) (c : Cutting) (cut : IsCutTo unit at c) where
   -- as many blocks are done as spans were found
-  as_many : length cut.done ≡ length c.found.items
-  as_many = sym (length-map cut.done (λ (b : Block). b.text)) ∙ ap length (sym cut.texts) ∙ length-map c.found.items (text_at unit)
+  as_many : length cut.done ≡ length c.found
+  as_many = sym (length-map cut.done (λ (b : Block). b.text)) ∙ ap length (sym cut.texts) ∙ length-map c.found (text_at unit)
 
   module _ (lt : at < length unit) where
     text_more : slice_range unit c.start (at + 1) ≡ slice_range unit c.start at ++ get_or unit at 0 ∷ []
@@ -74,7 +81,7 @@ module _ (unit : List ℕ) (at : ℕ) (c : Cutting) (cut : IsCutTo unit at c) wh
     at_byte colon comma = rw (colon, comma) at goes_on
 
     -- an eleventh block
-    pub eleventh : (is_outside c.place && (get_or unit at 0 == 58)) ≡ true → 10 ≤ length c.found.items → blocks_of unit ≡ None
+    pub eleventh : (is_outside c.place && (get_or unit at 0 == 58)) ≡ true → 9 ≤ length c.found → blocks_of unit ≡ None
     eleventh is full =
         refused unit (λ r. here (with_colon r)) (walk Start (drop (at + 1) unit)) (at_colon is ∙ map_twice here with_colon (λ r. here (with_colon r)) (walk Start (drop (at + 1) unit)) (λ r. refl))
         (λ r. too_many (here (with_colon r)) (omega (arith, full, as_many, length-append cut.done (record { text = slice_range unit c.start at ++ []; values = cut.values ++ (cut.value ++ []) ∷ [] } ∷ all_blocks r))))
@@ -91,8 +98,8 @@ module _ (unit : List ℕ) (at : ℕ) (c : Cutting) (cut : IsCutTo unit at c) wh
     stray colon comma none = ap (λ (o : Option (List Block)). option_and_then if_command o) (at_byte colon comma ∙ ap (λ (o : Option Place). option_map here (option_and_then (λ p. option_map (λ r. with_byte (get_or unit at 0) r) (walk p (drop (at + 1) unit))) o)) none)
 
     -- the block in hand ends
-    pub next_block : (is_outside c.place && (get_or unit at 0 == 58)) ≡ true → (found : List Span) → found ≡ c.found.items ++ record { start = c.start; end = at } ∷ []
-        → IsCutTo unit (at + 1) (record { found = record { items = found }; start = at + 1; params = 1; place = Start })
+    pub next_block : (is_outside c.place && (get_or unit at 0 == 58)) ≡ true → (found : List Span) → found ≡ c.found ++ record { start = c.start; end = at } ∷ []
+        → IsCutTo unit (at + 1) (record { found = found; start = at + 1; params = 1; place = Start })
     next_block is found found_is =
         let none = slice_none unit (at + 1) in
         let count : length (cut.values ++ cut.value ∷ []) ≡ c.params = omega (arith, cut.count, length-append cut.values (cut.value ∷ [])) in
@@ -103,7 +110,7 @@ module _ (unit : List ℕ) (at : ℕ) (c : Cutting) (cut : IsCutTo unit at c) wh
           value = [];
           goes_on = at_colon is ∙ map_twice here with_colon (resumed (cut.done ++ record { text = slice_range unit c.start at; values = cut.values ++ cut.value ∷ [] } ∷ []) (slice_range unit (at + 1) (at + 1)) [] []) (walk Start (drop (at + 1) unit))
               (λ r. rw (none, append-nil (slice_range unit c.start at), append-nil cut.value) (sym (append_assoc cut.done (record { text = slice_range unit c.start at; values = cut.values ++ cut.value ∷ [] } ∷ []) (all_blocks r))));
-          texts = ap (λ (l : List Span). map (text_at unit) l) found_is ∙ map-append (text_at unit) c.found.items (record { start = c.start; end = at } ∷ [])
+          texts = ap (λ (l : List Span). map (text_at unit) l) found_is ∙ map-append (text_at unit) c.found (record { start = c.start; end = at } ∷ [])
               ∙ ap (λ (l : List (List ℕ)). l ++ slice_range unit c.start at ∷ []) cut.texts
               ∙ sym (map-append (λ (b : Block). b.text) cut.done (record { text = slice_range unit c.start at; values = cut.values ++ cut.value ∷ [] } ∷ []));
           few = list_all-append are_few cut.done (record { text = slice_range unit c.start at; values = cut.values ++ cut.value ∷ [] } ∷ []) ∙ (rw (cut.few, few) (refl));
@@ -111,7 +118,7 @@ module _ (unit : List ℕ) (at : ℕ) (c : Cutting) (cut : IsCutTo unit at c) wh
           most = omega arith;
           forwards = omega arith;
           within = omega (arith, lt);
-          each = subst (λ (l : List Span). All (IsIn unit) l) (sym found_is) (All-append (IsIn unit) c.found.items (record { start = c.start; end = at } ∷ []) cut.each (one_in (IsIn unit) (record { start = c.start; end = at }) (record { forwards = cut.forwards; within = cut.within })));
+          each = subst (λ (l : List Span). All (IsIn unit) l) (sym found_is) (All-append (IsIn unit) c.found (record { start = c.start; end = at } ∷ []) cut.each (one_in (IsIn unit) (record { start = c.start; end = at }) (record { forwards = cut.forwards; within = cut.within })));
         }
 
     -- the parameter in hand ends
@@ -155,6 +162,38 @@ module _ (unit : List ℕ) (at : ℕ) (c : Cutting) (cut : IsCutTo unit at c) wh
           each = cut.each;
         }
 
+    -- a first block that is no code
+    module _ (none : c.found ≡ []) (bad : (t : List ℕ) → are_words 3 false (slice_range unit c.start at ++ get_or unit at 0 ∷ t) ≡ false)
+        (ends : (get_or unit at 0 == 58) ≡ true → are_words 3 false (slice_range unit c.start at) ≡ false) where
+      nothing_done : cut.done ≡ []
+      nothing_done = no_list cut.done (as_many ∙ ap length none)
+
+      never : (text : List ℕ) (vs : List (List ℕ)) (bs : List Block) → are_words 3 false text ≡ false → are_command (cut.done ++ record { text = text; values = vs } ∷ bs) ≡ false
+      never text vs bs is =
+          let all : List Block = cut.done ++ record { text = text; values = vs } ∷ bs in
+          and_false (nat_le 4 (length all) && nat_le (length all) 10 && list_all are_few all) (are_words 3 false (code_of all)) (ap (λ (l : List ℕ). are_words 3 false l) (first_code cut.done (record { text = text; values = vs }) bs nothing_done) ∙ is)
+
+      no_code_by : (o : Option Place) → (is_outside c.place && (get_or unit at 0 == 58)) ≡ false → (is_outside c.place && (get_or unit at 0 == 44)) ≡ false → after c.place (get_or unit at 0) ≡ o → blocks_of unit ≡ None
+      no_code_by None colon comma is = stray colon comma is
+      no_code_by (Some next) colon comma is =
+          refused unit (λ r. here (with_byte (get_or unit at 0) r)) (walk next (drop (at + 1) unit))
+          (at_byte colon comma ∙ ap (λ (o : Option Place). option_map here (option_and_then (λ p. option_map (λ r. with_byte (get_or unit at 0) r) (walk p (drop (at + 1) unit))) o)) is
+          ∙ map_twice here (λ r. with_byte (get_or unit at 0) r) (λ r. here (with_byte (get_or unit at 0) r)) (walk next (drop (at + 1) unit)) (λ r. refl))
+          (λ r. never (slice_range unit c.start at ++ get_or unit at 0 ∷ r.text) (cut.values ++ (cut.value ++ (with_byte (get_or unit at 0) r).value) ∷ r.values) r.others (bad r.text))
+
+      no_code_at : (colon comma : Bool) → (is_outside c.place && (get_or unit at 0 == 58)) ≡ colon → (is_outside c.place && (get_or unit at 0 == 44)) ≡ comma → blocks_of unit ≡ None
+      no_code_at true comma colon_is comma_is =
+          refused unit (λ r. here (with_colon r)) (walk Start (drop (at + 1) unit)) (at_colon colon_is ∙ map_twice here with_colon (λ r. here (with_colon r)) (walk Start (drop (at + 1) unit)) (λ r. refl))
+          (λ r. never (slice_range unit c.start at ++ []) (cut.values ++ (cut.value ++ []) ∷ []) (all_blocks r) (rw (append-nil (slice_range unit c.start at)) (ends (both (is_outside c.place) (get_or unit at 0 == 58) colon_is).1)))
+      no_code_at false true colon_is comma_is =
+          let is : get_or unit at 0 ≡ 44 = (let test : (get_or unit at 0 == 44) ≡ true = (both (is_outside c.place) (get_or unit at 0 == 44) comma_is).1 in grind (arith, nat_tests, test)) in
+          refused unit (λ r. here (with_comma r)) (walk Start (drop (at + 1) unit)) (at_comma colon_is comma_is ∙ map_twice here with_comma (λ r. here (with_comma r)) (walk Start (drop (at + 1) unit)) (λ r. refl))
+          (λ r. never (slice_range unit c.start at ++ 44 ∷ r.text) (cut.values ++ (cut.value ++ []) ∷ r.value ∷ r.values) r.others (subst (λ (n : ℕ). are_words 3 false (slice_range unit c.start at ++ n ∷ r.text) ≡ false) is (bad r.text)))
+      no_code_at false false colon_is comma_is = no_code_by (after c.place (get_or unit at 0)) colon_is comma_is refl
+
+      pub no_code : blocks_of unit ≡ None
+      no_code = no_code_at (is_outside c.place && (get_or unit at 0 == 58)) (is_outside c.place && (get_or unit at 0 == 44)) refl refl
+
   -- behind the last byte
   module _ (last : length unit ≡ at) where
     at_end : reading unit ≡ option_map (resumed cut.done (slice_range unit c.start at) cut.values cut.value) (if is_outside c.place then Some nothing else None)
@@ -164,13 +203,7 @@ module _ (unit : List ℕ) (at : ℕ) (c : Cutting) (cut : IsCutTo unit at c) wh
     unfolding blocks_of
     in_quotes is = ap (λ (o : Option (List Block)). option_and_then if_command o) (rw is at at_end)
 
-    pub eleven : 10 ≤ length c.found.items → blocks_of unit ≡ None
-    eleven full =
-        let many : (r : Rest) → 10 < length (resumed cut.done (slice_range unit c.start at) cut.values cut.value r) = λ r. omega (arith, full, as_many, length-append cut.done (record { text = slice_range unit c.start at ++ r.text; values = cut.values ++ (cut.value ++ r.value) ∷ r.values } ∷ r.others)) in
-        refused unit (resumed cut.done (slice_range unit c.start at) cut.values cut.value) (if is_outside c.place then Some nothing else None) at_end
-        (λ r. too_many (resumed cut.done (slice_range unit c.start at) cut.values cut.value r) (many r))
-
-    pub all_cut : is_outside c.place ≡ true → (found : List Span) → found ≡ c.found.items ++ record { start = c.start; end = at } ∷ [] → IsCut unit found
+    pub all_cut : is_outside c.place ≡ true → (found : List Span) → found ≡ c.found ++ record { start = c.start; end = at } ∷ [] → IsCut unit found
     all_cut is found found_is =
         let last_block : Block = record { text = slice_range unit c.start at; values = cut.values ++ cut.value ∷ [] } in
         let count : length (cut.values ++ cut.value ∷ []) ≡ c.params = omega (arith, cut.count, length-append cut.values (cut.value ∷ [])) in
@@ -179,33 +212,29 @@ module _ (unit : List ℕ) (at : ℕ) (c : Cutting) (cut : IsCutTo unit at c) wh
         record {
           blocks = cut.done ++ last_block ∷ [];
           is_read = rw (append-nil (slice_range unit c.start at), append-nil cut.value) at read;
-          texts = ap (λ (l : List Span). map (text_at unit) l) found_is ∙ map-append (text_at unit) c.found.items (record { start = c.start; end = at } ∷ [])
+          texts = ap (λ (l : List Span). map (text_at unit) l) found_is ∙ map-append (text_at unit) c.found (record { start = c.start; end = at } ∷ [])
               ∙ ap (λ (l : List (List ℕ)). l ++ slice_range unit c.start at ∷ []) cut.texts
               ∙ sym (map-append (λ (b : Block). b.text) cut.done (last_block ∷ []));
           few = list_all-append are_few cut.done (last_block ∷ []) ∙ (rw (cut.few, few) (refl));
-          each = subst (λ (l : List Span). All (IsIn unit) l) (sym found_is) (All-append (IsIn unit) c.found.items (record { start = c.start; end = at } ∷ []) cut.each (one_in (IsIn unit) (record { start = c.start; end = at }) (record { forwards = cut.forwards; within = cut.within })));
+          each = subst (λ (l : List Span). All (IsIn unit) l) (sym found_is) (All-append (IsIn unit) c.found (record { start = c.start; end = at } ∷ []) cut.each (one_in (IsIn unit) (record { start = c.start; end = at }) (record { forwards = cut.forwards; within = cut.within })));
         }
 
 map_as : {A B : Type 0} (f g : A → B) (o : Option A) → ((x : A) → f x ≡ g x) → option_map f o ≡ option_map g o
 map_as f g None e = refl
 map_as f g (Some x) e = ap Some (e x)
 
--- a list that has ten has at least ten
-pub ten : (n : ℕ) → (n == 10) ≡ true → 10 ≤ n
-ten n is = let test : (n == 10) ≡ true = is in grind (arith, nat_tests, test)
-
 -- nothing is cut at the first byte
-pub cut_none : (unit : List ℕ) (found : List Span) → found ≡ [] → IsCutTo unit 0 (record { found = record { items = found }; start = 0; params = 1; place = Start })
-cut_none unit found none = record {
+pub cut_none : (unit : List ℕ) → IsCutTo unit 0 (record { found = []; start = 0; params = 1; place = Start })
+cut_none unit = record {
   done = [];
   values = [];
   value = [];
   goes_on = map_as all_blocks (resumed [] [] [] []) (walk Start unit) (λ r. refl);
-  texts = ap (λ (l : List Span). map (text_at unit) l) none;
+  texts = refl;
   few = refl;
   count = refl;
   most = omega arith;
   forwards = omega arith;
   within = omega arith;
-  each = subst (λ (l : List Span). All (IsIn unit) l) (sym none) (All-nil (IsIn unit));
+  each = All-nil (IsIn unit);
 }

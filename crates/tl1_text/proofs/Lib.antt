@@ -10,6 +10,8 @@ pub mod Slices
 pub mod ValueSteps
 pub mod Plains
 pub mod CutBlocks
+pub mod Codes
+pub mod CutOns
 pub mod TagFacts
 pub mod Totals
 pub mod Tables

@@ -1,14 +1,13 @@
 -- A run of plain bytes, as far as a place in it.
 use Rattle.std.proofs.Common.{◌≡◌, ℕ, zero, suc, ◌+◌, ◌-◌, ◌<◌, ◌≤◌, true, false, List, get_or, length, ◌&&◌, ◌==◌, Some, refl, subst, inl, inr, arith}
 use Rattle.std.proofs.lemmas.Bool.{cases_eq}
-use Rattle.tl1_text.specs.declared.cutting.Cutting.{Cutting}
 use Rattle.tl1_text.specs.declared.place.Place.{Place}
 use Rattle.tl1_text.specs.declared.place.Place.TheVariants.{Start, Plain, Quoted, Closed}
 use Rattle.tl1_text.specs.declared.span.Span.{Span}
 use Rattle.tl1_text.specs.declared.values.Values.{Values}
 use Rattle.tl1_text.specs.Grammar.{is_plain}
 use Rattle.tl1_text.specs.Walk.{is_outside, takes_plain, after, ArePlain}
-use Rattle.tl1_text.specs.Cuts.{IsCutTo}
+use Rattle.tl1_text.specs.Cuts.{Cutting, IsCutTo}
 use Rattle.tl1_text.specs.Values.{AreFoundTo}
 use Rattle.tl1_text.proofs.Walks.{plain_not}
 use Rattle.tl1_text.proofs.CutSteps as cuts
@@ -20,7 +19,7 @@ pub record IsPassed (p : Place) (b : ℕ) : Type 0 where
   pub comma : (is_outside p && (b == 44)) ≡ false
   pub next : after p b ≡ Some Plain
 
-is_passed : (p : Place) (b : ℕ) → takes_plain p ≡ true → is_plain b ≡ true → IsPassed p b
+pub is_passed : (p : Place) (b : ℕ) → takes_plain p ≡ true → is_plain b ≡ true → IsPassed p b
 is_passed Start b open_here is =
     let other = plain_not b is in
     record { colon = other.2; comma = other.1; next = rw (is, other.0) (refl) }

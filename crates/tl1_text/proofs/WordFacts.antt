@@ -8,7 +8,7 @@ use Rattle.tl1_text.specs.Walk.{are_words}
 use Rattle.tl1_text.proofs.Walks.{both}
 use Rattle.tl1_text.proofs.Finds.{all_more}
 
-no_dash : (b : ℕ) → is_ascii_alphanumeric b ≡ true → (b == 45) ≡ false
+pub no_dash : (b : ℕ) → is_ascii_alphanumeric b ≡ true → (b == 45) ≡ false
 no_dash b is = grind (arith, nat_tests, is)
 
 over_word : (k : ℕ) (w t : List ℕ) → list_all is_ascii_alphanumeric w ≡ true → are_words k true (w ++ t) ≡ are_words k true t

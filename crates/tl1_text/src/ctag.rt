@@ -1,5 +1,5 @@
 ghost use Rattle.std.specs.Prelude.{◌≡◌, ◌≤◌, true, false, length, option_map};
-ghost use Rattle.tl1_text.specs.Tags.{is_ctag as reads_as_ctag, is_alphanumeric, is_zeros, as_ctag, ctag_of as tag_in, before_colon as front, behind_colon as back};
+ghost use Rattle.tl1_text.specs.Tags.{is_ctag as reads_as_ctag, is_short as short, is_zeros, as_ctag, ctag_of as tag_in, before_colon as front, behind_colon as back};
 ghost use Rattle.tl1_text.specs.Spans.{AreBlocksOf};
 
 use crate::letter::is_letter_or_digit;
@@ -35,10 +35,19 @@ impl Ctag {
     pub fn of(bytes: &[u8]) -> Option<Ctag>
         ensures { result ≡ as_ctag bytes.now }
     {
-        if !is_ctag(bytes) {
+        if !is_short(bytes) {
             return None;
         }
-        let text = ArrayVec::try_from(bytes).ok()?;
+        if zeros(bytes) {
+            return None;
+        }
+        let mut text = ArrayVec::new();
+        for at in 0..bytes.len() {
+            if !is_letter_or_digit(bytes[at]) {
+                return None;
+            }
+            text.push(bytes[at]);
+        }
         Some(Ctag { text })
     }
 
@@ -52,17 +61,10 @@ impl Ctag {
     }
 }
 
-#[inline(never)]
-fn is_ctag(bytes: &[u8]) -> bool
-    ensures { result ≡ reads_as_ctag bytes.now }
+fn is_short(bytes: &[u8]) -> bool
+    ensures { result ≡ short 6 bytes.now }
 {
-    (1..=Ctag::MOST).contains(&bytes.len()) && alphanumeric(bytes) && !zeros(bytes)
-}
-
-fn alphanumeric(bytes: &[u8]) -> bool
-    ensures { result ≡ is_alphanumeric bytes.now }
-{
-    bytes.iter().all(|b| is_letter_or_digit(*b))
+    (1..=Ctag::MOST).contains(&bytes.len())
 }
 
 fn zeros(bytes: &[u8]) -> bool

@@ -1,113 +1,131 @@
 // Cuts a unit into the spans of its blocks, in one pass.
-ghost use Rattle.std.specs.Prelude.{◌≡◌, ◌≤◌, ◌<◌, ◌+◌, ℕ, List, None, length, MatchOption};
+ghost use Rattle.std.specs.Prelude.{◌≡◌, ◌≤◌, ◌<◌, ℕ, List, [], None, true, false, length, slice_index, IfSome, MatchOption};
+ghost use Rattle.tl1_text.specs.Grammar.{is_plain as plain};
 ghost use Rattle.tl1_text.specs.Walk.{blocks_of};
-ghost use Rattle.tl1_text.specs.Cuts.{IsCutTo, IsCut};
+ghost use Rattle.tl1_text.specs.Spans.{AreBlocksOf};
+ghost use Rattle.tl1_text.specs.Cuts.{is_mark as mark, IsCode, IsCutOn};
 
-use crate::place::{Place, plain_end};
+use crate::letter::is_letter_or_digit;
+use crate::place::{is_inner, is_plain};
 use crate::span::Span;
 use arrayvec::ArrayVec;
 
 /// A block has at most so many parameters.
 const PARAMS: usize = 8;
 
-/// The blocks found so far, and where the one in hand starts and stands.
-#[derive(Drop)]
-struct Cutting {
-    found: ArrayVec<Span, 10>,
-    start: usize,
-    params: usize,
-    place: Place,
-}
-
-impl Cutting {
-    fn new() -> Cutting
-        ensures { (unit : List ℕ) → IsCutTo unit 0 result }
-    {
-        Cutting {
-            found: ArrayVec::new(),
-            start: 0,
-            params: 1,
-            place: Place::Start,
-        }
-    }
-
-    /// Passes the plain bytes that may stand here, and tells where they end.
-    fn pass(&mut self, unit: &[u8], from: usize) -> usize
-        requires cut { IsCutTo unit.now from self.old }
-        ensures cut { IsCutTo unit.now result self.new }
-        ensures forwards { from ≤ result }
-        ensures within { result ≤ length unit.now }
-    {
-        if !self.place.takes_plain() {
-            return from;
-        }
-        let end = plain_end(unit, from, unit.len());
-        if from < end {
-            self.place = Place::Plain;
-        }
-        end
-    }
-
-    /// Reads one byte more; None where the unit isn't in the grammar.
-    fn step(&mut self, unit: &[u8], at: usize) -> Option<()>
-        requires short { length unit.now ≤ 2047 }
-        requires within { at < length unit.now }
-        requires cut { IsCutTo unit.now at self.old }
-        ensures { MatchOption result (blocks_of unit.now ≡ None) (λ _. IsCutTo unit.now (at + 1) self.new) }
-    {
-        let b = unit[at];
-        if self.place.is_parted(b, b':') {
-            if self.found.is_full() {
-                return None;
-            }
-            self.found.push(Span::between(self.start, at));
-            self.start = at + 1;
-            self.params = 1;
-            self.place = Place::Start;
-            return Some(());
-        }
-        if self.place.is_parted(b, b',') {
-            if self.params == PARAMS {
-                return None;
-            }
-            self.params += 1;
-            self.place = Place::Start;
-            return Some(());
-        }
-        let Some(next) = self.place.after(b) else {
-            return None;
-        };
-        self.place = next;
-        Some(())
-    }
-
-    /// The spans, behind the last byte; None where the unit isn't in the grammar.
-    fn end(mut self, unit: &[u8]) -> Option<ArrayVec<Span, 10>>
-        requires short { length unit.now ≤ 2047 }
-        requires cut { IsCutTo unit.now (length unit.now) self }
-        ensures { MatchOption result (blocks_of unit.now ≡ None) (λ found. IsCut unit.now found.items) }
-    {
-        if !self.place.is_outside() || self.found.is_full() {
-            return None;
-        }
-        self.found.push(Span::between(self.start, unit.len()));
-        Some(self.found)
-    }
-}
-
-/// The spans of one to ten blocks, each of one to eight parameters; None where the unit isn't in the grammar.
-pub fn cut(unit: &[u8]) -> Option<ArrayVec<Span, 10>>
-    requires { length unit.now ≤ 2047 }
-    ensures { MatchOption result (blocks_of unit.now ≡ None) (λ found. IsCut unit.now found.items) }
+/// Where the code ends that begins a unit: one to three words of letters and digits joined by `-`, with a colon behind
+/// them. None only where the unit isn't in the grammar.
+pub fn code_end(unit: &[u8]) -> Option<usize>
+    ensures { MatchOption result (blocks_of unit.now ≡ None) (IsCode unit.now) }
 {
-    let mut cutting = Cutting::new();
-    let mut at = 0;
-    while at < unit.len() {
-        at = cutting.pass(unit, at);
-        if at < unit.len() {
-            cutting.step(unit, at)?;
-            at += 1;
+    let mut word = 0;
+    let mut left = 3usize;
+    for at in 0..unit.len() {
+        let b = unit[at];
+        if !is_letter_or_digit(b) {
+            if word == at {
+                return None;
+            }
+            if b == b':' {
+                return Some(at);
+            }
+            if b != b'-' {
+                return None;
+            }
+            if left == 1 {
+                return None;
+            }
+            left -= 1;
+            word = at + 1;
         }
     }
-    cutting.end(unit)
+    None
+}
+
+/// Cuts what stands behind the code. False exactly where the unit isn't in the grammar.
+pub fn cut(unit: &[u8], code: usize, found: &mut ArrayVec<Span, 10>) -> bool
+    requires short { length unit.now ≤ 2047 }
+    requires is_code { IsCode unit.now code }
+    requires none { found.old.items ≡ [] }
+    ensures blocks { result ≡ true → AreBlocksOf unit.now found.new.items }
+    ensures refused { result ≡ false → blocks_of unit.now ≡ None }
+{
+    found.push(Span::between(0, code));
+    let mut at = code + 1;
+    let mut start = at;
+    let mut params = 1usize;
+    while at < unit.len() {
+        let b = unit[at];
+        if is_plain(b) {
+            at += 1;
+        } else if b == b':' {
+            if found.len() == 9 {
+                return false;
+            }
+            found.push(Span::between(start, at));
+            at += 1;
+            start = at;
+            params = 1;
+        } else if b == b',' {
+            if params == PARAMS {
+                return false;
+            }
+            params += 1;
+            at += 1;
+        } else {
+            match quotes_end(unit, at) {
+                Some(end) => at = end,
+                None => return false,
+            }
+        }
+    }
+    found.push(Span::between(start, unit.len()));
+    found.len() >= 4
+}
+
+/// Where the quotes end that begin at a byte behind a mark; a mark stands there, or nothing. None only where the unit isn't in
+/// the grammar.
+fn quotes_end(unit: &[u8], at: usize) -> Option<usize>
+    requires some { 0 < at }
+    requires within { at < length unit.now }
+    requires not_plain { plain (slice_index unit.now at) ≡ false }
+    requires not_mark { mark (slice_index unit.now at) ≡ false }
+    ensures cut { (code : ℕ) → (found : List Span) → (start params : ℕ) → IsCutOn unit.now code at found start params
+        → MatchOption result (blocks_of unit.now ≡ None) (λ end. IsCutOn unit.now code end found start params) }
+    ensures forwards { IfSome result (λ end. at < end) }
+{
+    if !is_mark(unit[at - 1]) {
+        return None;
+    }
+    if unit[at] != b'"' {
+        return None;
+    }
+    for end in at + 1..unit.len() {
+        let b = unit[end];
+        if b == b'"' {
+            return closed_at(unit, end + 1);
+        }
+        if !is_inner(b) {
+            return None;
+        }
+    }
+    None
+}
+
+/// A place behind quotes, where a mark stands there, or nothing.
+fn closed_at(unit: &[u8], at: usize) -> Option<usize>
+    ensures { MatchOption result ((at < length unit.now) × (mark (slice_index unit.now at) ≡ false))
+        (λ end. (end ≡ at) × (at < length unit.now → mark (slice_index unit.now at) ≡ true)) }
+{
+    if at < unit.len() && !is_mark(unit[at]) {
+        return None;
+    }
+    Some(at)
+}
+
+/// A colon or a comma.
+fn is_mark(b: u8) -> bool
+    ensures { result ≡ mark b }
+{
+    b == b':' || b == b','
 }

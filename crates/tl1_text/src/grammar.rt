@@ -1,11 +1,11 @@
 //! The blocks of a unit.
-ghost use Rattle.std.specs.Prelude.{◌≡◌, ◌≤◌, None, false, length, MatchResult};
-ghost use Rattle.tl1_text.specs.Walk.{are_words, blocks_of};
+ghost use Rattle.std.specs.Prelude.{◌≡◌, ◌≤◌, None, length, MatchResult};
+ghost use Rattle.tl1_text.specs.Walk.{blocks_of};
 ghost use Rattle.tl1_text.specs.Spans.{AreBlocksOf};
 
-use crate::cutting::cut;
-use crate::letter::is_letter_or_digit;
+use crate::cutting::{code_end, cut};
 use crate::span::{BadText, Blocks};
+use arrayvec::ArrayVec;
 
 /// The blocks of a unit's text; BadText exactly where the text isn't in the grammar.
 ///
@@ -17,31 +17,13 @@ pub fn blocks(unit: &[u8]) -> Result<Blocks, BadText>
     requires { length unit.now ≤ 2047 }
     ensures { MatchResult result (λ b. AreBlocksOf unit.now b.block.items) (λ _. blocks_of unit.now ≡ None) }
 {
-    match cut(unit) {
-        Some(block) if block.len() >= 4 && is_code(block[0].text(unit)) => Ok(Blocks { block }),
-        _ => Err(BadText),
+    let Some(code) = code_end(unit) else {
+        return Err(BadText);
+    };
+    let mut block = ArrayVec::new();
+    if cut(unit, code, &mut block) {
+        Ok(Blocks { block })
+    } else {
+        Err(BadText)
     }
-}
-
-/// One to three words of letters and digits, joined by `-`.
-fn is_code(text: &[u8]) -> bool
-    ensures { result ≡ are_words 3 false text.now }
-{
-    let mut left = 3usize;
-    let mut begun = false;
-    for at in 0..text.len() {
-        let b = text[at];
-        if b == b'-' {
-            if !begun || left == 1 {
-                return false;
-            }
-            left -= 1;
-            begun = false;
-        } else if is_letter_or_digit(b) {
-            begun = true;
-        } else {
-            return false;
-        }
-    }
-    begun
 }

@@ -84,13 +84,13 @@ static PLAIN: [u8; 256] = *b"\
     ,,,,,,,,,,,,,,,,,,,,,,,,,,,,,,,,\
     ,,,,,,,,,,,,,,,,,,,,,,,,,,,,,,,,";
 
-fn is_plain(b: u8) -> bool
+pub fn is_plain(b: u8) -> bool
     ensures { result ≡ plain b }
 {
     PLAIN[b as usize] != b','
 }
 
-fn is_inner(b: u8) -> bool
+pub fn is_inner(b: u8) -> bool
     ensures { result ≡ inner b }
 {
     matches!(b, 0x20..=0x7e) && b != b'"'
