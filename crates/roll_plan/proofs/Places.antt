@@ -1,11 +1,14 @@
 -- The write at a place.
-use Rattle.std.proofs.Common.{◌≡◌, ℕ, Option, Some, None, zero, suc, ◌+◌, ◌*◌, ◌<◌, List, [], ◌∷◌, ◌++◌, length, sym, refl, ap, ◌∙◌, arith, slice_get, get_or}
-use Rattle.std.specs.Prelude.{IfSome}
+use Rattle.std.proofs.Common.{◌≡◌, ℕ, Option, Some, None, zero, suc, ◌+◌, ◌*◌, ◌<◌, List, [], ◌∷◌, ◌++◌, drop, length, length-append, sym, refl, ap, ◌∙◌, arith, slice_get, get_or}
+use Rattle.std.specs.Prelude.{IfSome, ◌≤◌}
+use Rattle.std.proofs.lemmas.List.{at_drop_more}
 use Rattle.std.proofs.lemmas.Option.{slice_get_within}
 use Rattle.dxc_num.specs.declared.register.RegWrite.{RegWrite}
 use Rattle.roll_plan.specs.declared.op.Move.{Move}
 use Rattle.roll_plan.specs.declared.op.LegOp.{LegOp}
-use Rattle.roll_plan.specs.Works.{move_writes, moves_writes, op_writes, ops_writes, switches_in}
+use Rattle.roll_plan.specs.declared.op.LegOp.TheVariants.{Join, Part, Shift}
+use Rattle.roll_plan.specs.Works.{join_writes, move_writes, moves_of, moves_writes, op_writes, ops_writes, switches_in}
+use Rattle.roll_plan.specs.Nexts.{BeginsMove}
 
 pub moves_length : (vs : List Move) → length (moves_writes vs) ≡ 5 * length vs
 moves_length [] = refl
@@ -34,6 +37,26 @@ at_first (o ∷ os) op t None is low e = tt
 at_first (o ∷ os) op t (Some w) is low e =
     let here : slice_get (op_writes o) t ≡ Some w = ap (λ (x : LegOp). slice_get (op_writes x) t) (sym is) ∙ sym e in
     at_front (op_writes o) (ops_writes os) t (slice_get_within (op_writes o) t w here) ∙ here
+
+-- what is left begins with the op in hand
+pub left : (ops : List LegOp) (i t : ℕ) (op : LegOp) → op ≡ get_or ops i op → i < length ops → slice_get (ops_writes (drop i ops)) t ≡ slice_get (op_writes op ++ ops_writes (drop (i + 1) ops)) t
+left ops i t op e low = at_drop_more (λ (xs : List LegOp). slice_get (ops_writes xs) t) ops i op low ∙ ap (λ (o : LegOp). slice_get (op_writes o ++ ops_writes (drop (i + 1) ops)) t) (sym e)
+
+-- the move that has five writes of the op before it for each earlier move
+pub begins_at : (op : LegOp) (v : Move) (i t : ℕ) → t ≡ 5 * i → i < length (moves_of op) → v ≡ get_or (moves_of op) i v → BeginsMove (op_writes op) t v × (t + 5 ≤ length (op_writes op))
+begins_at (Join l h moves) v i t e room is = let n = moves_length moves.items in let a = length-append (moves_writes moves.items) (join_writes l h.middle) in (
+  λ r low. at_front (moves_writes moves.items) (join_writes l h.middle) (t + r) (omega arith) ∙ moves_at moves.items v i r (t + r) (omega arith) low room is,
+  omega arith,
+)
+begins_at (Part l k) v i t e room is = absurd (omega arith)
+begins_at (Shift moves) v i t e room is = let n = moves_length moves.items in (λ r low. moves_at moves.items v i r (t + r) (omega arith) low room is, omega arith)
+
+-- a move of the op in hand is one of the work
+pub begins_in : (ops : List LegOp) (op : LegOp) (t place i : ℕ) (found : Option Move) → op ≡ get_or ops i op → i < length ops → ((r : ℕ) → slice_get (ops_writes ops) (t + r) ≡ slice_get (ops_writes (drop i ops)) (place + r))
+    → IfSome found (λ v. BeginsMove (op_writes op) place v × (place + 5 ≤ length (op_writes op))) → IfSome found (BeginsMove (ops_writes ops) t)
+begins_in ops op t place i None is low same h = tt
+begins_in ops op t place i (Some v) is low same h = λ r few. let room = h.1 in
+    same r ∙ (left ops i (place + r) op is low ∙ (at_front (op_writes op) (ops_writes (drop (i + 1) ops)) (place + r) (omega arith) ∙ h.0 r few))
 
 pub switches_on : (xs ys : List RegWrite) → switches_in (xs ++ ys) ≡ switches_in xs + switches_in ys
 switches_on [] ys = omega arith

@@ -22,6 +22,12 @@ abbrev pub moves_writes : List Move → List RegWrite
 moves_writes [] = []
 moves_writes (v ∷ vs) = move_writes v ++ moves_writes vs
 
+-- the moves of an op
+abbrev pub moves_of : LegOp → List Move
+moves_of (Join l choice moves) = moves.items
+moves_of (Part l k) = []
+moves_of (Shift moves) = moves.items
+
 -- a join sets the path and then switches the output
 abbrev pub join_writes : Leg → Middle → List RegWrite
 join_writes l k = write SetIn l k ∷ write SetMid l k ∷ write SwitchOut l k ∷ []

@@ -1,9 +1,12 @@
 //! What is done for one command, leg by leg, and the register writes that it takes, in order.
 #![tactic(auto)]
 
+mod next;
 mod op;
 mod op_writes;
 mod work;
 
+pub use next::{Next, next_at_step};
 pub use op::{Chain, Choice, LegOp, Move};
+pub use op_writes::{MOVE, move_write};
 pub use work::{Work, switches, write_at_step, writes};

@@ -1,5 +1,5 @@
 ghost use Rattle.std.specs.Prelude.{◌≡◌};
-ghost use Rattle.roll_plan.specs.Works.{IsDirectJoin, join_writes, op_writes};
+ghost use Rattle.roll_plan.specs.Works.{IsDirectJoin, join_writes, moves_of, op_writes};
 
 use arrayvec::ArrayVec;
 use dxc_num::{Leg, Middle};
@@ -62,6 +62,18 @@ pub enum LegOp {
 }
 
 impl LegOp {
+    /// Its moves, in order.
+    #[inline(always)]
+    pub fn moves(&self) -> &[Move]
+        ensures { result.now ≡ moves_of self.now }
+    {
+        match self {
+            LegOp::Join { moves, .. } => moves.as_slice(),
+            LegOp::Part { .. } => &[],
+            LegOp::Shift { moves } => moves.as_slice(),
+        }
+    }
+
     /// The join at a middle that is free at both ends.
     pub fn direct(leg: Leg, middle: Middle) -> LegOp
         ensures direct { IsDirectJoin leg middle result }

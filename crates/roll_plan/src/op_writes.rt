@@ -5,11 +5,12 @@ ghost use Rattle.roll_plan.specs.Works.{join_writes, move_writes, moves_writes, 
 use crate::op::{LegOp, Move};
 use dxc_num::{Leg, Middle, RegWrite, WriteKind};
 
-// The writes of a move.
-const MOVE: usize = 5;
+/// How many writes a move has.
+pub const MOVE: usize = 5;
 
+/// The write at a place of a move, from 0.
 #[inline(always)]
-fn move_write(step: Move, place: usize) -> RegWrite
+pub fn move_write(step: Move, place: usize) -> RegWrite
     requires { place < 5 }
     ensures { slice_get (move_writes step) place ≡ Some result }
 {

@@ -1,13 +1,8 @@
-use Rattle.std.proofs.Common.{◌≡◌, ◌<◌, length, ℕ, ◌+◌, ◌-◌, List, ◌++◌, drop, get_or, sym, ap, ◌∙◌, arith, slice_get}
-use Rattle.std.proofs.lemmas.List.{at_drop_more}
+use Rattle.std.proofs.Common.{◌+◌, ◌-◌, List, drop, sym, ap, ◌∙◌, arith, slice_get}
 use Rattle.roll_plan.specs.declared.op.LegOp.{LegOp}
 use Rattle.roll_plan.specs.Works.{op_writes, ops_writes}
-use Rattle.roll_plan.proofs.Places.{at_front, at_back}
+use Rattle.roll_plan.proofs.Places.{at_front, at_back, left}
 use Rattle.roll_plan.proofs.work.write_in_order.Goals as goal
-
--- what is left begins with the op in hand
-pub left : (ops : List LegOp) (i t : ℕ) (op : LegOp) → op ≡ get_or ops i op → i < length ops → slice_get (ops_writes (drop i ops)) t ≡ slice_get (op_writes op ++ ops_writes (drop (i + 1) ops)) t
-left ops i t op e low = at_drop_more (λ (xs : List LegOp). slice_get (ops_writes xs) t) ops i op low ∙ ap (λ (o : LegOp). slice_get (op_writes o ++ ops_writes (drop (i + 1) ops)) t) (sym e)
 
 pub returns-then-place-count-clause-write : goal.returns-then-place-count-clause-write
 returns-then-place-count-clause-write c = let k = c.op_count-count.ensures.count in let low = c.if-place-count.true in
