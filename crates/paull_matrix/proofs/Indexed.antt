@@ -110,6 +110,18 @@ can_place_again c l q k p held le free = record {
   free = λ s x h. free s x (held_rest c l x k (out_low c l p (p.inside l q held).0) h).1;
 }
 
+pub with_leg_again : (c : Colouring) (l : Leg) (k : ℕ) → with_leg l k (without_leg l c) ≡ with_leg l k c
+with_leg_again c l k = ap (colouring_of c.shape) (set-set c.routes l.output.0 None (Some (route l.input.0 k)))
+
+-- a leg that is held goes to a middle that is free for it
+pub matrix_turned : (c : Colouring) (rows columns : Cells) (l : Leg) (q k : ℕ) → IsMatrix c.shape c.routes rows columns → Holds c l q → (k ≤ c.shape.slots) × IsFreeFor c l k
+    → IsMatrix c.shape (with_leg l k c).routes (with_cell (module_on c.shape Row l) k (Some l) (with_cell (module_on c.shape Row l) q None rows)) (with_cell (module_on c.shape Column l) k (Some l) (with_cell (module_on c.shape Column l) q None columns))
+matrix_turned c rows columns l q k m held free =
+    let taken = matrix_without c rows columns l q m held in
+    subst (λ (d : Colouring). IsMatrix c.shape d.routes (with_cell (module_on c.shape Row l) k (Some l) (with_cell (module_on c.shape Row l) q None rows)) (with_cell (module_on c.shape Column l) k (Some l) (with_cell (module_on c.shape Column l) q None columns)))
+    (with_leg_again c l k)
+    (matrix_with (without_leg l c) (with_cell (module_on c.shape Row l) q None rows) (with_cell (module_on c.shape Column l) q None columns) l k taken (can_place_again c l q k m.proper held free.0 free.1))
+
 all_none : {A : Type 0} (n i : ℕ) → get_or (replicate {A = Option A} n None) i None ≡ None
 all_none {A} n i = dite (dec_lt i n) (λ h. get_or-replicate n i None None h)
     (λ h. get_or-eq_default (replicate {A = Option A} n None) None (let e : length (replicate {A = Option A} n None) ≡ n = length-replicate n None in omega arith))
@@ -136,9 +148,6 @@ new_matrix z = record {
   rows_are = new_index z Row;
   columns_are = new_index z Column;
 }
-
-pub with_leg_again : (c : Colouring) (l : Leg) (k : ℕ) → with_leg l k (without_leg l c) ≡ with_leg l k c
-with_leg_again c l k = ap (colouring_of c.shape) (set-set c.routes l.output.0 None (Some (route l.input.0 k)))
 
 -- what is read inside a list hangs on no default
 pub any_default : {A : Type 0} (xs : List A) (i : ℕ) (d e : A) → i < length xs → get_or xs i d ≡ get_or xs i e

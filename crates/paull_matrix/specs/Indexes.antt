@@ -1,5 +1,5 @@
 -- The legs of each row, or of each column, by middle.
-use Rattle.std.specs.Prelude.{◌≡◌, ◌≤◌, ◌<◌, ◌↔◌, ℕ, ◌+◌, ◌*◌, List, length, replicate, slice_index, slice_index_or, slice_set, Option, Some, None, IsBitSet}
+use Rattle.std.specs.Prelude.{◌≡◌, ◌≤◌, ◌<◌, ◌↔◌, ℕ, ◌+◌, ◌*◌, ◌/◌, ◌%◌, List, length, replicate, slice_index, slice_index_or, slice_set, Option, Some, None, IsBitSet}
 use Rattle.dxc_num.specs.declared.port.Leg.{Leg}
 use Rattle.dxc_num.specs.declared.port.Route.{Route}
 use Rattle.dxc_num.specs.Dimensions.{Dimensions, IsInLimits}
@@ -27,12 +27,16 @@ leg_in g m k = slice_index_or g.legs (cell_of g.shape m k) None
 abbrev pub with_cell : ℕ → ℕ → Option Leg → Cells → Cells
 with_cell m k x g = record { shape = g.shape; legs = slice_set g.legs (cell_of g.shape m k) x }
 
--- of each module a set has the middles whose cell is empty
+-- the place of the word of a middle: each module has two, of 64 middles each
+abbrev pub word_of : ℕ → ℕ → ℕ
+word_of m k = m * 2 + k / 64
+
+-- of each module two words have the middles whose cell is empty
 pub record HasFreeSets (d : Dimensions) (legs : List (Option Leg)) (free : List ℕ) : Type 0 where
   pub limits : IsInLimits d
   pub size : length legs ≡ cell_count d
-  pub sets : length free ≡ d.modules
-  pub bits : (m k : ℕ) → m < d.modules → k ≤ d.slots → (IsBitSet (slice_index free m) k ↔ (slice_index_or legs (cell_of d m k) None ≡ None))
+  pub sets : length free ≡ d.modules * 2
+  pub bits : (m k : ℕ) → m < d.modules → k ≤ d.slots → (IsBitSet (slice_index free (word_of m k)) (k % 64) ↔ (slice_index_or legs (cell_of d m k) None ≡ None))
 
 -- the cells have the legs of each row, or of each column, and no others
 pub record Indexes (c : Colouring) (s : Side) (g : Cells) : Type 0 where

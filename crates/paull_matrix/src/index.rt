@@ -1,6 +1,6 @@
-ghost use Rattle.std.specs.Prelude.{◌≡◌, ◌≢◌, ◌≤◌, ◌<◌, ◌↔◌, ℕ, IsBitSet, None, IfOk};
+ghost use Rattle.std.specs.Prelude.{◌≡◌, ◌≢◌, ◌≤◌, ◌<◌, ◌%◌, ◌↔◌, ℕ, IsBitSet, None, Some, IfOk};
 ghost use Rattle.paull_matrix.specs.Middles.{IsSetOf};
-ghost use Rattle.paull_matrix.specs.Indexes.{Cells, HasFreeSets, cell_of, leg_in, no_cells, with_cell};
+ghost use Rattle.paull_matrix.specs.Indexes.{Cells, HasFreeSets, cell_of, leg_in, no_cells, with_cell, word_of};
 
 use crate::middle_set::MiddleSet;
 use dxc_causes::NoMemory;
@@ -8,12 +8,12 @@ use dxc_num::{Leg, Middle, Shape};
 use std::alloc::Global;
 use std::marker::Model;
 
-/// The legs of each row, or of each column, by middle, with the middles that are free there.
+/// The legs of each row, or of each column, by middle, with the middles that are free there: two words of 64 bits a module.
 #[derive(Drop)]
 pub struct Index {
     shape: Shape,
     legs: Vec<Option<Leg>>,
-    free: Vec<MiddleSet>,
+    free: Vec<u64>,
 }
 
 impl Model for Index {
@@ -25,6 +25,7 @@ impl Model for Index {
 }
 
 // The place of the cell of a module and a middle.
+#[inline(always)]
 fn cell(shape: Shape, module: u16, middle: Middle) -> usize
     requires { («module» < shape.modules) × (middle.0 ≤ shape.slots) }
     ensures { result ≡ cell_of shape «module» middle.0 }
@@ -32,16 +33,38 @@ fn cell(shape: Shape, module: u16, middle: Middle) -> usize
     module as usize * (shape.slots() as usize + 1) + middle.0 as usize
 }
 
-// The free middles of a module once its cell at a middle is set.
-fn free_after(free: MiddleSet, middle: Middle, leg: Option<Leg>) -> MiddleSet
-    requires { middle.0 < 128 }
-    ensures here { IsBitSet result middle.0 ↔ (leg ≡ None) }
-    ensures others { (k : ℕ) → k < 128 → k ≢ middle.0 → (IsBitSet result k ↔ IsBitSet free k) }
+// The place of the word that tells whether a middle is free in a module.
+#[inline(always)]
+fn word(module: u16, middle: Middle) -> usize
+    ensures { result ≡ word_of «module» middle.0 }
 {
-    match leg {
-        Some(_) => free.without(middle),
-        None => free.with(middle),
-    }
+    module as usize * 2 + middle.0 as usize / 64
+}
+
+// A word whose middles are all free.
+#[inline(always)]
+fn all_free() -> u64
+    ensures { (k : ℕ) → k < 64 → IsBitSet result k }
+{
+    u64::MAX
+}
+
+// A word once its middle is free.
+#[inline(always)]
+fn freed(word: u64, middle: Middle) -> u64
+    ensures here { IsBitSet result (middle.0 % 64) }
+    ensures others { (k : ℕ) → k < 64 → k ≢ middle.0 % 64 → (IsBitSet result k ↔ IsBitSet word k) }
+{
+    word | (1u64 << (middle.0 % 64))
+}
+
+// A word once its middle is taken.
+#[inline(always)]
+fn taken(word: u64, middle: Middle) -> u64
+    ensures here { ¬ IsBitSet result (middle.0 % 64) }
+    ensures others { (k : ℕ) → k < 64 → k ≢ middle.0 % 64 → (IsBitSet result k ↔ IsBitSet word k) }
+{
+    word & !(1u64 << (middle.0 % 64))
 }
 
 impl Index {
@@ -50,7 +73,7 @@ impl Index {
     {
         let modules = shape.modules() as usize;
         let legs = Vec::from_elem(alloc, None, modules * (shape.slots() as usize + 1))?;
-        let free = Vec::from_elem(alloc, MiddleSet::all(), modules)?;
+        let free = Vec::from_elem(alloc, all_free(), modules * 2)?;
         Ok(Index { shape, legs, free })
     }
 
@@ -67,16 +90,46 @@ impl Index {
         requires { «module» < self.now.shape.modules }
         ensures { IsSetOf (λ k. leg_in self.now «module» k ≡ None) self.now.shape.slots result }
     {
-        self.free[module as usize]
+        let low = module as usize * 2;
+        MiddleSet::of_words(self.free[low], self.free[low + 1])
     }
 
-    pub fn set(&mut self, module: u16, middle: Middle, leg: Option<Leg>)
+    /// Puts a leg on a middle.
+    #[inline(always)]
+    pub fn put(&mut self, module: u16, middle: Middle, leg: Leg)
         requires { («module» < self.old.shape.modules) × (middle.0 ≤ self.old.shape.slots) }
-        ensures { self.new ≡ with_cell «module» middle.0 leg self.old }
+        ensures { self.new ≡ with_cell «module» middle.0 (Some leg) self.old }
     {
-        let free = free_after(self.free[module as usize], middle, leg);
-        self.free[module as usize] = free;
-        self.legs[cell(self.shape, module, middle)] = leg;
+        self.legs[cell(self.shape, module, middle)] = Some(leg);
+        let at = word(module, middle);
+        self.free[at] = taken(self.free[at], middle);
+    }
+
+    /// Takes away what is on a middle.
+    #[inline(always)]
+    pub fn take(&mut self, module: u16, middle: Middle)
+        requires { («module» < self.old.shape.modules) × (middle.0 ≤ self.old.shape.slots) }
+        ensures { self.new ≡ with_cell «module» middle.0 None self.old }
+    {
+        self.legs[cell(self.shape, module, middle)] = None;
+        let at = word(module, middle);
+        self.free[at] = freed(self.free[at], middle);
+    }
+
+    /// Puts a leg of the module that is on one middle on another one.
+    #[inline(always)]
+    pub fn turn(&mut self, module: u16, from: Middle, to: Middle, leg: Leg)
+        requires { («module» < self.old.shape.modules) × (from.0 ≤ self.old.shape.slots) × (to.0 ≤ self.old.shape.slots) }
+        ensures { self.new ≡ with_cell «module» to.0 (Some leg) (with_cell «module» from.0 None self.old) }
+    {
+        let left = cell(self.shape, module, from);
+        let reached = cell(self.shape, module, to);
+        self.legs[left] = None;
+        self.legs[reached] = Some(leg);
+        let from_at = word(module, from);
+        self.free[from_at] = freed(self.free[from_at], from);
+        let to_at = word(module, to);
+        self.free[to_at] = taken(self.free[to_at], to);
     }
 
     /// Takes out every leg.
@@ -84,6 +137,6 @@ impl Index {
         ensures { self.new ≡ no_cells self.old.shape }
     {
         self.legs.as_mut_slice().fill(None);
-        self.free.as_mut_slice().fill(MiddleSet::all());
+        self.free.as_mut_slice().fill(all_free());
     }
 }

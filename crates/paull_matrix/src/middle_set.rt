@@ -1,4 +1,4 @@
-ghost use Rattle.std.specs.Prelude.{◌≡◌, ◌≢◌, ◌≤◌, ◌<◌, ◌^◌, ◌↔◌, ℕ, IsTrue, IsBitSet};
+ghost use Rattle.std.specs.Prelude.{◌≡◌, ◌≢◌, ◌+◌, ◌≤◌, ◌<◌, ◌^◌, ◌↔◌, ℕ, IsTrue, IsBitSet};
 ghost use Rattle.paull_matrix.specs.Middles.{FindsLowest};
 
 use dxc_num::Middle;
@@ -21,11 +21,15 @@ impl Model for MiddleSet {
 }
 
 impl MiddleSet {
-    /// Every middle below 128.
-    pub fn all() -> MiddleSet
-        ensures { (k : ℕ) → k < 128 → IsBitSet result k }
+    /// The middles of a word, and from 64 on those of another one.
+    #[inline(always)]
+    pub fn of_words(low: u64, high: u64) -> MiddleSet
+        ensures low { (k : ℕ) → k < 64 → (IsBitSet result k ↔ IsBitSet low k) }
+        ensures high { (k : ℕ) → k < 64 → (IsBitSet result (64 + k) ↔ IsBitSet high k) }
     {
-        MiddleSet { bits: u128::MAX }
+        MiddleSet {
+            bits: ((high as u128) << 64) | low as u128,
+        }
     }
 
     pub fn contains(self, middle: Middle) -> bool
@@ -33,17 +37,6 @@ impl MiddleSet {
         ensures { IsTrue result ↔ IsBitSet self middle.0 }
     {
         self.bits & (1u128 << middle.0) != 0
-    }
-
-    /// The set with this middle in it.
-    pub fn with(self, middle: Middle) -> MiddleSet
-        requires { middle.0 < 128 }
-        ensures there { IsBitSet result middle.0 }
-        ensures others { (k : ℕ) → k < 128 → k ≢ middle.0 → (IsBitSet result k ↔ IsBitSet self k) }
-    {
-        MiddleSet {
-            bits: self.bits | (1u128 << middle.0),
-        }
     }
 
     /// The set without this middle.

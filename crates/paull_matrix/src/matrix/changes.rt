@@ -15,10 +15,10 @@ impl Matrix {
             input: leg.input,
             middle,
         });
-        self.rows
-            .set(self.shape.module_of(leg.input), middle, Some(leg));
-        self.columns
-            .set(self.shape.module_of(leg.output), middle, Some(leg));
+        let row = self.shape.module_of(leg.input);
+        self.rows.put(row, middle, leg);
+        let column = self.shape.module_of(leg.output);
+        self.columns.put(column, middle, leg);
     }
 
     /// Takes out a leg that is held.
@@ -28,21 +28,30 @@ impl Matrix {
     {
         if let Some(route) = self.routes[leg.output.0 as usize] {
             self.routes[leg.output.0 as usize] = None;
-            self.rows
-                .set(self.shape.module_of(leg.input), route.middle, None);
-            self.columns
-                .set(self.shape.module_of(leg.output), route.middle, None);
+            let row = self.shape.module_of(leg.input);
+            self.rows.take(row, route.middle);
+            let column = self.shape.module_of(leg.output);
+            self.columns.take(column, route.middle);
         }
     }
 
     /// Moves a leg that is held to a middle that is free in its row and column.
+    #[inline(always)]
     pub fn recolour(&mut self, leg: Leg, middle: Middle)
         requires held { IsHeld self.old leg }
         requires free { (middle.0 ≤ self.old.shape.slots) × IsFreeFor self.old leg middle.0 }
         ensures { self.new ≡ with_leg leg middle.0 self.old }
     {
-        let _ = &self.shape;
-        self.remove(leg);
-        self.place(leg, middle);
+        let row = self.shape.module_of(leg.input);
+        let column = self.shape.module_of(leg.output);
+        let route = Route {
+            input: leg.input,
+            middle,
+        };
+        if let Some(old) = self.routes[leg.output.0 as usize] {
+            self.routes[leg.output.0 as usize] = Some(route);
+            self.rows.turn(row, old.middle, middle, leg);
+            self.columns.turn(column, old.middle, middle, leg);
+        }
     }
 }

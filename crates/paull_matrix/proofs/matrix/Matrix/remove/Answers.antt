@@ -15,6 +15,6 @@ invariant_of-self c =
     let h : Holds b l c.requires.0 = subst (λ (a : Colouring). Holds a l c.requires.0) e c.requires.1 in
     let is : route_at b l.output.0 ≡ Some c.in-Some.route = any_default c.self.inside.routes.items l.output.0 None c.index.result.now (out_low b l c.self.invariant.proper (c.self.invariant.proper.inside l c.requires.0 h).0) ∙ (sym c.index.ensures ∙ c.in-Some.is) in
     let k : c.requires.0 ≡ q = ap (λ (w : Route). w.middle.0) (some_route (sym h ∙ is)) in
-    subst (λ (g : Cells × Cells). IsMatrix d (without_leg l b).routes g.0 g.1) (λ i. (sym c.set.ensures i, sym c.set-in-Some.ensures i))
-    (subst (λ (m : ℕ × ℕ). IsMatrix d (without_leg l b).routes (with_cell m.0 q None c.self.inside.rows) (with_cell m.1 q None c.self.inside.columns)) (λ i. (sym c.module_of.ensures i, sym c.module_of-in-Some.ensures i))
+    subst (λ (g : Cells × Cells). IsMatrix d (without_leg l b).routes g.0 g.1) (λ i. (sym c.take.ensures i, sym c.take-in-Some.ensures i))
+    (subst (λ (m : ℕ × ℕ). IsMatrix d (without_leg l b).routes (with_cell m.0 q None c.self.inside.rows) (with_cell m.1 q None c.self.inside.columns)) (λ i. (sym c.module_of-row.ensures i, sym c.module_of-column.ensures i))
     (matrix_without b c.self.inside.rows c.self.inside.columns l q c.self.invariant (subst (Holds b l) k h)))

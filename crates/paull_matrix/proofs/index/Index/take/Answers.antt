@@ -1,0 +1,13 @@
+use Rattle.std.proofs.Common.{◌≡◌, ◌<◌, ◌≤◌, rules, subst}
+use Rattle.dxc_num.specs.Dimensions.{Dimensions}
+use Rattle.paull_matrix.proofs.Cells.{freed_kept}
+use Rattle.paull_matrix.proofs.index.Index.take.Goals as goal
+
+pub invariant_of-self : goal.invariant_of-self
+invariant_of-self c =
+    let d = c.self.inside.shape in
+    let e : c.args.self.now.shape ≡ d = search rules in
+    let lm = subst (λ (z : Dimensions). c.args.module < z.modules) e c.requires.0 in
+    let lk = subst (λ (z : Dimensions). c.args.middle.0 ≤ z.slots) e c.requires.1 in
+    freed_kept d c.self.inside.legs.items c.self.inside.free.items c.args.module c.args.middle.0 c.cell.result c.word-at.result c.index.result.now c.freed.result
+    c.self.invariant lm lk c.cell.ensures c.word-at.ensures c.index.ensures c.freed.ensures.here c.freed.ensures.others
