@@ -10,6 +10,9 @@ use std::marker::Model;
 /// A unit has at most so many bytes, the `;` that ends it among them.
 const LIMIT: usize = 2048;
 
+/// So many bytes one look for the end of a run goes through.
+const LOOK: usize = 48;
+
 /// What a piece of the stream ended.
 #[derive(Clone, Copy, PartialEq, Eq)]
 pub enum UnitKind {
@@ -102,7 +105,8 @@ impl UnitReader {
         self.kept.as_slice()
     }
 
-    /// Takes the bytes in front of the first `;` or quote, and answers how many these are: none before a unit's first byte.
+    /// Takes bytes in front of the first `;` or quote, as many as one look finds, and answers how many these are: none before a unit's
+    /// first byte.
     fn take_run(&mut self, rest: &[u8]) -> usize
         ensures within { result ≤ length rest.now }
         ensures held { (bs : List ℕ) → Holds bs (hand self.old) → Holds (bs ++ take result rest.now) (hand self.new) }
@@ -180,8 +184,21 @@ fn keep_run(kept: &mut ArrayVec<u8, 2048>, text: &[u8])
     }
 }
 
-/// How many bytes stand in front of the first `;` or quote.
+/// How many of the next bytes stand in front of the first `;` or quote, as far as one look goes.
+// A unit is seldom longer, and a search over a length that is known costs least.
 fn run_of(text: &[u8]) -> usize
+    ensures within { result ≤ length text.now }
+    ensures run { IsRun (take result text.now) }
+{
+    if text.len() < LOOK {
+        run_in(text)
+    } else {
+        run_in(&text[..LOOK])
+    }
+}
+
+/// How many bytes stand in front of the first `;` or quote.
+fn run_in(text: &[u8]) -> usize
     ensures within { result ≤ length text.now }
     ensures run { IsRun (take result text.now) }
 {
