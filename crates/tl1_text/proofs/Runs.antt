@@ -1,6 +1,6 @@
 -- Many bytes more in the unit in hand, among which are neither ; nor quotes.
 use Rattle.std.proofs.Common.{◌≡◌, ℕ, zero, suc, ◌≤◌, ◌<◌, ◌+◌, false, List, [], ◌∷◌, ◌++◌, length, take, drop, ◌==◌, refl, sym, ◌∙◌, ap, subst, arith, append_assoc, length-append}
-use Rattle.std.proofs.lemmas.List.{append-nil, length-take}
+use Rattle.std.proofs.lemmas.List.{append-nil}
 use Rattle.std.proofs.lemmas.Bool.Decides.{nat_tests}
 use Rattle.memchr.specs.Find.{is_byte2, Passes}
 use Rattle.tl1_text.specs.Units.{is_quoted, Begins}
@@ -59,16 +59,3 @@ pub begins_front : (n : ℕ) (text : List ℕ) → Begins text → Begins (take 
 begins_front zero text begins = tt
 begins_front (suc n) [] begins = tt
 begins_front (suc n) (b ∷ text) begins = begins
-
--- a run in the front of a text is a run of the text
-front_of_front : (k n : ℕ) (text : List ℕ) → k ≤ n → take k (take n text) ≡ take k text
-front_of_front zero n text le = refl
-front_of_front (suc k) zero text le = absurd (omega (arith, le))
-front_of_front (suc k) (suc n) [] le = refl
-front_of_front (suc k) (suc n) (b ∷ text) le = ap (λ (l : List ℕ). b ∷ l) (front_of_front k n text (omega (arith, le)))
-
-pub run_within : (k n : ℕ) (text : List ℕ) → k ≤ length (take n text) → k ≤ length text
-run_within k n text le = omega (arith, le, length-take n text)
-
-pub run_of_front : (k n : ℕ) (text : List ℕ) → k ≤ length (take n text) → IsRun (take k (take n text)) → IsRun (take k text)
-run_of_front k n text le run = subst (λ (l : List ℕ). IsRun l) (front_of_front k n text (omega (arith, le, length-take n text))) run

@@ -1,8 +1,9 @@
-use Rattle.tl1_text.proofs.Runs.{run_within, run_of_front}
+use Rattle.std.proofs.Common.{length, arith}
+use Rattle.tl1_text.proofs.Runs.{run_before}
 use Rattle.tl1_text.proofs.reader.run_of.Goals as goal
 
-pub returns-else-text-lt-LOOK-clause-within : goal.returns-else-text-lt-LOOK-clause-within
-returns-else-text-lt-LOOK-clause-within c = run_within _ 48 c.args.text.now c.run_in-else-text-lt-LOOK.ensures.within
+pub returns-in-Some-clause-run : goal.returns-in-Some-clause-run
+returns-in-Some-clause-run c = run_before c.in-Some.at c.args.text.now (omega (arith, c.in-Some.ensures.0.high)) c.in-Some.ensures.0.before
 
-pub returns-else-text-lt-LOOK-clause-run : goal.returns-else-text-lt-LOOK-clause-run
-returns-else-text-lt-LOOK-clause-run c = run_of_front _ 48 c.args.text.now c.run_in-else-text-lt-LOOK.ensures.within c.run_in-else-text-lt-LOOK.ensures.run
+pub returns-in-None-clause-run : goal.returns-in-None-clause-run
+returns-in-None-clause-run c = run_before (length c.args.text.now) c.args.text.now (omega arith) c.in-None.ensures
