@@ -4,6 +4,7 @@
 mod ctag;
 mod cutting;
 pub mod grammar;
+mod kept;
 pub mod laws;
 mod letter;
 mod place;

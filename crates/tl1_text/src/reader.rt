@@ -3,12 +3,9 @@ ghost use Rattle.std.specs.Prelude.{◌≡◌, ◌≤◌, ◌<◌, ◌+◌, ℕ,
 ghost use Rattle.tl1_text.specs.Reading.{Holds, IsKind, IsRun};
 ghost use Rattle.tl1_text.specs.Units.{is_gap as gap, is_quoted, Begins};
 
-use arrayvec::ArrayVec;
+use crate::kept::{Kept, LIMIT};
 use memchr::memchr2;
 use std::marker::Model;
-
-/// A unit has at most so many bytes, the `;` that ends it among them.
-const LIMIT: usize = 2048;
 
 /// What a piece of the stream ended.
 #[derive(Clone, Copy, PartialEq, Eq)]
@@ -34,7 +31,7 @@ pub struct Fed {
 /// most its 2,048th byte, and else at the first `;` behind its 2,048th byte.
 #[derive(Drop)]
 pub struct UnitReader {
-    kept: ArrayVec<u8, 2048>,
+    kept: Kept,
     quoted: bool,
     ended: bool,
 }
@@ -46,9 +43,9 @@ impl Model for UnitReader {
 
     ghost Value = { Reader };
 
-    ghost view = { λ r. record { kept = r.kept.items; ended = r.ended } };
+    ghost view = { λ r. record { kept = r.kept; ended = r.ended } };
 
-    ghost invariant = { λ r. r.ended ≡ false → r.quoted ≡ is_quoted r.kept.items };
+    ghost invariant = { λ r. r.ended ≡ false → r.quoted ≡ is_quoted r.kept };
 }
 
 impl UnitReader {
@@ -59,7 +56,7 @@ impl UnitReader {
         ensures { Holds [] (hand result) }
     {
         UnitReader {
-            kept: ArrayVec::new(),
+            kept: Kept::new(),
             quoted: false,
             ended: false,
         }
@@ -141,11 +138,11 @@ impl UnitReader {
 /// Keeps a byte of the unit in hand, or tells how it ended the unit.
 ///
 /// A unit that is too long keeps its first 2,048 bytes, and that they are so many is all that tells it.
-fn keep(kept: &mut ArrayVec<u8, 2048>, quoted: &mut bool, b: u8) -> UnitKind
-    requires { quoted.old ≡ is_quoted kept.old.items }
-    ensures made { (bs : List ℕ) → Holds bs kept.old.items → IsKind (bs ++ b ∷ []) result kept.new.items }
-    ensures quoted { result ≡ UnitKind.More → quoted.new ≡ is_quoted kept.new.items }
-    ensures short { result ≡ UnitKind.Whole → length kept.new.items ≤ 2047 }
+fn keep(kept: &mut Kept, quoted: &mut bool, b: u8) -> UnitKind
+    requires { quoted.old ≡ is_quoted kept.old }
+    ensures made { (bs : List ℕ) → Holds bs kept.old → IsKind (bs ++ b ∷ []) result kept.new }
+    ensures quoted { result ≡ UnitKind.More → quoted.new ≡ is_quoted kept.new }
+    ensures short { result ≡ UnitKind.Whole → length kept.new ≤ 2047 }
 {
     if kept.len() == LIMIT {
         return if b == b';' {
@@ -166,17 +163,17 @@ fn keep(kept: &mut ArrayVec<u8, 2048>, quoted: &mut bool, b: u8) -> UnitKind
 }
 
 /// Keeps bytes among which are neither `;` nor quotes, as far as there is room for them.
-fn keep_run(kept: &mut ArrayVec<u8, 2048>, text: &[u8])
+fn keep_run(kept: &mut Kept, text: &[u8])
     requires run { IsRun text.now }
-    requires begins { kept.old.items ≡ [] → Begins text.now }
-    ensures held { (bs : List ℕ) → Holds bs kept.old.items → Holds (bs ++ text.now) kept.new.items }
-    ensures quoted { is_quoted kept.new.items ≡ is_quoted kept.old.items }
+    requires begins { kept.old ≡ [] → Begins text.now }
+    ensures held { (bs : List ℕ) → Holds bs kept.old → Holds (bs ++ text.now) kept.new }
+    ensures quoted { is_quoted kept.new ≡ is_quoted kept.old }
 {
-    let room = kept.remaining_capacity();
+    let room = LIMIT - kept.len();
     if text.len() <= room {
-        let _ = kept.try_extend_from_slice(text);
+        kept.extend(text);
     } else {
-        let _ = kept.try_extend_from_slice(&text[..room]);
+        kept.extend(&text[..room]);
     }
 }
 

@@ -1,4 +1,4 @@
-use Rattle.std.proofs.Common.{rules, ◌≡◌, ◌<◌, ◌+◌, ℕ, List, [], ◌++◌, length, take, drop, sym, ◌∙◌, ap, subst, arith, append_assoc, length-append}
+use Rattle.std.proofs.Common.{◌≡◌, ◌<◌, ◌+◌, ◌-◌, ℕ, List, [], ◌++◌, length, take, drop, sym, ◌∙◌, ap, subst, arith, append_assoc, length-append}
 use Rattle.std.proofs.lemmas.List.{take-append-drop}
 use Rattle.std.proofs.lemmas.Grind.{common_steps}
 use Rattle.tl1_text.specs.Units.{is_quoted, Begins}
@@ -16,22 +16,18 @@ cut_run room text bs kept h fits lt run begins =
 
 pub returns-then-text-room-clause-held : goal.returns-then-text-room-clause-held
 returns-then-text-room-clause-held c = λ bs holds.
-    let now : c.try_extend_from_slice.new.self.items ≡ c.args.kept.now.items ++ c.args.text.now = search rules in
-    let held = holds_run c.args.text.now bs c.args.kept.now.items holds (omega (arith, c.if-text-room.true, c.remaining_capacity-room.ensures)) c.requires.run c.requires.begins in
-    subst (λ (l : List ℕ). Holds (bs ++ c.args.text.now) l) (sym now) held
+    let held = holds_run c.args.text.now bs c.args.kept.now holds (omega (arith, c.if-text-room.true, c.len-room.ensures.value)) c.requires.run c.requires.begins in
+    subst (λ (l : List ℕ). Holds (bs ++ c.args.text.now) l) (sym c.extend.ensures.items) held
 
 pub returns-then-text-room-clause-quoted : goal.returns-then-text-room-clause-quoted
 returns-then-text-room-clause-quoted c =
-    let now : c.try_extend_from_slice.new.self.items ≡ c.args.kept.now.items ++ c.args.text.now = search rules in
-    ap is_quoted now ∙ quoted_run c.args.text.now c.args.kept.now.items c.requires.run
+    ap is_quoted c.extend.ensures.items ∙ quoted_run c.args.text.now c.args.kept.now c.requires.run
 
 pub returns-else-text-room-clause-held : goal.returns-else-text-room-clause-held
 returns-else-text-room-clause-held c = λ bs holds.
-    let now : c.try_extend_from_slice-else-text-room.new.self.items ≡ c.args.kept.now.items ++ take c.remaining_capacity-room.result c.args.text.now = search rules in
-    let held = cut_run c.remaining_capacity-room.result c.args.text.now bs c.args.kept.now.items holds (omega (arith, c.remaining_capacity-room.ensures)) c.if-text-room.false c.requires.run c.requires.begins in
-    subst (λ (l : List ℕ). Holds (bs ++ c.args.text.now) l) (sym now) held
+    let held = cut_run (2048 - c.len-room.result) c.args.text.now bs c.args.kept.now holds (omega (arith, c.len-room.ensures.value)) c.if-text-room.false c.requires.run c.requires.begins in
+    subst (λ (l : List ℕ). Holds (bs ++ c.args.text.now) l) (sym c.extend-else-text-room.ensures.items) held
 
 pub returns-else-text-room-clause-quoted : goal.returns-else-text-room-clause-quoted
 returns-else-text-room-clause-quoted c =
-    let now : c.try_extend_from_slice-else-text-room.new.self.items ≡ c.args.kept.now.items ++ take c.remaining_capacity-room.result c.args.text.now = search rules in
-    ap is_quoted now ∙ quoted_run (take c.remaining_capacity-room.result c.args.text.now) c.args.kept.now.items (run_front c.remaining_capacity-room.result c.args.text.now c.requires.run)
+    ap is_quoted c.extend-else-text-room.ensures.items ∙ quoted_run (take (2048 - c.len-room.result) c.args.text.now) c.args.kept.now (run_front (2048 - c.len-room.result) c.args.text.now c.requires.run)
