@@ -5,7 +5,7 @@ use mathlib.Core.Logic.{dite}
 use native.Mathlib.Decide.{ℕ_discrete}
 use lib.ListN.{get_or-map, get_or-replicate}
 use Rattle.atomic_table.specs.Table.{Me, step}
-use Rattle.dxc_num.specs.Dimensions.{module_of}
+use Rattle.dxc_num.specs.Dimensions.{Dimensions, module_of}
 use Rattle.dxc_num.specs.declared.port.Leg.{Leg}
 use Rattle.dxc_num.specs.declared.port.Middle.{Middle}
 use Rattle.dxc_num.specs.declared.port.Route.{Route}
@@ -29,7 +29,7 @@ use Rattle.fabric_words.specs.declared.table.Aim.{Aim}
 use Rattle.fabric_words.specs.declared.table.View.{View}
 use Rattle.fabric_words.specs.Places.{out_place, frame_place}
 use Rattle.fabric_words.specs.Plays.{set_in, set_mid, Shows, switched_out, cleared_out, looked_at, cleared_mid, cleared_in}
-use Rattle.fabric_words.specs.Seats.{IsMoverToken, mover_in, dealt_in, AreSeen, IsMoverSeat}
+use Rattle.fabric_words.specs.Seats.{IsMoverToken, mover_in, dealt_in, AreModules, AreSeen, IsMoverSeat}
 use Rattle.fabric_words.proofs.Told.{after_mover}
 
 abbrev Sat : Type 0
@@ -60,6 +60,16 @@ seen_switched z ss m m' (Some w) n few shows is h = rw (ne_eqb n 0 shows.0) (see
 pub phase_switched : (l : Leg) (e : Option Route) (n : ℕ) → Shows e n → (if n == 0 then Rest else Old l (middle_in n)) ≡ after_switch l e
 phase_switched l None n h = rw (eq-eqb n 0 h)
 phase_switched l (Some w) n h = rw (ne_eqb n 0 h.0) (λ i. Old l (h.1 i))
+
+-- the modules of the leg that a phase names
+pub modules_of : (d : Dimensions) (phase : Phase) (l : Leg) (row column : ℕ) → ((a : Leg) (b : Middle) → HasIn phase a b → l ≡ a) → (row ≡ module_of d l.input) × (column ≡ module_of d l.output) → AreModules d phase row column
+modules_of d phase l row column names are a b has = let e = names a b has in (are.0 ∙ ap (λ (x : Leg). module_of d x.input) e, are.1 ∙ ap (λ (x : Leg). module_of d x.output) e)
+
+-- after a switch the phase names the same leg, or none
+pub named_switched : (l : Leg) (n : ℕ) (a : Leg) (b : Middle) → HasIn (if n == 0 then Rest else Old l (middle_in n)) a b → l ≡ a
+named_switched l n a b has = dite (ℕ_discrete n 0)
+    (λ e. let is : (if n == 0 then Rest else Old l (middle_in n)) ≡ Rest = rw (eq-eqb n 0 e) in absurd (subst (λ (p : Phase). HasIn p a b) is has))
+    (λ e. let is : (if n == 0 then Rest else Old l (middle_in n)) ≡ Old l (middle_in n) = rw (ne_eqb n 0 e) in (subst (λ (p : Phase). HasIn p a b) is has).0)
 
 -- the path that a phase names, where a path may be cleared
 pub clear_mid_named : (z : Size) (m : Mover) (phase : Phase) (l a : Leg) (k b : Middle) → phase ≡ m.phase → CanClearMid z m l k → HasIn phase a b → CanClearMid z m a b

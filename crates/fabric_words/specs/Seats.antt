@@ -2,6 +2,8 @@
 use Rattle.std.specs.Prelude.{◌≡◌, ℕ, ◌<◌, List, [], length, slice_index_or, false}
 use Rattle.atomic_table.specs.Seated.{TableId}
 use Rattle.atomic_table.specs.Table.{Me}
+use Rattle.dxc_num.specs.declared.port.Leg.{Leg}
+use Rattle.dxc_num.specs.declared.port.Middle.{Middle}
 use Rattle.dxc_num.specs.Dimensions.{Dimensions, IsPort, module_of}
 use Rattle.fabric_core.specs.declared.size.Size.{Size}
 use Rattle.fabric_core.specs.declared.seen.Seen.{Seen}
@@ -15,7 +17,7 @@ use Rattle.fabric_core.specs.Registers.{in_cell}
 use Rattle.fabric_core.specs.Passing.{seen_of}
 use Rattle.fabric_core.specs.State.{IsSize, looks_of, new_worker}
 use Rattle.fabric_core.specs.Moving.{IsMiddle}
-use Rattle.fabric_core.specs.Owned.{IsMoverRuled}
+use Rattle.fabric_core.specs.Owned.{HasIn, IsMoverRuled}
 use Rattle.fabric_words.specs.declared.table.Aim.{Aim}
 use Rattle.fabric_words.specs.declared.table.View.{View}
 use Rattle.fabric_words.specs.declared.table.View.TheVariants.{Idle, AsMover, AsWorker}
@@ -73,6 +75,10 @@ pub record IsMoverSeat (z : Size) (me : Me Aim View) (phase : Phase) (switches :
   pub phase_is : phase ≡ (mover_in me.0).phase
   pub switches_are : switches ≡ length (mover_in me.0).log
   pub seen_are : AreSeen z seen (mover_in me.0)
+
+-- these are the modules of the leg that the phase names
+abbrev pub AreModules : Dimensions → Phase → ℕ → ℕ → Type 0
+AreModules d phase row column = (l : Leg) (k : Middle) → HasIn phase l k → (row ≡ module_of d l.input) × (column ≡ module_of d l.output)
 
 -- what a hold names is of the shape
 abbrev pub IsHoldInside : Dimensions → Hold → Type 0

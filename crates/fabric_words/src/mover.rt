@@ -10,7 +10,7 @@ ghost use Rattle.fabric_words.specs.declared.table.View.TheVariants.{AsMover};
 ghost use Rattle.fabric_words.specs.Places.{IsRegInside, reg_word};
 
 use crate::fabric::Fabric;
-use crate::path::{forget, in_of, mid_of, middle_of, path_of, phase_after};
+use crate::path::{forget, middle_of, path_of, phase_after};
 use crate::place;
 use crate::plays::{ClearsIn, ClearsMid, ClearsOut, Looks, Reads, SetsIn, SetsMid, Switches};
 use crate::table::{Aim, Token};
@@ -25,18 +25,21 @@ pub struct MoverSeat {
     token: Token,
     size: Size,
     phase: Phase,
+    // The input module and the output module of the leg that the phase names.
+    row: u16,
+    column: u16,
     switches: u64,
     seen: [Seen; 8],
 }
 
 impl Model for MoverSeat {
-    ghost use Rattle.fabric_words.specs.Seats.{MoverAt, mover_in, IsMoverSeat};
+    ghost use Rattle.fabric_words.specs.Seats.{MoverAt, mover_in, IsMoverSeat, AreModules};
 
     ghost Value = { MoverAt };
 
     ghost view = { λ s. record { fabric = record { table = s.token.table_id; size = s.size }; mover = mover_in s.token.me.0 } };
 
-    ghost invariant = { λ s. IsMoverSeat s.size s.token.me s.phase s.switches s.seen };
+    ghost invariant = { λ s. IsMoverSeat s.size s.token.me s.phase s.switches s.seen × AreModules s.size.shape s.phase s.row s.column };
 }
 
 impl MoverSeat {
@@ -49,6 +52,8 @@ impl MoverSeat {
             token,
             size,
             phase: Phase::Rest,
+            row: 0,
+            column: 0,
             switches: 0,
             seen: [Seen::NOTHING; 8],
         }
@@ -87,11 +92,15 @@ impl MoverSeat {
         ensures event { Moves self.old.fabric.size self.old.mover (SetIn leg middle) self.new.mover }
     {
         let shape = self.size.shape;
-        let word = in_of(shape, leg, middle);
+        let row = shape.module_of(leg.input);
+        let column = shape.module_of(leg.output);
         let slot = shape.slot_of(leg.input) as u64;
+        let word = place::of_in(shape, row, middle);
         let aim = Aim { leg, middle };
         let shared = &fabric.board.shared;
         shared.compare_exchange_with::<SetsIn>(&mut self.token, word, 0, slot + 1, &aim);
+        self.row = row;
+        self.column = column;
         self.phase = Phase::InSet { leg, to: middle };
     }
 
@@ -105,11 +114,10 @@ impl MoverSeat {
         let Phase::InSet { leg, to } = self.phase else {
             unreachable!()
         };
-        let shape = self.size.shape;
-        let word = mid_of(shape, leg, to);
-        let row = shape.module_of(leg.input) as u64;
+        let word = place::of_mid(self.size.shape, to, self.column);
+        let value = self.row as u64 + 1;
         let shared = &fabric.board.shared;
-        shared.store::<SetsMid>(&mut self.token, word, row + 1);
+        shared.store::<SetsMid>(&mut self.token, word, value);
         self.phase = Phase::MidSet { leg, to };
     }
 
@@ -140,9 +148,14 @@ impl MoverSeat {
         ensures fabric { self.new.fabric ≡ self.old.fabric }
         ensures event { Moves self.old.fabric.size self.old.mover (ClearOut leg) self.new.mover }
     {
-        let word = place::of_out(self.size.shape, leg.output);
+        let shape = self.size.shape;
+        let row = shape.module_of(leg.input);
+        let column = shape.module_of(leg.output);
+        let word = place::of_out(shape, leg.output);
         let shared = &fabric.board.shared;
         let found = shared.swap::<ClearsOut>(&mut self.token, word, 0);
+        self.row = row;
+        self.column = column;
         self.phase = Phase::Old {
             leg,
             old: middle_of(found),
@@ -173,7 +186,7 @@ impl MoverSeat {
         ensures event { Moves self.old.fabric.size self.old.mover ClearMid self.new.mover }
     {
         let (leg, old) = path_of(self.phase);
-        let word = mid_of(self.size.shape, leg, old);
+        let word = place::of_mid(self.size.shape, old, self.column);
         let shared = &fabric.board.shared;
         shared.store::<ClearsMid>(&mut self.token, word, 0);
         self.phase = Phase::Freed { leg, old };
@@ -187,7 +200,7 @@ impl MoverSeat {
         ensures event { Moves self.old.fabric.size self.old.mover ClearIn self.new.mover }
     {
         let (leg, old) = path_of(self.phase);
-        let word = in_of(self.size.shape, leg, old);
+        let word = place::of_in(self.size.shape, self.row, old);
         let shared = &fabric.board.shared;
         shared.store::<ClearsIn>(&mut self.token, word, 0);
         self.phase = Phase::Rest;

@@ -1,31 +1,14 @@
 //! What the mover's seat makes of a phase and of an OUT word that it found.
 ghost use Rattle.std.specs.Prelude.{◌≡◌, ◌==◌, if◌then◌else◌, replicate, []};
-ghost use Rattle.dxc_num.specs.Dimensions.{module_of};
 ghost use Rattle.dxc_num.specs.declared.port.Leg.{Leg};
 ghost use Rattle.dxc_num.specs.declared.port.Middle.{Middle};
 ghost use Rattle.fabric_core.specs.declared.phase.Phase.TheVariants.{Rest, Old};
-ghost use Rattle.fabric_core.specs.Registers.{in_cell, middle_in};
+ghost use Rattle.fabric_core.specs.Registers.{middle_in};
 ghost use Rattle.fabric_core.specs.Passing.{seen_of};
 ghost use Rattle.fabric_core.specs.Owned.{HasIn};
-ghost use Rattle.fabric_words.specs.Places.{mid_place};
 
-use crate::place;
-use dxc_num::{Leg, Middle, Shape};
+use dxc_num::{Leg, Middle};
 use fabric_core::{Phase, Seen};
-
-/// The place of the IN word on the path of a leg over a middle.
-pub(crate) fn in_of(shape: Shape, leg: Leg, middle: Middle) -> usize
-    ensures { result ≡ in_cell shape (module_of shape leg.input) middle }
-{
-    place::of_in(shape, shape.module_of(leg.input), middle)
-}
-
-/// The place of its MID word.
-pub(crate) fn mid_of(shape: Shape, leg: Leg, middle: Middle) -> usize
-    ensures { result ≡ mid_place shape middle (module_of shape leg.output) }
-{
-    place::of_mid(shape, middle, shape.module_of(leg.output))
-}
 
 /// The path that a phase names.
 pub(crate) fn path_of(phase: Phase) -> (Leg, Middle)

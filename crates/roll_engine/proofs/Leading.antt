@@ -94,7 +94,7 @@ all_advances z c old new m m' b h k = record {
   runs = k.runs;
 }
 
-advances_on : (z : Size) (us vs ws : List RegWrite) (m a b : Mover) → Advances z us vs m a → Advances z vs ws a b → Advances z us ws m b
+pub advances_on : (z : Size) (us vs ws : List RegWrite) (m a b : Mover) → Advances z us vs m a → Advances z vs ws a b → Advances z us ws m b
 advances_on z us vs ws m a b h k = record { writes = h.writes ++ k.writes; split = h.split ∙ (ap (λ (xs : List RegWrite). h.writes ++ xs) k.split ∙ sym (append_assoc h.writes k.writes ws)); runs = runs_join z h.writes k.writes m a b h.runs k.runs }
 
 some_more : (xs ys : List RegWrite) → xs ≢ [] → xs ++ ys ≢ []

@@ -11,4 +11,5 @@ pub mod Leading
 pub mod Outputs
 pub mod UnderWay
 pub mod Asking
+pub mod Walking
 pub mod Replacing

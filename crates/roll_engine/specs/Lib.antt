@@ -3,6 +3,7 @@ pub mod Writes
 pub mod Courses
 pub mod Stages
 pub mod Answers
+pub mod Walks
 pub mod Staying
 pub mod Allowed
 pub mod Cold

@@ -1,5 +1,5 @@
 -- A work that is being made, and how far it has come.
-use Rattle.std.specs.Prelude.{ℕ, List, drop}
+use Rattle.std.specs.Prelude.{ℕ, ◌+◌, List, drop}
 use Rattle.dxc_num.specs.declared.register.RegWrite.{RegWrite}
 use Rattle.roll_plan.specs.declared.work.Work.{Work}
 use Rattle.roll_plan.specs.Works.{writes_of}
@@ -14,3 +14,7 @@ pub record RollingAt : Type 0 where
 -- the writes of the work in hand that are left
 abbrev pub rest_of : RollingAt → List RegWrite
 rest_of r = drop r.step (writes_of r.work)
+
+-- so many writes more are made
+abbrev pub gone_on : ℕ → RollingAt → RollingAt
+gone_on n r = record r { step = r.step + n }

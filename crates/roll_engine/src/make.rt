@@ -10,6 +10,7 @@ use dxc_num::{RegWrite, WriteKind};
 use fabric_words::{Fabric, MoverSeat};
 
 /// Makes a write, which may be made.
+#[inline(always)]
 pub(crate) fn make(fabric: &Fabric, mover: &mut MoverSeat, write: RegWrite)
     requires own { mover.old.fabric ≡ fabric.now }
     requires can { CanMake mover.old.fabric.size.shape write mover.old.mover }

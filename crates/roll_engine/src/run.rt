@@ -1,14 +1,17 @@
 //! The writes of a work, as far as frames and the gate let them.
-ghost use Rattle.std.specs.Prelude.{◌≡◌, ◌≢◌, ◌≤◌, [], ◌∷◌, ℕ, List, IfNone, IfSome};
+ghost use Rattle.std.specs.Prelude.{◌≡◌, ◌≢◌, ◌<◌, ◌≤◌, [], ◌∷◌, ℕ, List, IfNone, IfSome, Some, slice_get};
 ghost use Rattle.dxc_causes.specs.Causes.{Rose};
 ghost use Rattle.dxc_num.specs.declared.register.WriteKind.TheVariants.{ClearMid};
+ghost use Rattle.roll_plan.specs.Works.{writes_of};
+ghost use Rattle.roll_plan.specs.Nexts.{BeginsMove, IsNext};
 ghost use Rattle.fabric_core.specs.State.{IsSize};
 ghost use Rattle.fabric_core.specs.Owned.{IsMoverRuled};
 ghost use Rattle.fabric_core.specs.Moving.{AllPassed};
 ghost use Rattle.roll_engine.specs.Writes.{Looks};
 ghost use Rattle.roll_engine.specs.Courses.{IsOld, IsReady};
-ghost use Rattle.roll_engine.specs.Rollings.{rest_of};
+ghost use Rattle.roll_engine.specs.Rollings.{gone_on, rest_of};
 ghost use Rattle.roll_engine.specs.Answers.{AnswerIs, GoesOn, IsSeen, StepIs, asked_at, asked_at_step};
+ghost use Rattle.roll_engine.specs.Walks.{Walks};
 
 use crate::answer::{Advance, Step};
 use crate::looks::look_all;
@@ -17,9 +20,10 @@ use crate::rolling::Rolling;
 use dxc_num::{RegWrite, WriteKind};
 use dxc_outside::{Gate, GatePlace, Pass1};
 use fabric_words::{Fabric, MoverSeat, Phase};
-use roll_plan::write_at_step;
+use roll_plan::{MOVE, Move, Next, move_write, next_at_step};
 
 // Looks at the workers where the write clears an old MID word. Some: a frame that may still follow it.
+#[inline(always)]
 fn clear_way(fabric: &Fabric, mover: &mut MoverSeat, kind: WriteKind) -> Option<u64>
     requires own { mover.old.fabric ≡ fabric.now }
     ensures fabric { mover.new.fabric ≡ mover.old.fabric }
@@ -36,6 +40,7 @@ fn clear_way(fabric: &Fabric, mover: &mut MoverSeat, kind: WriteKind) -> Option<
 }
 
 // Makes a write, where neither a frame nor the gate stands in its way.
+#[inline(always)]
 fn step_on<G: Gate>(fabric: &Fabric, mover: &mut MoverSeat, write: RegWrite, gate: &mut G) -> Step
     requires own { mover.old.fabric ≡ fabric.now }
     requires ready { IsReady mover.old.fabric.size (write ∷ []) mover.old.mover }
@@ -58,6 +63,82 @@ fn step_on<G: Gate>(fabric: &Fabric, mover: &mut MoverSeat, write: RegWrite, gat
     }
 }
 
+// Makes the next write of the work in hand, where neither a frame nor the gate stands in its way. Done: it is made.
+#[inline(always)]
+fn write_on<G: Gate>(
+    fabric: &Fabric,
+    mover: &mut MoverSeat,
+    rolling: &mut Rolling,
+    write: RegWrite,
+    gate: &mut G,
+) -> Advance
+    requires own { mover.old.fabric ≡ fabric.now }
+    requires few { rolling.old.step < 951 }
+    requires next { slice_get (writes_of rolling.old.work) rolling.old.step ≡ Some write }
+    requires ready { IsReady fabric.now.size (rest_of rolling.old) mover.old.mover }
+    ensures own { mover.new.fabric ≡ fabric.now }
+    ensures walks { Walks G.stops G.asked fabric.now.size rolling.old rolling.new mover.old.mover mover.new.mover gate.old gate.new result }
+    ensures one { result ≡ Advance.Done → rolling.new ≡ gone_on 1 rolling.old }
+{
+    match step_on(fabric, mover, write, gate) {
+        Step::Made => {
+            rolling.go_on();
+            Advance::Done
+        }
+        Step::InFrame(frame) => Advance::InFrame(frame),
+        Step::Stopped => Advance::Stopped,
+    }
+}
+
+// Makes the next writes of the work in hand, which are those of a move. Done: all five are made.
+#[inline(always)]
+fn move_on<G: Gate>(
+    fabric: &Fabric,
+    mover: &mut MoverSeat,
+    rolling: &mut Rolling,
+    step: Move,
+    gate: &mut G,
+) -> Advance
+    requires own { mover.old.fabric ≡ fabric.now }
+    requires few { rolling.old.step < 946 }
+    requires next { BeginsMove (writes_of rolling.old.work) rolling.old.step step }
+    requires ready { IsReady fabric.now.size (rest_of rolling.old) mover.old.mover }
+    ensures own { mover.new.fabric ≡ fabric.now }
+    ensures walks { Walks G.stops G.asked fabric.now.size rolling.old rolling.new mover.old.mover mover.new.mover gate.old gate.new result }
+    ensures all { result ≡ Advance.Done → rolling.new ≡ gone_on 5 rolling.old }
+{
+    for place in 0..MOVE {
+        match write_on(fabric, mover, rolling, move_write(step, place), gate) {
+            Advance::Done => {}
+            answer => return answer,
+        }
+    }
+    Advance::Done
+}
+
+// Makes what comes next of the work in hand. Done: it is made.
+#[inline(always)]
+fn next_on<G: Gate>(
+    fabric: &Fabric,
+    mover: &mut MoverSeat,
+    rolling: &mut Rolling,
+    next: Next,
+    gate: &mut G,
+) -> Advance
+    requires own { mover.old.fabric ≡ fabric.now }
+    requires few { rolling.old.step < 946 }
+    requires next { IsNext (writes_of rolling.old.work) rolling.old.step (Some next) }
+    requires ready { IsReady fabric.now.size (rest_of rolling.old) mover.old.mover }
+    ensures own { mover.new.fabric ≡ fabric.now }
+    ensures walks { Walks G.stops G.asked fabric.now.size rolling.old rolling.new mover.old.mover mover.new.mover gate.old gate.new result }
+    ensures more { result ≡ Advance.Done → rolling.old.step < rolling.new.step }
+{
+    match next {
+        Next::All(step) => move_on(fabric, mover, rolling, step, gate),
+        Next::One(write) => write_on(fabric, mover, rolling, write, gate),
+    }
+}
+
 /// Makes the writes of the work in hand that are left, in order, and looks at the workers before each that clears an old MID word. It
 /// doesn't wait: where a frame or the gate stands in the way it answers, and may be called again.
 pub fn advance<G: Gate>(
@@ -77,11 +158,10 @@ pub fn advance<G: Gate>(
     ensures later { G.stops gate.old ≤ G.stops gate.new }
     ensures asked { G.asked gate.old gate.new (asked_at (rest_of rolling.old) (rest_of rolling.new) result) }
 {
-    while let Some(write) = write_at_step(rolling.work(), rolling.step()) {
-        match step_on(fabric, mover, write, gate) {
-            Step::Made => rolling.go_on(),
-            Step::InFrame(frame) => return Advance::InFrame(frame),
-            Step::Stopped => return Advance::Stopped,
+    while let Some(next) = next_at_step(rolling.work(), rolling.step()) {
+        match next_on(fabric, mover, rolling, next, gate) {
+            Advance::Done => {}
+            answer => return answer,
         }
     }
     Advance::Done

@@ -7,11 +7,11 @@ use Rattle.fabric_core.specs.declared.phase.Phase.TheVariants.{Old}
 use Rattle.fabric_core.specs.Passing.{seen_of}
 use Rattle.fabric_words.specs.Seats.{MoverAt, IsMoverSeat, mover_in}
 use Rattle.fabric_words.proofs.At.{ours, out_low, clears_out_at}
-use Rattle.fabric_words.proofs.Moved.{clear_out_told}
+use Rattle.fabric_words.proofs.Moved.{clear_out_told, modules_of}
 use Rattle.fabric_words.proofs.mover.MoverSeat.clear_out.Goals as goal
 
 pub swap-found-requires : goal.swap-found-requires
-swap-found-requires c = let s = c.self.inside in let f = c.fabric.inside in let r = c.self.invariant in
+swap-found-requires c = let s = c.self.inside in let f = c.fabric.inside in let r = c.self.invariant.0 in
     let mine = ours s.token.table_id f.board.shared.table_id s.size f.size f.board.shared.key (ap (λ (v : MoverAt). v.fabric) c.self.view_is ∙ (c.requires.own ∙ sym c.fabric.view_is)) c.fabric.invariant.0 c.fabric.invariant.1 in
     let can = subst (λ (v : MoverAt). MayMove v.fabric.size v.mover (ClearOut c.args.leg)) (sym c.self.view_is) c.requires.allowed in (
       mine.0,
@@ -20,13 +20,15 @@ swap-found-requires c = let s = c.self.inside in let f = c.fabric.inside in let 
     )
 
 pub invariant_of-self : goal.invariant_of-self
-invariant_of-self c = let s = c.self.inside in let f = c.fabric.inside in let r = c.self.invariant in
+invariant_of-self c = let s = c.self.inside in let f = c.fabric.inside in let r = c.self.invariant.0 in
     let can = subst (λ (v : MoverAt). MayMove v.fabric.size v.mover (ClearOut c.args.leg)) (sym c.self.view_is) c.requires.allowed in
-    let t = clear_out_told f.board.shared.table_id.slots s.size s.token.me c.swap-found.new.seat.me c.of_out-word.result s.phase s.switches s.seen r c.args.leg can.0 c.swap-found.result c.of_out-word.ensures can.1 c.swap-found.ensures.2 in
-    subst (λ (k : Middle). IsMoverSeat s.size c.swap-found.new.seat.me (Old c.args.leg k) s.switches (replicate 8 (seen_of []))) (sym c.middle_of.ensures) t.0
+    let t = clear_out_told f.board.shared.table_id.slots s.size s.token.me c.swap-found.new.seat.me c.of_out-word.result s.phase s.switches s.seen r c.args.leg can.0 c.swap-found.result c.of_out-word.ensures can.1 c.swap-found.ensures.2 in (
+      subst (λ (k : Middle). IsMoverSeat s.size c.swap-found.new.seat.me (Old c.args.leg k) s.switches (replicate 8 (seen_of []))) (sym c.middle_of.ensures) t.0,
+      modules_of s.size.shape (Old c.args.leg c.middle_of.result) c.args.leg c.module_of-row.result c.module_of-column.result (λ a b has. has.0) (c.module_of-row.ensures, c.module_of-column.ensures),
+    )
 
 pub returns-clause-event : goal.returns-clause-event
-returns-clause-event c = let s = c.self.inside in let f = c.fabric.inside in let r = c.self.invariant in
+returns-clause-event c = let s = c.self.inside in let f = c.fabric.inside in let r = c.self.invariant.0 in
     let can = subst (λ (v : MoverAt). MayMove v.fabric.size v.mover (ClearOut c.args.leg)) (sym c.self.view_is) c.requires.allowed in
     let t = clear_out_told f.board.shared.table_id.slots s.size s.token.me c.swap-found.new.seat.me c.of_out-word.result s.phase s.switches s.seen r c.args.leg can.0 c.swap-found.result c.of_out-word.ensures can.1 c.swap-found.ensures.2 in
     subst (λ (v : MoverAt). Moves v.fabric.size v.mover (ClearOut c.args.leg) (mover_in c.swap-found.new.seat.me.0)) c.self.view_is t.1

@@ -1,0 +1,139 @@
+-- The next writes, one call behind the other.
+use Rattle.std.proofs.Common.{◌≡◌, ◌≢◌, ◌≤◌, ℕ, ◌+◌, List, [], ◌∷◌, ◌++◌, Some, Option, sym, refl, ap, ◌∙◌, subst, arith, length-append, append_assoc}
+use Rattle.std.specs.Prelude.{slice_get}
+use Rattle.dxc_causes.specs.Causes.{Rose}
+use Rattle.dxc_num.specs.declared.register.RegWrite.{RegWrite}
+use Rattle.dxc_num.specs.declared.register.WriteKind.TheVariants.{ClearMid}
+use Rattle.dxc_outside.specs.declared.gate.GatePlace.{GatePlace}
+use Rattle.dxc_outside.specs.declared.gate.GatePlace.TheVariants.{Register}
+use Rattle.roll_plan.specs.declared.work.Work.{Work}
+use Rattle.roll_plan.specs.declared.next.Next.{Next}
+use Rattle.roll_plan.specs.Works.{writes_of}
+use Rattle.roll_plan.specs.Nexts.{IsNext}
+use Rattle.fabric_core.specs.declared.size.Size.{Size}
+use Rattle.fabric_core.specs.declared.mover.Mover.{Mover}
+use Rattle.roll_engine.specs.declared.answer.Advance.{Advance}
+use Rattle.roll_engine.specs.declared.answer.Advance.TheVariants.{Done, InFrame, Stopped}
+use Rattle.roll_engine.specs.Rollings.{RollingAt, rest_of, gone_on}
+use Rattle.roll_engine.specs.Writes.{Looks, Makes}
+use Rattle.roll_engine.specs.Courses.{IsOld, IsReady}
+use Rattle.roll_engine.specs.Answers.{AnswerIs, GoesOn, IsSeen, asked_at}
+use Rattle.roll_engine.specs.Walks.{IsHalted, Walks}
+use Rattle.roll_engine.proofs.Looking.{seen_looks}
+use Rattle.roll_engine.proofs.Stepping.{ready_looks, ready_made}
+use Rattle.roll_engine.proofs.Asking.{asked_behind, asked_more, asked_nothing, asked_stopped}
+use Rattle.roll_engine.proofs.Going.{rest_some, next, some_left, goes_none, goes_look, goes_made, ready_next, in_frame}
+use Rattle.roll_engine.proofs.Running.{runs_join}
+use Rattle.roll_engine.proofs.Leading.{advances_on}
+
+pub not_stopped : Done ≡ Stopped → ⊥
+not_stopped e = cc
+
+frame_goes : (f : ℕ) → InFrame f ≡ Stopped → ⊥
+frame_goes f e = cc
+
+-- none made is none
+pub gone_none : (r : RollingAt) → r ≡ gone_on 0 r
+gone_none r = ap (λ (n : ℕ). record r { step = n }) (let e : r.step ≡ r.step + 0 = omega arith in e)
+
+pub gone_more : (r : RollingAt) (n : ℕ) → gone_on 1 (gone_on n r) ≡ gone_on (n + 1) r
+gone_more r n = ap (λ (k : ℕ). record r { step = k }) (let e : (r.step + n) + 1 ≡ r.step + (n + 1) = omega arith in e)
+
+goes_join : (z : Size) (old mid new : RollingAt) (m a b : Mover) → GoesOn z old mid m a → GoesOn z mid new a b → GoesOn z old new m b
+goes_join z old mid new m a b h k = record {
+  work = k.work ∙ h.work;
+  behind = k.behind ∙ h.behind;
+  advances = record {
+    writes = h.advances.writes ++ k.advances.writes;
+    split = h.advances.split ∙ (ap (λ (xs : List RegWrite). h.advances.writes ++ xs) k.advances.split ∙ sym (append_assoc h.advances.writes k.advances.writes (rest_of new)));
+    runs = runs_join z h.advances.writes k.advances.writes m a b h.advances.runs k.advances.runs;
+  };
+  step = let e = length-append h.advances.writes k.advances.writes in let s = h.step in let t = k.step in omega arith;
+}
+
+halted_on : (z : Size) (old mid new : RollingAt) (m a b : Mover) (answer : Advance) → GoesOn z old mid m a → IsHalted z (rest_of mid) (rest_of new) a b answer → IsHalted z (rest_of old) (rest_of new) m b answer
+halted_on z old mid new m a b Done h k = tt
+halted_on z old mid new m a b (InFrame f) h k = record {
+  leg = k.leg;
+  old = k.old;
+  phase = k.phase;
+  later = k.later;
+  next = k.next;
+  reached = k.reached;
+  advances = advances_on z (rest_of old) (rest_of mid) (rest_of new) m a k.reached h.advances k.advances;
+  seen = k.seen;
+}
+halted_on z old mid new m a b Stopped h k = k
+
+pub halted_is : (z : Size) (before left : List RegWrite) (m b : Mover) (answer : Advance) → answer ≢ Done → IsHalted z before left m b answer → AnswerIs z before left m b answer
+halted_is z before left m b Done other h = absurd (other refl)
+halted_is z before left m b (InFrame f) other h = h
+halted_is z before left m b Stopped other h = h
+
+module _ {G : Type 0} (stops : G → ℕ) (asks : G → G → List GatePlace → Type 0) (z : Size) where
+  pub walks_none : ((g : G) → asks g g []) → (r : RollingAt) (m : Mover) (g : G) → IsReady z (rest_of r) m → Walks stops asks z r r m m g g Done
+  walks_none unasked r m g ready = record {
+    goes_on = goes_none z r m;
+    ready = ready;
+    halted = tt;
+    stopped = λ e. absurd (not_stopped e);
+    unstopped = λ _. refl;
+    later = omega arith;
+    asked = subst (asks g g) (sym (asked_nothing (rest_of r))) (unasked g);
+  }
+
+  pub walks_on : ((old between new : G) (before after : List GatePlace) → asks old between before → asks between new after → asks old new (before ++ after)) → (old mid new : RollingAt) (m a b : Mover) (g h g' : G) (answer : Advance)
+      → Walks stops asks z old mid m a g h Done → Walks stops asks z mid new a b h g' answer → Walks stops asks z old new m b g g' answer
+  walks_on on old mid new m a b g h g' answer one two = let same : stops h ≡ stops g = one.unstopped not_stopped in record {
+    goes_on = goes_join z old mid new m a b one.goes_on two.goes_on;
+    ready = two.ready;
+    halted = halted_on z old mid new m a b answer one.goes_on two.halted;
+    stopped = λ e. subst (λ (n : ℕ). Rose n (stops g')) same (two.stopped e);
+    unstopped = λ other. two.unstopped other ∙ same;
+    later = subst (λ (n : ℕ). n ≤ stops g') same two.later;
+    asked = subst (asks g g') (asked_behind (rest_of old) (rest_of mid) (rest_of new) one.goes_on.advances.writes two.goes_on.advances.writes answer one.goes_on.advances.split two.goes_on.advances.split)
+        (on g h g' (asked_at (rest_of old) (rest_of mid) Done) (asked_at (rest_of mid) (rest_of new) answer) one.asked two.asked);
+  }
+
+  -- what came of one write, the next one
+  module _ (r : RollingAt) (w : RegWrite) (m m' : Mover) (g g' : G) (at : slice_get (writes_of r.work) r.step ≡ Some w) (ready : IsReady z (rest_of r) m) where
+    asked_one : Register ∷ [] ≡ asked_at (rest_of r) (rest_of (next r)) Done
+    asked_one = let left : List RegWrite = rest_of (next r) in
+        ap (λ (places : List GatePlace). places ++ Register ∷ []) (sym (asked_nothing (w ∷ left))) ∙ (asked_more (w ∷ left) [] w left refl ∙ ap (λ (ws : List RegWrite). asked_at ws left Done) (sym (rest_some r w at)))
+
+    pub walks_made : (fs : List (ℕ × ℕ)) (a : Mover) → Looks z fs m a → Makes z w a m' → stops g' ≡ stops g → asks g g' (Register ∷ []) → Walks stops asks z r (next r) m m' g g' Done
+    walks_made fs a looks makes same told = record {
+      goes_on = goes_made z r r w fs m m a m' (goes_none z r m) at looks makes;
+      ready = ready_made z w (rest_of (next r)) a m' makes (ready_looks z (w ∷ rest_of (next r)) fs m a looks (ready_next z r w m at ready));
+      halted = tt;
+      stopped = λ e. absurd (not_stopped e);
+      unstopped = λ _. same;
+      later = omega arith;
+      asked = subst (asks g g') asked_one told;
+    }
+
+    pub walks_in_frame : (f : ℕ) → (w.kind ≡ ClearMid) × IsOld m.phase × IsSeen z m m' f → stops g' ≡ stops g → asks g g' [] → Walks stops asks z r r m m' g g' (InFrame f)
+    walks_in_frame f h same told = let looks = seen_looks z m m' f h.2 in record {
+      goes_on = goes_look z r r looks.0 m m m' (goes_none z r m) looks.1;
+      ready = ready_looks z (rest_of r) looks.0 m m' looks.1 ready;
+      halted = in_frame z r r w m m m' f (goes_none z r m) at ready h;
+      stopped = λ e. absurd (frame_goes f e);
+      unstopped = λ _. same;
+      later = omega arith;
+      asked = subst (asks g g') (sym (asked_nothing (rest_of r))) told;
+    }
+
+    pub walks_stopped : (fs : List (ℕ × ℕ)) → Looks z fs m m' → Rose (stops g) (stops g') → stops g ≤ stops g' → asks g g' (Register ∷ []) → Walks stops asks z r r m m' g g' Stopped
+    walks_stopped fs looks rose later told = record {
+      goes_on = goes_look z r r fs m m m' (goes_none z r m) looks;
+      ready = ready_looks z (rest_of r) fs m m' looks ready;
+      halted = some_left r w at;
+      stopped = λ _. rose;
+      unstopped = λ other. absurd (other refl);
+      later = later;
+      asked = subst (asks g g') (ap (λ (places : List GatePlace). places ++ Register ∷ []) (sym (asked_nothing (rest_of r))) ∙ asked_stopped (rest_of r) (rest_of r)) told;
+    }
+
+-- what was found at the step
+pub next_found : (r : RollingAt) (k : Work) (t : ℕ) (o o' : Option Next) → k ≡ r.work → t ≡ r.step → IsNext (writes_of k) t o → o ≡ o' → IsNext (writes_of r.work) r.step o'
+next_found r k t o o' ek et is e = subst (λ (p : Work × ℕ × Option Next). IsNext (writes_of p.0) p.1 p.2) (λ i. (ek i, et i, e i)) is

@@ -1,0 +1,28 @@
+-- What a call says that makes the next writes of the work in hand.
+use Rattle.std.specs.Prelude.{◌≡◌, ◌≢◌, ◌≤◌, ℕ, List, []}
+use Rattle.dxc_causes.specs.Causes.{Rose}
+use Rattle.dxc_num.specs.declared.register.RegWrite.{RegWrite}
+use Rattle.dxc_outside.specs.declared.gate.GatePlace.{GatePlace}
+use Rattle.fabric_core.specs.declared.size.Size.{Size}
+use Rattle.fabric_core.specs.declared.mover.Mover.{Mover}
+use Rattle.roll_engine.specs.declared.answer.Advance.{Advance}
+use Rattle.roll_engine.specs.declared.answer.Advance.TheVariants as answer
+use Rattle.roll_engine.specs.Courses.{IsReady}
+use Rattle.roll_engine.specs.Rollings.{RollingAt, rest_of}
+use Rattle.roll_engine.specs.Answers.{GoesOn, IsInFrame, asked_at}
+
+-- what an answer says of what stood in the way; where it is Done, nothing did
+abbrev pub IsHalted : Size → List RegWrite → List RegWrite → Mover → Mover → Advance → Type 0
+IsHalted z before left m m' answer.Done = Unit {0}
+IsHalted z before left m m' (answer.InFrame f) = IsInFrame z before left m m' f
+IsHalted z before left m m' answer.Stopped = left ≢ []
+
+-- the work in hand goes on beside the gate, whose stops and askings are these
+pub record Walks {G : Type 0} (stops : G → ℕ) (asks : G → G → List GatePlace → Type 0) (z : Size) (old new : RollingAt) (m m' : Mover) (g g' : G) (a : Advance) : Type 0 where
+  pub goes_on : GoesOn z old new m m'
+  pub ready : IsReady z (rest_of new) m'
+  pub halted : IsHalted z (rest_of old) (rest_of new) m m' a
+  pub stopped : a ≡ answer.Stopped → Rose (stops g) (stops g')
+  pub unstopped : a ≢ answer.Stopped → stops g' ≡ stops g
+  pub later : stops g ≤ stops g'
+  pub asked : asks g g' (asked_at (rest_of old) (rest_of new) a)
