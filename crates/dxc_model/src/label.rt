@@ -1,4 +1,4 @@
-ghost use Rattle.std.specs.Prelude.{◌≡◌, ◌≤◌, ◌==◌, true, length};
+ghost use Rattle.std.specs.Prelude.{◌≡◌, ◌≤◌, ◌-◌, ◌==◌, ◌++◌, true, length, replicate};
 ghost use Rattle.dxc_model.specs.Labels.{is_label as reads_as_label, is_label_byte as may_stand, are_label_bytes, as_label};
 
 use std::marker::Model;
@@ -59,6 +59,14 @@ impl Label {
         ensures valid { reads_as_label self.now ≡ true }
     {
         &self.bytes[..self.count as usize]
+    }
+
+    /// The bytes, filled up with zeros.
+    #[inline(always)]
+    pub fn padded(&self) -> &[u8; 24]
+        ensures { result.now ≡ self.now ++ replicate (24 - length self.now) 0 }
+    {
+        &self.bytes
     }
 
     /// Whether it is no label.

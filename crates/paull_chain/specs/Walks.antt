@@ -14,6 +14,11 @@ GoesOn c a b s m legs more n = (l : Leg) × Holds c l (leave a b s) × (module_o
 abbrev pub IsShortChain : Colouring → ℕ → ℕ → Side → ℕ → List Leg → Type 0
 IsShortChain c a b s m ls = Chain c a b s m ls × (length ls < c.shape.modules)
 
+-- of the legs of a row chain and of a column chain, those of the chain from this side
+abbrev pub legs_on : Side → List Leg → List Leg → List Leg
+legs_on Row rows columns = rows
+legs_on Column rows columns = columns
+
 -- the chain is whole, and the other one is no shorter; it is longer where this is the column chain
 abbrev pub IsShorter : Colouring → ℕ → ℕ → ℕ → ℕ → Side → List Leg → Type 0
 IsShorter c a b i j Row ls = RowChain c a b i ls × ((ks : List Leg) × Walk c a b Column j ks × (length ks ≡ length ls))

@@ -8,6 +8,7 @@ ghost use Rattle.paull_chain.specs.Choices.{choice_on, Expands, IsJoinable, IsPa
 use crate::exchange::join_after;
 use crate::plan::free_beside;
 use crate::walk::short_chain;
+use arrayvec::ArrayVec;
 use dxc_num::{Leg, Middle};
 use paull_matrix::{Matrix, Side};
 use roll_plan::{Chain, Choice, LegOp};
@@ -63,7 +64,10 @@ fn expand_chain(matrix: &Matrix, leg: Leg, side: Side, a: Middle, b: Middle) -> 
     if !is_pair(matrix, leg, a, b) {
         return None;
     }
-    let legs = short_chain(matrix, side, leg, a, b)?;
+    let mut legs = ArrayVec::new();
+    if !short_chain(matrix, side, leg, a, b, &mut legs) {
+        return None;
+    }
     let spare = matrix.shape().spare();
     Some(join_after(leg, side, legs.as_slice(), a, b, spare))
 }

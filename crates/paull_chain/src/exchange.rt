@@ -1,5 +1,5 @@
 //! The exchange of a chain as moves, and the join after it.
-ghost use Rattle.std.specs.Prelude.{◌≡◌, ◌+◌, ◌≤◌, ◌++◌, length, true, false};
+ghost use Rattle.std.specs.Prelude.{◌≡◌, ◌+◌, ◌≤◌, ◌++◌, [], length, true, false};
 ghost use Rattle.arrayvec.specs.ArrayVec.{array_vec_len};
 ghost use Rattle.paull_chain.specs.Choices.{choice_on, JoinsAfter};
 ghost use Rattle.paull_chain.specs.Exchanges.{each_second, exchange, shifts};
@@ -28,16 +28,22 @@ fn push_seconds(moves: &mut ArrayVec<Move, 94>, legs: &[Leg], first: bool, from:
     }
 }
 
-// The exchange of a chain whose first leg is on `on` and whose second is on `next`.
-fn exchange_moves(legs: &[Leg], on: Middle, next: Middle, spare: Middle) -> ArrayVec<Move, 94>
-    requires { length legs.now ≤ 63 }
-    ensures { result.items ≡ exchange legs.now on.0 next.0 spare.0 }
+// Adds the exchange of a chain whose first leg is on `on` and whose second is on `next`.
+#[inline(always)]
+fn push_exchange(
+    moves: &mut ArrayVec<Move, 94>,
+    legs: &[Leg],
+    on: Middle,
+    next: Middle,
+    spare: Middle,
+)
+    requires few { length legs.now ≤ 63 }
+    requires none { moves.old.items ≡ [] }
+    ensures { moves.new.items ≡ exchange legs.now on.0 next.0 spare.0 }
 {
-    let mut moves = ArrayVec::new();
-    push_seconds(&mut moves, legs, false, next, spare);
-    push_seconds(&mut moves, legs, true, on, next);
-    push_seconds(&mut moves, legs, false, spare, on);
-    moves
+    push_seconds(moves, legs, false, next, spare);
+    push_seconds(moves, legs, true, on, next);
+    push_seconds(moves, legs, false, spare, on);
 }
 
 /// The join on the middle that the exchange of a chain makes free: the one on which the chain begins.
@@ -49,9 +55,8 @@ pub fn join_after(leg: Leg, side: Side, legs: &[Leg], a: Middle, b: Middle, spar
         Side::Row => (b, a, Chain::Row(a)),
         Side::Column => (a, b, Chain::Column(b)),
     };
-    LegOp::Join {
-        leg,
-        choice: Choice { middle, chain },
-        moves: exchange_moves(legs, middle, next, spare),
-    }
+    let choice = Choice { middle, chain };
+    let mut moves = ArrayVec::new();
+    push_exchange(&mut moves, legs, middle, next, spare);
+    LegOp::Join { leg, choice, moves }
 }

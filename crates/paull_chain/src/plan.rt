@@ -7,7 +7,8 @@ ghost use Rattle.paull_chain.specs.Choices.{IsJoinable, NeedsChain, Plans};
 ghost use Rattle.paull_chain.specs.Works.{IsValidWork};
 
 use crate::exchange::join_after;
-use crate::walk::{module_of, shorter};
+use crate::walk::{legs_of, module_of, shorter};
+use arrayvec::ArrayVec;
 use dxc_num::{Leg, Middle};
 use paull_matrix::{Matrix, MiddleSet, Side};
 use roll_plan::LegOp;
@@ -55,15 +56,11 @@ fn by_chain(matrix: &Matrix, leg: Leg, a: Middle, b: Middle) -> LegOp
     let shape = matrix.shape();
     let row = shape.module_of(leg.input);
     let column = shape.module_of(leg.output);
-    let walked = shorter(matrix, row, column, a, b);
-    join_after(
-        leg,
-        walked.side,
-        walked.legs.as_slice(),
-        a,
-        b,
-        shape.spare(),
-    )
+    let mut rows = ArrayVec::new();
+    let mut columns = ArrayVec::new();
+    let side = shorter(matrix, row, column, a, b, &mut rows, &mut columns);
+    let legs = legs_of(side, &rows, &columns);
+    join_after(leg, side, legs, a, b, shape.spare())
 }
 
 /// Whether a join of the leg may be planned: its ends are ports, both its sides are unused, and the spare is empty.

@@ -1,23 +1,17 @@
 //! The walk along a chain, and along both chains in step.
 ghost use Rattle.std.specs.Prelude.{◌≡◌, ◌+◌, ◌<◌, ◌≤◌, ◌++◌, ◌∷◌, [], length, List, MatchOption, IfNone, IfSome};
+ghost use Rattle.std.specs.Bool.{OnTrue, OnFalse};
 ghost use Rattle.arrayvec.specs.ArrayVec.{array_vec_len};
 ghost use Rattle.dxc_num.specs.declared.port.Leg.{Leg};
 ghost use Rattle.dxc_num.specs.Dimensions.{IsInside};
 ghost use Rattle.paull_matrix.specs.declared.side.Side.TheVariants.{Row, Column};
 ghost use Rattle.paull_matrix.specs.Colourings.{IsFree, IsOn, module_on};
 ghost use Rattle.paull_chain.specs.Chains.{leave, other};
-ghost use Rattle.paull_chain.specs.Walks.{GoesOn, IsShortChain, IsShorter};
+ghost use Rattle.paull_chain.specs.Walks.{GoesOn, IsShortChain, IsShorter, legs_on};
 
 use arrayvec::ArrayVec;
 use dxc_num::{Leg, Middle, Shape};
 use paull_matrix::{Matrix, Side};
-
-/// A chain that was walked to its end.
-#[derive(Drop)]
-pub struct Walked {
-    pub side: Side,
-    pub legs: ArrayVec<Leg, 64>,
-}
 
 fn turned(side: Side) -> Side
     ensures { result ≡ other side }
@@ -74,69 +68,82 @@ fn extend(
     Some(module_of(shape, turned(side), leg))
 }
 
-/// The shorter of the row chain and the column chain, the row chain where they are equal.
+/// Walks both chains in step until one of them ends, and tells which: the shorter one, the row chain where they are equal.
 ///
-/// They are walked in step, and one of them ends within as many legs as there are modules.
-pub fn shorter(matrix: &Matrix, row: u16, column: u16, a: Middle, b: Middle) -> Walked
+/// One of them ends within as many legs as there are modules.
+pub fn shorter(
+    matrix: &Matrix,
+    row: u16,
+    column: u16,
+    a: Middle,
+    b: Middle,
+    rows: &mut ArrayVec<Leg, 64>,
+    columns: &mut ArrayVec<Leg, 64>,
+) -> Side
     requires inside { (row < matrix.now.shape.modules) × (column < matrix.now.shape.modules)
         × (a.0 ≤ matrix.now.shape.slots) × (b.0 ≤ matrix.now.shape.slots) }
     requires free { IsFree matrix.now Row row a.0 × IsFree matrix.now Column column b.0 }
-    ensures { IsShorter matrix.now a.0 b.0 row column result.side result.legs.items }
+    requires none { (rows.old.items ≡ []) × (columns.old.items ≡ []) }
+    ensures { IsShorter matrix.now a.0 b.0 row column result (legs_on result rows.new.items columns.new.items) }
 {
     let modules = matrix.shape().modules();
-    let mut rows = ArrayVec::new();
-    let mut columns = ArrayVec::new();
     let mut row_at = row;
     let mut column_at = column;
     let mut side = Side::Row;
     for done in 0..modules {
-        match extend(matrix, side, row_at, a, b, &mut rows) {
+        match extend(matrix, side, row_at, a, b, rows) {
             Some(next) => row_at = next,
-            None => {
-                return Walked {
-                    side: Side::Row,
-                    legs: rows,
-                };
-            }
+            None => return Side::Row,
         }
-        match extend(matrix, turned(side), column_at, a, b, &mut columns) {
+        match extend(matrix, turned(side), column_at, a, b, columns) {
             Some(next) => column_at = next,
-            None => {
-                return Walked {
-                    side: Side::Column,
-                    legs: columns,
-                };
-            }
+            None => return Side::Column,
         }
         side = turned(side);
     }
     unreachable!()
 }
 
-/// The whole chain from one side of the leg. None exactly where it has more than r - 1 legs.
+/// The legs of the chain from this side.
+pub fn legs_of<'a>(
+    side: Side,
+    rows: &'a ArrayVec<Leg, 64>,
+    columns: &'a ArrayVec<Leg, 64>,
+) -> &'a [Leg]
+    ensures { result.now ≡ legs_on side rows.now.items columns.now.items }
+{
+    match side {
+        Side::Row => rows.as_slice(),
+        Side::Column => columns.as_slice(),
+    }
+}
+
+/// Walks the chain from one side of the leg. False exactly where it has more than r - 1 legs.
 pub fn short_chain(
     matrix: &Matrix,
     side: Side,
     leg: Leg,
     a: Middle,
     b: Middle,
-) -> Option<ArrayVec<Leg, 64>>
-    requires { IsInside matrix.now.shape leg
+    legs: &mut ArrayVec<Leg, 64>,
+) -> bool
+    requires inside { IsInside matrix.now.shape leg
         × (a.0 ≤ matrix.now.shape.slots) × (b.0 ≤ matrix.now.shape.slots) }
-    ensures { let m = module_on matrix.now.shape side leg in
-        MatchOption result ((ls : List Leg) → ¬ IsShortChain matrix.now a.0 b.0 side m ls)
-        (λ v. IsShortChain matrix.now a.0 b.0 side m v.items) }
+    requires none { legs.old.items ≡ [] }
+    ensures whole { let m = module_on matrix.now.shape side leg in
+        OnTrue result (IsShortChain matrix.now a.0 b.0 side m legs.new.items) }
+    ensures longer { let m = module_on matrix.now.shape side leg in
+        OnFalse result ((ls : List Leg) → ¬ IsShortChain matrix.now a.0 b.0 side m ls) }
 {
     let shape = matrix.shape();
-    let mut legs = ArrayVec::new();
     let mut module = module_of(shape, side, leg);
     let mut turn = side;
     for done in 0..shape.modules() {
-        match extend(matrix, turn, module, a, b, &mut legs) {
+        match extend(matrix, turn, module, a, b, legs) {
             Some(next) => module = next,
-            None => return Some(legs),
+            None => return true,
         }
         turn = turned(turn);
     }
-    None
+    false
 }

@@ -111,10 +111,9 @@ fn of_label(label: &Label) -> [u8; 25]
     ensures bytes { result ≡ label_bytes label.now }
     ensures label { is_label label.now ≡ true }
 {
-    let text = label.bytes();
     let mut bytes = [0; 25];
-    bytes[0] = text.len() as u8;
-    bytes[1..text.len() + 1].copy_from_slice(text);
+    bytes[0] = label.bytes().len() as u8;
+    bytes[1..].copy_from_slice(label.padded());
     bytes
 }
 

@@ -7,8 +7,8 @@ use Rattle.paull_chain.specs.Chains.{Chain}
 use Rattle.paull_chain.proofs.Going.{LeadsTo}
 use Rattle.paull_matrix.specs.Colourings.{Colouring, module_on}
 
-pub returns-in-None : goal.returns-in-None
-returns-in-None c =
+pub returns-in-None-clause-whole : goal.returns-in-None-clause-whole
+returns-in-None-clause-whole c =
     let i = c.loop-done.invariant in
     let d : Colouring = c.args.matrix.now in
     let w = c.in-None.ensures.whole in (
@@ -26,8 +26,8 @@ loop-done-preserved c =
       low = c.in-Some.ensures.low;
     }
 
-pub returns : goal.returns
-returns c = λ ls h.
+pub returns-clause-longer : goal.returns-clause-longer
+returns-clause-longer c = λ ls h.
     let i = c.loop-done.invariant in
     let d : Colouring = c.args.matrix.now in
     let le = walk_within d c.args.a.0 c.args.b.0 c.shape-shape.ensures.proper c.args.side (module_on d.shape c.args.side c.args.leg) c.loop-done.legs.items ls
