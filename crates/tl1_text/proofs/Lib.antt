@@ -7,9 +7,9 @@ pub mod WordFacts
 pub mod BlockFacts
 pub mod CutSteps
 pub mod Slices
-pub mod ValueSteps
 pub mod Plains
 pub mod CutBlocks
+pub mod Params
 pub mod TagFacts
 pub mod Totals
 pub mod Tables
