@@ -1,3 +1,3 @@
 pub mod Anys
-pub mod Empties
+pub mod TagFacts
 pub mod LabelBytes

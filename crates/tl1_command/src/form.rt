@@ -44,7 +44,8 @@ pub struct Form {
 impl Form {
     /// How many parameters of the first payload block the command names.
     pub fn values(self) -> usize
-        ensures { result ≡ all_values self }
+        ensures count { result ≡ all_values self }
+        ensures few { result ≤ 2 }
     {
         self.value.named() + self.label.named()
     }

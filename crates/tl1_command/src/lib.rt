@@ -12,4 +12,4 @@ pub mod laws;
 pub mod parts;
 
 pub use command::Command;
-pub use decide::{code_in, command_of};
+pub use decide::{code_in, command_of, command_with};

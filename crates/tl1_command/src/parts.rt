@@ -1,14 +1,14 @@
-ghost use Rattle.std.specs.Prelude.{◌≡◌, ◌≤◌, length, map, drop, slice_index_or, []};
-ghost use Rattle.std.specs.List.{All, list_any};
-ghost use Rattle.tl1_text.specs.Spans.{IsIn, text_at, block_at, AreBlocksOf};
+ghost use Rattle.std.specs.Prelude.{◌≡◌, ◌≤◌, ℕ, List, IfSome, None, length, map, drop};
+ghost use Rattle.std.specs.List.{list_any};
+ghost use Rattle.tl1_text.specs.Spans.{IsBlockIn, block_at, AreBlocksOf};
+ghost use Rattle.tl1_text.specs.Values.{values_behind};
 ghost use Rattle.tl1_command.specs.Blocks.{block as block_in, is_there};
-ghost use Rattle.tl1_command.specs.Parts.{AreParts};
+ghost use Rattle.tl1_command.specs.Parts.{HasValues, IsPair, AreParts};
 
-use arrayvec::ArrayVec;
-use tl1_text::{Blocks, Span, params};
+use tl1_text::{Blocks, Span, first_param};
 
 /// The parameters that a command may name: two AIDs, and of the first payload block a value and a label.
-#[derive(Clone, Copy, Default)]
+#[derive(Clone, Copy)]
 pub struct Named {
     pub first: Span,
     pub second: Span,
@@ -28,78 +28,105 @@ pub fn block_text<'a>(unit: &'a [u8], blocks: &Blocks, number: usize) -> &'a [u8
     }
 }
 
-/// The values of a block's parameters, none where the block isn't there.
-pub fn values_at(unit: &[u8], blocks: &Blocks, number: usize) -> ArrayVec<Span, 8>
-    requires short { length unit.now ≤ 2047 }
-    requires blocks { AreBlocksOf unit.now blocks.now.block.items }
-    ensures texts { map (text_at unit.now) result.items ≡ (block_in number (map (block_at unit.now) blocks.now.block.items)).values }
-    ensures within { All (IsIn unit.now) result.items }
+/// The block of a number, where it is there.
+pub fn block_of(blocks: &Blocks, number: usize) -> Option<Span>
+    ensures { (unit : List ℕ) → AreBlocksOf unit blocks.now.block.items → HasValues unit (block_in number (map (block_at unit) blocks.now.block.items)).values result }
 {
     if number < blocks.block.len() {
-        params(unit, blocks.block[number])
+        Some(blocks.block[number])
     } else {
-        ArrayVec::new()
+        None
     }
 }
 
-/// The value of a parameter, which is empty where it isn't there.
-pub fn value_at(unit: &[u8], values: &ArrayVec<Span, 8>, number: usize) -> Span
-    requires within { All (IsIn unit.now) values.now.items }
-    ensures text { text_at unit.now result ≡ slice_index_or (map (text_at unit.now) values.now.items) number [] }
-    ensures within { IsIn unit.now result }
+/// Whether a value of a block is there.
+pub fn has_value(unit: &[u8], block: Option<Span>) -> bool
+    requires short { length unit.now ≤ 2047 }
+    requires block { IfSome block (IsBlockIn unit.now) }
+    ensures { result ≡ list_any is_there (values_behind unit.now block) }
 {
-    if number < values.len() {
-        values[number]
-    } else {
-        Span::default()
-    }
-}
-
-/// Whether a value from this parameter on is there.
-pub fn has_value_from(unit: &[u8], values: &ArrayVec<Span, 8>, from: usize) -> bool
-    requires within { All (IsIn unit.now) values.now.items }
-    ensures { result ≡ list_any is_there (drop from (map (text_at unit.now) values.now.items)) }
-{
-    for at in from..values.len() {
-        if !values[at].text(unit).is_empty() {
+    let mut left = block;
+    while let Some(rest) = left {
+        let param = first_param(unit, rest);
+        if !param.value.text(unit).is_empty() {
             return true;
         }
+        left = param.others;
     }
     false
 }
 
-/// The parameters of the AID block and of the first payload block, and those of them that a command may name.
-#[derive(Drop)]
-pub struct Parts {
-    pub aids: ArrayVec<Span, 8>,
-    pub payload: ArrayVec<Span, 8>,
-    pub named: Named,
+/// The first two values of a block, which are empty where they aren't there, and the block of the further ones.
+#[derive(Clone, Copy)]
+pub struct Pair {
+    pub first: Span,
+    pub second: Span,
+    pub others: Option<Span>,
 }
 
-impl Parts {
-    /// No parameters.
-    pub fn none() -> Parts {
-        Parts {
-            aids: ArrayVec::new(),
-            payload: ArrayVec::new(),
-            named: Named::default(),
+impl Pair {
+    /// The first two values of the block of a number.
+    fn at(unit: &[u8], blocks: &Blocks, number: usize) -> Pair
+        requires short { length unit.now ≤ 2047 }
+        requires blocks { AreBlocksOf unit.now blocks.now.block.items }
+        ensures { IsPair unit.now (block_in number (map (block_at unit.now) blocks.now.block.items)).values result }
+    {
+        let Some(block) = block_of(blocks, number) else {
+            return Pair::one(Span::default());
+        };
+        let first = first_param(unit, block);
+        let Some(rest) = first.others else {
+            return Pair::one(first.value);
+        };
+        let second = first_param(unit, rest);
+        Pair {
+            first: first.value,
+            second: second.value,
+            others: second.others,
         }
     }
 
-    /// Reads the parts of a unit in place, since they are large.
-    pub fn read(&mut self, unit: &[u8], blocks: &Blocks)
-        requires short { length unit.now ≤ 2047 }
-        requires blocks { AreBlocksOf unit.now blocks.now.block.items }
-        ensures { AreParts unit.now (map (block_at unit.now) blocks.now.block.items) self.new }
+    fn one(first: Span) -> Pair
+        ensures { result ≡ record { first = first; second = record { start = 0; end = 0 }; others = None } }
     {
-        self.aids = values_at(unit, blocks, 2);
-        self.payload = values_at(unit, blocks, 5);
-        self.named = Named {
-            first: value_at(unit, &self.aids, 0),
-            second: value_at(unit, &self.aids, 1),
-            value: value_at(unit, &self.payload, 0),
-            label: value_at(unit, &self.payload, 1),
-        };
+        Pair {
+            first,
+            second: Span::default(),
+            others: None,
+        }
+    }
+
+    /// Whether a value from this parameter on is there.
+    pub fn has_value_from(&self, unit: &[u8], from: usize) -> bool
+        requires short { length unit.now ≤ 2047 }
+        requires from { from ≤ 2 }
+        requires pair { (vs : List (List ℕ)) × IsPair unit.now vs self.now }
+        ensures { (vs : List (List ℕ)) → IsPair unit.now vs self.now → result ≡ list_any is_there (drop from vs) }
+    {
+        (from == 0 && !self.first.text(unit).is_empty())
+            || (from <= 1 && !self.second.text(unit).is_empty())
+            || has_value(unit, self.others)
+    }
+}
+
+/// The first two AIDs, and the first two values of the first payload block.
+#[derive(Clone, Copy)]
+pub struct Parts {
+    pub aids: Pair,
+    pub payload: Pair,
+}
+
+impl Parts {
+    /// The parameters that a command may name.
+    pub fn named(&self) -> Named
+        ensures { result ≡ record { first = self.now.aids.first; second = self.now.aids.second; value = self.now.payload.first; label = self.now.payload.second } }
+    {
+        Named {
+            first: self.aids.first,
+            second: self.aids.second,
+            value: self.payload.first,
+            label: self.payload.second,
+        }
     }
 }
 
@@ -108,7 +135,8 @@ pub fn parts_of(unit: &[u8], blocks: &Blocks) -> Parts
     requires blocks { AreBlocksOf unit.now blocks.now.block.items }
     ensures { AreParts unit.now (map (block_at unit.now) blocks.now.block.items) result }
 {
-    let mut parts = Parts::none();
-    parts.read(unit, blocks);
-    parts
+    Parts {
+        aids: Pair::at(unit, blocks, 2),
+        payload: Pair::at(unit, blocks, 5),
+    }
 }

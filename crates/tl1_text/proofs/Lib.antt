@@ -7,11 +7,11 @@ pub mod WordFacts
 pub mod BlockFacts
 pub mod CutSteps
 pub mod Slices
-pub mod ValueSteps
 pub mod Plains
 pub mod CutBlocks
 pub mod Codes
 pub mod CutOns
+pub mod Params
 pub mod TagFacts
 pub mod Totals
 pub mod Tables

@@ -3,15 +3,11 @@ use Rattle.std.proofs.Common.{◌≡◌, ℕ, zero, suc, ◌+◌, ◌-◌, ◌<�
 use Rattle.std.proofs.lemmas.Bool.{cases_eq}
 use Rattle.tl1_text.specs.declared.place.Place.{Place}
 use Rattle.tl1_text.specs.declared.place.Place.TheVariants.{Start, Plain, Quoted, Closed}
-use Rattle.tl1_text.specs.declared.span.Span.{Span}
-use Rattle.tl1_text.specs.declared.values.Values.{Values}
 use Rattle.tl1_text.specs.Grammar.{is_plain}
 use Rattle.tl1_text.specs.Walk.{is_outside, takes_plain, after, ArePlain}
 use Rattle.tl1_text.specs.Cuts.{Cutting, IsCutTo}
-use Rattle.tl1_text.specs.Values.{AreFoundTo}
 use Rattle.tl1_text.proofs.Walks.{plain_not}
 use Rattle.tl1_text.proofs.CutSteps as cuts
-use Rattle.tl1_text.proofs.ValueSteps as values
 
 -- a plain byte parts nothing, and leads on where one may stand
 pub record IsPassed (p : Place) (b : ℕ) : Type 0 where
@@ -61,13 +57,6 @@ cut_run unit from end c cut takes le plain lt =
     whole_run (λ (at : ℕ) (p : Place). IsCutTo unit at (record { found = c.found; start = c.start; params = c.params; place = p })) unit from end plain
     (λ at p stands below passed. cuts.next_byte unit at (record { found = c.found; start = c.start; params = c.params; place = p }) stands (omega (arith, below, le)) Plain passed.colon passed.comma passed.next)
     c.place takes cut lt
-
-pub found_run : (unit : List ℕ) (block : Span) (from end : ℕ) (v : Values) → AreFoundTo unit block from v → takes_plain v.place ≡ true → end ≤ block.end → ArePlain unit from end → from < end
-    → AreFoundTo unit block end (record { found = v.found; start = v.start; place = Plain })
-found_run unit block from end v found takes le plain lt =
-    whole_run (λ (at : ℕ) (p : Place). AreFoundTo unit block at (record { found = v.found; start = v.start; place = p })) unit from end plain
-    (λ at p stands below passed. values.next_byte unit block at (record { found = v.found; start = v.start; place = p }) stands (omega (arith, below, le)) passed.comma Plain passed.next)
-    v.place takes found lt
 
 -- the byte at which a run stops is one more of it
 pub plain_more : (text : List ℕ) (from at : ℕ) → ArePlain text from at → is_plain (get_or text at 0) ≡ true → ArePlain text from (at + 1)

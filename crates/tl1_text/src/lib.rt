@@ -17,4 +17,4 @@ pub use ctag::{Ctag, ctag_in, ctag_of};
 pub use reader::{Fed, UnitKind, UnitReader};
 pub use sid::Sid;
 pub use span::{BadText, Blocks, Span};
-pub use values::params;
+pub use values::{Param, first_param};

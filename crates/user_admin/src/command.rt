@@ -14,7 +14,7 @@ use crate::op::{Pid, UserOp};
 use arrayvec::ArrayVec;
 use dxc_model::{Cause, Class, SessionUser, Uid};
 use tl1_command::checks::{has_further, has_general, is_other_target};
-use tl1_command::parts::{Parts, block_text, has_value_from, parts_of, value_at};
+use tl1_command::parts::{Parts, block_text, parts_of};
 use tl1_text::{Blocks, Ctag, Sid};
 
 fn is_not_logged_in(user: &SessionUser) -> bool
@@ -165,8 +165,8 @@ fn has_too_many(code: UserCode, unit: &[u8], blocks: &Blocks, parts: &Parts) -> 
     requires parts { AreParts unit.now (map (block_at unit.now) blocks.now.block.items) parts.now }
     ensures { result ≡ too_many code (map (block_at unit.now) blocks.now.block.items) }
 {
-    has_value_from(unit, &parts.aids, 1)
-        || has_value_from(unit, &parts.payload, code.values())
+    parts.aids.has_value_from(unit, 1)
+        || parts.payload.has_value_from(unit, code.values())
         || has_further(unit, blocks)
 }
 
@@ -175,7 +175,7 @@ fn class_in<'a>(unit: &'a [u8], blocks: &Blocks, parts: &Parts) -> &'a [u8]
     requires parts { AreParts unit.now (map (block_at unit.now) blocks.now.block.items) parts.now }
     ensures { result.now ≡ (named_in (map (block_at unit.now) blocks.now.block.items)).class }
 {
-    value_at(unit, &parts.payload, 1).text(unit)
+    parts.payload.second.text(unit)
 }
 
 // The first cause of those that code, user and the parts of the unit show, before the parameters are read.
@@ -193,8 +193,8 @@ fn refusal(
     ensures first { result ≡ first_refusal sid.now user.now code (map (block_at unit.now) blocks.now.block.items) }
     ensures known { result ≢ Some Cause.UnknownCommand }
 {
-    let uid = parts.named.first.text(unit);
-    let pid = parts.named.value.text(unit);
+    let uid = parts.aids.first.text(unit);
+    let pid = parts.payload.first.text(unit);
     let class = class_in(unit, blocks, parts);
     if Ctag::of(block_text(unit, blocks, 3)).is_none() {
         Some(Cause::BadCtag)
@@ -237,7 +237,7 @@ pub fn user_command_of(
     if let Some(cause) = refusal(sid, &user, code, unit, blocks, &parts) {
         return Err(cause);
     }
-    let uid = parts.named.first.text(unit);
-    let pid = parts.named.value.text(unit);
+    let uid = parts.aids.first.text(unit);
+    let pid = parts.payload.first.text(unit);
     asked(code, uid, pid, class_in(unit, blocks, &parts))
 }
