@@ -3,7 +3,9 @@
 
 pub mod laws;
 mod read;
+mod text;
 mod write;
 
 pub use read::{middle_of, module_of, port_of, selection_of};
-pub use write::{write_middle, write_module, write_port};
+pub use text::Text;
+pub use write::{put_port, write_middle, write_module, write_port};

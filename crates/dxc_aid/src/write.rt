@@ -4,6 +4,7 @@ ghost use Rattle.arrayvec.specs.ArrayVec.{array_vec_len};
 ghost use Rattle.dxc_num.specs.Dimensions.{IsModule, IsPort, IsWorking, module_of, slot_of};
 ghost use Rattle.dxc_aid.specs.Names.{port_name, module_name, middle_name};
 
+use crate::text::Text;
 use arrayvec::ArrayVec;
 use dxc_num::{Middle, Port, Shape};
 
@@ -14,23 +15,49 @@ pub fn write_port<const N: usize>(shape: Shape, port: Port, out: &mut ArrayVec<u
     ensures name { out.new.items ≡ out.old.items ++ port_name shape port }
     ensures short { array_vec_len out.new ≤ array_vec_len out.old + 16 }
 {
+    let mut name = Text::<16>::new();
+    put_port(shape, port, &mut name);
+    append(out, name.bytes());
+}
+
+/// Puts the port's name behind the text, in upper case.
+#[inline(always)]
+pub fn put_port<const N: usize>(shape: Shape, port: Port, out: &mut Text<N>)
+    requires inside { IsPort shape port }
+    requires room { length out.old + 16 ≤ N }
+    ensures name { out.new ≡ out.old ++ port_name shape port }
+    ensures short { length out.new ≤ length out.old + 16 }
+{
     let (number, slot) = (module_number(shape, port), slot_number(shape, port));
-    append(out, b"DS0-");
+    out.put(b"DS0-");
+    put_number(number, out);
+    out.put(b"-");
+    put_number(slot, out);
+}
+
+/// Puts a number below 100 behind the text, in decimal.
+#[inline(always)]
+fn put_number<const N: usize>(number: u16, out: &mut Text<N>)
+    requires below { number ≤ 99 }
+    requires room { length out.old + 2 ≤ N }
+    ensures digits { out.new ≡ out.old ++ decimal number }
+    ensures short { length out.new ≤ length out.old + 2 }
+{
     if number < 10 {
-        if slot < 10 {
-            append(out, &[ones(number), b'-', ones(slot)]);
-        } else {
-            append(out, &[ones(number), b'-', tens(slot), ones(slot)]);
-        }
-    } else if slot < 10 {
-        append(out, &[tens(number), ones(number), b'-', ones(slot)]);
+        out.put(&[b'0' + number as u8]);
     } else {
-        append(
-            out,
-            &[tens(number), ones(number), b'-', tens(slot), ones(slot)],
-        );
+        let at = number as usize * 2;
+        out.put(&[PAIRS[at], PAIRS[at + 1]]);
     }
 }
+
+// The two digits of each number below 100.
+static PAIRS: [u8; 200] = *b"\
+    0001020304050607080910111213141516171819\
+    2021222324252627282930313233343536373839\
+    4041424344454647484950515253545556575859\
+    6061626364656667686970717273747576777879\
+    8081828384858687888990919293949596979899";
 
 /// The number of the port's module, from 1.
 fn module_number(shape: Shape, port: Port) -> u16
@@ -49,19 +76,6 @@ fn slot_number(shape: Shape, port: Port) -> u16
 {
     let _ = shape.slots();
     shape.slot_of(port) + 1
-}
-
-fn tens(number: u16) -> u8
-    requires { number ≤ 99 }
-    ensures { result ≡ 48 + number / 10 }
-{
-    b'0' + (number / 10) as u8
-}
-
-fn ones(number: u16) -> u8
-    ensures { result ≡ 48 + number % 10 }
-{
-    b'0' + (number % 10) as u8
 }
 
 /// Appends the module's name, in upper case.

@@ -3,7 +3,6 @@ ghost use Rattle.std.specs.Prelude.{[]};
 use crate::shown::Shown;
 use dxc_outside::{Clock, Moment};
 use std::rt::Clock as SystemClock;
-use std::time::SystemTime;
 
 /// Goes by the clock of the operating system, at UTC. Where that can't be read, it gives 00-01-01 00:00:00.
 #[derive(Drop)]
@@ -20,11 +19,12 @@ impl<T: SystemClock + Drop> HostClock<T> {
         }
     }
 
-    // The seconds since 1970-01-01 00:00:00, where the clock can be read and stands behind it.
-    fn second(&self) -> Option<i64> {
-        let now = SystemTime::now(&self.system).ok()?;
-        let since = now.duration_since(SystemTime::UNIX_EPOCH).ok()?;
-        i64::try_from(since.as_secs()).ok()
+    // The seconds since 1970-01-01 00:00:00, or 0 where the clock can't be read: no second of 1970 is shown as another moment.
+    fn second(&self) -> i64 {
+        match self.system.since_1970() {
+            Ok(since) => i64::try_from(since.as_secs()).unwrap_or(0),
+            Err(_) => 0,
+        }
     }
 }
 
@@ -34,9 +34,7 @@ impl<T: SystemClock + Drop> Clock for HostClock<T> {
     ghost coming = { λ _. [] };
 
     fn now(&mut self) -> Moment {
-        match self.second() {
-            Some(second) => self.shown.at(second),
-            None => Moment::FIRST,
-        }
+        let second = self.second();
+        self.shown.at(second)
     }
 }

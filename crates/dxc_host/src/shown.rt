@@ -40,6 +40,15 @@ impl Shown {
         if self.second == second {
             return self.moment;
         }
+        self.show(second)
+    }
+
+    // A second is another one at most once in a second, so the way to it stands apart.
+    #[inline(never)]
+    fn show(&mut self, second: i64) -> Moment
+        ensures shown { ShowsUtc second result }
+        ensures range { IsMoment result }
+    {
         let moment = moment_of(second);
         self.second = second;
         self.moment = moment;

@@ -52,12 +52,29 @@ fn write_some<W: Write, T: SystemClock>(
 ) -> io::Result<usize>
     ensures { IfOk result (λ count. count ≤ length from.now) }
 {
-    for _ in 0..MOST_RESTS {
+    match output.write(from) {
+        Err(e) if e.kind() == ErrorKind::WouldBlock => write_later(output, system, from),
+        answer => answer,
+    }
+}
+
+// Tries again where there was no room.
+#[inline(never)]
+fn write_later<W: Write, T: SystemClock>(
+    output: &mut W,
+    system: &T,
+    from: &[u8],
+) -> io::Result<usize>
+    ensures { IfOk result (λ count. count ≤ length from.now) }
+{
+    for _ in 1..MOST_RESTS {
+        rest(system);
         match output.write(from) {
-            Err(e) if e.kind() == ErrorKind::WouldBlock => rest(system),
+            Err(e) if e.kind() == ErrorKind::WouldBlock => {}
             answer => return answer,
         }
     }
+    rest(system);
     output.write(from)
 }
 

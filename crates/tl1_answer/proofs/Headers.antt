@@ -1,12 +1,8 @@
 -- A header is its front, the SID, and the moment's text.
-use Rattle.std.proofs.Common.{◌≡◌, ℕ, List, [], ◌∷◌, ◌++◌, length, codes, refl, sym, ◌∙◌, ap, arith, append_assoc, append-nil}
+use Rattle.std.proofs.Common.{◌≡◌, ℕ, List, [], ◌∷◌, ◌++◌, codes, sym, ◌∙◌, ap, append_assoc, append-nil}
 use Rattle.dxc_outside.specs.declared.clock.Moment.{Moment}
 use Rattle.tl1_answer.specs.declared.answer.Code.{Code}
 use Rattle.tl1_answer.specs.Messages.{two, header, stamp_text, code_text}
-
-pub none_of : (xs : List ℕ) → length xs ≡ 0 → xs ≡ []
-none_of [] is = refl
-none_of (x ∷ xs) is = absurd (omega (arith, is))
 
 -- texts appended one by one
 abbrev pub behind : List ℕ → List (List ℕ) → List ℕ

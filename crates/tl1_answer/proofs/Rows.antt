@@ -1,5 +1,5 @@
 -- Rows and denials behind what a block holds already.
-use Rattle.std.proofs.Common.{◌≡◌, ℕ, List, [], ◌∷◌, ◌++◌, codes, refl, sym, ◌∙◌, ap, append_assoc}
+use Rattle.std.proofs.Common.{◌≡◌, ℕ, List, [], ◌∷◌, ◌++◌, codes, refl, sym, ◌∙◌, ap, append_assoc, append-nil}
 use Rattle.dxc_num.specs.Dimensions.{Dimensions}
 use Rattle.dxc_model.specs.declared.conn.Conn.{Conn}
 use Rattle.dxc_aid.specs.Names.{port_name}
@@ -18,6 +18,9 @@ conn_behind : (front text : List ℕ) (d : Dimensions) (c : Conn) → with_conn 
 conn_behind front text d c =
     let names = port_name d c.from ∷ codes "," ∷ port_name d c.to ∷ codes ":" ∷ cct_text c.cct ∷ [] in
     ap (λ (l : List ℕ). with_label l c.label) (texts_behind front text names) ∙ label_behind front (behind text names) c.label
+
+pub conn_alone : (front : List ℕ) (d : Dimensions) (c : Conn) → front ++ with_conn [] d c ≡ with_conn front d c
+conn_alone front d c = sym (conn_behind front [] d c) ∙ ap (λ (l : List ℕ). with_conn l d c) (append-nil front)
 
 pub row_line : (front : List ℕ) (d : Dimensions) (c : Conn) → with_conn (front ++ codes "   \"") d c ++ codes "\"\r\n" ≡ with_line front (row_text d c)
 row_line front d c =

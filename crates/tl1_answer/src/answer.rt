@@ -2,11 +2,10 @@ ghost use Rattle.std.specs.Prelude.{◌≡◌, ◌≤◌, ◌↔◌, true, false
 ghost use Rattle.dxc_outside.specs.Moments.{IsMoment};
 ghost use Rattle.tl1_answer.specs.Messages.{head, report as whole_report, with_line};
 
-use crate::append::append;
 use crate::message::{append_denial, append_head, append_line, append_report};
 use crate::stamp::Stamp;
-use crate::text::append_row;
-use arrayvec::ArrayVec;
+use crate::text::put_row;
+use dxc_aid::Text;
 use dxc_model::{Cause, Conn};
 use dxc_num::Shape;
 use dxc_outside::Moment;
@@ -39,7 +38,7 @@ const AMPLE: usize = 80;
 /// A response is `begin`, its lines, and `end`. A line that is Cut comes again behind `again`, in the next block.
 #[derive(Drop)]
 pub struct Answer {
-    block: ArrayVec<u8, 4096>,
+    block: Text<4096>,
     head: usize,
     unended: bool,
     stamp: Stamp,
@@ -51,9 +50,9 @@ impl Model for Answer {
 
     ghost Value = { Draft };
 
-    ghost view = { λ a. record { bytes = a.block.items; head = take a.head a.block.items; unended = a.unended } };
+    ghost view = { λ a. record { bytes = a.block; head = take a.head a.block; unended = a.unended } };
 
-    ghost invariant = { λ a. (a.head ≤ length a.block.items) × (a.head ≤ 64) × (a.unended ≡ true → length a.block.items < 4096) };
+    ghost invariant = { λ a. (a.head ≤ length a.block) × (a.head ≤ 64) × (a.unended ≡ true → length a.block < 4096) };
 }
 
 impl Answer {
@@ -67,7 +66,7 @@ impl Answer {
         ensures { result ≡ alone [] }
     {
         Answer {
-            block: ArrayVec::new(),
+            block: Text::new(),
             head: 0,
             unended: false,
             stamp: Stamp::of(Moment::FIRST),
@@ -101,13 +100,14 @@ impl Answer {
             append_line(&mut self.block, text);
             Fits::Kept
         } else {
-            append(&mut self.block, b">");
+            self.block.put(b">");
             self.unended = false;
             Fits::Cut
         }
     }
 
     /// Adds a connection's row as a text line, and answers true; nothing and false where the block may be too full for a row.
+    #[inline(always)]
     pub fn row(&mut self, shape: Shape, conn: &Conn) -> bool
         requires unended { IsUnended self.old }
         requires inside { IsOfShape shape conn.now }
@@ -116,7 +116,7 @@ impl Answer {
     {
         let has_room = self.block.len() < 4096 - AMPLE;
         if has_room {
-            append_row(shape, conn, &mut self.block);
+            put_row(shape, conn, &mut self.block);
         }
         has_room
     }
@@ -140,7 +140,7 @@ impl Answer {
         ensures begun { self.new ≡ begun self.old.head }
         ensures short { length self.new.head ≤ 64 }
     {
-        self.block.truncate(self.head);
+        self.block.cut(self.head);
         self.unended = true;
     }
 
@@ -149,7 +149,7 @@ impl Answer {
         requires { IsUnended self.old }
         ensures { self.new ≡ ended self.old (codes ";") }
     {
-        append(&mut self.block, b";");
+        self.block.put(b";");
         self.unended = false;
     }
 
@@ -170,6 +170,6 @@ impl Answer {
     pub fn bytes(&self) -> &[u8]
         ensures { result.now ≡ self.now.bytes }
     {
-        self.block.as_slice()
+        self.block.bytes()
     }
 }

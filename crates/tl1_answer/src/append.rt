@@ -1,5 +1,5 @@
 // Appends to buffers of fixed size.
-ghost use Rattle.std.specs.Prelude.{◌≡◌, ◌≤◌, ◌+◌, ◌++◌, length, decimal};
+ghost use Rattle.std.specs.Prelude.{◌≡◌, ◌≤◌, ◌+◌, ◌++◌, length};
 ghost use Rattle.arrayvec.specs.ArrayVec.{array_vec_len};
 
 use arrayvec::ArrayVec;
@@ -10,14 +10,4 @@ pub fn append<const N: usize>(out: &mut ArrayVec<u8, N>, text: &[u8])
     ensures len { array_vec_len out.new ≡ array_vec_len out.old + length text.now }
 {
     let _ = out.try_extend_from_slice(text);
-}
-
-/// A number of at most twenty digits, in decimal.
-pub fn append_number<const N: usize>(out: &mut ArrayVec<u8, N>, number: u64)
-    requires { array_vec_len out.old + 20 ≤ N }
-    ensures items { out.new.items ≡ out.old.items ++ decimal number }
-    ensures len { array_vec_len out.new ≤ array_vec_len out.old + 20 }
-{
-    let mut buffer = itoa::Buffer::new();
-    append(out, buffer.format(number).as_bytes());
 }

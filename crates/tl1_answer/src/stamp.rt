@@ -46,9 +46,8 @@ impl Stamp {
         }
     }
 
-    pub fn bytes(&self) -> &[u8]
-        ensures bytes { result.now ≡ stamp_text self.now }
-        ensures len { length result.now ≡ 20 }
+    pub fn bytes(&self) -> &[u8; 20]
+        ensures { result.now ≡ stamp_text self.now }
     {
         &self.text
     }

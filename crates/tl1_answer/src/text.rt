@@ -1,12 +1,12 @@
 // The texts of rows and changes.
-ghost use Rattle.std.specs.Prelude.{◌≡◌, ◌≤◌, ◌+◌, ◌++◌, [], length};
+ghost use Rattle.std.specs.Prelude.{◌≡◌, ◌≤◌, ◌+◌, ◌++◌, [], codes, length};
 ghost use Rattle.arrayvec.specs.ArrayVec.{array_vec_len};
 ghost use Rattle.tl1_answer.specs.Messages.{with_line};
 ghost use Rattle.tl1_answer.specs.Texts.{IsOfShape, IsChangeOf, cct_text as text_of_cct, with_conn, with_label, row_text as text_of_row, change_text as text_of_change};
 
 use crate::append::append;
 use arrayvec::ArrayVec;
-use dxc_aid::{write_middle, write_module, write_port};
+use dxc_aid::{Text, put_port, write_middle, write_module};
 use dxc_model::{Cct, Change, Conn, Label};
 use dxc_num::Shape;
 
@@ -22,16 +22,17 @@ pub fn row_text(shape: Shape, conn: &Conn, out: &mut ArrayVec<u8, 128>)
     append(out, b"\"");
 }
 
-/// Appends a connection's row as a text line.
-pub fn append_row(shape: Shape, conn: &Conn, out: &mut ArrayVec<u8, 4096>)
+/// Puts a connection's row behind the block, as a text line.
+#[inline(always)]
+pub fn put_row(shape: Shape, conn: &Conn, out: &mut Text<4096>)
     requires inside { IsOfShape shape conn.now }
-    requires room { array_vec_len out.old + 80 ≤ 4096 }
-    ensures line { out.new.items ≡ with_line out.old.items (text_of_row shape conn.now) }
-    ensures short { array_vec_len out.new ≤ array_vec_len out.old + 80 }
+    requires room { length out.old + 80 ≤ 4096 }
+    ensures line { out.new ≡ with_line out.old (text_of_row shape conn.now) }
+    ensures short { length out.new ≤ length out.old + 80 }
 {
-    append(out, b"   \"");
-    append_conn(shape, conn, out);
-    append(out, b"\"\r\n");
+    out.put(b"   \"");
+    put_conn(shape, conn, out);
+    out.put(b"\"\r\n");
 }
 
 /// Clears `out`, and writes a connection as in its row, without quotes.
@@ -83,30 +84,53 @@ pub fn change_text(shape: Shape, change: &Change, out: &mut ArrayVec<u8, 128>)
     append(out, b"\"");
 }
 
-fn append_conn<const N: usize>(shape: Shape, conn: &Conn, out: &mut ArrayVec<u8, N>)
+fn append_conn(shape: Shape, conn: &Conn, out: &mut ArrayVec<u8, 128>)
     requires inside { IsOfShape shape conn.now }
-    requires room { array_vec_len out.old + 63 ≤ N }
+    requires room { array_vec_len out.old + 63 ≤ 128 }
     ensures text { out.new.items ≡ with_conn out.old.items shape conn.now }
     ensures short { array_vec_len out.new ≤ array_vec_len out.old + 63 }
 {
-    write_port(shape, conn.from, out);
-    out.push(b',');
-    write_port(shape, conn.to, out);
-    out.push(b':');
-    append(out, cct_text(conn.cct));
-    append_label(&conn.label, out);
+    let mut text = Text::<64>::new();
+    put_conn(shape, conn, &mut text);
+    append(out, text.bytes());
 }
 
-/// A colon and the label; nothing where that is empty.
-fn append_label<const N: usize>(label: &Label, out: &mut ArrayVec<u8, N>)
-    requires room { array_vec_len out.old + 25 ≤ N }
-    ensures text { out.new.items ≡ with_label out.old.items label.now }
-    ensures short { array_vec_len out.new ≤ array_vec_len out.old + 25 }
+#[inline(always)]
+fn put_conn<const N: usize>(shape: Shape, conn: &Conn, out: &mut Text<N>)
+    requires inside { IsOfShape shape conn.now }
+    requires room { length out.old + 63 ≤ N }
+    ensures text { out.new ≡ with_conn out.old shape conn.now }
+    ensures short { length out.new ≤ length out.old + 63 }
+{
+    put_port(shape, conn.from, out);
+    out.put(b",");
+    put_port(shape, conn.to, out);
+    out.put(b":");
+    out.put(cct_text(conn.cct));
+    put_label(&conn.label, out);
+}
+
+/// Puts a colon and the label behind the text; nothing where that is empty.
+#[inline(always)]
+fn put_label<const N: usize>(label: &Label, out: &mut Text<N>)
+    requires room { length out.old + 25 ≤ N }
+    ensures text { out.new ≡ with_label out.old label.now }
+    ensures short { length out.new ≤ length out.old + 25 }
 {
     if !label.is_empty() {
-        out.push(b':');
-        append(out, label.bytes());
+        put_behind_colon(label.bytes(), out);
     }
+}
+
+/// Few connections have a label, so the way to it stands apart.
+#[inline(never)]
+fn put_behind_colon<const N: usize>(text: &[u8], out: &mut Text<N>)
+    requires room { length out.old + length text.now + 1 ≤ N }
+    ensures text { out.new ≡ out.old ++ codes ":" ++ text.now }
+    ensures len { length out.new ≡ length out.old + length text.now + 1 }
+{
+    out.put(b":");
+    out.append(text);
 }
 
 fn cct_text(cct: Cct) -> &'static [u8; 4]

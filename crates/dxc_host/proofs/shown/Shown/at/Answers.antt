@@ -9,4 +9,4 @@ returns-then-self-second-clause-shown c =
     subst (λ (s : ℤ). ShowsUtc s c.self.inside.moment) same c.self.invariant.0
 
 pub returns-clause-shown : goal.returns-clause-shown
-returns-clause-shown c = subst (λ (s : ℤ). ShowsUtc s c.moment_of-moment.result) (to_z-of_z w64 c.args.second c.ranges.second) c.moment_of-moment.ensures.shown
+returns-clause-shown c = subst (λ (s : ℤ). ShowsUtc s c.show.result) (to_z-of_z w64 c.args.second c.ranges.second) c.show.ensures.shown
