@@ -1,5 +1,6 @@
 pub mod Steps
 pub mod Runs
+pub mod Looks
 pub mod Once
 pub mod Walks
 pub mod Finds

@@ -1,8 +1,7 @@
 -- Many bytes more in the unit in hand, among which are neither ; nor quotes.
-use Rattle.std.proofs.Common.{◌≡◌, ℕ, zero, suc, ◌≤◌, ◌<◌, ◌+◌, false, List, [], ◌∷◌, ◌++◌, length, take, drop, ◌==◌, refl, sym, ◌∙◌, ap, subst, arith, append_assoc, length-append}
+use Rattle.std.proofs.Common.{◌≡◌, ℕ, zero, suc, ◌≤◌, ◌+◌, false, List, [], ◌∷◌, ◌++◌, length, take, drop, ◌==◌, refl, sym, ◌∙◌, ap, subst, arith, append_assoc, length-append}
 use Rattle.std.proofs.lemmas.List.{append-nil}
 use Rattle.std.proofs.lemmas.Bool.Decides.{nat_tests}
-use Rattle.memchr.specs.Find.{is_byte2, Passes}
 use Rattle.tl1_text.specs.Units.{is_quoted, Begins}
 use Rattle.tl1_text.specs.Reading.{Holds, IsRun}
 use Rattle.tl1_text.proofs.Steps.{holds_kept, holds_past, quoted_more}
@@ -44,16 +43,6 @@ pub run_back : (n : ℕ) (text : List ℕ) → IsRun text → IsRun (drop n text
 run_back zero text run = run
 run_back (suc n) [] run = tt
 run_back (suc n) (b ∷ text) run = run_back n text run.2
-
--- bytes of which none passes the test of a search for both are a run
-pub run_before : (n : ℕ) (text : List ℕ) → n ≤ length text → ((k : ℕ) → 0 ≤ k → k < n → Passes (is_byte2 59 34) text k → ⊥) → IsRun (take n text)
-run_before zero text le never = tt
-run_before (suc n) [] le never = tt
-run_before (suc n) (b ∷ text) le never = (
-  λ is. never 0 (omega arith) (omega arith) (rw is refl),
-  λ is. never 0 (omega arith) (omega arith) (rw is refl),
-  run_before n text (omega (arith, le)) (λ k low high passes. never (suc k) (omega arith) (omega (arith, high)) passes),
-)
 
 pub begins_front : (n : ℕ) (text : List ℕ) → Begins text → Begins (take n text)
 begins_front zero text begins = tt

@@ -1,5 +1,5 @@
 -- Ranges of a list.
-use Rattle.std.proofs.Common.{◌≡◌, ℕ, suc, ◌+◌, ◌-◌, ◌<◌, ◌≤◌, List, [], ◌∷◌, ◌++◌, length, take, drop, get_or, slice_range, refl, sym, ◌∙◌, ap, ap₂, add-one, drop-cons, length-append, arith}
+use Rattle.std.proofs.Common.{◌≡◌, ℕ, zero, suc, ◌+◌, ◌-◌, ◌<◌, ◌≤◌, List, [], ◌∷◌, ◌++◌, length, take, drop, get_or, slice_range, refl, sym, ◌∙◌, ap, ap₂, add-one, drop-cons, length-append, arith}
 use Rattle.std.proofs.lemmas.List.{take_more, get_or-drop, length-drop}
 
 pub drop_first : (u : List ℕ) (at : ℕ) → at < length u → drop at u ≡ get_or u at 0 ∷ drop (at + 1) u
@@ -40,3 +40,23 @@ slice_inside u v s e a b long le is =
     let more = slice_more u (s + 1) (e - 1) (omega (arith, long)) (omega (arith, long, le)) in
     let rest : v ++ b ∷ [] ≡ slice_range u (s + 1) e = cc (sym is ∙ first) in
     sym (last_same v (slice_range u (s + 1) (e - 1)) b (get_or u (e - 1) 0) (rest ∙ ap (λ (n : ℕ). slice_range u (s + 1) n) (sym size) ∙ more))
+
+sum_zero : (n : ℕ) → n ≡ 0 + n
+sum_zero n = omega arith
+
+sum_suc : (i n : ℕ) → suc (i + n) ≡ suc i + n
+sum_suc i n = omega arith
+
+no_front : (n : ℕ) → take {A = ℕ} n [] ≡ []
+no_front zero = refl
+no_front (suc n) = refl
+
+taken_nothing : (i n : ℕ) → ◌≡◌ {A = List ℕ} [] (take (i + n) [])
+taken_nothing i n = sym (no_front (i + n))
+
+-- the front of a list, and of what is behind it
+pub two_parts : (piece : List ℕ) (i n : ℕ) → take i piece ++ take n (drop i piece) ≡ take (i + n) piece
+two_parts piece zero n = ap (λ (k : ℕ). take k piece) (sum_zero n)
+two_parts [] (suc i) zero = taken_nothing (suc i) zero
+two_parts [] (suc i) (suc n) = taken_nothing (suc i) (suc n)
+two_parts (b ∷ piece) (suc i) n = ap (λ (l : List ℕ). b ∷ l) (two_parts piece i n) ∙ ap (λ (k : ℕ). take k (b ∷ piece)) (sum_suc i n)

@@ -7,6 +7,7 @@ pub mod grammar;
 mod kept;
 pub mod laws;
 mod letter;
+mod look;
 mod place;
 mod reader;
 mod sid;

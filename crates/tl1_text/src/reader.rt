@@ -4,7 +4,7 @@ ghost use Rattle.tl1_text.specs.Reading.{Holds, IsKind, IsRun};
 ghost use Rattle.tl1_text.specs.Units.{is_gap as gap, is_quoted, Begins};
 
 use crate::kept::{Kept, LIMIT};
-use memchr::memchr2;
+use crate::look::run_of;
 use std::marker::Model;
 
 /// What a piece of the stream ended.
@@ -174,17 +174,6 @@ fn keep_run(kept: &mut Kept, text: &[u8])
         kept.extend(text);
     } else {
         kept.extend(&text[..room]);
-    }
-}
-
-/// How many bytes stand in front of the first `;` or quote.
-fn run_of(text: &[u8]) -> usize
-    ensures within { result ≤ length text.now }
-    ensures run { IsRun (take result text.now) }
-{
-    match memchr2(b';', b'"', text) {
-        Some(at) => at,
-        None => text.len(),
     }
 }
 

@@ -1,29 +1,11 @@
-use Rattle.std.proofs.Common.{refl, sym, ap, ◌∙◌, subst, ◌≡◌, ◌+◌, ℕ, zero, suc, List, [], ◌∷◌, ◌++◌, length, take, drop, take_all, get_or, ◌<◌, ◌-◌, arith, append_assoc}
+use Rattle.std.proofs.Common.{sym, ap, ◌∙◌, subst, ◌≡◌, ◌+◌, ℕ, List, [], ◌∷◌, ◌++◌, length, take, drop, take_all, get_or, ◌<◌, ◌-◌, arith, append_assoc}
 use Rattle.std.proofs.lemmas.Grind.{common_steps}
 use Rattle.std.proofs.lemmas.List.{take_more}
 use Rattle.tl1_text.specs.declared.reader.UnitKind.{UnitKind}
 use Rattle.tl1_text.specs.declared.reader.UnitKind.TheVariants.{More}
 use Rattle.tl1_text.specs.Reading.{Holds, Reader, hand, Made, IsFed}
+use Rattle.tl1_text.proofs.Slices.{two_parts}
 use Rattle.tl1_text.proofs.reader.UnitReader.feed.Goals as goal
-
-sum_zero : (n : ℕ) → n ≡ 0 + n
-sum_zero n = omega arith
-
-sum_suc : (i n : ℕ) → suc (i + n) ≡ suc i + n
-sum_suc i n = omega arith
-
-no_front : (n : ℕ) → take {A = ℕ} n [] ≡ []
-no_front zero = refl
-no_front (suc n) = refl
-
-taken_nothing : (i n : ℕ) → ◌≡◌ {A = List ℕ} [] (take (i + n) [])
-taken_nothing i n = sym (no_front (i + n))
-
-two_parts : (piece : List ℕ) (i n : ℕ) → take i piece ++ take n (drop i piece) ≡ take (i + n) piece
-two_parts piece zero n = ap (λ (k : ℕ). take k piece) (sum_zero n)
-two_parts [] (suc i) zero = taken_nothing (suc i) zero
-two_parts [] (suc i) (suc n) = taken_nothing (suc i) (suc n)
-two_parts (b ∷ piece) (suc i) n = ap (λ (l : List ℕ). b ∷ l) (two_parts piece i n) ∙ ap (λ (k : ℕ). take k (b ∷ piece)) (sum_suc i n)
 
 all_behind : (piece : List ℕ) (i : ℕ) → take (length piece - i) (drop i piece) ≡ drop i piece
 all_behind piece i = take_all (length piece - i) (drop i piece) (grind (arith, common_steps))
