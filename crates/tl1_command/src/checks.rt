@@ -64,6 +64,7 @@ fn has_too_many(form: Form, unit: &[u8], blocks: &Blocks, parts: &Parts) -> bool
 }
 
 /// A parameter of a payload block behind the first isn't empty.
+#[inline(always)]
 pub fn has_further(unit: &[u8], blocks: &Blocks) -> bool
     requires short { length unit.now ≤ 2047 }
     requires blocks { AreBlocksOf unit.now blocks.now.block.items }
@@ -78,6 +79,7 @@ pub fn has_further(unit: &[u8], blocks: &Blocks) -> bool
 }
 
 /// A parameter of the general block isn't empty.
+#[inline(always)]
 pub fn has_general(unit: &[u8], blocks: &Blocks) -> bool
     requires short { length unit.now ≤ 2047 }
     requires blocks { AreBlocksOf unit.now blocks.now.block.items }

@@ -40,7 +40,21 @@ pub fn block_of(blocks: &Blocks, number: usize) -> Option<Span>
 }
 
 /// Whether a value of a block is there.
+#[inline(always)]
 pub fn has_value(unit: &[u8], block: Option<Span>) -> bool
+    requires short { length unit.now ≤ 2047 }
+    requires block { IfSome block (IsBlockIn unit.now) }
+    ensures { result ≡ list_any is_there (values_behind unit.now block) }
+{
+    match block {
+        Some(_) => is_there_in(unit, block),
+        None => false,
+    }
+}
+
+/// The same. Apart, since most units have no such block.
+#[inline(never)]
+fn is_there_in(unit: &[u8], block: Option<Span>) -> bool
     requires short { length unit.now ≤ 2047 }
     requires block { IfSome block (IsBlockIn unit.now) }
     ensures { result ≡ list_any is_there (values_behind unit.now block) }
@@ -97,6 +111,7 @@ impl Pair {
     }
 
     /// Whether a value from this parameter on is there.
+    #[inline(always)]
     pub fn has_value_from(&self, unit: &[u8], from: usize) -> bool
         requires short { length unit.now ≤ 2047 }
         requires from { from ≤ 2 }
