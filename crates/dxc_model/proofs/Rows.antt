@@ -99,13 +99,13 @@ single_user s [] a = tt
 single_user s (c ∷ cs) a = (a.0 s, single_user s cs a.1)
 
 -- the rows of a port are the users of its sides
-pub port_rows_are : (t : Board) (capacity : ℕ) (i : SideIndex) (p : Port) → IsKept t capacity i → in_order (user_at i (input_of p)) (user_at i (output_of p)) ≡ rows t (which.Port p)
-port_rows_are t capacity i p k =
+pub port_rows_are : (t : Board) (i : SideIndex) (p : Port) → IsKept t i → in_order (user_at i (input_of p)) (user_at i (output_of p)) ≡ rows t (which.Port p)
+port_rows_are t i p k =
     let apart = apart_of t.conns k.proper.apart in
     ap₂ (λ (a b : Option Conn). in_order a b) (k.users (input_of p)) (k.users (output_of p))
     ∙ (sym (kept_ordered (uses_side (input_of p)) (uses_side (output_of p)) t.conns (rises_of t.conns apart k.proper.order) (single_user (input_of p) t.conns apart) (single_user (output_of p) t.conns apart))
     ∙ sym (same_kept (λ c. same_port c.from p || same_port c.to p) (Either (uses_side (input_of p)) (uses_side (output_of p))) t.conns (uses_port p)))
 
 -- there are two ports at least
-pub two_ports : (t : Board) (capacity : ℕ) (i : SideIndex) → IsKept t capacity i → 2 ≤ ports t.shape
-two_ports t capacity i k = let least = mul-le 2 1 t.shape.modules t.shape.slots k.limits.least_modules k.limits.least_slots in omega arith
+pub two_ports : (t : Board) (i : SideIndex) → IsKept t i → 2 ≤ ports t.shape
+two_ports t i k = let least = mul-le 2 1 t.shape.modules t.shape.slots k.limits.least_modules k.limits.least_slots in omega arith

@@ -48,7 +48,8 @@ fn add_rows<D: Disk>(
     // Its clause tells what a journal always keeps.
     let _count = journal.count();
     let mut i = 0;
-    while let Some(row) = checkpoint_row(table, matrix, i) {
+    let mut port = 0;
+    while let Some(row) = checkpoint_row(table, matrix, i, &mut port) {
         match journal.add_row(&row) {
             Ok(()) => {}
             Err(DiskFault) => return Err(DiskFault),

@@ -1,7 +1,7 @@
 -- The rows of a checkpoint come to its table and colouring.
-use Rattle.std.proofs.Common.{zero, suc, ◌≡◌, ◌≢◌, ◌⊎◌, ◌↔◌, ℕ, ◌+◌, ◌<◌, ◌≤◌, Bool, true, false, not, ◌||◌, Option, Some, None, Ok, is_some, List, [], ◌∷◌, ◌++◌, length, map, get_or, sym, refl, ap, ap₂, ◌∙◌, inl, inr, subst, ⊎_elim, arith, append_assoc, append-nil}
-use Rattle.std.specs.Prelude.{nat_lt, option_map, slice_get, IfSome, IsTrue}
-use Rattle.std.proofs.lemmas.Option.{slice_get-map, slice_get_within}
+use Rattle.std.proofs.Common.{zero, suc, ◌≡◌, ◌≢◌, ◌⊎◌, ◌↔◌, ℕ, ◌+◌, ◌<◌, ◌≤◌, Bool, true, false, cond, not, ◌||◌, Option, Some, None, Ok, is_some, List, [], ◌∷◌, ◌++◌, length, map, get_or, sym, refl, ap, ap₂, ◌∙◌, inl, inr, subst, ⊎_elim, arith, append_assoc, append-nil}
+use Rattle.std.specs.Prelude.{drop, filter, find, nat_lt, option_map, slice_get, IfSome, IsTrue}
+use Rattle.std.proofs.lemmas.Option.{slice_get-map}
 use Rattle.std.specs.List.{list_any, AllByRecursion}
 use Rattle.std.proofs.lemmas.Bool.{cases_lt, eq-eqb}
 use Rattle.std.proofs.lemmas.List.{ext_get_or, length-map}
@@ -20,14 +20,15 @@ use Rattle.dxc_model.specs.Denials.{is_blocked, is_unequipped}
 use Rattle.dxc_model.specs.Equipment.{empty_table, modules_in}
 use Rattle.dxc_model.specs.Operations.{ArePorts}
 use Rattle.dxc_model.specs.Sides.{uses_side, user_of}
-use Rattle.dxc_model.specs.Tables.{Board, IsOfShape, IsOrdered, Side, in_use, is_before, is_equipped, legs, legs_between, legs_of, needs_side}
+use Rattle.dxc_model.specs.Tables.{Board, IsProper, IsOfShape, IsOrdered, Side, in_use, is_before, is_equipped, legs, legs_between, legs_of, needs_side}
 use Rattle.dxc_model.specs.Tables.Side.{input_of, output_of}
 use Rattle.dxc_model.specs.Verdicts.{MayTake, effect, judged, put}
 use Rattle.dxc_model.proofs.Apart.{Apart, apart_of, rises_of}
 use Rattle.dxc_model.proofs.Bools.{lt_of, true_false}
 use Rattle.dxc_model.proofs.Orders.{earlier_of}
 use Rattle.dxc_model.proofs.Lists.{each_at}
-use Rattle.dxc_model.specs.Order.{RisesByFrom}
+use Rattle.dxc_model.specs.Order.{RisesByFrom, first_from, from_on, is_from_on}
+use Rattle.dxc_model.proofs.Fromward.{all_from, left_is}
 use Rattle.dxc_model.proofs.Places.{false_of}
 use Rattle.dxc_model.proofs.Users.{in_use_found, none_found}
 use Rattle.dxc_model.proofs.Verdicts.{IsClear, none_of}
@@ -52,7 +53,7 @@ use Rattle.xc_recovery.specs.Folds.{Folded, FoldsTo, Makes, none_folded, with_ch
 use Rattle.xc_recovery.specs.Laws.{CheckpointsStand}
 use Rattle.xc_recovery.specs.Placings.{IsPlaced, idle}
 use Rattle.xc_journal.specs.Spelling.{spelling}
-use Rattle.xc_recovery.specs.Rows.{checkpoint, middle_in, out_rows, row_of, standing}
+use Rattle.xc_recovery.specs.Rows.{IsRowAt, checkpoint, left_behind, middle_in, out_rows, row_of, standing}
 use Rattle.xc_recovery.proofs.Folding.{none_held, none_placed}
 use Rattle.xc_recovery.proofs.HeldLegs.{does_proper}
 use Rattle.xc_recovery.proofs.Placing.{placed_after, tasks_ready}
@@ -261,23 +262,93 @@ checkpoints_stand t c equipped p s fits same = stands_from t c p s fits equipped
 some_conn : (c k : Conn) → Some c ≡ Some k → c ≡ k
 some_conn c k e = cc
 
-at_legs : (l : Leg) (cs : List Conn) (i : ℕ) (k : Conn) → slice_get cs i ≡ Some k → Among l (legs_of k) → Among l (legs cs)
-at_legs l [] i k at m = let low = slice_get_within [] i k at in absurd (let z : ⊥ = omega arith in z)
-at_legs l (c ∷ cs) zero k at m = among_left l (legs_of c) (legs cs) (subst (λ (x : Conn). Among l (legs_of x)) (sym (some_conn c k at)) m)
-at_legs l (c ∷ cs) (suc i) k at m = among_right l (legs_of c) (legs cs) (at_legs l cs i k at m)
+found_leg : (l : Leg) (c k : Conn) (cs : List Conn) (o : Option Conn) (b : Bool) → cond b (Some c) o ≡ Some k → Among l (legs_of k) → (o ≡ Some k → Among l (legs cs)) → Among l (legs (c ∷ cs))
+found_leg l c k cs o true f m more = among_left l (legs_of c) (legs cs) (subst (λ (x : Conn). Among l (legs_of x)) (sym (some_conn c k f)) m)
+found_leg l c k cs o false f m more = among_right l (legs_of c) (legs cs) (more f)
 
-pub held_at : (t : Board) (c : Colouring) (i : ℕ) (k : Conn) → IsPlaced t c → slice_get t.conns i ≡ Some k → (l : Leg) → Among l (legs_of k) → IsHeld c l
-held_at t c i k p at l m = (p.legs_held l).1 (at_legs l t.conns i k at m)
+found_legs : (l : Leg) (q : Conn → Bool) (cs : List Conn) (k : Conn) → find q cs ≡ Some k → Among l (legs_of k) → Among l (legs cs)
+found_legs l q [] k f m = absurd (true_false cc)
+found_legs l q (c ∷ cs) k f m = found_leg l c k cs (find q cs) (q c) f m (λ g. found_legs l q cs k g m)
 
-pub row_at : (t : Board) (c : Colouring) (i : ℕ) (o : Option Conn) → o ≡ slice_get t.conns i → option_map (row_of c) o ≡ slice_get (map (row_of c) t.conns) i
-row_at t c i o at = ap (option_map (row_of c)) at ∙ sym (slice_get-map (row_of c) t.conns i)
+pub held_at : (t : Board) (c : Colouring) (p : ℕ) (k : Conn) → IsPlaced t c → first_from p t.conns ≡ Some k → (l : Leg) → Among l (legs_of k) → IsHeld c l
+held_at t c p k at f l m = (at.legs_held l).1 (found_legs l (is_from_on p) t.conns k f m)
 
--- the rows of a table with all middles in service, or one out
-pub rows_in : (t : Board) (c : Colouring) → t.out ≡ None → map (row_of c) t.conns ≡ checkpoint t c
-rows_in t c e = λ i. out_rows (sym e i) ++ map (row_of c) t.conns
+abbrev first_of : List Conn → Option Conn
+first_of [] = None
+first_of (c ∷ cs) = Some c
 
-pub rows_out : (t : Board) (c : Colouring) (m : Middle) → t.out ≡ Some m → spelling (TakeOut m) [] ∷ map (row_of c) t.conns ≡ checkpoint t c
-rows_out t c m e = λ i. out_rows (sym e i) ++ map (row_of c) t.conns
+first_here : (c : Conn) (o : Option Conn) (ds : List Conn) (b : Bool) → o ≡ first_of ds → cond b (Some c) o ≡ first_of (cond b (c ∷ ds) ds)
+first_here c o ds true e = refl
+first_here c o ds false e = e
+
+find_first : (q : Conn → Bool) (cs : List Conn) → find q cs ≡ first_of (filter q cs)
+find_first q [] = refl
+find_first q (c ∷ cs) = first_here c (find q cs) (filter q cs) (q c) (find_first q cs)
+
+get_first : (i : ℕ) (cs : List Conn) → first_of (drop i cs) ≡ slice_get cs i
+get_first zero [] = refl
+get_first zero (c ∷ cs) = refl
+get_first (suc i) [] = refl
+get_first (suc i) (c ∷ cs) = get_first i cs
+
+drop_more : (i : ℕ) (c : Conn) (cs ds : List Conn) → drop i cs ≡ c ∷ ds → drop (suc i) cs ≡ ds
+drop_more zero c [] ds e = absurd (true_false cc)
+drop_more zero c (d ∷ cs) ds e = cc
+drop_more (suc i) c [] ds e = absurd (true_false cc)
+drop_more (suc i) c (d ∷ cs) ds e = drop_more i c cs ds e
+
+-- the row of the first connection from a port on, where so many connections are behind
+row_from : (c : Colouring) (cs : List Conn) (i p : ℕ) → drop i cs ≡ from_on p cs → option_map (row_of c) (first_from p cs) ≡ slice_get (map (row_of c) cs) i
+row_from c cs i p e = ap (option_map (row_of c)) (find_first (is_from_on p) cs ∙ (ap first_of (sym e) ∙ get_first i cs)) ∙ sym (slice_get-map (row_of c) cs i)
+
+pub row_in : (t : Board) (c : Colouring) (i p : ℕ) → t.out ≡ None → IsRowAt t i p → option_map (row_of c) (first_from p t.conns) ≡ slice_get (checkpoint t c) i
+row_in t c i p e at = row_from c t.conns i p (subst (λ (o : Option Middle). left_behind o i t.conns ≡ from_on p t.conns) e at) ∙ ap (λ (o : Option Middle). slice_get (out_rows o ++ map (row_of c) t.conns) i) (sym e)
+
+pub row_out : (t : Board) (c : Colouring) (m : Middle) (i p : ℕ) → t.out ≡ Some m → i ≢ 0 → IsRowAt t i p → option_map (row_of c) (first_from p t.conns) ≡ slice_get (checkpoint t c) i
+row_out t c m zero p e n at = absurd (n refl)
+row_out t c m (suc i) p e n at = row_from c t.conns i p (subst (λ (o : Option Middle). left_behind o (suc i) t.conns ≡ from_on p t.conns) e at) ∙ ap (λ (o : Option Middle). slice_get (out_rows o ++ map (row_of c) t.conns) (suc i)) (sym e)
+
+pub row_taken : (t : Board) (c : Colouring) (m : Middle) → t.out ≡ Some m → Some (spelling (TakeOut m) []) ≡ slice_get (checkpoint t c) 0
+row_taken t c m e = ap (λ (o : Option Middle). slice_get (out_rows o ++ map (row_of c) t.conns) 0) (sym e)
+
+-- where the next row's connections are
+next_from : (t : Board) (i p q : ℕ) (k : Conn) → IsProper t → drop i t.conns ≡ from_on p t.conns → first_from p t.conns ≡ Some k → q ≡ k.from.0 + 1 → drop (suc i) t.conns ≡ from_on q t.conns
+next_from t i p q k proper e f same = drop_more i k t.conns (from_on (k.from.0 + 1) t.conns) (e ∙ left_is p k t.conns (rises_of t.conns (apart_of t.conns proper.apart) proper.order) f) ∙ ap (λ n. from_on n t.conns) (sym same)
+
+next_by : (o : Option Middle) (t : Board) (i p q : ℕ) (k : Conn) → IsProper t → left_behind o i t.conns ≡ from_on p t.conns → (is_some o ≡ true → i ≢ 0) → first_from p t.conns ≡ Some k → q ≡ k.from.0 + 1 → left_behind o (suc i) t.conns ≡ from_on q t.conns
+next_by None t i p q k proper at n f same = next_from t i p q k proper at f same
+next_by (Some m) t zero p q k proper at n f same = absurd (n refl refl)
+next_by (Some m) t (suc i) p q k proper at n f same = next_from t i p q k proper at f same
+
+some_found : (f : Conn → List ℕ) (o : Option Conn) (x : List ℕ) → Some x ≡ option_map f o → (k : Conn) × (o ≡ Some k)
+some_found f None x e = absurd (true_false cc)
+some_found f (Some k) x e = (k, refl)
+
+row_next : (t : Board) (c : Colouring) (i p q : ℕ) (r : Option (List ℕ)) → IsPlaced t c → IsRowAt t i p → (is_some t.out ≡ true → i ≢ 0) → r ≡ option_map (row_of c) (first_from p t.conns)
+    → ((k : Conn) → first_from p t.conns ≡ Some k → q ≡ k.from.0 + 1) → IfSome r (λ row. IsRowAt t (i + 1) q)
+row_next t c i p q None at e n f next = tt
+row_next t c i p q (Some x) at e n f next = let k = some_found (row_of c) (first_from p t.conns) x f in
+    let more : suc i ≡ i + 1 = omega arith in
+    subst (λ (j : ℕ). left_behind t.out j t.conns ≡ from_on q t.conns) more (next_by t.out t i p q k.0 at.table e n k.1 (next k.0 k.1))
+
+pub next_in : (t : Board) (c : Colouring) (i p q : ℕ) (r : Option (List ℕ)) → IsPlaced t c → t.out ≡ None → IsRowAt t i p → r ≡ option_map (row_of c) (first_from p t.conns)
+    → ((k : Conn) → first_from p t.conns ≡ Some k → q ≡ k.from.0 + 1) → IfSome r (λ row. IsRowAt t (i + 1) q)
+next_in t c i p q r at o e f next = row_next t c i p q r at e (λ s. absurd (true_false (sym s ∙ ap is_some o))) f next
+
+pub next_out : (t : Board) (c : Colouring) (i p q : ℕ) (r : Option (List ℕ)) → IsPlaced t c → i ≢ 0 → IsRowAt t i p → r ≡ option_map (row_of c) (first_from p t.conns)
+    → ((k : Conn) → first_from p t.conns ≡ Some k → q ≡ k.from.0 + 1) → IfSome r (λ row. IsRowAt t (i + 1) q)
+next_out t c i p q r at o e f next = row_next t c i p q r at e (λ s. o) f next
+
+pub next_taken : (t : Board) (m : Middle) (p : ℕ) → t.out ≡ Some m → IsRowAt t 0 p → IsRowAt t 1 p
+next_taken t m p e at = subst (λ (o : Option Middle). left_behind o 1 t.conns ≡ from_on p t.conns) (sym e) (subst (λ (o : Option Middle). left_behind o 0 t.conns ≡ from_on p t.conns) e at)
+
+first_at : (o : Option Middle) (cs : List Conn) → left_behind o 0 cs ≡ from_on 0 cs
+first_at None cs = sym (all_from cs)
+first_at (Some m) cs = sym (all_from cs)
+
+-- the first row is that from port 0 on
+pub row_first : (t : Board) → IsRowAt t 0 0
+row_first t = first_at t.out t.conns
 
 -- both legs of a connection are its legs
 pub first_leg : (x y : Port) (w : Cct) → Among (leg_between x y) (legs_between x y w)

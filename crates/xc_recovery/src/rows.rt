@@ -1,12 +1,14 @@
 //! The rows of a checkpoint.
-ghost use Rattle.std.specs.Prelude.{◌≡◌, [], ◌∷◌, map, slice_get};
+ghost use Rattle.std.specs.Prelude.{◌≡◌, ◌+◌, [], ◌∷◌, Some, IfSome, map, option_map, slice_get};
 ghost use Rattle.dxc_num.specs.Dimensions.{IsInside};
 ghost use Rattle.dxc_model.specs.Equipment.{IsEquipment, modules_in};
+ghost use Rattle.dxc_model.specs.declared.conn.Conn.{Conn};
+ghost use Rattle.dxc_model.specs.Order.{first_from};
 ghost use Rattle.dxc_model.specs.Tables.{legs_of};
 ghost use Rattle.paull_matrix.specs.Colourings.{IsHeld};
 ghost use Rattle.paull_chain.specs.Paull.{Among};
 ghost use Rattle.xc_recovery.specs.Placings.{IsPlaced};
-ghost use Rattle.xc_recovery.specs.Rows.{checkpoint, row_of, standing};
+ghost use Rattle.xc_recovery.specs.Rows.{IsRowAt, checkpoint, row_of, standing};
 
 use crate::fold::equipment_in;
 use arrayvec::ArrayVec;
@@ -60,12 +62,14 @@ fn choices_at(matrix: &Matrix, conn: &Conn) -> ArrayVec<Choice, 2>
     }
 }
 
-// The row of the connection of that number.
-fn conn_row(table: &Table, matrix: &Matrix, i: usize) -> Option<[u8; 64]>
+// The row of the first connection from the port on. The port then is the one behind it.
+fn conn_row(table: &Table, matrix: &Matrix, port: &mut u16) -> Option<[u8; 64]>
     requires { IsPlaced table.now matrix.now }
-    ensures { result ≡ slice_get (map (row_of matrix.now) table.now.conns) i }
+    ensures row { result ≡ option_map (row_of matrix.now) (first_from port.old table.now.conns) }
+    ensures port { (k : Conn) → first_from port.old table.now.conns ≡ Some k → port.new ≡ k.from.0 + 1 }
 {
-    let conn = table.conn(i)?;
+    let conn = table.next_from(*port)?;
+    *port = conn.from.0 + 1;
     Some(record_of(&Change::Enter(conn), &choices_at(matrix, &conn)))
 }
 
@@ -80,17 +84,26 @@ pub fn checkpoint_equipment(table: &Table) -> u64
 /// The record of that number, from 0, of the checkpoint of a table and its matrix. The first one takes out the middle that is
 /// out, if one is; then each connection is entered, in the table's order, each of its legs straight at its middle. None exactly
 /// where there are at most so many.
-pub fn checkpoint_row(table: &Table, matrix: &Matrix, i: usize) -> Option<[u8; 64]>
-    requires { IsPlaced table.now matrix.now }
-    ensures { result ≡ slice_get (checkpoint table.now matrix.now) i }
+///
+/// `port` tells from where on the connections are left: it is 0 for the first record, and what that left for the next.
+pub fn checkpoint_row(
+    table: &Table,
+    matrix: &Matrix,
+    i: usize,
+    port: &mut u16,
+) -> Option<[u8; 64]>
+    requires placed { IsPlaced table.now matrix.now }
+    requires port { IsRowAt table.now i port.old }
+    ensures row { result ≡ slice_get (checkpoint table.now matrix.now) i }
+    ensures port { IfSome result (λ row. IsRowAt table.now (i + 1) port.new) }
 {
     match table.out() {
-        None => conn_row(table, matrix, i),
+        None => conn_row(table, matrix, port),
         Some(middle) => {
             if i == 0 {
                 Some(record_of(&Change::TakeOut(middle), &ArrayVec::new()))
             } else {
-                conn_row(table, matrix, i - 1)
+                conn_row(table, matrix, port)
             }
         }
     }

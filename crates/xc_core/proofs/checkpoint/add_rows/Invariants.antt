@@ -4,7 +4,7 @@ use Rattle.dxc_model.specs.declared.op.Op.{Op}
 use Rattle.journal_core.specs.declared.spare.Spare.TheVariants.{Drafted}
 use Rattle.journal_core.specs.Books.{IsWhole, draft_of, listed, rows}
 use Rattle.journal_core.specs.Turns.{Keeps}
-use Rattle.xc_recovery.specs.Rows.{checkpoint}
+use Rattle.xc_recovery.specs.Rows.{IsRowAt, checkpoint}
 use Rattle.xc_core.specs.Reckonings.{IsTable, Past}
 use Rattle.xc_core.specs.Journals.{IsAtHome, IsOldOrDoubted}
 use Rattle.xc_core.proofs.checkpoint.add_rows.Given as goal
@@ -14,6 +14,7 @@ invariant-loop-row g l =
     let a = g.D.Disk.state l.fn.journal.0 in
     let m = g.D.Disk.state l.journal.0 in
     record {
+      at : IsRowAt l.fn.table l.i l.port;
       low : l.i ≤ length (checkpoint l.fn.table l.fn.matrix);
       book : l.journal.1 ≡ record l.fn.journal.1 { spare = Drafted (record { equipped = (draft_of l.fn.journal.1.spare).equipped; rows = l.i }) };
       whole : IsWhole l.journal.1;
