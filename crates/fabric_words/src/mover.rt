@@ -10,7 +10,7 @@ ghost use Rattle.fabric_words.specs.declared.table.View.TheVariants.{AsMover};
 ghost use Rattle.fabric_words.specs.Places.{IsRegInside, reg_word};
 
 use crate::fabric::Fabric;
-use crate::path::{forget, middle_of, path_of, phase_after};
+use crate::path::{forget, forget_after, middle_of, path_of, phase_after};
 use crate::place;
 use crate::plays::{ClearsIn, ClearsMid, ClearsOut, Looks, Reads, SetsIn, SetsMid, Switches};
 use crate::table::{Aim, Token};
@@ -60,6 +60,7 @@ impl MoverSeat {
     }
 
     /// Which path the mover is about.
+    #[inline(always)]
     pub fn phase(&self) -> Phase
         ensures value { result ≡ self.now.mover.phase }
         ensures sized { IsSize self.now.fabric.size }
@@ -77,6 +78,7 @@ impl MoverSeat {
 
     /// Whether no frame runs in this worker that ran when the phase Old began, as far as the looks at it since then tell: one gave an even
     /// number, or an odd one other than the first odd one.
+    #[inline(always)]
     pub fn passed(&self, worker: u16) -> bool
         requires { worker < self.now.fabric.size.workers }
         ensures { result ≡ has_passed (looks_of self.now.mover worker) }
@@ -85,6 +87,7 @@ impl MoverSeat {
     }
 
     /// Begins a path for a leg over a middle: its IN word.
+    #[inline(always)]
     pub fn set_in(&mut self, fabric: &Fabric, leg: Leg, middle: Middle)
         requires own { self.old.fabric ≡ fabric.now }
         requires allowed { MayMove self.old.fabric.size self.old.mover (SetIn leg middle) }
@@ -105,6 +108,7 @@ impl MoverSeat {
     }
 
     /// Sets the MID word of the path that was begun.
+    #[inline(always)]
     pub fn set_mid(&mut self, fabric: &Fabric)
         requires own { self.old.fabric ≡ fabric.now }
         requires allowed { MayMove self.old.fabric.size self.old.mover SetMid }
@@ -122,6 +126,7 @@ impl MoverSeat {
     }
 
     /// Turns OUT to the path: the leg is joined, or moved. Its number is one more than `switches()`.
+    #[inline(always)]
     pub fn switch_out(&mut self, fabric: &Fabric)
         requires own { self.old.fabric ≡ fabric.now }
         requires allowed { MayMove self.old.fabric.size self.old.mover SwitchOut }
@@ -138,10 +143,11 @@ impl MoverSeat {
         let found = shared.swap::<Switches>(&mut self.token, word, value);
         self.switches = number;
         self.phase = phase_after(leg, found);
-        forget(found, &mut self.seen);
+        forget_after(found, &mut self.seen);
     }
 
     /// Clears OUT of an established leg: it is parted.
+    #[inline(always)]
     pub fn clear_out(&mut self, fabric: &Fabric, leg: Leg)
         requires own { self.old.fabric ≡ fabric.now }
         requires allowed { MayMove self.old.fabric.size self.old.mover (ClearOut leg) }
@@ -160,10 +166,11 @@ impl MoverSeat {
             leg,
             old: middle_of(found),
         };
-        self.seen = [Seen::NOTHING; 8];
+        forget(&mut self.seen);
     }
 
     /// Looks at the frame word of a worker.
+    #[inline(always)]
     pub fn look(&mut self, fabric: &Fabric, worker: u16) -> u64
         requires own { self.old.fabric ≡ fabric.now }
         requires low { worker < self.old.fabric.size.workers }
@@ -179,6 +186,7 @@ impl MoverSeat {
     }
 
     /// Clears the MID word of the path that was left, once all workers have passed, or of one that is half built.
+    #[inline(always)]
     pub fn clear_mid(&mut self, fabric: &Fabric)
         requires own { self.old.fabric ≡ fabric.now }
         requires allowed { MayMove self.old.fabric.size self.old.mover ClearMid }
@@ -193,6 +201,7 @@ impl MoverSeat {
     }
 
     /// Clears the IN word of a path whose MID word is none.
+    #[inline(always)]
     pub fn clear_in(&mut self, fabric: &Fabric)
         requires own { self.old.fabric ≡ fabric.now }
         requires allowed { MayMove self.old.fabric.size self.old.mover ClearIn }

@@ -44,11 +44,20 @@ pub(crate) fn phase_after(leg: Leg, found: u64) -> Phase
     }
 }
 
+/// Forgets the looks.
+#[inline(always)]
+pub(crate) fn forget(seen: &mut [Seen; 8])
+    ensures { seen.new ≡ replicate 8 (seen_of []) }
+{
+    *seen = [Seen::NOTHING; 8];
+}
+
 /// Forgets the looks after a switch of a leg whose OUT word was this one, where the phase Old begins.
-pub(crate) fn forget(found: u64, seen: &mut [Seen; 8])
+#[inline(always)]
+pub(crate) fn forget_after(found: u64, seen: &mut [Seen; 8])
     ensures { seen.new ≡ (if found == 0 then seen.old else replicate 8 (seen_of [])) }
 {
     if found != 0 {
-        *seen = [Seen::NOTHING; 8];
+        forget(seen);
     }
 }

@@ -1,5 +1,5 @@
 -- The next writes, one call behind the other.
-use Rattle.std.proofs.Common.{◌≡◌, ◌≢◌, ◌≤◌, ℕ, ◌+◌, List, [], ◌∷◌, ◌++◌, Some, Option, sym, refl, ap, ◌∙◌, subst, arith, length-append, append_assoc}
+use Rattle.std.proofs.Common.{◌≡◌, ◌≢◌, ◌≤◌, ℕ, List, [], ◌∷◌, ◌++◌, Some, Option, sym, refl, ap, ◌∙◌, subst, arith, length-append, append_assoc}
 use Rattle.std.specs.Prelude.{slice_get}
 use Rattle.dxc_causes.specs.Causes.{Rose}
 use Rattle.dxc_num.specs.declared.register.RegWrite.{RegWrite}
@@ -14,7 +14,7 @@ use Rattle.fabric_core.specs.declared.size.Size.{Size}
 use Rattle.fabric_core.specs.declared.mover.Mover.{Mover}
 use Rattle.roll_engine.specs.declared.answer.Advance.{Advance}
 use Rattle.roll_engine.specs.declared.answer.Advance.TheVariants.{Done, InFrame, Stopped}
-use Rattle.roll_engine.specs.Rollings.{RollingAt, rest_of, gone_on}
+use Rattle.roll_engine.specs.Rollings.{RollingAt, rest_of}
 use Rattle.roll_engine.specs.Writes.{Looks, Makes}
 use Rattle.roll_engine.specs.Courses.{IsOld, IsReady}
 use Rattle.roll_engine.specs.Answers.{AnswerIs, GoesOn, IsSeen, asked_at}
@@ -31,13 +31,6 @@ not_stopped e = cc
 
 frame_goes : (f : ℕ) → InFrame f ≡ Stopped → ⊥
 frame_goes f e = cc
-
--- none made is none
-pub gone_none : (r : RollingAt) → r ≡ gone_on 0 r
-gone_none r = ap (λ (n : ℕ). record r { step = n }) (let e : r.step ≡ r.step + 0 = omega arith in e)
-
-pub gone_more : (r : RollingAt) (n : ℕ) → gone_on 1 (gone_on n r) ≡ gone_on (n + 1) r
-gone_more r n = ap (λ (k : ℕ). record r { step = k }) (let e : (r.step + n) + 1 ≡ r.step + (n + 1) = omega arith in e)
 
 goes_join : (z : Size) (old mid new : RollingAt) (m a b : Mover) → GoesOn z old mid m a → GoesOn z mid new a b → GoesOn z old new m b
 goes_join z old mid new m a b h k = record {
@@ -94,6 +87,11 @@ module _ {G : Type 0} (stops : G → ℕ) (asks : G → G → List GatePlace →
     asked = subst (asks g g') (asked_behind (rest_of old) (rest_of mid) (rest_of new) one.goes_on.advances.writes two.goes_on.advances.writes answer one.goes_on.advances.split two.goes_on.advances.split)
         (on g h g' (asked_at (rest_of old) (rest_of mid) Done) (asked_at (rest_of mid) (rest_of new) answer) one.asked two.asked);
   }
+
+  -- the same behind an answer that is Done
+  pub walks_then : ((old between new : G) (before after : List GatePlace) → asks old between before → asks between new after → asks old new (before ++ after)) → (old mid new : RollingAt) (m a b : Mover) (g h g' : G) (before answer : Advance)
+      → before ≡ Done → Walks stops asks z old mid m a g h before → Walks stops asks z mid new a b h g' answer → Walks stops asks z old new m b g g' answer
+  walks_then on old mid new m a b g h g' before answer done one two = walks_on on old mid new m a b g h g' answer (subst (λ (x : Advance). Walks stops asks z old mid m a g h x) done one) two
 
   -- what came of one write, the next one
   module _ (r : RollingAt) (w : RegWrite) (m m' : Mover) (g g' : G) (at : slice_get (writes_of r.work) r.step ≡ Some w) (ready : IsReady z (rest_of r) m) where

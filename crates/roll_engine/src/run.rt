@@ -1,5 +1,5 @@
 //! The writes of a work, as far as frames and the gate let them.
-ghost use Rattle.std.specs.Prelude.{◌≡◌, ◌≢◌, ◌<◌, ◌≤◌, [], ◌∷◌, ℕ, List, IfNone, IfSome, Some, slice_get};
+ghost use Rattle.std.specs.Prelude.{◌≡◌, ◌≢◌, ◌+◌, ◌<◌, ◌≤◌, [], ◌∷◌, ℕ, List, IfNone, IfSome, Some, slice_get};
 ghost use Rattle.dxc_causes.specs.Causes.{Rose};
 ghost use Rattle.dxc_num.specs.declared.register.WriteKind.TheVariants.{ClearMid};
 ghost use Rattle.roll_plan.specs.Works.{writes_of};
@@ -20,7 +20,7 @@ use crate::rolling::Rolling;
 use dxc_num::{RegWrite, WriteKind};
 use dxc_outside::{Gate, GatePlace, Pass1};
 use fabric_words::{Fabric, MoverSeat, Phase};
-use roll_plan::{MOVE, Move, Next, move_write, next_at_step};
+use roll_plan::{Move, Next, move_write, next_at_step};
 
 // Looks at the workers where the write clears an old MID word. Some: a frame that may still follow it.
 #[inline(always)]
@@ -90,7 +90,34 @@ fn write_on<G: Gate>(
     }
 }
 
-// Makes the next writes of the work in hand, which are those of a move. Done: all five are made.
+// Makes the next two writes of the work in hand. Done: both are made.
+#[inline(always)]
+fn write_two<G: Gate>(
+    fabric: &Fabric,
+    mover: &mut MoverSeat,
+    rolling: &mut Rolling,
+    first: RegWrite,
+    second: RegWrite,
+    gate: &mut G,
+) -> Advance
+    requires own { mover.old.fabric ≡ fabric.now }
+    requires few { rolling.old.step < 950 }
+    requires first { slice_get (writes_of rolling.old.work) rolling.old.step ≡ Some first }
+    requires second { slice_get (writes_of rolling.old.work) (rolling.old.step + 1) ≡ Some second }
+    requires ready { IsReady fabric.now.size (rest_of rolling.old) mover.old.mover }
+    ensures own { mover.new.fabric ≡ fabric.now }
+    ensures walks { Walks G.stops G.asked fabric.now.size rolling.old rolling.new mover.old.mover mover.new.mover gate.old gate.new result }
+    ensures two { result ≡ Advance.Done → rolling.new ≡ gone_on 2 rolling.old }
+{
+    match write_on(fabric, mover, rolling, first, gate) {
+        Advance::Done => {}
+        answer => return answer,
+    }
+    write_on(fabric, mover, rolling, second, gate)
+}
+
+// Makes the next writes of the work in hand, which are those of a move. Done: all five are made. They stand one behind the other, and not
+// in a loop, so that each is compiled for its own kind.
 #[inline(always)]
 fn move_on<G: Gate>(
     fabric: &Fabric,
@@ -107,13 +134,20 @@ fn move_on<G: Gate>(
     ensures walks { Walks G.stops G.asked fabric.now.size rolling.old rolling.new mover.old.mover mover.new.mover gate.old gate.new result }
     ensures all { result ≡ Advance.Done → rolling.new ≡ gone_on 5 rolling.old }
 {
-    for place in 0..MOVE {
-        match write_on(fabric, mover, rolling, move_write(step, place), gate) {
-            Advance::Done => {}
-            answer => return answer,
-        }
+    let set_in = move_write(step, 0);
+    let set_mid = move_write(step, 1);
+    match write_two(fabric, mover, rolling, set_in, set_mid, gate) {
+        Advance::Done => {}
+        answer => return answer,
     }
-    Advance::Done
+    let switch_out = move_write(step, 2);
+    let clear_mid = move_write(step, 3);
+    match write_two(fabric, mover, rolling, switch_out, clear_mid, gate) {
+        Advance::Done => {}
+        answer => return answer,
+    }
+    let clear_in = move_write(step, 4);
+    write_on(fabric, mover, rolling, clear_in, gate)
 }
 
 // Makes what comes next of the work in hand. Done: it is made.

@@ -25,7 +25,7 @@ invariant_of-self c = let s = c.self.inside in let f = c.fabric.inside in let r 
     let t = switch_told f.board.shared.table_id.slots s.size s.token.me c.swap-found.new.seat.me c.of_out-word.result s.phase s.switches s.seen r c.in-MidSet.leg c.in-MidSet.to ((s.switches + 1) * 256 + c.in-MidSet.to.0 + 1) c.swap-found.result c.in-MidSet.is (subst (λ (v : MoverAt). MayMove v.fabric.size v.mover (SwitchOut)) (sym c.self.view_is) c.requires.allowed).3 c.swap-found.ensures.2 in
     let l = c.in-MidSet.leg in
     let are = c.self.invariant.1 l c.in-MidSet.to (subst (λ (p : Phase). HasIn p l c.in-MidSet.to) (sym c.in-MidSet.is) (refl, refl)) in (
-      subst (λ (u : Phase × List Seen). IsMoverSeat s.size c.swap-found.new.seat.me u.0 (s.switches + 1) u.1) (λ i. (sym c.phase_after-self-inside.ensures i, sym c.forget.ensures i)) t.0,
+      subst (λ (u : Phase × List Seen). IsMoverSeat s.size c.swap-found.new.seat.me u.0 (s.switches + 1) u.1) (λ i. (sym c.phase_after-self-inside.ensures i, sym c.forget_after.ensures i)) t.0,
       modules_of s.size.shape c.phase_after-self-inside.result l s.row s.column (λ a b has. named_switched l c.swap-found.result a b (subst (λ (p : Phase). HasIn p a b) c.phase_after-self-inside.ensures has)) are,
     )
 
