@@ -6,6 +6,7 @@ mod adopting;
 mod beginning;
 mod checkpoint;
 mod fault;
+mod granted;
 mod inside;
 mod keep;
 mod limit;

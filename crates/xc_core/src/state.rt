@@ -8,6 +8,7 @@ ghost use Rattle.xc_core.specs.Provisioners.{Rolls, ground_of};
 ghost use Rattle.xc_core.specs.Finishes.{Finishes};
 ghost use Rattle.dbchg_reports.specs.Recent.{with_one};
 
+use crate::granted::granted;
 use crate::origin::Origin;
 use crate::provisioner::{Driver, Provisioner};
 use dbchg_reports::Reports;
@@ -90,9 +91,7 @@ pub fn finish<D: Disk>(state: &mut State<D>, p: &mut Provisioner<D>, rolling: &R
     ensures finishes { (b : Past) → (op : Op) → (c : Change) → Rolls D.told D.state b op c p.old rolling.now → b.fold.table ≡ state.old.table → Finishes D.told D.state b c rolling.now state.new.table p.new result }
 {
     let Some(op) = p.doubt else { unreachable!() };
-    let Ok(change) = state.table.verdict(&op) else {
-        unreachable!()
-    };
+    let change = granted(&state.table, &op);
     // By reference, since the check reads as a move what passes an enum with a label in it by value.
     let made = &change;
     apply_work(&mut p.matrix, rolling.work());
