@@ -32,6 +32,7 @@ impl<const N: usize> Text<N> {
         }
     }
 
+    /// Leaves nothing.
     pub fn clear(&mut self)
         ensures { self.new ≡ [] }
     {
@@ -46,6 +47,7 @@ impl<const N: usize> Text<N> {
         self.len = len;
     }
 
+    /// How many bytes it has.
     pub fn len(&self) -> usize
         ensures value { result ≡ length self.now }
         ensures fits { result ≤ N }
@@ -53,6 +55,7 @@ impl<const N: usize> Text<N> {
         self.len
     }
 
+    /// The bytes so far.
     pub fn bytes(&self) -> &[u8]
         ensures { result.now ≡ self.now }
     {
