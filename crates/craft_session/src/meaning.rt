@@ -1,10 +1,8 @@
 //! What a unit asks of a session, behind what the users answer to it.
 ghost use Rattle.std.specs.Prelude.{◌≡◌, ◌≢◌, ◌≤◌, [], IfSome, None, length, map};
-ghost use Rattle.std.specs.Option.{is_some};
 ghost use Rattle.dxc_causes.specs.Causes.{Rose};
 ghost use Rattle.dxc_num.specs.Dimensions.{Dimensions};
 ghost use Rattle.tl1_text.specs.Spans.{AreBlocksOf, block_at};
-ghost use Rattle.tl1_text.specs.Tags.{ctag_of as tag_in};
 ghost use Rattle.tl1_text.specs.Units.{whole};
 ghost use Rattle.tl1_command.specs.Commands.{asked_by, IsAptCommand};
 ghost use Rattle.user_admin.specs.Spellable.{NamesUid};
@@ -25,7 +23,7 @@ use dxc_model::{Cause, Class, Op, SessionUser, Uid};
 use dxc_outside::Gate;
 use shelf_file::Shelf;
 use std::sync::Wait;
-use tl1_command::{Command, command_with};
+use tl1_command::{Command, command_of};
 use tl1_text::grammar::blocks;
 use tl1_text::{Blocks, Ctag, ctag_in, ctag_of};
 use user_admin::turns::UserTook;
@@ -53,9 +51,8 @@ pub fn consult<U: Disk + Drop, G: Gate, R: Wait>(
     let Ok(found) = blocks(unit) else {
         return Some((ctag_of(unit), Ask::Refused(Cause::BadText)));
     };
-    let tag = ctag_in(unit, &found);
-    match ask_in(shelf, users, user, unit, &found, tag.is_some(), gate, rt) {
-        Some(ask) => Some((tag, ask)),
+    match ask_in(shelf, users, user, unit, &found, gate, rt) {
+        Some(ask) => Some((ctag_in(unit, &found), ask)),
         None => None,
     }
 }
@@ -67,13 +64,11 @@ fn ask_in<U: Disk + Drop, G: Gate, R: Wait>(
     user: &SessionUser,
     unit: &[u8],
     found: &Blocks,
-    tagged: bool,
     gate: &mut G,
     rt: &R,
 ) -> Option<Ask>
     requires short { length unit.now ≤ 2047 }
     requires blocks { AreBlocksOf unit.now found.now.block.items }
-    requires tagged { tagged ≡ is_some (tag_in unit.now) }
     requires no_rows { users.old.rows.items ≡ [] }
     ensures same { IsSameUserSeat users.old.seat users.new.seat }
     ensures asked { AskedIs users.old.seat (command_wants shelf.now user.now (map (block_at unit.now) found.now.block.items) (meaning shelf.now.shape shelf.now.sid user.now (map (block_at unit.now) found.now.block.items))) (λ x. command_ask shelf.now user.now x (map (block_at unit.now) found.now.block.items) (meaning shelf.now.shape shelf.now.sid user.now (map (block_at unit.now) found.now.block.items))) users.new.rows.items users.new.seat.seen (G.asked gate.old gate.new) result }
@@ -82,7 +77,7 @@ fn ask_in<U: Disk + Drop, G: Gate, R: Wait>(
     ensures stopped { result ≡ None → Rose (G.stops gate.old) (G.stops gate.new) }
     ensures later { G.stops gate.old ≤ G.stops gate.new }
 {
-    match command_with(shelf.shape(), shelf.sid(), user, unit, found, tagged) {
+    match command_of(shelf.shape(), shelf.sid(), *user, unit, found) {
         Ok(command) => Some(served(users, user, unit, command, rt)),
         Err(cause) => match cause {
             Cause::UnknownCommand => ask_users(shelf, users, user, unit, found, gate, rt),
