@@ -9,6 +9,7 @@ ghost use Rattle.roll_engine.specs.Answers.{IsSeen};
 use fabric_words::{Fabric, MoverSeat};
 
 // Looks at a worker that hasn't passed yet. Some: it hasn't passed still, and this is what the look gave.
+#[inline(always)]
 fn look_one(fabric: &Fabric, mover: &mut MoverSeat, worker: u16) -> Option<u64>
     requires own { mover.old.fabric ≡ fabric.now }
     requires low { worker < fabric.now.size.workers }
@@ -30,6 +31,7 @@ fn look_one(fabric: &Fabric, mover: &mut MoverSeat, worker: u16) -> Option<u64>
 }
 
 /// Looks at each worker that hasn't passed yet. None: all have passed. Some: this one hasn't, and its frame is the first that was seen.
+#[inline(always)]
 pub(crate) fn look_all(fabric: &Fabric, mover: &mut MoverSeat) -> Option<u64>
     requires own { mover.old.fabric ≡ fabric.now }
     requires full { length mover.old.mover.looks ≡ fabric.now.size.workers }
