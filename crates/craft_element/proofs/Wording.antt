@@ -1,7 +1,8 @@
--- Nothing that is opened, or isn't, ends with the status of words that are no line.
-use Rattle.std.proofs.Common.{◌≡◌, ℕ, inl, inr, sym, ◌∙◌, subst}
+-- How an opening ends, and what was done behind one.
+use Rattle.std.proofs.Common.{◌≡◌, ℕ, List, inl, inr, sym, subst}
 use Rattle.dxc_disk.specs.Disks.{DiskState}
 use Rattle.dxc_outside.specs.Links.{LinkState}
+use Rattle.dxc_outside.specs.Openings.{OpenerState}
 use Rattle.dxc_outside.specs.declared.send.Sent.{Sent}
 use Rattle.dxc_outside.specs.declared.send.Sent.TheVariants as sent
 use Rattle.journal_core.specs.declared.fault.JournalWhy.{JournalWhy}
@@ -13,61 +14,94 @@ use Rattle.xc_core.specs.declared.fault.OpenFault.{OpenFault}
 use Rattle.xc_core.specs.declared.fault.OpenFault.TheVariants as fault
 use Rattle.xc_core.specs.States.{Opening}
 use Rattle.craft_words.specs.declared.status.Status.{Status}
-use Rattle.craft_words.specs.declared.status.Status.TheVariants.{BadWords}
+use Rattle.craft_words.specs.declared.status.Status.TheVariants.{Done, BadWords, BadShelf, BadJournal, Disk, CannotOpen, NoThread, NoMemory, Link, Stopped, Spent, BadMessage, NotEmpty}
 use Rattle.craft_words.specs.Statuses.{status_of_sent}
-use Rattle.craft_element.specs.Openings.{Began, Found, Named, NoShelf, NotStarted, NoUsers, Opens, Sources}
-use Rattle.craft_element.specs.Peers.{Mirrors, mirror_state}
+use Rattle.craft_jobs.specs.Missing.{IsOfNoOpening}
+use Rattle.craft_element.specs.Openings.{Began, Found, Named, NoDisk, NoShelf, NotOpened, NoUsers, Opens, Sources}
+use Rattle.craft_element.specs.Peers.{Mirrors, NotMirrored}
 use Rattle.craft_element.specs.Statuses.{status_of_fault, status_of_users_fault, status_of_users_why, status_of_why}
 
-why_words : (w : JournalWhy) → status_of_why w ≡ BadWords → ⊥
-why_words (why.BadHeader bytes) is = cc
-why_words why.Disk is = cc
+why_ends : (w : JournalWhy) → IsOfNoOpening (status_of_why w) → ⊥
+why_ends (why.BadHeader bytes) is = is
+why_ends why.Disk is = is
 
-fault_words : {D : Type 0} (f : OpenFault D) → status_of_fault f ≡ BadWords → ⊥
-fault_words (fault.Journal f) is = why_words f.why is
-fault_words (fault.BadRecord i d) is = cc
-fault_words (fault.Disk d) is = cc
-fault_words fault.NoMemory is = cc
-fault_words fault.Stopped is = cc
+fault_ends : {D : Type 0} (f : OpenFault D) → IsOfNoOpening (status_of_fault f) → ⊥
+fault_ends (fault.Journal f) is = why_ends f.why is
+fault_ends (fault.BadRecord i d) is = is
+fault_ends (fault.Disk d) is = is
+fault_ends fault.NoMemory is = is
+fault_ends fault.Stopped is = is
 
-not_started_words : {D : Type 0} (told : Type 0) (state : D → DiskState) (d : D) (s : Contents) (stops later : ℕ) → NotStarted told state d s stops later BadWords → ⊥
-not_started_words told state d s stops later not = fault_words not.fault (sym not.is)
+users_why_ends : (w : JournalWhy) → IsOfNoOpening (status_of_users_why w) → ⊥
+users_why_ends (why.BadHeader bytes) is = is
+users_why_ends why.Disk is = is
 
-users_why_words : (w : JournalWhy) → status_of_users_why w ≡ BadWords → ⊥
-users_why_words (why.BadHeader bytes) is = cc
-users_why_words why.Disk is = cc
+users_fault_ends : {D : Type 0} (f : UserOpenFault D) → IsOfNoOpening (status_of_users_fault f) → ⊥
+users_fault_ends (users_fault.Journal f) is = users_why_ends f.why is
+users_fault_ends (users_fault.BadRecord i d) is = is
+users_fault_ends (users_fault.Disk d) is = is
+users_fault_ends users_fault.NoMemory is = is
 
-users_fault_words : {D : Type 0} (f : UserOpenFault D) → status_of_users_fault f ≡ BadWords → ⊥
-users_fault_words (users_fault.Journal f) is = users_why_words f.why is
-users_fault_words (users_fault.BadRecord i d) is = cc
-users_fault_words (users_fault.Disk d) is = cc
-users_fault_words users_fault.NoMemory is = cc
+no_shelf_ends : (told : Type 0) (before after : OpenerState) (name : List ℕ) (s : Status) → NoShelf told before after name s → IsOfNoOpening s → ⊥
+no_shelf_ends told before after name Done not is = not
+no_shelf_ends told before after name BadWords not is = not
+no_shelf_ends told before after name (BadShelf f) not is = is
+no_shelf_ends told before after name (BadJournal f) not is = is
+no_shelf_ends told before after name Disk not is = is
+no_shelf_ends told before after name CannotOpen not is = is
+no_shelf_ends told before after name NoThread not is = not
+no_shelf_ends told before after name NoMemory not is = is
+no_shelf_ends told before after name Link not is = not
+no_shelf_ends told before after name Stopped not is = is
+no_shelf_ends told before after name Spent not is = not
+no_shelf_ends told before after name BadMessage not is = not
+no_shelf_ends told before after name NotEmpty not is = not
 
-no_users_words : {D : Type 0} (opener_told told : Type 0) (state : D → DiskState) (names : Named) (before after : Sources D) (s : Contents) (status : Status) → NoUsers opener_told told state names before after s status → status ≡ BadWords → ⊥
-no_users_words opener_told told state names before after s status none is = elim none [
-  | inl no_disk ↦ (elim no_disk [ inl e ↦ (let no = sym e ∙ is in cc) | inr e ↦ (let no = sym e.0 ∙ is in cc) ])
-  | inr not ↦ users_fault_words not.1.fault (sym not.1.is ∙ is)
+no_disk_ends : {D : Type 0} (before after : Sources D) (s : Status) → NoDisk before after s → IsOfNoOpening s → ⊥
+no_disk_ends before after s not is = elim not.1 [ inl e ↦ subst IsOfNoOpening e is | inr e ↦ subst IsOfNoOpening e.0 is ]
+
+no_users_ends : {D : Type 0} (opener_told told : Type 0) (state : D → DiskState) (names : Named) (before after : Sources D) (s : Contents) (status : Status) → NoUsers opener_told told state names before after s status → IsOfNoOpening status → ⊥
+no_users_ends opener_told told state names before after s status none is = elim none [
+  | inl no_disk ↦ (elim no_disk [ inl e ↦ subst IsOfNoOpening e is | inr e ↦ subst IsOfNoOpening e.0 is ])
+  | inr not ↦ users_fault_ends not.1.fault (subst IsOfNoOpening not.1.is is)
 ]
 
--- none of lines that were written
+-- what wasn't opened ends with a status of an opening
+pub not_opened_ends : (opener_told : Type 0) {D : Type 0} (told : Type 0) (state : D → DiskState) (names : Named) (before after : Sources D) (status : Status) → NotOpened opener_told told state names before after status → IsOfNoOpening status → ⊥
+not_opened_ends opener_told told state names before after status not is = elim not [
+  | inl no_controller ↦ (elim no_controller [
+    | inl no_shelf ↦ no_shelf_ends opener_told before.opener after.opener names.shelf status no_shelf.1 is
+    | inr further ↦ (elim further [
+      | inl no_disk ↦ no_disk_ends before after status no_disk.2 is
+      | inr not_on ↦ fault_ends not_on.1.fault (subst IsOfNoOpening not_on.1.is is)
+    ])
+  ])
+  | inr no_users ↦ no_users_ends opener_told told state names before after no_users.0.shelf status no_users.4 is
+]
+
+-- nor what wasn't mirrored
+pub not_mirrored_ends : {D K : Type 0} (told link_told : Type 0) (state : D → DiskState) (link : K → LinkState) (opener_told : Type 0) (names : Named) (before after : Sources D) (status : Status) → NotMirrored told link_told state link opener_told names before after status → IsOfNoOpening status → ⊥
+not_mirrored_ends told link_told state link opener_told names before after status not is = elim not [
+  | inl no_controller ↦ (elim no_controller [
+    | inl no_shelf ↦ no_shelf_ends opener_told before.opener after.opener names.shelf status no_shelf.1 is
+    | inr further ↦ (elim further [
+      | inl no_disk ↦ no_disk_ends before after status no_disk.2 is
+      | inr not_on ↦ fault_ends not_on.1.fault (subst IsOfNoOpening not_on.1.is is)
+    ])
+  ])
+  | inr no_users ↦ no_users_ends opener_told told state names before after no_users.0.shelf status no_users.4 is
+]
+
+-- none of lines that were written ends as words that are no line
 pub sent_words : (sent : Sent) → status_of_sent sent ≡ BadWords → ⊥
 sent_words sent.Whole is = cc
 sent_words sent.Cut is = cc
 
--- what was opened by these names, and what was done there
+-- nor what was opened by these names, where what was done there doesn't
 pub opens_words : (opener_told : Type 0) {D : Type 0} (told : Type 0) (state : D → DiskState) (names : Named) (before after : Sources D) (untouched : Type 0) (done : (f : Found opener_told names before) → Opening → Began opener_told told state names before f.shelf → Type 0) (status : Status)
     → ((f : Found opener_told names before) (o : Opening) (u : Began opener_told told state names before f.shelf) → done f o u → status ≡ BadWords → ⊥) → Opens opener_told told state names before after untouched done status → status ≡ BadWords → ⊥
 opens_words opener_told told state names before after untouched done status other opens is = elim opens [
-  | inl not ↦ (elim not.0 [
-    | inl no_controller ↦ (elim no_controller [
-      | inl no_shelf ↦ subst (λ (s : Status). NoShelf opener_told before.opener after.opener names.shelf s) is no_shelf.1
-      | inr further ↦ (elim further [
-        | inl no_disk ↦ (elim no_disk.2.1 [ inl e ↦ (let no = sym e ∙ is in cc) | inr e ↦ (let no = sym e.0 ∙ is in cc) ])
-        | inr not_on ↦ not_started_words told state not_on.0.disk not_on.0.shelf before.stops after.stops (subst (λ (s : Status). NotStarted told state not_on.0.disk not_on.0.shelf before.stops after.stops s) is not_on.1)
-      ])
-    ])
-    | inr no_users ↦ no_users_words opener_told told state names before after no_users.0.shelf status no_users.4 is
-  ])
+  | inl not ↦ not_opened_ends opener_told told state names before after status not.0 (subst IsOfNoOpening (sym is) tt)
   | inr ran ↦ other ran.0 ran.1 ran.3 ran.4 is
 ]
 
@@ -75,15 +109,6 @@ opens_words opener_told told state names before after untouched done status othe
 pub mirrors_words : {D K : Type 0} (told link_told : Type 0) (state : D → DiskState) (link : K → LinkState) (opener_told : Type 0) (names : Named) (before after : Sources D) (untouched P : Type 0) (status : Status) → (P → status ≡ BadWords → ⊥)
     → Mirrors told link_told state link opener_told names before after untouched (λ f o u. P) status → status ≡ BadWords → ⊥
 mirrors_words told link_told state link opener_told names before after untouched P status other mirrors is = elim mirrors [
-  | inl not ↦ (elim not.0 [
-    | inl no_controller ↦ (elim no_controller [
-      | inl no_shelf ↦ subst (λ (s : Status). NoShelf opener_told before.opener after.opener names.shelf s) is no_shelf.1
-      | inr further ↦ (elim further [
-        | inl no_disk ↦ (elim no_disk.2.1 [ inl e ↦ (let no = sym e ∙ is in cc) | inr e ↦ (let no = sym e.0 ∙ is in cc) ])
-        | inr not_on ↦ not_started_words told (mirror_state state) not_on.0.mirror not_on.0.shelf before.stops after.stops (subst (λ (s : Status). NotStarted told (mirror_state state) not_on.0.mirror not_on.0.shelf before.stops after.stops s) is not_on.1)
-      ])
-    ])
-    | inr no_users ↦ no_users_words opener_told told state names before after no_users.0.shelf status no_users.4 is
-  ])
+  | inl not ↦ not_mirrored_ends told link_told state link opener_told names before after status not.0 (subst IsOfNoOpening (sym is) tt)
   | inr ran ↦ other ran.4 is
 ]

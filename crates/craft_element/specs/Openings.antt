@@ -1,8 +1,9 @@
 -- What the words name is opened, or why it isn't.
-use Rattle.std.specs.Prelude.{◌≡◌, ◌≢◌, ◌⊎◌, ◌≤◌, ◌<◌, ◌+◌, ℕ, List, ◌++◌, length, codes, Option, Some}
+use Rattle.std.specs.Prelude.{◌≡◌, ◌≢◌, ◌⊎◌, ◌≤◌, ◌<◌, ◌+◌, ℕ, List, [], ◌∷◌, ◌++◌, length, codes, Option, Some}
 use Rattle.std.specs.Arc.{arc_value}
 use Rattle.dxc_causes.specs.Causes.{Rose, last}
 use Rattle.dxc_disk.specs.Disks.{DiskState, IsSound}
+use Rattle.dxc_outside.specs.Asked.{Asking, shelf_named, journal_named}
 use Rattle.dxc_outside.specs.Openings.{OpenerState, IsShelfPart}
 use Rattle.fabric_words.specs.New.{AreNew}
 use Rattle.fabric_words.specs.Seats.{FabricId}
@@ -34,6 +35,10 @@ named shelf journal = record { shelf = shelf; journal = journal }
 -- the name of the users' journal beside a journal of this name
 abbrev pub users_name : List ℕ → List ℕ
 users_name journal = journal ++ codes ".users"
+
+-- what an opener is asked for by these names
+abbrev pub files_asked : Named → List Asking
+files_asked names = shelf_named names.shelf ∷ journal_named names.journal ∷ journal_named (users_name names.journal) ∷ []
 
 -- what an opening asks: the opener, which would hand out these disks by name, and the gate, by its count of stops
 pub record Sources (D : Type 0) : Type 0 where

@@ -1,6 +1,7 @@
 -- A controller whose journal is mirrored to a standby.
-use Rattle.std.specs.Prelude.{◌≡◌, ◌⊎◌, ◌≤◌, ℕ, List, Option, Some, IsSomeAnd}
+use Rattle.std.specs.Prelude.{◌≡◌, ◌⊎◌, ◌≤◌, ℕ, List, [], ◌∷◌, Option, Some, IsSomeAnd}
 use Rattle.dxc_disk.specs.Disks.{DiskState, Looks}
+use Rattle.dxc_outside.specs.Asked.{Asking, shelf_named, journal_named, peer_named}
 use Rattle.dxc_outside.specs.Links.{LinkState}
 use Rattle.shelf_file.specs.Contents.{Contents}
 use Rattle.standby_link.specs.declared.mirror_disk.MirrorDisk.{MirrorDisk}
@@ -10,7 +11,11 @@ use Rattle.xc_core.specs.States.{Opening}
 use Rattle.craft_element.specs.declared.opening.Controller.{Controller}
 use Rattle.craft_element.specs.declared.opening.Element.{Element}
 use Rattle.craft_words.specs.declared.status.Status.{Status}
-use Rattle.craft_element.specs.Openings.{Began, HasOpening, HasShelf, HasUsers, IsStarted, Named, NoDisk, NoShelf, NotStarted, NoUsers, Sources}
+use Rattle.craft_element.specs.Openings.{Began, HasOpening, HasShelf, HasUsers, IsStarted, Named, NoDisk, NoShelf, NotStarted, NoUsers, Sources, users_name}
+
+-- what an opener is asked for by these names, with a peer
+abbrev pub mirror_asked : Named → List ℕ → List Asking
+mirror_asked names peer = shelf_named names.shelf ∷ journal_named names.journal ∷ peer_named peer ∷ journal_named (users_name names.journal) ∷ []
 
 -- what a mirrored disk shows is what the disk below shows
 abbrev pub mirror_state : {D K : Type 0} → (D → DiskState) → MirrorDisk D K → DiskState

@@ -2,13 +2,15 @@
 ghost use Rattle.std.specs.Prelude.{◌≡◌, ◌≢◌, ◌≤◌, flat_map, length, vec_capacity};
 ghost use Rattle.std.specs.List.{AllByRecursion};
 ghost use Rattle.dxc_num.specs.Dimensions.{ports};
+ghost use Rattle.dxc_outside.specs.Asked.{AskedFor};
 ghost use Rattle.dxc_outside.specs.Links.{IsSent};
+ghost use Rattle.craft_jobs.specs.Missing.{IsOfNoOpening};
 ghost use Rattle.tl1_answer.specs.Texts.{IsOfShape};
 ghost use Rattle.dxc_model.specs.declared.op.Selection.TheVariants.{All};
 ghost use Rattle.dxc_model.specs.Tables.{rows};
 ghost use Rattle.xc_core.specs.declared.state.Home.TheVariants.{Out};
 ghost use Rattle.craft_element.specs.Listings.{IsCheck, row_line, count_line, listing, records_at};
-ghost use Rattle.craft_element.specs.Openings.{Opens, named, sources};
+ghost use Rattle.craft_element.specs.Openings.{Opens, files_asked, named, sources};
 
 use crate::opening::{Element, Names, open};
 use arrayvec::ArrayVec;
@@ -32,7 +34,8 @@ pub fn run_check<O: Opener, K: Link, G: Gate>(
     terminal: &mut K,
     gate: &mut G,
 ) -> Status
-    ensures { Opens O.told O.Journal.told O.Journal.state (named names.entry.shelf.now names.entry.journal.now) (sources (O.state opener.old) (O.journal_at opener.old) (G.stops gate.old)) (sources (O.state opener.new) (O.journal_at opener.new) (G.stops gate.new)) (K.state terminal.new ≡ K.state terminal.old) (λ f o u. (G.stops gate.new ≡ G.stops gate.old) × IsCheck K.told f.shelf o (K.state terminal.old) (K.state terminal.new) result) result }
+    ensures opens { Opens O.told O.Journal.told O.Journal.state (named names.entry.shelf.now names.entry.journal.now) (sources (O.state opener.old) (O.journal_at opener.old) (G.stops gate.old)) (sources (O.state opener.new) (O.journal_at opener.new) (G.stops gate.new)) (K.state terminal.new ≡ K.state terminal.old) (λ f o u. (G.stops gate.new ≡ G.stops gate.old) × IsCheck K.told f.shelf o (K.state terminal.old) (K.state terminal.new) result) result }
+    ensures asked { AskedFor (O.asked opener.old opener.new) (files_asked (named names.entry.shelf.now names.entry.journal.now)) (IsOfNoOpening result) }
 {
     let Element {
         controller,

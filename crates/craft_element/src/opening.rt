@@ -1,7 +1,8 @@
 //! The opening of what the words name.
-ghost use Rattle.std.specs.Prelude.{◌≡◌, ◌≢◌, ◌⊎◌, ◌≤◌, Some, IfOk, ◌<◌, ℕ, List, MatchResult};
+ghost use Rattle.std.specs.Prelude.{◌≡◌, ◌≢◌, ◌⊎◌, ◌≤◌, ◌∷◌, [], Some, IfOk, IsOk, ◌<◌, ℕ, List, MatchResult};
 ghost use Rattle.dxc_causes.specs.Causes.{Rose};
-ghost use Rattle.craft_element.specs.Openings.{AreUsersNotStarted, AreUsersStarted, FoundUsers, HasController, HasShelf, IsOpened, IsStarted, NoController, NoShelf, NotOpened, NotStarted, named, sources, users_name as name_of_users};
+ghost use Rattle.dxc_outside.specs.Asked.{AskedFor, shelf_named, journal_named};
+ghost use Rattle.craft_element.specs.Openings.{AreUsersNotStarted, AreUsersStarted, FoundUsers, HasController, HasShelf, IsOpened, IsStarted, NoController, NoShelf, NotOpened, NotStarted, files_asked, named, sources, users_name as name_of_users};
 ghost use Rattle.craft_element.specs.Statuses.{status_of_fault, status_of_users_fault};
 
 use craft_words::{JournalBad, Status};
@@ -52,6 +53,7 @@ pub fn open<O: Opener, G: Gate>(
     ensures opened { MatchResult result (IsOpened O.told O.Journal.told O.Journal.state (named names.entry.shelf.now names.entry.journal.now) workers (sources (O.state opener.old) (O.journal_at opener.old) (G.stops gate.old))) (NotOpened O.told O.Journal.told O.Journal.state (named names.entry.shelf.now names.entry.journal.now) (sources (O.state opener.old) (O.journal_at opener.old) (G.stops gate.old)) (sources (O.state opener.new) (O.journal_at opener.new) (G.stops gate.new))) }
     ensures unstopped { MatchResult result (λ x. G.stops gate.new ≡ G.stops gate.old) (λ s. G.stops gate.old ≤ G.stops gate.new) }
     ensures later { (O.state opener.old).faults ≤ (O.state opener.new).faults }
+    ensures asked { AskedFor (O.asked opener.old opener.new) (files_asked (named names.entry.shelf.now names.entry.journal.now)) (IsOk result) }
 {
     let controller = open_controller(alloc, opener, names, workers, gate)?;
     match open_users(alloc, opener, names.journal, &controller.shelf) {
@@ -73,6 +75,7 @@ fn open_controller<O: Opener, G: Gate>(
     ensures others { O.told → (n : List ℕ) → n ≢ names.entry.journal.now → O.journal_at opener.new n ≡ O.journal_at opener.old n }
     ensures unstopped { MatchResult result (λ x. G.stops gate.new ≡ G.stops gate.old) (λ s. G.stops gate.old ≤ G.stops gate.new) }
     ensures later { (O.state opener.old).faults ≤ (O.state opener.new).faults }
+    ensures asked { AskedFor (O.asked opener.old opener.new) (shelf_named names.entry.shelf.now ∷ journal_named names.entry.journal.now ∷ []) (IsOk result) }
 {
     let shelf = shelf_of_file(alloc, opener, names.shelf)?;
     match opener.journal(alloc, names.journal) {
@@ -91,6 +94,7 @@ pub(crate) fn shelf_of_file<O: Opener>(
     ensures shelf { MatchResult result (HasShelf O.told (O.state opener.old) name.now) (NoShelf O.told (O.state opener.old) (O.state opener.new) name.now) }
     ensures journals { O.told → (n : List ℕ) → O.journal_at opener.new n ≡ O.journal_at opener.old n }
     ensures later { (O.state opener.old).faults ≤ (O.state opener.new).faults }
+    ensures asked { O.asked opener.old opener.new (shelf_named name.now ∷ []) }
 {
     let mut file = Vec::new(alloc);
     match opener.shelf(alloc, name, &mut file) {
@@ -171,6 +175,7 @@ pub(crate) fn open_users<O: Opener>(
 ) -> Result<UserState<O::Journal>, Status>
     ensures users { MatchResult result (λ x. (d : O.Journal) × (O.told → O.journal_at opener.old (name_of_users journal.now) ≡ Some d) × AreUsersStarted O.Journal.told O.Journal.state d shelf.now x) (λ status. ((status ≡ Status.NoMemory) ⊎ ((status ≡ Status.CannotOpen) × Rose (O.state opener.old).faults (O.state opener.new).faults)) ⊎ ((d : O.Journal) × (O.told → O.journal_at opener.old (name_of_users journal.now) ≡ Some d) × AreUsersNotStarted O.Journal.told O.Journal.state d shelf.now status)) }
     ensures later { (O.state opener.old).faults ≤ (O.state opener.new).faults }
+    ensures asked { AskedFor (O.asked opener.old opener.new) (journal_named (name_of_users journal.now) ∷ []) (IsOk result) }
 {
     let Ok(name) = users_name(alloc, journal) else {
         return Err(Status::NoMemory);

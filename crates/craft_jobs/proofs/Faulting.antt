@@ -3,7 +3,7 @@ use Rattle.std.proofs.Common.{◌≡◌, ◌≤◌, ◌∙◌, ℕ, arith, Resul
 use Rattle.dxc_causes.specs.Causes.{HasCause}
 use Rattle.craft_words.specs.declared.status.Status.{Status}
 use Rattle.craft_words.specs.declared.status.Status.TheVariants.{CannotOpen, NoMemory}
-use Rattle.craft_jobs.specs.Missing.{IsMade}
+use Rattle.craft_jobs.specs.Missing.{IsMade, IsOfNoOpening}
 use Rattle.craft_jobs.proofs.Counting.{rose_behind}
 
 -- one status was answered
@@ -33,3 +33,7 @@ behind faults mid later made s more is was = record {
   cause = λ bad. rose_behind faults mid later more (is.cause (was ∙ ap (λ (t : Status). Err t) (err_same s CannotOpen bad)));
   only = λ t bad. is.only t (was ∙ ap (λ (u : Status). Err u) (err_same s t bad));
 }
+
+-- it ends with a status of an opening
+pub made_ends : {X : Type 0} (faults later : ℕ) (made : Result X Status) → IsMade faults later made → (s : Status) → made ≡ Err s → IsOfNoOpening s → ⊥
+made_ends faults later made m s is ends = subst IsOfNoOpening (m.only s is (λ cannot. subst IsOfNoOpening cannot ends)) ends

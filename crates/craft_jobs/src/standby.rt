@@ -1,5 +1,7 @@
 //! A second controller's copy of a journal.
-ghost use Rattle.std.specs.Prelude.{◌≡◌};
+ghost use Rattle.std.specs.Prelude.{◌≡◌, ◌∷◌, []};
+ghost use Rattle.dxc_outside.specs.Asked.{AskedFor, journal_named, listener_named};
+ghost use Rattle.craft_jobs.specs.Missing.{IsOfNoOpening};
 ghost use Rattle.craft_jobs.specs.Standbys.{IsFirst, RanStandby, StandsBy, status_of_standby};
 
 use craft_words::Status;
@@ -21,7 +23,8 @@ pub fn run_standby<O: Opener, R: Wait>(
     address: &str,
     rt: &R,
 ) -> Status
-    ensures { StandsBy O.told O.Journal.told O.Listener.told O.Listener.Link.told O.Journal.state O.Listener.state O.Listener.Link.state (O.journal_at opener.old) (O.listener_at opener.old) (O.state opener.old).faults (O.state opener.new).faults journal.now address.now result }
+    ensures stands_by { StandsBy O.told O.Journal.told O.Listener.told O.Listener.Link.told O.Journal.state O.Listener.state O.Listener.Link.state (O.journal_at opener.old) (O.listener_at opener.old) (O.state opener.old).faults (O.state opener.new).faults journal.now address.now result }
+    ensures asked { AskedFor (O.asked opener.old opener.new) (journal_named journal.now ∷ listener_named address.now ∷ []) (IsOfNoOpening result) }
 {
     let mut disk = match opener.journal(alloc, journal) {
         Opened::Open(disk) => disk,

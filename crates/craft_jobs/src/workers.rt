@@ -1,6 +1,7 @@
 //! A job for each frame worker, on its lines.
-ghost use Rattle.std.specs.Prelude.{◌≡◌, IfOk, length, vec_len};
+ghost use Rattle.std.specs.Prelude.{◌≡◌, ◌∷◌, [], IfOk, IsOk, length, vec_len};
 ghost use Rattle.std.specs.Arc.{arc_value};
+ghost use Rattle.dxc_outside.specs.Asked.{AskedFor, asked_each, lines_named};
 ghost use Rattle.fabric_words.specs.New.{AreNew};
 ghost use Rattle.craft_jobs.specs.Missing.{IsMade};
 
@@ -22,7 +23,8 @@ fn frame_job<O: Opener>(
 ) -> Result<FrameJob<O::Lines, O::Gate>, Status>
     requires own { seat.reader.fabric ≡ arc_value fabric.now }
     requires unused { seat.reader.worker.frame ≡ 0 }
-    ensures { IsMade (O.state opener.old).faults (O.state opener.new).faults result }
+    ensures made { IsMade (O.state opener.old).faults (O.state opener.new).faults result }
+    ensures asked { O.asked opener.old opener.new (lines_named name.now number ∷ []) }
 {
     let lines = match opener.lines(alloc, name, number) {
         Opened::Open(lines) => lines,
@@ -51,6 +53,7 @@ pub fn frame_jobs<O: Opener>(
     requires each { length seats.items ≡ workers }
     ensures jobs { IfOk result (λ jobs. vec_len jobs ≡ workers) }
     ensures made { IsMade (O.state opener.old).faults (O.state opener.new).faults result }
+    ensures asked { AskedFor (O.asked opener.old opener.new) (asked_each (lines_named name.now) workers) (IsOk result) }
 {
     let mut jobs = Vec::new(alloc);
     for number in 0..workers {

@@ -1,3 +1,4 @@
+pub mod Askings
 pub mod Statuses
 pub mod Loads
 pub mod Serving

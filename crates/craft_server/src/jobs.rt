@@ -1,5 +1,6 @@
 //! A job for each place, on its callers.
-ghost use Rattle.std.specs.Prelude.{◌≡◌, IfOk, vec_len};
+ghost use Rattle.std.specs.Prelude.{◌≡◌, ◌∷◌, [], IfOk, IsOk, vec_len};
+ghost use Rattle.dxc_outside.specs.Asked.{AskedFor, asked_each, listener_named};
 ghost use Rattle.craft_jobs.specs.Missing.{IsMade};
 
 use crate::sessions::SessionJob;
@@ -16,7 +17,8 @@ fn session_job<O: Opener, D: Disk + Drop, U: Disk + Drop>(
     address: &str,
     place: Place<D, U>,
 ) -> Result<SessionJob<D, U, O::Listener, O::Clock, O::Gate>, Status>
-    ensures { IsMade (O.state opener.old).faults (O.state opener.new).faults result }
+    ensures made { IsMade (O.state opener.old).faults (O.state opener.new).faults result }
+    ensures asked { O.asked opener.old opener.new (listener_named address.now ∷ []) }
 {
     match opener.listener(alloc, address) {
         Opened::Open(listener) => Ok(SessionJob {
@@ -39,6 +41,7 @@ pub(crate) fn session_jobs<O: Opener, D: Disk + Drop, U: Disk + Drop>(
 ) -> Result<Vec<SessionJob<D, U, O::Listener, O::Clock, O::Gate>>, Status>
     ensures jobs { IfOk result (λ jobs. vec_len jobs ≡ vec_len places) }
     ensures made { IsMade (O.state opener.old).faults (O.state opener.new).faults result }
+    ensures asked { AskedFor (O.asked opener.old opener.new) (asked_each (λ session. listener_named address.now) (vec_len places)) (IsOk result) }
 {
     let mut jobs = Vec::new(alloc);
     for place in places {

@@ -1,7 +1,10 @@
 ghost use Rattle.std.specs.Prelude.{◌≡◌, ◌≢◌};
 ghost use Rattle.craft_words.specs.Lines.{IsInRange, IsLine};
 ghost use Rattle.craft_words.specs.declared.line.Line.{Line as ALine};
+ghost use Rattle.dxc_outside.specs.Asked.{AskedFor};
+ghost use Rattle.craft_jobs.specs.Missing.{IsOfNoOpening};
 ghost use Rattle.craft_element.specs.Openings.{named, sources};
+ghost use Rattle.craft_server.specs.Askings.{AskedBy, line_asked};
 ghost use Rattle.craft_server.specs.Runs.{IsRun, IsRunOf, lent, told_by};
 
 use crate::load::run_load;
@@ -38,6 +41,7 @@ where
     <O::Listener as Listener>::Link: Send + 'static,
     ensures words { result ≡ Status.BadWords → (l : ALine) → IsLine words.now l → ⊥ }
     ensures run { IsRun (told_by O.told O.Journal.told K.told C.told O.Peer.told O.Listener.told O.Listener.Link.told) O.Journal.state O.Peer.state O.Listener.state O.Listener.Link.state (O.listener_at opener.old) words.now (lent (sources (O.state opener.old) (O.journal_at opener.old) (G.stops gate.old)) (K.state terminal.old) (C.coming clock.old) (P.state spawner.old)) (lent (sources (O.state opener.new) (O.journal_at opener.new) (G.stops gate.new)) (K.state terminal.new) (C.coming clock.new) (P.state spawner.new)) result }
+    ensures asked { AskedBy (O.asked opener.old opener.new) words.now result }
 {
     match line_of(alloc, words) {
         Ok(line) => run_line(alloc, &line, opener, terminal, clock, gate, spawner, rt),
@@ -61,6 +65,7 @@ where
     <O::Listener as Listener>::Link: Send + 'static,
     ensures words { IsInRange line.now → result ≢ Status.BadWords }
     ensures run { IsInRange line.now → IsRunOf (told_by O.told O.Journal.told K.told C.told O.Peer.told O.Listener.told O.Listener.Link.told) O.Journal.state O.Peer.state O.Listener.state O.Listener.Link.state (O.listener_at opener.old) line.now (lent (sources (O.state opener.old) (O.journal_at opener.old) (G.stops gate.old)) (K.state terminal.old) (C.coming clock.old) (P.state spawner.old)) (lent (sources (O.state opener.new) (O.journal_at opener.new) (G.stops gate.new)) (K.state terminal.new) (C.coming clock.new) (P.state spawner.new)) result }
+    ensures asked { IsInRange line.now → AskedFor (O.asked opener.old opener.new) (line_asked line.now) (IsOfNoOpening result) }
 {
     match line {
         Line::Script { shelf, journal } => {

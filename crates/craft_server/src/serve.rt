@@ -1,13 +1,16 @@
 //! Sessions and frame workers, side by side.
-ghost use Rattle.std.specs.Prelude.{◌≡◌, ◌↔◌, ◌≤◌, IsTrue, ◌+◌, ℕ, length, vec_len, None, IsSome};
+ghost use Rattle.std.specs.Prelude.{◌≡◌, ◌↔◌, ◌≤◌, IsTrue, ◌+◌, ◌++◌, ℕ, length, vec_len, None, IsSome};
 ghost use Rattle.std.specs.Arc.{arc_value};
+ghost use Rattle.dxc_outside.specs.Asked.{AskedFor};
 ghost use Rattle.fabric_words.specs.New.{AreNew};
 ghost use Rattle.user_admin.specs.Openings.{Begins as UsersBegin};
 ghost use Rattle.xc_core.specs.Openings.{Begins};
 ghost use Rattle.xc_core.specs.States.{opening_of};
 ghost use Rattle.craft_session.specs.Places.{IsAtOpening};
-ghost use Rattle.craft_element.specs.Openings.{Opens, named, sources};
+ghost use Rattle.craft_jobs.specs.Missing.{IsOfNoOpening};
+ghost use Rattle.craft_element.specs.Openings.{Opens, files_asked, named, sources};
 ghost use Rattle.craft_element.specs.Peers.{Mirrors};
+ghost use Rattle.craft_server.specs.Askings.{line_asked, site_asked};
 ghost use Rattle.craft_server.specs.Serving.{IsServe, IsServing, named_in, peer_of, workers_in};
 
 use crate::jobs::session_jobs;
@@ -89,7 +92,8 @@ where
     requires begins { Begins D.told D.state state }
     requires users_begin { UsersBegin U.told U.state users }
     requires opening { IsAtOpening (opening_of D.state state) (arc_value shelf.now) (arc_value fabric.now) }
-    ensures { IsServing (site.entry.workers + 16) (O.state opener.old).faults (O.state opener.new).faults (P.state spawner.old) (P.state spawner.new) result }
+    ensures serving { IsServing (site.entry.workers + 16) (O.state opener.old).faults (O.state opener.new).faults (P.state spawner.old) (P.state spawner.new) result }
+    ensures asked { AskedFor (O.asked opener.old opener.new) (site_asked site.entry.lines.now site.entry.address.now site.entry.workers) (IsOfNoOpening result) }
 {
     let Ok(places) = open_places(alloc, shelf, fabric, state, users, SESSIONS) else {
         return Status::NoMemory;
@@ -118,7 +122,8 @@ fn serve_alone<O: Opener, G: Gate, P: Spawner, R: Wait>(
 where
     <O::Listener as Listener>::Link: Send + 'static,
     requires { (1 ≤ site.workers) × (site.workers ≤ 8) }
-    ensures { Opens O.told O.Journal.told O.Journal.state (named names.entry.shelf.now names.entry.journal.now) (sources (O.state opener.old) (O.journal_at opener.old) (G.stops gate.old)) (sources (O.state opener.new) (O.journal_at opener.new) (G.stops gate.new)) (P.state spawner.new ≡ P.state spawner.old) (λ f o u. (G.stops gate.new ≡ G.stops gate.old) × IsServing (site.entry.workers + 16) (O.state opener.old).faults (O.state opener.new).faults (P.state spawner.old) (P.state spawner.new) result) result }
+    ensures opens { Opens O.told O.Journal.told O.Journal.state (named names.entry.shelf.now names.entry.journal.now) (sources (O.state opener.old) (O.journal_at opener.old) (G.stops gate.old)) (sources (O.state opener.new) (O.journal_at opener.new) (G.stops gate.new)) (P.state spawner.new ≡ P.state spawner.old) (λ f o u. (G.stops gate.new ≡ G.stops gate.old) × IsServing (site.entry.workers + 16) (O.state opener.old).faults (O.state opener.new).faults (P.state spawner.old) (P.state spawner.new) result) result }
+    ensures asked { AskedFor (O.asked opener.old opener.new) (files_asked (named names.entry.shelf.now names.entry.journal.now) ++ site_asked site.entry.lines.now site.entry.address.now site.entry.workers) (IsOfNoOpening result) }
 {
     let Element { controller, users } = match open(alloc, opener, names, site.workers, gate) {
         Ok(element) => element,
@@ -153,6 +158,7 @@ where
     requires { IsServe line.now }
     ensures alone { peer_of line.now ≡ None → Opens O.told O.Journal.told O.Journal.state (named_in line.now) (sources (O.state opener.old) (O.journal_at opener.old) (G.stops gate.old)) (sources (O.state opener.new) (O.journal_at opener.new) (G.stops gate.new)) (P.state spawner.new ≡ P.state spawner.old) (λ f o u. (G.stops gate.new ≡ G.stops gate.old) × IsServing (workers_in line.now + 16) (O.state opener.old).faults (O.state opener.new).faults (P.state spawner.old) (P.state spawner.new) result) result }
     ensures mirrored { IsSome (peer_of line.now) → Mirrors O.Journal.told O.Peer.told O.Journal.state O.Peer.state O.told (named_in line.now) (sources (O.state opener.old) (O.journal_at opener.old) (G.stops gate.old)) (sources (O.state opener.new) (O.journal_at opener.new) (G.stops gate.new)) (P.state spawner.new ≡ P.state spawner.old) (λ f o u. (G.stops gate.new ≡ G.stops gate.old) × IsServing (workers_in line.now + 16) (O.state opener.old).faults (O.state opener.new).faults (P.state spawner.old) (P.state spawner.new) result) result }
+    ensures asked { AskedFor (O.asked opener.old opener.new) (line_asked line.now) (IsOfNoOpening result) }
 {
     let Line::Serve {
         shelf,
@@ -194,6 +200,7 @@ where
     <O::Listener as Listener>::Link: Send + 'static,
     ensures alone { IsServe line.now → peer_of line.now ≡ None → Opens O.told O.Journal.told O.Journal.state (named_in line.now) (sources (O.state opener.old) (O.journal_at opener.old) (G.stops gate.old)) (sources (O.state opener.new) (O.journal_at opener.new) (G.stops gate.new)) (P.state spawner.new ≡ P.state spawner.old) (λ f o u. (G.stops gate.new ≡ G.stops gate.old) × IsServing (workers_in line.now + 16) (O.state opener.old).faults (O.state opener.new).faults (P.state spawner.old) (P.state spawner.new) result) result }
     ensures mirrored { IsServe line.now → IsSome (peer_of line.now) → Mirrors O.Journal.told O.Peer.told O.Journal.state O.Peer.state O.told (named_in line.now) (sources (O.state opener.old) (O.journal_at opener.old) (G.stops gate.old)) (sources (O.state opener.new) (O.journal_at opener.new) (G.stops gate.new)) (P.state spawner.new ≡ P.state spawner.old) (λ f o u. (G.stops gate.new ≡ G.stops gate.old) × IsServing (workers_in line.now + 16) (O.state opener.old).faults (O.state opener.new).faults (P.state spawner.old) (P.state spawner.new) result) result }
+    ensures asked { IsServe line.now → AskedFor (O.asked opener.old opener.new) (line_asked line.now) (IsOfNoOpening result) }
 {
     if is_serve(line) {
         serve_all(alloc, opener, line, gate, spawner, rt)

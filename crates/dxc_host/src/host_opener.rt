@@ -21,7 +21,9 @@ pub struct HostOpener<T> {
 
 impl<T: Drop> HostOpener<T> {
     /// The listeners that it binds are kept behind what `bound` holds.
-    pub fn new(system: T, bound: Vec<(String, TcpListener)>) -> HostOpener<T> {
+    pub fn new(system: T, bound: Vec<(String, TcpListener)>) -> HostOpener<T>
+        ensures { result.faults ≡ 0 }
+    {
         HostOpener {
             system,
             bound,
@@ -112,6 +114,12 @@ impl<
     ghost journal_at = { λ _ _. None };
 
     ghost listener_at = { λ _ _. None };
+
+    ghost asked = { λ _ _ _. Unit {0} };
+
+    ghost unasked = { λ _. tt };
+
+    ghost asked_on = { λ _ _ _ _ _ _ _. tt };
 
     fn shelf(&mut self, _alloc: Global, name: &str, into: &mut Vec<u8>) -> Opened<()> {
         match append_file(&self.system, name, into) {

@@ -1,3 +1,4 @@
+pub mod Asked
 pub mod Askings
 pub mod Callers
 pub mod Fakes

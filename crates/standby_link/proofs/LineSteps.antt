@@ -1,5 +1,5 @@
 -- What a primary sends, act by act.
-use Rattle.std.proofs.Common.{◌≡◌, inr, ⊎_elim, ℕ, ◌+◌, ◌-◌, ◌≤◌, ◌<◌, List, [], ◌∷◌, ◌++◌, length, take, drop, Option, Some, None, IsSome, is_some, false, IsTrue, ◌↔◌, IfNone, IfSome, refl, sym, ◌∙◌, ap, subst, arith, zero, suc, min, length-drop, length-append, append_assoc}
+use Rattle.std.proofs.Common.{◌≡◌, ◌≢◌, inr, ⊎_elim, ℕ, ◌+◌, ◌-◌, ◌≤◌, ◌<◌, List, [], ◌∷◌, ◌++◌, length, take, drop, Option, Some, None, IsSome, is_some, false, IsTrue, ◌↔◌, IfNone, IfSome, refl, sym, ◌∙◌, ap, subst, arith, zero, suc, min, length-drop, length-append, append_assoc}
 use Rattle.std.proofs.lemmas.List.{append-nil, take_all, drop-drop}
 use Rattle.std.proofs.lemmas.Bool.{cases_lt}
 use Rattle.std.proofs.Math.ListN.{drop_of_length-le}
@@ -72,8 +72,8 @@ lost_here (Some x) none some = cc
 
 -- a Sync that was sent whole, and the wait for its Have
 pub syncs_whole : (told : Type 0) (old mid new : LinkState) (n m : ℕ) (kept part rest message : List ℕ) (before sent lost : Option Lost) → kept ≡ part → m ≡ n + 1 → message ≡ spelled (n + 1) sync → is_some sent ≡ false → SendsOne told old mid sent message
-    → IfNone lost (WaitsFor told mid new kept rest m) → IfSome lost (λ why. WaitsInVain told mid new kept m why) → ((lost ≡ Some End) ↔ IsTrue new.ended) → new.reads ≤ mid.reads + 256 → Syncs told (line old n part before) (line new m rest lost)
-syncs_whole told old mid new n m kept part rest message before sent lost same number is here sends came vain end few = ⊎_elim
+    → IfNone lost (WaitsFor told mid new kept rest m) → IfSome lost (λ why. WaitsInVain told mid new kept m why) → ((lost ≡ Some End) ↔ IsTrue new.ended) → new.reads ≤ mid.reads + 256 → (lost ≢ Some Link → new.read_faults ≡ mid.read_faults) → Syncs told (line old n part before) (line new m rest lost)
+syncs_whole told old mid new n m kept part rest message before sent lost same number is here sends came vain end few no_fault = ⊎_elim
     (λ whole. inr (
       mid,
       record {
@@ -83,6 +83,7 @@ syncs_whole told old mid new n m kept part rest message before sent lost same nu
         vain = λ why some. subst (λ (l : List ℕ). WaitsInVain told mid new l (n + 1) why) same (subst (λ (k : ℕ). WaitsInVain told mid new kept k why) number (at_some (λ (w : Lost). WaitsInVain told mid new kept m w) lost why some vain));
         end = end;
         few = few;
+        no_fault = no_fault;
       },
     ))
     (λ cut. absurd (lost_here sent here cut.0))

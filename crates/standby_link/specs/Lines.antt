@@ -1,5 +1,5 @@
 -- What a primary sends over its line.
-use Rattle.std.specs.Prelude.{◌≡◌, ◌⊎◌, ◌↔◌, IsTrue, ℕ, ◌+◌, ◌≤◌, List, [], ◌++◌, length, take, Option, Some, None, IsSome}
+use Rattle.std.specs.Prelude.{◌≡◌, ◌≢◌, ◌⊎◌, ◌↔◌, IsTrue, ℕ, ◌+◌, ◌≤◌, List, [], ◌++◌, length, take, Option, Some, None, IsSome}
 use Rattle.dxc_causes.specs.Causes.{Rose}
 use Rattle.dxc_outside.specs.Links.{LinkState, Wrote, IsSent}
 use Rattle.dxc_outside.specs.declared.send.Sent.TheVariants.{Cut}
@@ -46,6 +46,8 @@ pub record SentSync (told : Type 0) (mid : LinkState) (old new : LineState) : Ty
   pub vain : (why : Lost) → new.lost ≡ Some why → WaitsInVain told mid new.link old.held (old.number + 1) why
   pub end : (new.lost ≡ Some End) ↔ IsTrue new.link.ended
   pub few : new.link.reads ≤ mid.reads + 256
+  -- a read that failed loses the line
+  pub no_fault : new.lost ≢ Some Link → new.link.read_faults ≡ mid.read_faults
 
 abbrev pub Syncs : (told : Type 0) (old new : LineState) → Type 0
 Syncs told old new =

@@ -21,6 +21,7 @@ pub fn serve_standby<K: Link, D: Disk>(link: &mut K, disk: &mut D) -> StandbyEnd
     ensures empty { D.told → result ≡ StandbyEnd.NotEmpty → (D.state disk.old).reads_as ≢ [] }
     ensures end { (K.state link.old).ended ≡ false → ((result ≡ StandbyEnd.End) ↔ IsTrue (K.state link.new).ended) }
     ensures read_fault { result ≡ StandbyEnd.ReadFault → Rose (K.state link.old).read_faults (K.state link.new).read_faults }
+    ensures no_read_fault { result ≢ StandbyEnd.ReadFault → (K.state link.new).read_faults ≡ (K.state link.old).read_faults }
     ensures write_fault { result ≡ StandbyEnd.WriteFault → Rose (K.state link.old).write_faults (K.state link.new).write_faults }
     ensures disk_fault { result ≡ StandbyEnd.DiskFault → Rose (D.state disk.old).faults (D.state disk.new).faults }
     ensures few { (K.state link.new).reads ≤ (K.state link.old).reads + 2 ^ 32 }
@@ -39,6 +40,7 @@ fn serve<K: Link, D: Disk>(link: &mut K, disk: &mut D) -> StandbyEnd
     ensures served { (room sum : ℕ) → IsSpentBy 1 room sum (D.state disk.old) → Served K.told D.told room sum (K.state link.old) (K.state link.new) (D.state disk.new) result }
     ensures end { (result ≡ StandbyEnd.End) ↔ IsTrue (K.state link.new).ended }
     ensures read_fault { HasCause (K.state link.old).read_faults (K.state link.new).read_faults (result ≡ StandbyEnd.ReadFault) }
+    ensures no_read_fault { result ≢ StandbyEnd.ReadFault → (K.state link.new).read_faults ≡ (K.state link.old).read_faults }
     ensures write_fault { HasCause (K.state link.old).write_faults (K.state link.new).write_faults (result ≡ StandbyEnd.WriteFault) }
     ensures disk_fault { HasCause (D.state disk.old).faults (D.state disk.new).faults (result ≡ StandbyEnd.DiskFault) }
     ensures few { (K.state link.new).reads ≤ (K.state link.old).reads + 2 ^ 32 }
@@ -79,6 +81,7 @@ fn turn<K: Link, D: Disk>(
     ensures end { (result ≡ Err StandbyEnd.End) ↔ IsTrue (K.state link.new).ended }
     ensures reads { Counted (K.state link.old).reads (K.state link.new).reads 1 }
     ensures read_fault { HasCause (K.state link.old).read_faults (K.state link.new).read_faults (result ≡ Err StandbyEnd.ReadFault) }
+    ensures no_read_fault { result ≢ Err StandbyEnd.ReadFault → (K.state link.new).read_faults ≡ (K.state link.old).read_faults }
     ensures write_fault { HasCause (K.state link.old).write_faults (K.state link.new).write_faults (result ≡ Err StandbyEnd.WriteFault) }
     ensures disk_fault { HasCause (D.state disk.old).faults (D.state disk.new).faults (result ≡ Err StandbyEnd.DiskFault) }
     ensures sound { IsSoundLink (K.state link.old) → IsSoundLink (K.state link.new) × (result ≢ Err StandbyEnd.ReadFault) × (result ≢ Err StandbyEnd.WriteFault) }

@@ -104,6 +104,12 @@ impl Opener for RowOpener {
 
     ghost listener_at = { λ _ _. None };
 
+    ghost asked = { λ _ _ _. Unit {0} };
+
+    ghost unasked = { λ _. tt };
+
+    ghost asked_on = { λ _ _ _ _ _ _ _. tt };
+
     fn shelf(&mut self, _alloc: Global, _name: &str, into: &mut Vec<u8>) -> Opened<()> {
         match self.opened(Some(())) {
             Opened::Open(()) => {}

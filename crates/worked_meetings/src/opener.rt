@@ -68,6 +68,12 @@ impl Opener for SessionsOpener {
 
     ghost listener_at = { λ _ _. None };
 
+    ghost asked = { λ _ _ _. Unit {0} };
+
+    ghost unasked = { λ _. tt };
+
+    ghost asked_on = { λ _ _ _ _ _ _ _. tt };
+
     fn shelf(&mut self, _alloc: Global, _name: &str, into: &mut Vec<u8>) -> Opened<()> {
         match into.extend_from_slice(read_part(&self.shelf)) {
             Ok(()) => Opened::Open(()),

@@ -6,6 +6,9 @@ use Rattle.shelf_file.specs.Contents.{Contents}
 use Rattle.xc_core.specs.States.{opening_of}
 use Rattle.craft_element.proofs.Starting.{begun, users_began}
 use Rattle.craft_element.proofs.Audits.{listed_first, of_shape}
+use Rattle.dxc_outside.proofs.Asking.{asked_less}
+use Rattle.craft_element.specs.Openings.{files_asked, named, sources}
+use Rattle.craft_element.proofs.Wording.{not_opened_ends}
 use Rattle.craft_element.proofs.check.run_check.Goals as goal
 
 pub check-requires-clause-room : goal.check-requires-clause-room
@@ -18,11 +21,11 @@ check-requires-clause-room g c =
     let size : ports x.state.table.shape ≡ ports (arc_value x.shelf).shape = ap ports (of_shape told state f.shelf x.state st.begins st.shape ∙ ap (λ (s : Contents). s.shape) (sym st.shelf)) in
     subst (λ (n : ℕ). n ≤ vec_capacity c.in-Ok-with_capacity.listed) (sym size) (search rules)
 
-pub returns-in-Err : goal.returns-in-Err
-returns-in-Err g c = inl (c.in-Err.ensures.opened, refl)
+pub returns-in-Err-clause-opens : goal.returns-in-Err-clause-opens
+returns-in-Err-clause-opens g c = inl (c.in-Err.ensures.opened, refl)
 
-pub returns : goal.returns
-returns g c =
+pub returns-clause-opens : goal.returns-clause-opens
+returns-clause-opens g c =
     let f = c.in-Ok.ensures.opened.0.0 in
     let x = c.in-Ok.element.controller in
     let st = c.in-Ok.ensures.opened.0.1 in
@@ -42,3 +45,16 @@ returns g c =
         },
       ),
     )
+
+pub returns-in-Err-clause-asked : goal.returns-in-Err-clause-asked
+returns-in-Err-clause-asked g c =
+    let names = named c.args.names.shelf.now c.args.names.journal.now in
+    let before = sources (g.O.Opener.state c.args.opener.now) (g.O.Opener.journal_at c.args.opener.now) (g.G.Gate.stops c.args.gate.now) in
+    let after = sources (g.O.Opener.state c.open.new.opener) (g.O.Opener.journal_at c.open.new.opener) (g.G.Gate.stops c.open.new.gate) in
+    asked_less (g.O.Opener.asked c.args.opener.now c.open.new.opener) _ (files_asked names) (λ ends. absurd (not_opened_ends g.O.Opener.told g.O.Journal.Disk.told g.O.Journal.Disk.state names before after c.in-Err.status c.in-Err.ensures.opened ends)) c.in-Err.ensures.asked
+
+pub returns-in_default-clause-asked : goal.returns-in_default-clause-asked
+returns-in_default-clause-asked g c = asked_less (g.O.Opener.asked c.args.opener.now c.open.new.opener) _ (files_asked (named c.args.names.shelf.now c.args.names.journal.now)) (λ ends. refl) c.in-Ok.ensures.asked
+
+pub returns-clause-asked : goal.returns-clause-asked
+returns-clause-asked g c = asked_less (g.O.Opener.asked c.args.opener.now c.open.new.opener) _ (files_asked (named c.args.names.shelf.now c.args.names.journal.now)) (λ ends. refl) c.in-Ok.ensures.asked

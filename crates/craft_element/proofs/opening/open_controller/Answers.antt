@@ -1,6 +1,10 @@
 use Rattle.craft_jobs.proofs.Handing.{handed}
 use Rattle.craft_element.specs.Openings.{named, sources}
 use Rattle.craft_element.proofs.Starting.{opened}
+use Rattle.std.proofs.Common.{[], ◌∷◌, true≢false, sym}
+use Rattle.std.proofs.lemmas.Result.{err_from_is_err_and}
+use Rattle.dxc_outside.specs.Asked.{journal_named, shelf_named}
+use Rattle.dxc_outside.proofs.Asking.{asked_all, asked_part}
 use Rattle.craft_element.proofs.opening.open_controller.Goals as goal
 
 pub returns-in-Open-clause-opened : goal.returns-in-Open-clause-opened
@@ -13,3 +17,23 @@ returns-in-Open-clause-opened g c =
       disk = c.in-Open.disk;
       handed = handed g.O.Opener.told (g.O.Opener.journal_at c.args.opener.now) (g.O.Opener.journal_at c.shelf_of_file.new.opener) (g.O.Opener.journal_at c.journal.new.self) c.journal.result c.in-Open.disk c.args.names.journal.now c.in_ok-shelf.ensures.journals c.in-Open.is c.journal.ensures.opening.hands;
     }) c.start.result c.start.ensures.started
+
+pub returns-in-Open-clause-asked : goal.returns-in-Open-clause-asked
+returns-in-Open-clause-asked g c =
+    asked_all (g.O.Opener.asked c.args.opener.now c.journal.new.self) _ (shelf_named c.args.names.shelf.now ∷ journal_named c.args.names.journal.now ∷ [])
+    (g.O.Opener.asked_on c.args.opener.now c.shelf_of_file.new.opener c.journal.new.self (shelf_named c.args.names.shelf.now ∷ []) (journal_named c.args.names.journal.now ∷ []) c.in_ok-shelf.ensures.asked c.journal.ensures.asked)
+
+pub returns-in-Failed-clause-asked : goal.returns-in-Failed-clause-asked
+returns-in-Failed-clause-asked g c =
+    asked_all (g.O.Opener.asked c.args.opener.now c.journal.new.self) _ (shelf_named c.args.names.shelf.now ∷ journal_named c.args.names.journal.now ∷ [])
+    (g.O.Opener.asked_on c.args.opener.now c.shelf_of_file.new.opener c.journal.new.self (shelf_named c.args.names.shelf.now ∷ []) (journal_named c.args.names.journal.now ∷ []) c.in_ok-shelf.ensures.asked c.journal.ensures.asked)
+
+pub returns-in-NoMemory-clause-asked : goal.returns-in-NoMemory-clause-asked
+returns-in-NoMemory-clause-asked g c =
+    asked_all (g.O.Opener.asked c.args.opener.now c.journal.new.self) _ (shelf_named c.args.names.shelf.now ∷ journal_named c.args.names.journal.now ∷ [])
+    (g.O.Opener.asked_on c.args.opener.now c.shelf_of_file.new.opener c.journal.new.self (shelf_named c.args.names.shelf.now ∷ []) (journal_named c.args.names.journal.now ∷ []) c.in_ok-shelf.ensures.asked c.journal.ensures.asked)
+
+pub returns-in_err-shelf-clause-asked : goal.returns-in_err-shelf-clause-asked
+returns-in_err-shelf-clause-asked g c =
+    let p = err_from_is_err_and c.from_residual.result c.from_residual.ensures.1 in
+    rw p.1 (asked_part (g.O.Opener.asked c.args.opener.now c.shelf_of_file.new.opener) _ (shelf_named c.args.names.shelf.now ∷ []) (journal_named c.args.names.journal.now ∷ []) c.in_err-shelf.ensures.asked (λ ok. true≢false (sym ok)))

@@ -20,3 +20,12 @@ returns-in-Failed-clause-journals g c = c.shelf.ensures.journals
 
 pub returns-in-Failed-clause-later : goal.returns-in-Failed-clause-later
 returns-in-Failed-clause-later g c = c.shelf.ensures.read.cause.later
+
+pub returns-in-Ok-clause-asked : goal.returns-in-Ok-clause-asked
+returns-in-Ok-clause-asked g c = c.shelf.ensures.asked
+
+pub returns-in-Err-NoMemory-clause-asked : goal.returns-in-Err-NoMemory-clause-asked
+returns-in-Err-NoMemory-clause-asked g c = c.shelf.ensures.asked
+
+pub returns-in-Failed-clause-asked : goal.returns-in-Failed-clause-asked
+returns-in-Failed-clause-asked g c = c.shelf.ensures.asked

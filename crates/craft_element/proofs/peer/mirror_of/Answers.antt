@@ -1,6 +1,8 @@
-use Rattle.std.proofs.Common.{◌∙◌, arith, inl, inr, refl}
+use Rattle.std.proofs.Common.{◌∙◌, [], ◌∷◌, arith, inl, inr, refl, true≢false, sym}
 use Rattle.craft_jobs.proofs.Handing.{handed}
 use Rattle.craft_jobs.proofs.Counting.{rose_behind}
+use Rattle.dxc_outside.specs.Asked.{journal_named, peer_named}
+use Rattle.dxc_outside.proofs.Asking.{asked_all, asked_part}
 use Rattle.craft_element.proofs.peer.mirror_of.Goals as goal
 
 pub returns-in-Failed-clause-mirror : goal.returns-in-Failed-clause-mirror
@@ -56,3 +58,18 @@ returns-in-NoMemory-peer-clause-others g c = λ t n not. c.peer.ensures.aside.jo
 
 pub returns-in-NoMemory-peer-clause-later : goal.returns-in-NoMemory-peer-clause-later
 returns-in-NoMemory-peer-clause-later g c = let first = c.journal.ensures.opening.cause.later in let then_peer = c.peer.ensures.cause.later in omega (arith, first, then_peer)
+
+pub returns-in-Failed-clause-asked : goal.returns-in-Failed-clause-asked
+returns-in-Failed-clause-asked g c = asked_part (g.O.Opener.asked c.args.opener.now c.journal.new.self) _ (journal_named c.args.journal.now ∷ []) (peer_named c.args.peer.now ∷ []) c.journal.ensures.asked (λ ok. true≢false (sym ok))
+
+pub returns-in-NoMemory-clause-asked : goal.returns-in-NoMemory-clause-asked
+returns-in-NoMemory-clause-asked g c = asked_part (g.O.Opener.asked c.args.opener.now c.journal.new.self) _ (journal_named c.args.journal.now ∷ []) (peer_named c.args.peer.now ∷ []) c.journal.ensures.asked (λ ok. true≢false (sym ok))
+
+pub returns-in-Open-peer-clause-asked : goal.returns-in-Open-peer-clause-asked
+returns-in-Open-peer-clause-asked g c = asked_all (g.O.Opener.asked c.args.opener.now c.peer.new.self) _ (journal_named c.args.journal.now ∷ peer_named c.args.peer.now ∷ []) (g.O.Opener.asked_on c.args.opener.now c.journal.new.self c.peer.new.self (journal_named c.args.journal.now ∷ []) (peer_named c.args.peer.now ∷ []) c.journal.ensures.asked c.peer.ensures.asked)
+
+pub returns-in-Failed-peer-clause-asked : goal.returns-in-Failed-peer-clause-asked
+returns-in-Failed-peer-clause-asked g c = asked_all (g.O.Opener.asked c.args.opener.now c.peer.new.self) _ (journal_named c.args.journal.now ∷ peer_named c.args.peer.now ∷ []) (g.O.Opener.asked_on c.args.opener.now c.journal.new.self c.peer.new.self (journal_named c.args.journal.now ∷ []) (peer_named c.args.peer.now ∷ []) c.journal.ensures.asked c.peer.ensures.asked)
+
+pub returns-in-NoMemory-peer-clause-asked : goal.returns-in-NoMemory-peer-clause-asked
+returns-in-NoMemory-peer-clause-asked g c = asked_all (g.O.Opener.asked c.args.opener.now c.peer.new.self) _ (journal_named c.args.journal.now ∷ peer_named c.args.peer.now ∷ []) (g.O.Opener.asked_on c.args.opener.now c.journal.new.self c.peer.new.self (journal_named c.args.journal.now ∷ []) (peer_named c.args.peer.now ∷ []) c.journal.ensures.asked c.peer.ensures.asked)

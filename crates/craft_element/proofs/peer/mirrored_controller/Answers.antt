@@ -1,5 +1,9 @@
 use Rattle.craft_element.specs.Openings.{named, sources}
 use Rattle.craft_element.proofs.Mirroring.{mirror_behind, mirrored}
+use Rattle.std.proofs.Common.{[], ◌∷◌, refl, true≢false, sym}
+use Rattle.std.proofs.lemmas.Result.{err_from_is_err_and}
+use Rattle.dxc_outside.specs.Asked.{journal_named, peer_named, shelf_named}
+use Rattle.dxc_outside.proofs.Asking.{asked_behind, asked_less, asked_part}
 use Rattle.craft_element.proofs.peer.mirrored_controller.Goals as goal
 
 pub returns-clause-opened : goal.returns-clause-opened
@@ -14,3 +18,23 @@ returns-clause-opened g c =
       mirror = c.in_ok-mirror.mirror;
       mirrors = mirror_behind told g.O.Peer.Link.told state g.O.Peer.Link.state g.O.Opener.told _ _ _ _ c.in_ok-shelf.ensures.journals c.in_ok-mirror.ensures.mirror;
     }) c.start.result c.start.ensures.started
+
+pub returns-clause-asked : goal.returns-clause-asked
+returns-clause-asked g c =
+    let first = shelf_named c.args.names.shelf.now ∷ [] in
+    let behind = journal_named c.args.names.journal.now ∷ peer_named c.args.peer.now ∷ [] in
+    asked_less (g.O.Opener.asked c.args.opener.now c.mirror_of.new.opener) _ (shelf_named c.args.names.shelf.now ∷ behind) (λ ok. refl)
+    (asked_behind g.O.Opener.asked g.O.Opener.asked_on c.args.opener.now c.shelf_of_file.new.opener c.mirror_of.new.opener first behind c.in_ok-shelf.ensures.asked c.in_ok-mirror.ensures.asked)
+
+pub returns-in_err-shelf-clause-asked : goal.returns-in_err-shelf-clause-asked
+returns-in_err-shelf-clause-asked g c =
+    let p = err_from_is_err_and c.from_residual.result c.from_residual.ensures.1 in
+    let behind = journal_named c.args.names.journal.now ∷ peer_named c.args.peer.now ∷ [] in
+    rw p.1 (asked_part (g.O.Opener.asked c.args.opener.now c.shelf_of_file.new.opener) _ (shelf_named c.args.names.shelf.now ∷ []) behind c.in_err-shelf.ensures.asked (λ ok. true≢false (sym ok)))
+
+pub returns-in_err-mirror-clause-asked : goal.returns-in_err-mirror-clause-asked
+returns-in_err-mirror-clause-asked g c =
+    let p = err_from_is_err_and c.from_residual-in_err-mirror.result c.from_residual-in_err-mirror.ensures.1 in
+    let first = shelf_named c.args.names.shelf.now ∷ [] in
+    let behind = journal_named c.args.names.journal.now ∷ peer_named c.args.peer.now ∷ [] in
+    rw p.1 (asked_behind g.O.Opener.asked g.O.Opener.asked_on c.args.opener.now c.shelf_of_file.new.opener c.mirror_of.new.opener first behind c.in_ok-shelf.ensures.asked c.in_err-mirror.ensures.asked)

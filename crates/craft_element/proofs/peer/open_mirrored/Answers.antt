@@ -1,9 +1,11 @@
-use Rattle.std.proofs.Common.{Ok, Err, ◌∙◌, inl, inr}
+use Rattle.std.proofs.Common.{[], ◌∷◌, Ok, Err, ◌∙◌, inl, inr, true≢false, sym, refl}
 use Rattle.std.proofs.lemmas.Result.{err_from_is_err_and}
 use Rattle.xc_core.specs.States.{opening_of}
-use Rattle.craft_element.specs.Openings.{named, sources}
+use Rattle.craft_element.specs.Openings.{named, sources, users_name}
 use Rattle.craft_element.specs.Peers.{mirror_state}
 use Rattle.craft_element.proofs.Starting.{begun, with_users}
+use Rattle.dxc_outside.specs.Asked.{journal_named, peer_named, shelf_named}
+use Rattle.dxc_outside.proofs.Asking.{all_made, asked_behind, asked_within}
 use Rattle.craft_element.proofs.peer.open_mirrored.Goals as goal
 
 pub returns-in-Ok-clause-opened : goal.returns-in-Ok-clause-opened
@@ -34,3 +36,18 @@ returns-in-Err-clause-opened g c =
 
 pub returns-in_err-controller-clause-opened : goal.returns-in_err-controller-clause-opened
 returns-in_err-controller-clause-opened g c = let p = err_from_is_err_and c.from_residual.result c.from_residual.ensures.1 in rw (p.1, p.2) (inl c.in_err-controller.ensures.opened)
+
+pub returns-in-Ok-clause-asked : goal.returns-in-Ok-clause-asked
+returns-in-Ok-clause-asked g c =
+    asked_behind g.O.Opener.asked g.O.Opener.asked_on c.args.opener.now c.mirrored_controller.new.opener c.open_users.new.opener (shelf_named c.args.names.shelf.now ∷ journal_named c.args.names.journal.now ∷ peer_named c.args.peer.now ∷ []) (journal_named (users_name c.args.names.journal.now) ∷ [])
+    (all_made g.O.Opener.asked g.O.Opener.asked_on c.args.opener.now c.mirrored_controller.new.opener c.mirrored_controller.new.opener (shelf_named c.args.names.shelf.now ∷ journal_named c.args.names.journal.now ∷ peer_named c.args.peer.now ∷ []) c.in_ok-controller.ensures.asked refl) c.in-Ok.ensures.asked
+
+pub returns-in-Err-clause-asked : goal.returns-in-Err-clause-asked
+returns-in-Err-clause-asked g c =
+    asked_behind g.O.Opener.asked g.O.Opener.asked_on c.args.opener.now c.mirrored_controller.new.opener c.open_users.new.opener (shelf_named c.args.names.shelf.now ∷ journal_named c.args.names.journal.now ∷ peer_named c.args.peer.now ∷ []) (journal_named (users_name c.args.names.journal.now) ∷ [])
+    (all_made g.O.Opener.asked g.O.Opener.asked_on c.args.opener.now c.mirrored_controller.new.opener c.mirrored_controller.new.opener (shelf_named c.args.names.shelf.now ∷ journal_named c.args.names.journal.now ∷ peer_named c.args.peer.now ∷ []) c.in_ok-controller.ensures.asked refl) c.in-Err.ensures.asked
+
+pub returns-in_err-controller-clause-asked : goal.returns-in_err-controller-clause-asked
+returns-in_err-controller-clause-asked g c =
+    let p = err_from_is_err_and c.from_residual.result c.from_residual.ensures.1 in
+    rw p.1 (asked_within (g.O.Opener.asked c.args.opener.now c.mirrored_controller.new.opener) _ (shelf_named c.args.names.shelf.now ∷ journal_named c.args.names.journal.now ∷ peer_named c.args.peer.now ∷ []) (journal_named (users_name c.args.names.journal.now) ∷ []) c.in_err-controller.ensures.asked (λ ok. true≢false (sym ok)))

@@ -10,6 +10,7 @@ returns g c =
       empty = e.empty;
       ended = e.end;
       read_fault = e.read_fault;
+      no_read_fault = e.no_read_fault;
       write_fault = e.write_fault;
       disk_fault = e.disk_fault;
       spent = e.spent;

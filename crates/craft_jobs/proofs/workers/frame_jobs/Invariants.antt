@@ -1,5 +1,6 @@
 use Rattle.std.proofs.Common.{◌≡◌, ◌≤◌, ◌+◌, length}
 use Rattle.std.specs.Arc.{arc_value}
+use Rattle.dxc_outside.specs.Asked.{asked_each, lines_named}
 use Rattle.fabric_words.specs.New.{AreNew}
 use Rattle.craft_jobs.proofs.workers.frame_jobs.Given as goal
 
@@ -10,4 +11,5 @@ invariant-loop-number g l = record {
   each : length l.seats.items + l.number ≡ l.fn.workers;
   jobs : length l.jobs.items ≡ l.number;
   later : (g.O.Opener.state l.fn.opener).faults ≤ (g.O.Opener.state l.opener).faults;
+  asked : g.O.Opener.asked l.fn.opener l.opener (asked_each (lines_named l.fn.name) l.number);
 }

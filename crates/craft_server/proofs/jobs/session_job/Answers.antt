@@ -1,12 +1,25 @@
-use Rattle.std.proofs.Common.{◌∙◌}
+use Rattle.std.proofs.Common.{◌∙◌, [], ◌∷◌}
+use Rattle.dxc_outside.specs.Asked.{listener_named}
 use Rattle.craft_jobs.proofs.Faulting.{is_made, kept, no_memory, not_opened}
 use Rattle.craft_server.proofs.jobs.session_job.Goals as goal
 
-pub returns-in-Open : goal.returns-in-Open
-returns-in-Open g c = kept _ _ _ _ (c.gate.ensures.faults ∙ c.clock.ensures.faults) (is_made _ _ c.listener.ensures.cause.later _)
+pub returns-in-Open-clause-made : goal.returns-in-Open-clause-made
+returns-in-Open-clause-made g c = kept _ _ _ _ (c.gate.ensures.faults ∙ c.clock.ensures.faults) (is_made _ _ c.listener.ensures.cause.later _)
 
-pub returns-in-Failed : goal.returns-in-Failed
-returns-in-Failed g c = not_opened _ _ c.listener.ensures.cause c.in-Failed.is
+pub returns-in-Failed-clause-made : goal.returns-in-Failed-clause-made
+returns-in-Failed-clause-made g c = not_opened _ _ c.listener.ensures.cause c.in-Failed.is
 
-pub returns-in-NoMemory : goal.returns-in-NoMemory
-returns-in-NoMemory g c = no_memory _ _ c.listener.ensures.cause.later
+pub returns-in-NoMemory-clause-made : goal.returns-in-NoMemory-clause-made
+returns-in-NoMemory-clause-made g c = no_memory _ _ c.listener.ensures.cause.later
+
+pub returns-in-Open-clause-asked : goal.returns-in-Open-clause-asked
+returns-in-Open-clause-asked g c =
+    let one = listener_named c.args.address.now ∷ [] in
+    let on = g.O.Opener.asked_on in
+    on c.args.opener.now c.clock.new.self c.gate.new.self one [] (on c.args.opener.now c.listener.new.self c.clock.new.self one [] c.listener.ensures.asked c.clock.ensures.asked) c.gate.ensures.asked
+
+pub returns-in-Failed-clause-asked : goal.returns-in-Failed-clause-asked
+returns-in-Failed-clause-asked g c = c.listener.ensures.asked
+
+pub returns-in-NoMemory-clause-asked : goal.returns-in-NoMemory-clause-asked
+returns-in-NoMemory-clause-asked g c = c.listener.ensures.asked

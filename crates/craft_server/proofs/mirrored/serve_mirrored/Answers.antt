@@ -1,14 +1,17 @@
 use Rattle.std.proofs.Common.{◌≡◌, ◌+◌, inl, refl}
 use Rattle.craft_element.specs.Openings.{named, sources}
-use Rattle.craft_element.specs.Peers.{mirror_state}
+use Rattle.craft_element.specs.Peers.{mirror_asked, mirror_state}
 use Rattle.craft_server.specs.Serving.{IsServing}
 use Rattle.craft_element.proofs.Mirroring.{serves}
 use Rattle.craft_server.proofs.Serves.{serving_behind}
 use Rattle.craft_server.proofs.Starting.{opened_at}
+use Rattle.dxc_outside.proofs.Asking.{all_made, asked_behind, asked_within}
+use Rattle.craft_element.proofs.Wording.{not_mirrored_ends}
+use Rattle.craft_server.specs.Askings.{site_asked}
 use Rattle.craft_server.proofs.mirrored.serve_mirrored.Goals as goal
 
-pub returns-in-Err : goal.returns-in-Err
-returns-in-Err g c = inl (c.in-Err.ensures.opened, refl)
+pub returns-in-Err-clause-mirrors : goal.returns-in-Err-clause-mirrors
+returns-in-Err-clause-mirrors g c = inl (c.in-Err.ensures.opened, refl)
 
 pub serve_on-requires-clause-seats : goal.serve_on-requires-clause-seats
 serve_on-requires-clause-seats g c κs within = c.in-Ok.ensures.opened.0.1.seats
@@ -25,11 +28,24 @@ serve_on-requires-clause-users_begin g c κs within = c.in-Ok.ensures.opened.1.1
 pub serve_on-requires-clause-opening : goal.serve_on-requires-clause-opening
 serve_on-requires-clause-opening g c κs within = let h = c.in-Ok.ensures.opened.0 in opened_at g.O.Journal.Disk.told (mirror_state g.O.Journal.Disk.state) h.0.mirror h.0.shelf _ c.in-Ok.element.controller h.1
 
-pub returns : goal.returns
-returns g c =
+pub returns-clause-mirrors : goal.returns-clause-mirrors
+returns-clause-mirrors g c =
     let before = sources (g.O.Opener.state c.args.opener.now) (g.O.Opener.journal_at c.args.opener.now) (g.G.Gate.stops c.args.gate.now) in
     let after = sources (g.O.Opener.state c.serve_on.new.opener) (g.O.Opener.journal_at c.serve_on.new.opener) (g.G.Gate.stops c.open_mirrored.new.gate) in
     let p = g.P.Spawner.state c.args.spawner.now in
     let q = g.P.Spawner.state c.serve_on.new.spawner in
-    let jobs = serving_behind _ _ _ _ p q c.serve_on.result c.in-Ok.ensures.later c.serve_on.ensures in
+    let jobs = serving_behind _ _ _ _ p q c.serve_on.result c.in-Ok.ensures.later c.serve_on.ensures.serving in
     serves g.O.Journal.Disk.told g.O.Peer.Link.told g.O.Journal.Disk.state g.O.Peer.Link.state g.O.Opener.told (named c.args.names.shelf.now c.args.names.journal.now) c.args.site.workers before after (q ≡ p) ((after.stops ≡ before.stops) × IsServing (c.args.site.workers + 16) before.opener.faults after.opener.faults p q c.serve_on.result) c.serve_on.result c.in-Ok.element c.in-Ok.ensures.opened (c.in-Ok.ensures.unstopped, jobs)
+
+pub returns-in-Err-clause-asked : goal.returns-in-Err-clause-asked
+returns-in-Err-clause-asked g c =
+    let names = named c.args.names.shelf.now c.args.names.journal.now in
+    let before = sources (g.O.Opener.state c.args.opener.now) (g.O.Opener.journal_at c.args.opener.now) (g.G.Gate.stops c.args.gate.now) in
+    let after = sources (g.O.Opener.state c.open_mirrored.new.opener) (g.O.Opener.journal_at c.open_mirrored.new.opener) (g.G.Gate.stops c.open_mirrored.new.gate) in
+    asked_within (g.O.Opener.asked c.args.opener.now c.open_mirrored.new.opener) _ (mirror_asked names c.args.peer.now) (site_asked c.args.site.lines.now c.args.site.address.now c.args.site.workers) c.in-Err.ensures.asked (λ ends. not_mirrored_ends g.O.Journal.Disk.told g.O.Peer.Link.told g.O.Journal.Disk.state g.O.Peer.Link.state g.O.Opener.told names before after c.in-Err.status c.in-Err.ensures.opened ends)
+
+pub returns-clause-asked : goal.returns-clause-asked
+returns-clause-asked g c =
+    let names = named c.args.names.shelf.now c.args.names.journal.now in
+    let first = all_made g.O.Opener.asked g.O.Opener.asked_on c.args.opener.now c.open_mirrored.new.opener c.open_mirrored.new.opener (mirror_asked names c.args.peer.now) c.in-Ok.ensures.asked refl in
+    asked_behind g.O.Opener.asked g.O.Opener.asked_on c.args.opener.now c.open_mirrored.new.opener c.serve_on.new.opener (mirror_asked names c.args.peer.now) (site_asked c.args.site.lines.now c.args.site.address.now c.args.site.workers) first c.serve_on.ensures.asked

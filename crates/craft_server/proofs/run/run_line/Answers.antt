@@ -1,4 +1,4 @@
-use Rattle.std.proofs.Common.{◌≡◌, ◌+◌, ◌∙◌, ℕ, List, Option, refl, sym, ap, subst}
+use Rattle.std.proofs.Common.{◌≡◌, ◌+◌, ◌∙◌, [], ◌∷◌, ℕ, List, Option, refl, sym, ap, subst}
 use Rattle.std.specs.Prelude.{IsSome}
 use Rattle.dxc_outside.specs.Links.{LinkState}
 use Rattle.dxc_outside.specs.Openings.{OpenerState}
@@ -21,6 +21,11 @@ use Rattle.craft_element.proofs.Wording.{mirrors_words, opens_words, sent_words}
 use Rattle.craft_jobs.proofs.Wording.{stands_words}
 use Rattle.craft_server.proofs.Mirroring.{serves_for}
 use Rattle.craft_server.proofs.Wording.{end_words, serve_words, serving_words}
+use Rattle.dxc_outside.specs.Asked.{Asking, AskedFor, journal_named, listener_named}
+use Rattle.dxc_outside.proofs.Asking.{asked_all}
+use Rattle.craft_jobs.specs.Missing.{IsOfNoOpening}
+use Rattle.craft_element.specs.Openings.{files_asked}
+use Rattle.craft_server.specs.Askings.{line_asked}
 use Rattle.craft_server.proofs.run.run_line.Goals as goal
 
 pub returns-in-Script-clause-run : goal.returns-in-Script-clause-run
@@ -34,7 +39,7 @@ returns-in-Script-clause-run g c = λ fit.
     let P : Contents → g.row.O-Journal.Denot → Opening → g.row.O-Journal.Denot → UsersOpening → Type 0 = λ s d o e u. RanSession g.O.Journal.Disk.told g.K.Link.told g.C.Clock.told (state d) (state e) s o u before.terminal after.terminal before.clock after.clock before.sources.stops after.sources.stops status in
     let Q : Contents → g.row.O-Journal.Denot → Opening → g.row.O-Journal.Denot → UsersOpening → Type 0 = λ s d o e u. RanScript told state before after s o u d e status in
     let ran = opens_for told.disk state told.opener _ (named c.in-Script.shelf c.in-Script.journal) c.names_of-names.ensures before.sources after.sources ((after.terminal ≡ before.terminal) × (after.clock ≡ before.clock)) (IsUntouched before after) P Q status
-    (λ u. record { terminal = u.0; clock = u.1; spawner = refl }) (λ s d o e u one. record { session = one; spawner = refl }) c.run_script.ensures in
+    (λ u. record { terminal = u.0; clock = u.1; spawner = refl }) (λ s d o e u one. record { session = one; spawner = refl }) c.run_script.ensures.opens in
     subst (λ (l : Line). IsRunOf told state g.O.Peer.Link.state g.O.Listener.Listener.state g.O.Listener.Link.Link.state (g.O.Opener.listener_at c.args.opener.now) l before after status) (sym c.in-Script.is) ran
 
 pub returns-in-Check-clause-run : goal.returns-in-Check-clause-run
@@ -49,7 +54,7 @@ returns-in-Check-clause-run g c = λ fit.
     let P : Contents → g.row.O-Journal.Denot → Opening → g.row.O-Journal.Denot → UsersOpening → Type 0 = λ s d o e u. (after.sources.stops ≡ before.sources.stops) × IsCheck g.K.Link.told s o before.terminal after.terminal status in
     let Q : Contents → g.row.O-Journal.Denot → Opening → g.row.O-Journal.Denot → UsersOpening → Type 0 = λ s d o e u. RanCheck told state before after s o status in
     let ran = opens_for told.disk state told.opener _ (named c.in-Check.shelf c.in-Check.journal) c.names_of-names-in-Check.ensures before.sources after.sources (after.terminal ≡ before.terminal) (IsUntouched before after) P Q status
-    (λ u. record { terminal = u; clock = refl; spawner = refl }) (λ s d o e u one. record { check = one.1; clock = refl; spawner = refl; gate = one.0 }) c.run_check.ensures in
+    (λ u. record { terminal = u; clock = refl; spawner = refl }) (λ s d o e u one. record { check = one.1; clock = refl; spawner = refl; gate = one.0 }) c.run_check.ensures.opens in
     subst (λ (l : Line). IsRunOf told state g.O.Peer.Link.state g.O.Listener.Listener.state g.O.Listener.Link.Link.state (g.O.Opener.listener_at c.args.opener.now) l before after status) (sym c.in-Check.is) ran
 
 pub returns-in-Serve-clause-run : goal.returns-in-Serve-clause-run
@@ -87,20 +92,20 @@ returns-in-Standby-clause-run g c = λ fit.
     let status = c.run_standby.result in
     let listeners = g.O.Opener.listener_at c.args.opener.now in
     let by = λ (journal address : List ℕ). StandsBy told.opener told.disk told.listener told.link state listener link before.sources.journal_at listeners before.sources.opener.faults after.sources.opener.faults journal address status in
-    let stands : by c.in-Standby.journal c.in-Standby.address = subst (λ (n : List ℕ). by n c.in-Standby.address) c.text.ensures (subst (λ (n : List ℕ). by c.text.result.now n) c.text-in-Standby.ensures c.run_standby.ensures) in
+    let stands : by c.in-Standby.journal c.in-Standby.address = subst (λ (n : List ℕ). by n c.in-Standby.address) c.text.ensures (subst (λ (n : List ℕ). by c.text.result.now n) c.text-in-Standby.ensures c.run_standby.ensures.stands_by) in
     subst (λ (l : Line). IsRunOf told state g.O.Peer.Link.state listener link listeners l before after status) (sym c.in-Standby.is) (record { stands_by = stands; untouched = record { terminal = refl; clock = refl; spawner = refl }; gate = refl })
 
 pub returns-in-Script-clause-words : goal.returns-in-Script-clause-words
 returns-in-Script-clause-words g c = λ fit bad.
     let before = sources (g.O.Opener.state c.args.opener.now) (g.O.Opener.journal_at c.args.opener.now) (g.G.Gate.stops c.args.gate.now) in
     let after = sources (g.O.Opener.state c.run_script.new.opener) (g.O.Opener.journal_at c.run_script.new.opener) (g.G.Gate.stops c.run_script.new.gate) in
-    opens_words g.O.Opener.told g.O.Journal.Disk.told g.O.Journal.Disk.state _ before after _ _ c.run_script.result (λ f o u ran no. end_words ran.end (sym ran.status_is ∙ no)) c.run_script.ensures bad
+    opens_words g.O.Opener.told g.O.Journal.Disk.told g.O.Journal.Disk.state _ before after _ _ c.run_script.result (λ f o u ran no. end_words ran.end (sym ran.status_is ∙ no)) c.run_script.ensures.opens bad
 
 pub returns-in-Check-clause-words : goal.returns-in-Check-clause-words
 returns-in-Check-clause-words g c = λ fit bad.
     let before = sources (g.O.Opener.state c.args.opener.now) (g.O.Opener.journal_at c.args.opener.now) (g.G.Gate.stops c.args.gate.now) in
     let after = sources (g.O.Opener.state c.run_check.new.opener) (g.O.Opener.journal_at c.run_check.new.opener) (g.G.Gate.stops c.run_check.new.gate) in
-    opens_words g.O.Opener.told g.O.Journal.Disk.told g.O.Journal.Disk.state _ before after _ _ c.run_check.result (λ f o u ran no. sent_words ran.1.sent (sym ran.1.status_is ∙ no)) c.run_check.ensures bad
+    opens_words g.O.Opener.told g.O.Journal.Disk.told g.O.Journal.Disk.state _ before after _ _ c.run_check.result (λ f o u ran no. sent_words ran.1.sent (sym ran.1.status_is ∙ no)) c.run_check.ensures.opens bad
 
 pub returns-in-Serve-clause-words : goal.returns-in-Serve-clause-words
 returns-in-Serve-clause-words g c = λ fit bad.
@@ -118,7 +123,7 @@ returns-in-Serve-clause-words g c = λ fit bad.
     (λ some. mirrors_words g.O.Journal.Disk.told g.O.Peer.Link.told g.O.Journal.Disk.state g.O.Peer.Link.state g.O.Opener.told (named_in line) before after (q ≡ p) Serving status other (c.serve_line.ensures.mirrored (subst IsServe (sym c.in-Serve.is) (subst IsInRange c.in-Serve.is fit)) (subst IsSome (sym (ap peer_of c.in-Serve.is)) some)) bad)
 
 pub returns-in-Standby-clause-words : goal.returns-in-Standby-clause-words
-returns-in-Standby-clause-words g c = λ fit bad. stands_words _ _ _ _ _ _ _ _ _ _ _ _ _ _ c.run_standby.ensures bad
+returns-in-Standby-clause-words g c = λ fit bad. stands_words _ _ _ _ _ _ _ _ _ _ _ _ _ _ c.run_standby.ensures.stands_by bad
 
 pub returns-in-Load-clause-run : goal.returns-in-Load-clause-run
 returns-in-Load-clause-run g c = λ fit.
@@ -131,3 +136,23 @@ returns-in-Load-clause-run g c = λ fit.
 
 pub returns-in-Load-clause-words : goal.returns-in-Load-clause-words
 returns-in-Load-clause-words g c = λ fit bad. load_words c.in-Load.number g.K.Link.told (g.K.Link.state c.args.terminal.now) (g.K.Link.state c.run_load.new.terminal) (g.G.Gate.stops c.args.gate.now) (g.G.Gate.stops c.run_load.new.gate) c.run_load.result c.run_load.ensures bad
+
+pub returns-in-Script-clause-asked : goal.returns-in-Script-clause-asked
+returns-in-Script-clause-asked g c = λ fit.
+    subst (λ (l : List Asking). AskedFor (g.O.Opener.asked c.args.opener.now c.run_script.new.opener) l (IsOfNoOpening c.run_script.result)) (ap files_asked c.names_of-names.ensures ∙ sym (ap line_asked c.in-Script.is)) c.run_script.ensures.asked
+
+pub returns-in-Check-clause-asked : goal.returns-in-Check-clause-asked
+returns-in-Check-clause-asked g c = λ fit.
+    subst (λ (l : List Asking). AskedFor (g.O.Opener.asked c.args.opener.now c.run_check.new.opener) l (IsOfNoOpening c.run_check.result)) (ap files_asked c.names_of-names-in-Check.ensures ∙ sym (ap line_asked c.in-Check.is)) c.run_check.ensures.asked
+
+pub returns-in-Serve-clause-asked : goal.returns-in-Serve-clause-asked
+returns-in-Serve-clause-asked g c = λ fit. c.serve_line.ensures.asked (subst IsServe (sym c.in-Serve.is) (subst IsInRange c.in-Serve.is fit))
+
+pub returns-in-Standby-clause-asked : goal.returns-in-Standby-clause-asked
+returns-in-Standby-clause-asked g c = λ fit.
+    let list : journal_named c.text.result.now ∷ listener_named c.text-in-Standby.result.now ∷ [] ≡ journal_named c.in-Standby.journal ∷ listener_named c.in-Standby.address ∷ [] = λ i. journal_named (c.text.ensures i) ∷ listener_named (c.text-in-Standby.ensures i) ∷ [] in
+    subst (λ (l : List Asking). AskedFor (g.O.Opener.asked c.args.opener.now c.run_standby.new.opener) l (IsOfNoOpening c.run_standby.result)) (list ∙ sym (ap line_asked c.in-Standby.is)) c.run_standby.ensures.asked
+
+pub returns-in-Load-clause-asked : goal.returns-in-Load-clause-asked
+returns-in-Load-clause-asked g c = λ fit.
+    subst (λ (l : List Asking). AskedFor (g.O.Opener.asked c.args.opener.now c.args.opener.now) l (IsOfNoOpening c.run_load.result)) (sym (ap line_asked c.in-Load.is)) (asked_all (g.O.Opener.asked c.args.opener.now c.args.opener.now) _ [] (g.O.Opener.unasked c.args.opener.now))

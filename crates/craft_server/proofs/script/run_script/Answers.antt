@@ -3,6 +3,9 @@ use Rattle.xc_core.specs.States.{opening_of}
 use Rattle.craft_server.proofs.Scripting.{IsEnd, ran_session}
 use Rattle.craft_element.proofs.Starting.{begun, users_began}
 use Rattle.craft_server.proofs.Starting.{opened_at}
+use Rattle.dxc_outside.proofs.Asking.{asked_less}
+use Rattle.craft_element.specs.Openings.{files_asked, named, sources}
+use Rattle.craft_element.proofs.Wording.{not_opened_ends}
 use Rattle.craft_server.proofs.script.run_script.Goals as goal
 
 pub lone_place-requires-clause-begins : goal.lone_place-requires-clause-begins
@@ -14,11 +17,11 @@ lone_place-requires-clause-users_begin g c = c.in-Ok.ensures.opened.1.1.begins
 pub lone_place-requires-clause-opening : goal.lone_place-requires-clause-opening
 lone_place-requires-clause-opening g c = let h = c.in-Ok.ensures.opened.0 in opened_at g.O.Journal.Disk.told g.O.Journal.Disk.state h.0.disk h.0.shelf _ c.in-Ok.element.controller h.1
 
-pub returns-in-Err : goal.returns-in-Err
-returns-in-Err g c = inl (c.in-Err.ensures.opened, (refl, refl))
+pub returns-in-Err-clause-opens : goal.returns-in-Err-clause-opens
+returns-in-Err-clause-opens g c = inl (c.in-Err.ensures.opened, (refl, refl))
 
-pub returns : goal.returns
-returns g c =
+pub returns-clause-opens : goal.returns-clause-opens
+returns-clause-opens g c =
     let f = c.in-Ok.ensures.opened.0.0 in
     let x = c.in-Ok.element.controller in
     let st = c.in-Ok.ensures.opened.0.1 in
@@ -39,3 +42,16 @@ returns g c =
       ran_session told state g.K.Link.told g.C.Clock.told k l (g.C.Clock.coming c.args.clock.now) (g.C.Clock.coming c.serve_session.new.clock) (g.G.Gate.stops c.args.gate.now) later f.shelf f.disk u.0.disk _ x users c.in-Ok-lone_place.place c.serve_session.new.place c.serve_session.result c.after_session.result st u.1 c.in-Ok-lone_place.ensures e.seat e.users e.numbers e.users_numbers e.astray e.session
           (subst (λ (n : ℕ). IsEnd k l n later c.serve_session.result) c.in-Ok.ensures.unstopped ended) c.after_session.ensures,
     )
+
+pub returns-in-Err-clause-asked : goal.returns-in-Err-clause-asked
+returns-in-Err-clause-asked g c =
+    let names = named c.args.names.shelf.now c.args.names.journal.now in
+    let before = sources (g.O.Opener.state c.args.opener.now) (g.O.Opener.journal_at c.args.opener.now) (g.G.Gate.stops c.args.gate.now) in
+    let after = sources (g.O.Opener.state c.open.new.opener) (g.O.Opener.journal_at c.open.new.opener) (g.G.Gate.stops c.open.new.gate) in
+    asked_less (g.O.Opener.asked c.args.opener.now c.open.new.opener) _ (files_asked names) (λ ends. absurd (not_opened_ends g.O.Opener.told g.O.Journal.Disk.told g.O.Journal.Disk.state names before after c.in-Err.status c.in-Err.ensures.opened ends)) c.in-Err.ensures.asked
+
+pub returns-in_default-clause-asked : goal.returns-in_default-clause-asked
+returns-in_default-clause-asked g c = asked_less (g.O.Opener.asked c.args.opener.now c.open.new.opener) _ (files_asked (named c.args.names.shelf.now c.args.names.journal.now)) (λ ends. refl) c.in-Ok.ensures.asked
+
+pub returns-clause-asked : goal.returns-clause-asked
+returns-clause-asked g c = asked_less (g.O.Opener.asked c.args.opener.now c.open.new.opener) _ (files_asked (named c.args.names.shelf.now c.args.names.journal.now)) (λ ends. refl) c.in-Ok.ensures.asked

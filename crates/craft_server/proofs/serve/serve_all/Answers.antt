@@ -1,4 +1,4 @@
-use Rattle.std.proofs.Common.{◌≡◌, ◌+◌, ◌∙◌, ℕ, sym, ap, ap₂, subst}
+use Rattle.std.proofs.Common.{◌≡◌, ◌+◌, ◌∙◌, ◌++◌, ℕ, List, Option, Some, None, sym, ap, ap₂, subst}
 use Rattle.std.specs.Prelude.{IsSome}
 use Rattle.shelf_file.specs.Contents.{Contents}
 use Rattle.user_admin.specs.Histories.{Opening as UsersOpening}
@@ -7,6 +7,11 @@ use Rattle.craft_element.specs.Openings.{named, sources}
 use Rattle.craft_server.specs.Serving.{IsServing, named_in, peer_of, workers_in}
 use Rattle.craft_element.proofs.Mirroring.{mirrors_for}
 use Rattle.craft_element.proofs.Starting.{opens_for}
+use Rattle.dxc_outside.specs.Asked.{Asking, AskedFor}
+use Rattle.craft_jobs.specs.Missing.{IsOfNoOpening}
+use Rattle.craft_element.specs.Openings.{files_asked}
+use Rattle.craft_element.specs.Peers.{mirror_asked}
+use Rattle.craft_server.specs.Askings.{line_asked, opened_asked, site_asked}
 use Rattle.craft_server.proofs.serve.serve_all.Goals as goal
 
 pub returns-in-None-clause-alone : goal.returns-in-None-clause-alone
@@ -20,7 +25,7 @@ returns-in-None-clause-alone g c = λ none.
     let Serving : ℕ → Type 0 = λ n. (after.stops ≡ before.stops) × IsServing (n + 16) before.opener.faults after.opener.faults p q c.serve_alone.result in
     let P : Contents → g.row.O-Journal.Denot → Opening → g.row.O-Journal.Denot → UsersOpening → Type 0 = λ s d o e p2. Serving c.in-Serve.workers in
     let Q : Contents → g.row.O-Journal.Denot → Opening → g.row.O-Journal.Denot → UsersOpening → Type 0 = λ s d o e p2. Serving (workers_in line) in
-    opens_for g.O.Journal.Disk.told g.O.Journal.Disk.state g.O.Opener.told _ _ same before after (q ≡ p) (q ≡ p) P Q c.serve_alone.result (λ u. u) (λ s d o e p2 ran. subst Serving (sym (ap workers_in c.in-Serve.is)) ran) c.serve_alone.ensures
+    opens_for g.O.Journal.Disk.told g.O.Journal.Disk.state g.O.Opener.told _ _ same before after (q ≡ p) (q ≡ p) P Q c.serve_alone.result (λ u. u) (λ s d o e p2 ran. subst Serving (sym (ap workers_in c.in-Serve.is)) ran) c.serve_alone.ensures.opens
 
 pub returns-in-None-clause-mirrored : goal.returns-in-None-clause-mirrored
 returns-in-None-clause-mirrored g c = λ some. let no = subst IsSome (ap peer_of c.in-Serve.is ∙ c.in-None.is) some in cc
@@ -37,4 +42,18 @@ returns-in-Some-clause-mirrored g c = λ some.
     let p = g.P.Spawner.state c.args.spawner.now in
     let q = g.P.Spawner.state c.serve_mirrored.new.spawner in
     let Serving : ℕ → Type 0 = λ n. (after.stops ≡ before.stops) × IsServing (n + 16) before.opener.faults after.opener.faults p q c.serve_mirrored.result in
-    mirrors_for g.O.Journal.Disk.told g.O.Peer.Link.told g.O.Journal.Disk.state g.O.Peer.Link.state g.O.Opener.told _ _ same before after (q ≡ p) (q ≡ p) (Serving c.in-Serve.workers) (Serving (workers_in line)) c.serve_mirrored.result (λ u. u) (λ ran. subst Serving (sym (ap workers_in c.in-Serve.is)) ran) c.serve_mirrored.ensures
+    mirrors_for g.O.Journal.Disk.told g.O.Peer.Link.told g.O.Journal.Disk.state g.O.Peer.Link.state g.O.Opener.told _ _ same before after (q ≡ p) (q ≡ p) (Serving c.in-Serve.workers) (Serving (workers_in line)) c.serve_mirrored.result (λ u. u) (λ ran. subst Serving (sym (ap workers_in c.in-Serve.is)) ran) c.serve_mirrored.ensures.mirrors
+
+pub returns-in-None-clause-asked : goal.returns-in-None-clause-asked
+returns-in-None-clause-asked g c =
+    let list : files_asked (named c.text.result.now c.text-2.result.now) ++ site_asked c.text-4.result.now c.text-3.result.now c.in-Serve.workers ≡ opened_asked (named c.in-Serve.shelf c.in-Serve.journal) None ++ site_asked c.in-Serve.lines c.in-Serve.address c.in-Serve.workers
+    = λ i. files_asked (named (c.text.ensures i) (c.text-2.ensures i)) ++ site_asked (c.text-4.ensures i) (c.text-3.ensures i) c.in-Serve.workers in
+    let peer = ap (λ (p : Option (List ℕ)). opened_asked (named c.in-Serve.shelf c.in-Serve.journal) p ++ site_asked c.in-Serve.lines c.in-Serve.address c.in-Serve.workers) (sym c.in-None.is) in
+    subst (λ (l : List Asking). AskedFor (g.O.Opener.asked c.args.opener.now c.serve_alone.new.opener) l (IsOfNoOpening c.serve_alone.result)) (list ∙ peer ∙ sym (ap line_asked c.in-Serve.is)) c.serve_alone.ensures.asked
+
+pub returns-in-Some-clause-asked : goal.returns-in-Some-clause-asked
+returns-in-Some-clause-asked g c =
+    let list : mirror_asked (named c.text.result.now c.text-2.result.now) c.text-in-Some.result.now ++ site_asked c.text-4.result.now c.text-3.result.now c.in-Serve.workers ≡ opened_asked (named c.in-Serve.shelf c.in-Serve.journal) (Some c.in-Some.peer) ++ site_asked c.in-Serve.lines c.in-Serve.address c.in-Serve.workers
+    = λ i. mirror_asked (named (c.text.ensures i) (c.text-2.ensures i)) (c.text-in-Some.ensures i) ++ site_asked (c.text-4.ensures i) (c.text-3.ensures i) c.in-Serve.workers in
+    let peer = ap (λ (p : Option (List ℕ)). opened_asked (named c.in-Serve.shelf c.in-Serve.journal) p ++ site_asked c.in-Serve.lines c.in-Serve.address c.in-Serve.workers) (sym c.in-Some.is) in
+    subst (λ (l : List Asking). AskedFor (g.O.Opener.asked c.args.opener.now c.serve_mirrored.new.opener) l (IsOfNoOpening c.serve_mirrored.result)) (list ∙ peer ∙ sym (ap line_asked c.in-Serve.is)) c.serve_mirrored.ensures.asked

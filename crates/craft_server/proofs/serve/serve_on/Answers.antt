@@ -1,28 +1,62 @@
-use Rattle.std.proofs.Common.{◌+◌, ◌∙◌, ℕ, ap, ap₂, Err, refl, subst}
+use Rattle.std.proofs.Common.{◌+◌, ◌∙◌, [], ◌++◌, ℕ, ap, ap₂, Err, refl, subst, ◌≡◌, Bool, true}
 use Rattle.craft_words.specs.declared.status.Status.{Status}
 use Rattle.craft_words.specs.declared.status.Status.TheVariants.{NoMemory}
 use Rattle.craft_jobs.proofs.Counting.{rose_behind}
 use Rattle.craft_server.specs.Serving.{IsServing}
 use Rattle.craft_server.proofs.Serves.{none_started}
+use Rattle.std.specs.Prelude.{IsOk}
+use Rattle.dxc_outside.specs.Asked.{AskedFor, asked_each, lines_named, listener_named}
+use Rattle.dxc_outside.proofs.Asking.{all_made, asked_behind, asked_less, asked_part, asked_within}
+use Rattle.craft_jobs.proofs.Faulting.{made_ends}
+use Rattle.craft_server.specs.Askings.{site_asked}
 use Rattle.craft_server.proofs.serve.serve_on.Goals as goal
 
-pub returns-in_default : goal.returns-in_default
-returns-in_default g c = none_started _ _ _ _ NoMemory (λ is. cc) (λ not. refl)
+pub returns-in_default-clause-serving : goal.returns-in_default-clause-serving
+returns-in_default-clause-serving g c = none_started _ _ _ _ NoMemory (λ is. cc) (λ not. refl)
 
-pub returns-in-Err : goal.returns-in-Err
-returns-in-Err g c =
+pub returns-in-Err-clause-serving : goal.returns-in-Err-clause-serving
+returns-in-Err-clause-serving g c =
     let e = c.frame_jobs.ensures in
     none_started _ _ _ _ c.in-Err.status (λ is. e.made.cause (c.in-Err.is ∙ ap (λ (s : Status). Err s) is)) (e.made.only c.in-Err.status c.in-Err.is)
 
-pub returns-in-Err-session_jobs : goal.returns-in-Err-session_jobs
-returns-in-Err-session_jobs g c =
+pub returns-in-Err-session_jobs-clause-serving : goal.returns-in-Err-session_jobs-clause-serving
+returns-in-Err-session_jobs-clause-serving g c =
     let e = c.session_jobs.ensures in
     let status = c.in-Err-session_jobs.status in
     none_started _ _ _ _ status (λ is. rose_behind _ _ _ c.frame_jobs.ensures.made.counted (e.made.cause (c.in-Err-session_jobs.is ∙ ap (λ (s : Status). Err s) is))) (e.made.only status c.in-Err-session_jobs.is)
 
-pub returns : goal.returns
-returns g c =
+pub returns-clause-serving : goal.returns-clause-serving
+returns-clause-serving g c =
     let faults = (g.O.Opener.state c.args.opener.now).faults in
     let later = (g.O.Opener.state c.session_jobs.new.opener).faults in
     let all = ap₂ (λ (a b : ℕ). a + b) c.in-Ok-frame_jobs.ensures.jobs (c.in-Ok-session_jobs.ensures.jobs ∙ c.in-Ok.ensures.each) in
     subst (λ (n : ℕ). IsServing n faults later (g.P.Spawner.state c.args.spawner.now) (g.P.Spawner.state c.run_jobs.new.spawner) c.run_jobs.result) all (c.run_jobs.ensures faults later)
+
+pub returns-in_default-clause-asked : goal.returns-in_default-clause-asked
+returns-in_default-clause-asked g c = asked_part (g.O.Opener.asked c.args.opener.now c.args.opener.now) _ [] (site_asked c.args.site.lines.now c.args.site.address.now c.args.site.workers) (g.O.Opener.unasked c.args.opener.now) (λ ends. ends)
+
+pub returns-in-Err-clause-asked : goal.returns-in-Err-clause-asked
+returns-in-Err-clause-asked g c =
+    let lines = asked_each (lines_named c.args.site.lines.now) c.args.site.workers in
+    let listeners = asked_each (λ session. listener_named c.args.site.address.now) 16 in
+    asked_within (g.O.Opener.asked c.args.opener.now c.frame_jobs.new.opener) _ lines listeners c.frame_jobs.ensures.asked (made_ends _ _ _ c.frame_jobs.ensures.made c.in-Err.status c.in-Err.is)
+
+pub returns-in-Err-session_jobs-clause-asked : goal.returns-in-Err-session_jobs-clause-asked
+returns-in-Err-session_jobs-clause-asked g c =
+    let lines = asked_each (lines_named c.args.site.lines.now) c.args.site.workers in
+    let listeners = asked_each (λ session. listener_named c.args.site.address.now) 16 in
+    let asked = g.O.Opener.asked in
+    let first = all_made asked g.O.Opener.asked_on c.args.opener.now c.frame_jobs.new.opener c.frame_jobs.new.opener lines c.in-Ok-frame_jobs.ensures.asked refl in
+    let behind = subst (λ (n : ℕ). AskedFor (asked c.frame_jobs.new.opener c.session_jobs.new.opener) (asked_each (λ session. listener_named c.args.site.address.now) n) (IsOk c.session_jobs.result)) c.in-Ok.ensures.each c.session_jobs.ensures.asked in
+    asked_less (asked c.args.opener.now c.session_jobs.new.opener) _ (lines ++ listeners) (λ ends. absurd (made_ends _ _ _ c.session_jobs.ensures.made c.in-Err-session_jobs.status c.in-Err-session_jobs.is ends))
+    (asked_behind asked g.O.Opener.asked_on c.args.opener.now c.frame_jobs.new.opener c.session_jobs.new.opener lines listeners first behind)
+
+pub returns-clause-asked : goal.returns-clause-asked
+returns-clause-asked g c =
+    let lines = asked_each (lines_named c.args.site.lines.now) c.args.site.workers in
+    let listeners = asked_each (λ session. listener_named c.args.site.address.now) 16 in
+    let asked = g.O.Opener.asked in
+    let first = all_made asked g.O.Opener.asked_on c.args.opener.now c.frame_jobs.new.opener c.frame_jobs.new.opener lines c.in-Ok-frame_jobs.ensures.asked refl in
+    let behind = subst (λ (n : ℕ). AskedFor (asked c.frame_jobs.new.opener c.session_jobs.new.opener) (asked_each (λ session. listener_named c.args.site.address.now) n) (◌≡◌ {A = Bool} true true)) c.in-Ok.ensures.each c.in-Ok-session_jobs.ensures.asked in
+    asked_less (asked c.args.opener.now c.session_jobs.new.opener) _ (lines ++ listeners) (λ ends. refl)
+    (asked_behind asked g.O.Opener.asked_on c.args.opener.now c.frame_jobs.new.opener c.session_jobs.new.opener lines listeners first behind)

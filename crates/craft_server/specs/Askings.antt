@@ -1,0 +1,32 @@
+-- What the opener is asked for, by the program's words.
+use Rattle.std.specs.Prelude.{ℕ, List, [], ◌∷◌, ◌++◌, ◌⊎◌, Option, Some, None}
+use Rattle.dxc_outside.specs.Asked.{Asking, AskedFor, asked_each, journal_named, lines_named, listener_named}
+use Rattle.craft_words.specs.declared.line.Line.{Line}
+use Rattle.craft_words.specs.declared.line.Line.TheVariants.{Script, Check, Serve, Standby, Load}
+use Rattle.craft_words.specs.declared.status.Status.{Status}
+use Rattle.craft_words.specs.Lines.{IsLine}
+use Rattle.craft_jobs.specs.Missing.{IsOfNoOpening}
+use Rattle.craft_element.specs.Openings.{Named, files_asked, named}
+use Rattle.craft_element.specs.Peers.{mirror_asked}
+use Rattle.craft_server.specs.Runs.{NoLine}
+
+-- the lines of each worker, and a listener for each of 16 sessions
+abbrev pub site_asked : (lines address : List ℕ) → ℕ → List Asking
+site_asked lines address workers = asked_each (lines_named lines) workers ++ asked_each (λ session. listener_named address) 16
+
+-- a controller's files, and its standby if it has one
+abbrev pub opened_asked : Named → Option (List ℕ) → List Asking
+opened_asked names None = files_asked names
+opened_asked names (Some peer) = mirror_asked names peer
+
+-- all that a line asks for
+abbrev pub line_asked : Line → List Asking
+line_asked (Script shelf journal) = files_asked (named shelf journal)
+line_asked (Check shelf journal) = files_asked (named shelf journal)
+line_asked (Serve shelf journal address lines workers peer) = opened_asked (named shelf journal) peer ++ site_asked lines address workers
+line_asked (Standby journal address) = journal_named journal ∷ listener_named address ∷ []
+line_asked (Load number) = []
+
+-- nothing was asked for, since the words are no line; or what the line asks for, up to the first that failed
+abbrev pub AskedBy : (asked : List Asking → Type 0) → List (List ℕ) → Status → Type 0
+AskedBy asked words status = (asked [] × NoLine words status) ⊎ ((l : Line) × IsLine words l × AskedFor asked (line_asked l) (IsOfNoOpening status))
