@@ -1,4 +1,4 @@
-ghost use Rattle.std.specs.Prelude.{[], ◌≡◌, IfOk};
+ghost use Rattle.std.specs.Prelude.{[], ◌≡◌, false, IfOk};
 
 use crate::held::Held;
 use dxc_outside::{Frame, Lines, Opened, Put};
@@ -23,13 +23,17 @@ pub struct FileLines {
 }
 
 impl FileLines {
+    ghost use Rattle.dxc_host.specs.declared.file_lines.FileLines.{FileLines};
+
     /// Worker `w` of the name `L` reads `L.in` and writes `L.w.out`, which is made, or emptied where it is there.
     pub fn open<R: Files<File = File>>(
         alloc: Global,
         files: &R,
         name: &str,
         worker: u16,
-    ) -> Opened<FileLines> {
+    ) -> Opened<FileLines>
+        ensures fresh { (l : FileLines) → result ≡ Opened.Open l → (l.ended ≡ false) × (l.read_faults ≡ 0) × (l.write_faults ≡ 0) }
+    {
         let Ok(from) = format!(in alloc; "{name}.in") else {
             return Opened::NoMemory;
         };

@@ -1,4 +1,4 @@
-ghost use Rattle.std.specs.Prelude.{[]};
+ghost use Rattle.std.specs.Prelude.{[], ◌≡◌};
 
 use crate::TcpLink;
 use dxc_outside::{Came, Listener};
@@ -20,7 +20,9 @@ pub struct TcpDoor<T> {
 }
 
 impl<T: SystemClock + Drop> TcpDoor<T> {
-    pub fn new(listener: TcpListener, system: T) -> TcpDoor<T> {
+    pub fn new(listener: TcpListener, system: T) -> TcpDoor<T>
+        ensures { result.faults ≡ 0 }
+    {
         TcpDoor {
             listener,
             system,

@@ -1,4 +1,4 @@
-ghost use Rattle.std.specs.Prelude.{[], false};
+ghost use Rattle.std.specs.Prelude.{[], false, ◌≡◌, IfOk};
 
 use dxc_outside::{Got, Link, Put};
 use std::io::{self, ErrorKind, Read, Write};
@@ -23,7 +23,12 @@ pub struct TcpLink {
 
 impl TcpLink {
     /// A link over the stream, whose calls time out from now on. What is written goes out at once.
-    pub fn new(stream: TcpStream) -> io::Result<TcpLink> {
+    pub fn new(stream: TcpStream) -> io::Result<TcpLink>
+        ensures ended { IfOk result (λ t. t.ended ≡ false) }
+        ensures reads { IfOk result (λ t. t.reads ≡ 0) }
+        ensures read_faults { IfOk result (λ t. t.read_faults ≡ 0) }
+        ensures write_faults { IfOk result (λ t. t.write_faults ≡ 0) }
+    {
         stream.set_read_timeout(Some(Duration::from_millis(QUIET_MILLIS)))?;
         stream.set_write_timeout(Some(Duration::from_secs(WRITE_SECONDS)))?;
         stream.set_nodelay(true)?;

@@ -1,4 +1,4 @@
-ghost use Rattle.std.specs.Prelude.{[], false, ◌≤◌, length, IfOk};
+ghost use Rattle.std.specs.Prelude.{[], false, ◌≡◌, ◌≤◌, length, IfOk};
 
 use dxc_outside::{Got, Link, Put};
 use std::io::{self, ErrorKind, Read, Write};
@@ -27,7 +27,12 @@ pub struct TermLink<R: Read, W: Write, T: SystemClock> {
 }
 
 impl<R: Read, W: Write, T: SystemClock> TermLink<R, W, T> {
-    pub fn new(input: R, output: W, system: T) -> TermLink<R, W, T> {
+    pub fn new(input: R, output: W, system: T) -> TermLink<R, W, T>
+        ensures ended { result.ended ≡ false }
+        ensures reads { result.reads ≡ 0 }
+        ensures read_faults { result.read_faults ≡ 0 }
+        ensures write_faults { result.write_faults ≡ 0 }
+    {
         TermLink {
             input,
             output,

@@ -1,3 +1,5 @@
+ghost use Rattle.std.specs.Prelude.{◌≡◌, [], true, false};
+
 use dxc_outside::{Spawner, Way};
 use std::sync::Wait;
 use std::thread::{JoinHandle, Threads};
@@ -11,16 +13,23 @@ pub struct ThreadSpawner<T> {
     waited: bool,
     faults: u64,
     last_failed: bool,
+    // Where it says that it was waited for, no thread is left to be joined.
+    ghost joined: { waited ≡ true → running.items ≡ [] },
 }
 
 impl<T: Threads + Wait + Copy + Send + Drop + 'static> ThreadSpawner<T> {
     /// The threads that run are kept behind what `running` holds.
-    pub fn new(threads: T, running: Vec<JoinHandle<()>>) -> ThreadSpawner<T> {
+    pub fn new(threads: T, running: Vec<JoinHandle<()>>) -> ThreadSpawner<T>
+        ensures starts { result.starts ≡ 0 }
+        ensures faults { result.faults ≡ 0 }
+        ensures waited { running.items ≡ [] → result.waited ≡ true }
+        ensures last_failed { result.last_failed ≡ false }
+    {
         ThreadSpawner {
+            waited: running.is_empty(),
             threads,
             running,
             starts: 0,
-            waited: true,
             faults: 0,
             last_failed: false,
         }
