@@ -4,6 +4,7 @@ use Rattle.std.proofs.Common.{◌≡◌, ◌≢◌, ◌<◌, ◌≤◌, ◌+◌,
 use Rattle.dxc_causes.specs.Causes.{Counted, Rose}
 use Rattle.dxc_outside.specs.declared.gate.Pass1.{Pass1}
 use Rattle.dxc_outside.specs.declared.gate.Pass1.TheVariants as pass
+use Rattle.dxc_outside.specs.declared.link.Got.TheVariants.{Bytes, Quiet, End as NoMore, Failed as NotRead}
 use Rattle.dxc_outside.specs.declared.send.Sent.{Sent}
 use Rattle.dxc_outside.specs.declared.send.Sent.TheVariants.{Whole, Cut as Sent_cut}
 use Rattle.roll_engine.specs.declared.answer.Advance.{Advance}
@@ -125,3 +126,13 @@ counted_none n = record { reached = omega arith; no_more = omega arith }
 -- so many reads and one more are within a limit
 pub few_more : (limit a b c d n : ℕ) → Counted a b n → Counted b c 1 → d ≡ c → n < limit → d ≤ a + limit
 few_more limit a b c d n so_far one is within = omega (arith, so_far.no_more, one.no_more, is, within)
+
+-- a read that answered wasn't Failed
+pub bytes_came : (n : ℕ) → Bytes n ≡ NotRead → ⊥
+bytes_came n is = cc
+
+pub quiet_came : Quiet ≡ NotRead → ⊥
+quiet_came is = cc
+
+pub end_came : NoMore ≡ NotRead → ⊥
+end_came is = cc

@@ -210,6 +210,7 @@ pub fn serve_session<K: Link, C: Clock, G: Gate, D: Disk + Drop, U: Disk + Drop,
     ensures end { (result ≡ SessionEnd.End) ↔ IsTrue (K.state link.new).ended }
     ensures all_read { K.told → result ≡ SessionEnd.End → (K.state link.new).left ≡ [] }
     ensures read_fault { result ≡ SessionEnd.ReadFault → Rose (K.state link.old).read_faults (K.state link.new).read_faults }
+    ensures no_read_fault { result ≢ SessionEnd.ReadFault → (K.state link.new).read_faults ≡ (K.state link.old).read_faults }
     ensures write_fault { result ≡ SessionEnd.WriteFault → Rose (K.state link.old).write_faults (K.state link.new).write_faults }
     ensures stopped { result ≡ SessionEnd.Stopped → Rose (G.stops gate.old) (G.stops gate.new) }
     ensures unstopped { result ≢ SessionEnd.Stopped → G.stops gate.new ≡ G.stops gate.old }
@@ -244,6 +245,7 @@ fn serve<K: Link, C: Clock, G: Gate, D: Disk + Drop, U: Disk + Drop, R: Wait>(
     ensures end { (result ≡ SessionEnd.End) ↔ IsTrue (K.state link.new).ended }
     ensures all_read { K.told → result ≡ SessionEnd.End → (K.state link.new).left ≡ [] }
     ensures read_fault { result ≡ SessionEnd.ReadFault → Rose (K.state link.old).read_faults (K.state link.new).read_faults }
+    ensures no_read_fault { result ≢ SessionEnd.ReadFault → (K.state link.new).read_faults ≡ (K.state link.old).read_faults }
     ensures write_fault { result ≡ SessionEnd.WriteFault → Rose (K.state link.old).write_faults (K.state link.new).write_faults }
     ensures stopped { result ≡ SessionEnd.Stopped → Rose (G.stops gate.old) (G.stops gate.new) }
     ensures unstopped { result ≢ SessionEnd.Stopped → G.stops gate.new ≡ G.stops gate.old }

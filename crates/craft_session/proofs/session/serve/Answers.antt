@@ -9,7 +9,7 @@ use Rattle.tl1_text.specs.declared.reader.UnitKind.TheVariants.{More}
 use Rattle.tl1_text.specs.Reading.{Reader}
 use Rattle.craft_session.specs.declared.end.Progress.TheVariants.{Cut}
 use Rattle.craft_session.specs.Sessions.{Beginning, Stands}
-use Rattle.craft_session.proofs.Ends.{counted_none, cut_goes, end_no, few_more, later_behind, on_goes, read_no, rose_behind, rose_later, stayed, stop_no, unheld, write_no}
+use Rattle.craft_session.proofs.Ends.{bytes_came, counted_none, cut_goes, end_came, end_no, few_more, later_behind, on_goes, quiet_came, read_no, rose_behind, rose_later, stayed, stop_no, unheld, write_no}
 use Rattle.craft_session.proofs.Gated.{are_entered_beside, are_entered_none, are_entered_on}
 use Rattle.craft_session.proofs.SessionSteps.{stands_none, stands_piece, stands_quiet, goes_on_is, goes_cut_is, goes_stopped_is, counted_more, served_nothing, served_here}
 use Rattle.craft_session.proofs.Answering.{moved_goes}
@@ -24,6 +24,7 @@ loop-init g c = record {
   stands = λ b at saw users. stands_none (language (arc_value c.args.desk.now.shelf)) g.K.Link.told g.C.Clock.told (g.K.Link.state c.args.link.now) (g.C.Clock.coming c.args.clock.now) b (now c.args.desk.now) c.args.desk.now.reader saw users c.requires.nobody c.requires.nothing_read;
   gate = refl;
   counted = counted_none _;
+  faults = refl;
   not_ended = λ lt. absurd (omega (arith, lt));
   room = c.requires.room;
   asked = are_entered_none c.args.desk.now.seat c.args.desk.now.users.seat (g.G.Gate.asked c.args.gate.now c.args.gate.now) (g.G.Gate.unasked c.args.gate.now);
@@ -46,6 +47,7 @@ returns-in-Cut g c =
       end = ((λ is. write_no _ is refl), (λ ended. unheld _ going ended));
       all_read = λ t is. write_no _ is refl;
       read_fault = λ is. write_no _ is refl;
+      no_read_fault = λ is. s.link.wrote.read_faults ∙ c.in-Bytes.ensures.no_fault (bytes_came _) ∙ c.loop.invariant.faults;
       write_fault = λ is. breaks.rose;
       stopped = λ is. write_no _ is refl;
       unstopped = λ is. s.unstopped (cut_goes _ c.in-Cut.is) ∙ c.loop.invariant.gate;
@@ -71,6 +73,7 @@ returns-in-Stopped g c =
       end = ((λ is. stop_no _ is refl), (λ ended. unheld _ going ended));
       all_read = λ t is. stop_no _ is refl;
       read_fault = λ is. stop_no _ is refl;
+      no_read_fault = λ is. s.link.wrote.read_faults ∙ c.in-Bytes.ensures.no_fault (bytes_came _) ∙ c.loop.invariant.faults;
       write_fault = λ is. stop_no _ is refl;
       stopped = λ is. rose_behind _ _ _ c.loop.invariant.gate (s.stopped c.in-Stopped.is);
       unstopped = λ not. absurd (not refl);
@@ -95,6 +98,7 @@ returns-in-End g c =
       end = ((λ is. c.in-End.ensures.ended), (λ ended. refl));
       all_read = λ t is. c.in-End.ensures.end t refl;
       read_fault = λ is. end_no _ is refl;
+      no_read_fault = λ is. c.in-End.ensures.no_fault end_came ∙ c.loop.invariant.faults;
       write_fault = λ is. end_no _ is refl;
       stopped = λ is. end_no _ is refl;
       unstopped = λ is. c.loop.invariant.gate;
@@ -119,6 +123,7 @@ returns-in-Failed g c =
       end = ((λ is. read_no _ is refl), (λ ended. unheld _ c.in-Failed.ensures.ended ended));
       all_read = λ t is. read_no _ is refl;
       read_fault = λ is. rose_later _ _ _ stands.exchanged.read_later (c.in-Failed.ensures.cause.cause refl);
+      no_read_fault = λ not. absurd (not refl);
       write_fault = λ is. read_no _ is refl;
       stopped = λ is. read_no _ is refl;
       unstopped = λ is. c.loop.invariant.gate;
@@ -146,6 +151,7 @@ loop-preserved g c =
         stands = λ b at saw users. goes_on_is _ _ _ _ _ _ _ _ _ _ _ _ w.in-On.is (moved_goes arc_value g.K.Link.told g.C.Clock.told _ (g.K.Link.state w.serve_piece.new.link) (g.C.Clock.coming c.loop.clock) (g.C.Clock.coming w.serve_piece.new.clock) (now c.loop.desk) (now w.serve_piece.new.desk) false c.loop.desk.reader w.serve_piece.new.desk.reader w.serve_piece.result c.args.desk.now.shelf c.loop.desk.shelf c.args.desk.now.seat c.loop.desk.seat c.args.desk.now.users.seat c.loop.desk.users.seat _ [] c.loop.invariant.shelf c.loop.invariant.seat c.loop.invariant.users w.serve_piece.ensures.goes _ _ b at (stands_piece _ _ _ _ _ _ _ _ _ _ _ _ _ _ (c.loop.invariant.stands b at saw users) w.in-Bytes.ensures (grind (arith, common_steps))));
         gate = w.serve_piece.ensures.unstopped (on_goes _ w.in-On.is) ∙ c.loop.invariant.gate;
         counted = rw w.serve_piece.ensures.link.wrote.reads (counted_more _ _ _ _ c.loop.invariant.counted w.in-Bytes.ensures.reads);
+        faults = w.serve_piece.ensures.link.wrote.read_faults ∙ w.in-Bytes.ensures.no_fault (bytes_came _) ∙ c.loop.invariant.faults;
         not_ended = λ _. w.serve_piece.ensures.link.wrote.ended ∙ w.in-Bytes.ensures.ended;
         room = search rules;
         asked = are_entered_on g.G.Gate.asked g.G.Gate.asked_on c.args.desk.now.seat c.loop.desk.seat c.args.desk.now.users.seat c.loop.desk.users.seat c.args.gate.now c.loop.gate w.serve_piece.new.gate _ _ c.loop.invariant.asked c.loop.invariant.seat c.loop.invariant.users w.serve_piece.ensures.asked;
@@ -158,6 +164,7 @@ loop-preserved g c =
             (goes_on_is _ _ _ _ _ _ _ _ _ _ _ _ w.in-On-report.is (moved_goes arc_value g.K.Link.told g.C.Clock.told _ (g.K.Link.state w.report.new.link) (g.C.Clock.coming c.loop.clock) (g.C.Clock.coming w.report.new.clock) (now c.loop.desk) (now w.report.new.desk) (is_some c.loop.desk.attending.watch) c.loop.desk.reader c.loop.desk.reader w.report.result c.args.desk.now.shelf c.loop.desk.shelf c.args.desk.now.seat c.loop.desk.seat c.args.desk.now.users.seat c.loop.desk.users.seat [] [] c.loop.invariant.shelf c.loop.invariant.seat c.loop.invariant.users (λ k c1 b1. w.report.ensures.goes k c1 b1 c.loop.desk.reader []) _ _ b at (stands_quiet _ _ _ _ _ _ _ _ _ _ _ _ (c.loop.invariant.stands b at saw users) w.in-Quiet.ensures)));
         gate = c.loop.invariant.gate;
         counted = rw w.report.ensures.link.wrote.reads (counted_more _ _ _ _ c.loop.invariant.counted w.in-Quiet.ensures.reads);
+        faults = w.report.ensures.link.wrote.read_faults ∙ w.in-Quiet.ensures.no_fault quiet_came ∙ c.loop.invariant.faults;
         not_ended = λ _. w.report.ensures.link.wrote.ended ∙ w.in-Quiet.ensures.ended;
         room = search rules;
         asked = are_entered_beside g.G.Gate.asked g.G.Gate.asked_on g.G.Gate.unasked c.args.desk.now.seat c.loop.desk.seat c.args.desk.now.users.seat c.args.gate.now c.loop.gate _ _ _ _ c.loop.invariant.asked refl c.loop.invariant.seat (ap (λ (u : UserDesk g.row.U.Denot). u.seat.seen) w.report.ensures.users) w.report.ensures.entered;
@@ -181,6 +188,7 @@ returns-in-Cut-report g c =
       end = ((λ is. write_no _ is refl), (λ ended. unheld _ going ended));
       all_read = λ t is. write_no _ is refl;
       read_fault = λ is. write_no _ is refl;
+      no_read_fault = λ is. c.report.ensures.link.wrote.read_faults ∙ c.in-Quiet.ensures.no_fault quiet_came ∙ c.loop.invariant.faults;
       write_fault = λ is. breaks.rose;
       stopped = λ is. write_no _ is refl;
       unstopped = λ is. c.loop.invariant.gate;
@@ -192,3 +200,6 @@ returns-in-Cut-report g c =
 
 pub returns-clause-asked : goal.returns-clause-asked
 returns-clause-asked g c = c.loop.invariant.asked
+
+pub returns-clause-no_read_fault : goal.returns-clause-no_read_fault
+returns-clause-no_read_fault g c = λ is. c.loop.invariant.faults

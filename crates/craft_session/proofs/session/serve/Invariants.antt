@@ -22,6 +22,7 @@ invariant-loop g l =
       stands : (b : Beginning) → IsAt b l.fn.desk.seat l.fn.desk.users.seat → Saw b.opening l.fn.desk.seat.seen b.before → SawUsers b.users l.fn.desk.users.seat.seen b.users_before → Stands (language (arc_value l.fn.desk.shelf)) g.K.Link.told g.C.Clock.told (state l.fn.link) (state l.link) (coming l.fn.clock) (coming l.clock) b (now l.desk) false More l.desk.reader [];
       gate : g.G.Gate.stops l.gate ≡ g.G.Gate.stops l.fn.gate;
       counted : Counted (state l.fn.link).reads (state l.link).reads l.counter;
+      faults : (state l.link).read_faults ≡ (state l.fn.link).read_faults;
       not_ended : 0 < l.counter → (state l.link).ended ≡ false;
       room : 0 < length l.piece;
       asked : AreEntered l.fn.desk.seat l.fn.desk.users.seat (g.G.Gate.asked l.fn.gate l.gate) l.desk.seat.seen l.desk.users.seat.seen;
