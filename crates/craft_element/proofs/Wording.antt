@@ -17,8 +17,8 @@ use Rattle.craft_words.specs.declared.status.Status.{Status}
 use Rattle.craft_words.specs.declared.status.Status.TheVariants.{Done, BadWords, BadShelf, BadJournal, Disk, CannotOpen, NoThread, NoMemory, Link, Stopped, Spent, BadMessage, NotEmpty}
 use Rattle.craft_words.specs.Statuses.{status_of_sent}
 use Rattle.craft_jobs.specs.Missing.{IsOfNoOpening}
-use Rattle.craft_element.specs.Openings.{Began, Found, Named, NoDisk, NoShelf, NotOpened, NotStarted, NoUsers, Opens, Sources}
-use Rattle.craft_element.specs.Peers.{Mirrors, NotMirrored, mirror_state}
+use Rattle.craft_element.specs.Openings.{Began, Found, Named, NoDisk, NoShelf, NotOpened, NoUsers, Opens, Sources}
+use Rattle.craft_element.specs.Peers.{Mirrors, NotMirrored}
 use Rattle.craft_element.specs.Statuses.{status_of_fault, status_of_users_fault, status_of_users_why, status_of_why}
 
 why_ends : (w : JournalWhy) → IsOfNoOpening (status_of_why w) → ⊥

@@ -1,4 +1,4 @@
-use Rattle.std.proofs.Common.{◌+◌, ◌<◌, ◌∙◌, [], ◌∷◌, ℕ, arith, length, length-append, refl, rules, subst, sym, true≢false}
+use Rattle.std.proofs.Common.{◌∙◌, [], ◌∷◌, ℕ, arith, length, length-append, refl, rules, subst, sym, true≢false}
 use Rattle.std.specs.Prelude.{vec_len}
 use Rattle.std.proofs.lemmas.Result.{err_from_is_err_and}
 use Rattle.dxc_outside.specs.Asked.{asked_each, listener_named}

@@ -92,7 +92,7 @@ returns-in-Standby-clause-run g c = λ fit.
     let status = c.run_standby.result in
     let listeners = g.O.Opener.listener_at c.args.opener.now in
     let by = λ (journal address : List ℕ). StandsBy told.opener told.disk told.listener told.link state listener link before.sources.journal_at listeners before.sources.opener.faults after.sources.opener.faults journal address status in
-    let stands : by c.in-Standby.journal c.in-Standby.address = subst (λ (n : List ℕ). by n c.in-Standby.address) c.text.ensures (subst (λ (n : List ℕ). by c.text.result.now n) c.text-in-Standby.ensures c.run_standby.ensures) in
+    let stands : by c.in-Standby.journal c.in-Standby.address = subst (λ (n : List ℕ). by n c.in-Standby.address) c.text.ensures (subst (λ (n : List ℕ). by c.text.result.now n) c.text-in-Standby.ensures c.run_standby.ensures.stands_by) in
     subst (λ (l : Line). IsRunOf told state g.O.Peer.Link.state listener link listeners l before after status) (sym c.in-Standby.is) (record { stands_by = stands; untouched = record { terminal = refl; clock = refl; spawner = refl }; gate = refl })
 
 pub returns-in-Script-clause-words : goal.returns-in-Script-clause-words
