@@ -3,7 +3,7 @@ use Rattle.std.proofs.Common.{◌≡◌, ℕ, ◌↔◌, Bool, true, false, List
 use Rattle.std.specs.Option.{option_map, option_map_or, option_and_then}
 use Rattle.std.specs.List.{list_all}
 use Rattle.std.proofs.lemmas.Bool.Decides.{nat_tests}
-use Rattle.tl1_text.specs.declared.place.Place.TheVariants.{Start}
+use Rattle.tl1_text.specs.Places.{Start}
 use Rattle.tl1_text.specs.Grammar.{AreParams, Block, AreBlocks, last_block, more_blocks, are_few, code_of, IsCommandText}
 use Rattle.tl1_text.specs.Walk.{Rest, all_blocks, walk, are_words, are_command, if_command, blocks_of, values_of}
 use Rattle.tl1_text.proofs.Walks.{both, walk_block, walk_blocks}

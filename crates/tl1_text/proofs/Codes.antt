@@ -2,8 +2,7 @@
 use Rattle.std.proofs.Common.{◌≡◌, ◌≢◌, ℕ, zero, suc, ◌+◌, ◌-◌, ◌<◌, ◌≤◌, Bool, true, false, List, [], ◌∷◌, ◌++◌, length, get_or, slice_range, nat_lt, ◌&&◌, ◌==◌, if◌then◌else◌, None, refl, sym, ◌∙◌, ap, append_assoc, append-nil, arith}
 use Rattle.std.specs.Char.{is_ascii_alphanumeric}
 use Rattle.std.proofs.lemmas.Bool.Decides.{nat_tests}
-use Rattle.tl1_text.specs.declared.place.Place.{Place}
-use Rattle.tl1_text.specs.declared.place.Place.TheVariants.{Start, Plain}
+use Rattle.tl1_text.specs.Places.{Place, Start, Plain}
 use Rattle.tl1_text.specs.declared.span.Span.{Span}
 use Rattle.tl1_text.specs.Grammar.{is_plain}
 use Rattle.tl1_text.specs.Walk.{is_outside, ArePlain, are_words, blocks_of}

@@ -6,7 +6,7 @@ use Rattle.std.proofs.Math.ListN.{get_or-map}
 use Rattle.std.proofs.lemmas.Bool.Decides.{nat_tests}
 use Rattle.std.proofs.lemmas.List.{length-map}
 use Rattle.std.proofs.lemmas.List.Elements.{All-map, All-cons, All-nil}
-use Rattle.tl1_text.specs.declared.place.Place.TheVariants.{Start}
+use Rattle.tl1_text.specs.Places.{Start}
 use Rattle.tl1_text.specs.declared.span.Span.{Span}
 use Rattle.tl1_text.specs.Grammar.{AreParams, Block, AreBlocks, last_block, more_blocks, are_few, code_of}
 use Rattle.tl1_text.specs.Walk.{all_blocks, walk, are_words, are_command, if_command, blocks_of, values_of}

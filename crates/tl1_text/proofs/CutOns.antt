@@ -1,8 +1,7 @@
 -- One byte more of a unit that is being cut behind its code.
 use Rattle.std.proofs.Common.{◌≡◌, ◌≢◌, ℕ, ◌+◌, ◌-◌, ◌<◌, ◌≤◌, Bool, true, false, List, [], ◌∷◌, ◌++◌, length, get_or, nat_le, ◌&&◌, ◌||◌, ◌==◌, Option, Some, None, MatchOption, refl, ◌∙◌, ap, length-append, arith}
 use Rattle.std.proofs.lemmas.Bool.Decides.{nat_tests}
-use Rattle.tl1_text.specs.declared.place.Place.{Place}
-use Rattle.tl1_text.specs.declared.place.Place.TheVariants.{Start, Plain, Quoted, Closed}
+use Rattle.tl1_text.specs.Places.{Place, Start, Plain, Quoted, Closed}
 use Rattle.tl1_text.specs.declared.span.Span.{Span}
 use Rattle.tl1_text.specs.Grammar.{is_plain, is_inner}
 use Rattle.tl1_text.specs.Walk.{is_outside, takes_plain, after, blocks_of}

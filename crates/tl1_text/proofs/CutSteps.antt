@@ -6,8 +6,7 @@ use Rattle.std.proofs.lemmas.Bool.Decides.{nat_tests}
 use Rattle.std.proofs.lemmas.List.{map-append, length-map, drop_all}
 use Rattle.std.proofs.lemmas.List.Elements.{All-append, All-cons, All-nil}
 use Rattle.std.proofs.lemmas.List.Folds.{list_all-append}
-use Rattle.tl1_text.specs.declared.place.Place.{Place}
-use Rattle.tl1_text.specs.declared.place.Place.TheVariants.{Start}
+use Rattle.tl1_text.specs.Places.{Place, Start}
 use Rattle.tl1_text.specs.declared.span.Span.{Span}
 use Rattle.tl1_text.specs.Grammar.{Block, are_few, code_of}
 use Rattle.tl1_text.specs.Walk.{is_outside, after, Rest, nothing, all_blocks, with_colon, with_comma, with_byte, walk, are_words, are_command, if_command, blocks_of}

@@ -3,8 +3,7 @@ use Rattle.std.proofs.Common.{◌≡◌, ℕ, Bool, true, false, List, [], ◌�
 use Rattle.std.specs.Option.{option_map, option_and_then}
 use Rattle.std.specs.List.{list_all}
 use Rattle.std.proofs.lemmas.Bool.Decides.{nat_tests}
-use Rattle.tl1_text.specs.declared.place.Place.{Place}
-use Rattle.tl1_text.specs.declared.place.Place.TheVariants.{Start, Plain, Quoted, Closed}
+use Rattle.tl1_text.specs.Places.{Place, Start, Plain, Quoted, Closed}
 use Rattle.tl1_text.specs.Grammar.{is_plain, is_inner, IsParam, plain, quoted, last_param, more_params, Block, AreBlocks, last_block, more_blocks}
 use Rattle.tl1_text.specs.Walk.{is_outside, after, Rest, nothing, all_blocks, with_colon, with_comma, with_byte, walk}
 use Rattle.tl1_text.specs.Values.{Leads, at_start, in_plain, in_quotes, behind_quotes}

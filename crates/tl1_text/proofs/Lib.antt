@@ -12,7 +12,7 @@ pub mod Plains
 pub mod CutBlocks
 pub mod Codes
 pub mod CutOns
-pub mod Params
+pub mod FirstParams
 pub mod TagFacts
 pub mod Totals
 pub mod Tables

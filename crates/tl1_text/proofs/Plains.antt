@@ -1,8 +1,7 @@
 -- A run of plain bytes, as far as a place in it.
 use Rattle.std.proofs.Common.{◌≡◌, ℕ, zero, suc, ◌+◌, ◌-◌, ◌<◌, ◌≤◌, true, false, List, get_or, length, ◌&&◌, ◌==◌, Some, refl, subst, inl, inr, arith}
 use Rattle.std.proofs.lemmas.Bool.{cases_eq}
-use Rattle.tl1_text.specs.declared.place.Place.{Place}
-use Rattle.tl1_text.specs.declared.place.Place.TheVariants.{Start, Plain, Quoted, Closed}
+use Rattle.tl1_text.specs.Places.{Place, Start, Plain, Quoted, Closed}
 use Rattle.tl1_text.specs.Grammar.{is_plain}
 use Rattle.tl1_text.specs.Walk.{is_outside, takes_plain, after, ArePlain}
 use Rattle.tl1_text.specs.Cuts.{Cutting, IsCutTo}

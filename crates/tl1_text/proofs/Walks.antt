@@ -3,7 +3,7 @@ use Rattle.std.proofs.Common.{◌≡◌, ℕ, Bool, true, false, List, [], ◌�
 use Rattle.std.specs.Option.{option_map}
 use Rattle.std.specs.List.{list_all}
 use Rattle.std.specs.Int.{is_in_range}
-use Rattle.tl1_text.specs.declared.place.Place.TheVariants.{Start, Plain, Quoted, Closed}
+use Rattle.tl1_text.specs.Places.{Start, Plain, Quoted, Closed}
 use Rattle.tl1_text.specs.Grammar.{is_plain, is_inner, IsParam, plain, quoted, AreParams, last_param, more_params, Block, AreBlocks, last_block, more_blocks}
 use Rattle.tl1_text.specs.Walk.{Rest, all_blocks, with_colon, with_comma, with_byte, walk}
 

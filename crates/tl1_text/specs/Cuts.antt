@@ -2,8 +2,7 @@
 use Rattle.std.specs.Prelude.{◌≡◌, ◌≢◌, ℕ, ◌+◌, ◌≤◌, ◌<◌, Bool, true, false, List, ◌∷◌, ◌++◌, length, map, drop, slice_index, slice_range, nat_lt, ◌==◌, ◌||◌, Option, Some}
 use Rattle.std.specs.Option.{option_map}
 use Rattle.std.specs.List.{All, list_all}
-use Rattle.tl1_text.specs.declared.place.Place.{Place}
-use Rattle.tl1_text.specs.declared.place.Place.TheVariants.{Start}
+use Rattle.tl1_text.specs.Places.{Place, Start}
 use Rattle.tl1_text.specs.declared.span.Span.{Span}
 use Rattle.tl1_text.specs.Grammar.{Block, are_few}
 use Rattle.tl1_text.specs.Walk.{is_outside, takes_plain, ArePlain, Rest, all_blocks, walk, are_words}

@@ -1,6 +1,7 @@
 pub mod Units
 pub mod Reading
 pub mod Grammar
+pub mod Places
 pub mod Walk
 pub mod Spans
 pub mod Cuts

@@ -1,8 +1,7 @@
--- The first parameter of a block, and the further ones.
-use Rattle.std.specs.Prelude.{◌≡◌, ℕ, Bool, true, false, List, [], ◌∷◌, ◌++◌, ◌==◌, Option, Some, None, IfSome}
-use Rattle.std.specs.List.{list_all}
-use Rattle.tl1_text.specs.declared.place.Place.{Place}
-use Rattle.tl1_text.specs.declared.place.Place.TheVariants.{Start, Plain, Quoted, Closed}
+-- The first parameter of a block, the further ones, and all of them.
+use Rattle.std.specs.Prelude.{◌≡◌, ◌≤◌, ℕ, Bool, true, false, List, [], ◌∷◌, ◌++◌, ◌==◌, length, map, Option, Some, None, IfSome}
+use Rattle.std.specs.List.{All, list_all}
+use Rattle.tl1_text.specs.Places.{Place, Start, Plain, Quoted, Closed}
 use Rattle.tl1_text.specs.declared.span.Span.{Span}
 use Rattle.tl1_text.specs.declared.values.Param.{Param}
 use Rattle.tl1_text.specs.Grammar.{is_plain, is_inner}
@@ -30,3 +29,10 @@ pub record IsFirst (unit : List ℕ) (block : Span) (p : Param) : Type 0 where
   pub values : values_of (text_at unit block) ≡ text_at unit p.value ∷ values_behind unit p.others
   pub value_in : IsIn unit p.value
   pub others_in : IfSome p.others (IsBlockIn unit)
+
+-- these are the block's parameters, but for those of a block that is left
+pub record AreFound (unit : List ℕ) (block : Span) (found : List Span) (left : Option Span) : Type 0 where
+  pub values : values_of (text_at unit block) ≡ map (text_at unit) found ++ values_behind unit left
+  pub few : length (values_of (text_at unit block)) ≤ 8
+  pub found_in : All (IsIn unit) found
+  pub left_in : IfSome left (IsBlockIn unit)

@@ -3,8 +3,7 @@ use Rattle.std.specs.Prelude.{◌≡◌, ℕ, ◌≤◌, ◌<◌, Bool, true, fa
 use Rattle.std.specs.Option.{option_map, option_map_or, option_and_then}
 use Rattle.std.specs.List.{list_all}
 use Rattle.std.specs.Char.{is_ascii_alphanumeric}
-use Rattle.tl1_text.specs.declared.place.Place.{Place}
-use Rattle.tl1_text.specs.declared.place.Place.TheVariants.{Start, Plain, Quoted, Closed}
+use Rattle.tl1_text.specs.Places.{Place, Start, Plain, Quoted, Closed}
 use Rattle.tl1_text.specs.Grammar.{is_plain, is_inner, Block, are_few, code_of}
 
 -- the place is outside quotes, where a mark parts

@@ -5,8 +5,7 @@ ghost use Rattle.tl1_text.specs.Walk.{blocks_of};
 ghost use Rattle.tl1_text.specs.Spans.{AreBlocksOf};
 ghost use Rattle.tl1_text.specs.Cuts.{is_mark as mark, IsCode, IsCutOn};
 
-use crate::letter::is_letter_or_digit;
-use crate::place::{is_inner, is_plain};
+use crate::letter::{is_inner, is_letter_or_digit, is_plain};
 use crate::span::Span;
 use arrayvec::ArrayVec;
 

@@ -1,9 +1,12 @@
 // Finds the parameters of a block, one at a time.
-ghost use Rattle.std.specs.Prelude.{◌≡◌, ◌≤◌, ◌<◌, ◌==◌, true, false, IfSome, length, position};
-ghost use Rattle.tl1_text.specs.Spans.{IsBlockIn, text_at};
+ghost use Rattle.std.specs.Prelude.{◌≡◌, ◌≤◌, ◌<◌, ◌==◌, true, false, IfSome, length, map, position};
+ghost use Rattle.std.specs.List.{All};
+ghost use Rattle.tl1_text.specs.Spans.{IsIn, IsBlockIn, text_at};
+ghost use Rattle.tl1_text.specs.Walk.{values_of};
 ghost use Rattle.tl1_text.specs.Values.{IsFirst, begins_quoted};
 
 use crate::span::Span;
+use arrayvec::ArrayVec;
 
 /// A parameter: its value, which stands inside its quotes where it has them, and the block of the further ones, where
 /// there are any.
@@ -24,6 +27,23 @@ pub fn first_param(unit: &[u8], block: Span) -> Param
     } else {
         plain_param(unit, block)
     }
+}
+
+/// The values of a block's parameters, at most eight, each inside its quotes. The block is one of the unit's `blocks`.
+pub fn params(unit: &[u8], block: Span) -> ArrayVec<Span, 8>
+    requires short { length unit.now ≤ 2047 }
+    requires block { IsBlockIn unit.now block }
+    ensures texts { map (text_at unit.now) result.items ≡ values_of (text_at unit.now block) }
+    ensures within { All (IsIn unit.now) result.items }
+{
+    let mut values = ArrayVec::new();
+    let mut left = Some(block);
+    while let Some(block) = left {
+        let param = first_param(unit, block);
+        values.push(param.value);
+        left = param.others;
+    }
+    values
 }
 
 fn is_quoted(text: &[u8]) -> bool

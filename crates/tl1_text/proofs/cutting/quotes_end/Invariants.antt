@@ -1,5 +1,5 @@
 use Rattle.std.proofs.Common.{ℕ, List}
-use Rattle.tl1_text.specs.declared.place.Place.TheVariants.{Quoted}
+use Rattle.tl1_text.specs.Places.{Quoted}
 use Rattle.tl1_text.specs.declared.span.Span.{Span}
 use Rattle.tl1_text.specs.Cuts.{IsCutTo, IsCutOn}
 use Rattle.tl1_text.proofs.cutting.quotes_end.Given as goal

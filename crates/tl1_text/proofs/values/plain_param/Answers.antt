@@ -1,5 +1,5 @@
 use Rattle.std.proofs.Common.{ℕ, List, ◌==◌, position, sym, ◌∙◌, ap}
-use Rattle.tl1_text.proofs.Params.{plain_last, plain_more}
+use Rattle.tl1_text.proofs.FirstParams.{plain_last, plain_more}
 use Rattle.tl1_text.proofs.values.plain_param.Goals as goal
 
 pub returns-in_default : goal.returns-in_default

@@ -1,6 +1,6 @@
 use Rattle.std.proofs.Common.{ℕ, List, ◌==◌, Option, drop, position, refl, sym, ◌∙◌, ap, subst, arith}
 use Rattle.std.specs.Option.{IsSome}
-use Rattle.tl1_text.proofs.Params.{behind_first, quote_is, quoted_end, quoted_last, quoted_more}
+use Rattle.tl1_text.proofs.FirstParams.{behind_first, quote_is, quoted_end, quoted_last, quoted_more}
 use Rattle.tl1_text.proofs.values.quoted_param.Goals as goal
 
 pub unwrap-requires : goal.unwrap-requires

@@ -1,0 +1,8 @@
+-- Where a reader stands in a parameter.
+
+-- before its first byte, behind a byte without quotes, inside its quotes, behind its quotes
+pub data Place : Type 0 where
+  Start : Place
+  Plain : Place
+  Quoted : Place
+  Closed : Place
