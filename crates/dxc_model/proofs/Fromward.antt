@@ -16,13 +16,13 @@ pub all_kept : {X : Type 0} (q : X → Bool) (xs : List X) → AllByRecursion (�
 all_kept q [] a = refl
 all_kept {X} q (x ∷ xs) a = ap (λ b. cond b (x ∷ filter q xs) (filter q xs)) a.0 ∙ ap (λ (ys : List X). x ∷ ys) (all_kept q xs a.1)
 
-on_of : (p : ℕ) (c : Conn) → p ≤ c.from.0 → is_from_on p c ≡ true
+pub on_of : (p : ℕ) (c : Conn) → p ≤ c.from.0 → is_from_on p c ≡ true
 on_of p c l = ap not (false_of (nat_lt c.from.0 p) (λ b. let m = lt_of c.from.0 p b in absurd (omega arith)))
 
 on_less : (p : ℕ) (c : Conn) → is_from_on p c ≡ false → c.from.0 < p
 on_less p c e = lt_of c.from.0 p (not_false (nat_lt c.from.0 p) e)
 
-off_of : (p : ℕ) (c : Conn) → c.from.0 < p → is_from_on p c ≡ false
+pub off_of : (p : ℕ) (c : Conn) → c.from.0 < p → is_from_on p c ≡ false
 off_of p c l = ap not (of_lt c.from.0 p l)
 
 not_true : (b : Bool) → not b ≡ true → b ≡ false

@@ -86,12 +86,7 @@ pub fn checkpoint_equipment(table: &Table) -> u64
 /// where there are at most so many.
 ///
 /// `port` tells from where on the connections are left: it is 0 for the first record, and what that left for the next.
-pub fn checkpoint_row(
-    table: &Table,
-    matrix: &Matrix,
-    i: usize,
-    port: &mut u16,
-) -> Option<[u8; 64]>
+pub fn checkpoint_row(table: &Table, matrix: &Matrix, i: usize, port: &mut u16) -> Option<[u8; 64]>
     requires placed { IsPlaced table.now matrix.now }
     requires port { IsRowAt table.now i port.old }
     ensures row { result ≡ slice_get (checkpoint table.now matrix.now) i }
