@@ -1,8 +1,8 @@
-ghost use Rattle.std.specs.Prelude.{◌≡◌, MatchOption, MatchResult, None, Ok, Err, IfOk};
+ghost use Rattle.std.specs.Prelude.{◌≡◌, MatchResult, Ok, Err, IfOk};
 ghost use Rattle.dxc_num.specs.Dimensions.{Dimensions, IsModule};
 ghost use Rattle.tl1_text.specs.Spans.{IsIn, text_at};
 ghost use Rattle.dxc_model.specs.Operations.{ArePorts};
-ghost use Rattle.tl1_command.specs.Commands.{asked_by, named_by, IsAptCommand, IsAptOp, ends_by};
+ghost use Rattle.tl1_command.specs.Commands.{asked_by, named_by, IsAptCommand, ends_by};
 ghost use Rattle.tl1_command.specs.Meanings.{cct_named, label_named, or_one_way as one_way_or, ends_named, selection_or_all, names_all, asked as asked_for, IsOfConnection};
 
 use crate::code::is_same;
@@ -69,104 +69,72 @@ fn is_all(text: &[u8]) -> bool
     text.is_empty() || is_same(text, "ALL")
 }
 
-/// Finds what a command with its parameters asks for, or answers why it is denied. In place, since a command is large.
-pub fn asked(
-    shape: Shape,
-    code: CommandCode,
-    unit: &[u8],
-    named: Named,
-    command: &mut Command,
-) -> Option<Cause>
+/// What a command with its parameters asks for, or why it is denied.
+pub fn asked(shape: Shape, code: CommandCode, unit: &[u8], named: Named) -> Result<Command, Cause>
     requires first { IsIn unit.now named.first }
     requires second { IsIn unit.now named.second }
     requires value { IsIn unit.now named.value }
     requires label { IsIn unit.now named.label }
-    ensures asked { MatchOption result (asked_for shape code (named_by unit.now named) ≡ Ok (asked_by unit.now command.new)) (λ q. asked_for shape code (named_by unit.now named) ≡ Err q) }
-    ensures apt { result ≡ None → IsAptCommand shape unit.now command.new }
+    ensures asked { MatchResult result (λ c. asked_for shape code (named_by unit.now named) ≡ Ok (asked_by unit.now c)) (λ q. asked_for shape code (named_by unit.now named) ≡ Err q) }
+    ensures apt { IfOk result (IsAptCommand shape unit.now) }
 {
     let first = named.first.text(unit);
-    *command = match code {
-        CommandCode::ActUser => Command::ActUser {
+    match code {
+        CommandCode::ActUser => Ok(Command::ActUser {
             uid: named.first,
             pid: named.value,
-        },
-        CommandCode::CancUser => Command::CancUser { uid: named.first },
-        CommandCode::RtrvHdr => Command::Header,
-        CommandCode::AlwMsgAll if is_all(first) => Command::Allow,
-        CommandCode::InhMsgAll if is_all(first) => Command::Inhibit,
-        CommandCode::AlwMsgAll | CommandCode::InhMsgAll => return Some(Cause::BadAid),
-        CommandCode::RtrvCrsT0 => match selection_or_all_of(shape, first) {
-            Ok(selection) => Command::Table(Op::Rows(selection)),
-            Err(cause) => return Some(cause),
-        },
-        CommandCode::EntCrsT0 | CommandCode::EdCrsT0 | CommandCode::DltCrsT0 => {
-            return connection(shape, code, unit, named, command);
+        }),
+        CommandCode::CancUser => Ok(Command::CancUser { uid: named.first }),
+        CommandCode::RtrvHdr => Ok(Command::Header),
+        CommandCode::AlwMsgAll if is_all(first) => Ok(Command::Allow),
+        CommandCode::InhMsgAll if is_all(first) => Ok(Command::Inhibit),
+        CommandCode::AlwMsgAll | CommandCode::InhMsgAll => Err(Cause::BadAid),
+        CommandCode::RtrvCrsT0 => {
+            let selection = selection_or_all_of(shape, first)?;
+            Ok(Command::Table(Op::Rows(selection)))
         }
-        CommandCode::EntEqpt => match module_of(shape, first) {
-            Some(module) => Command::Table(Op::EnterModule(module)),
-            None => return Some(Cause::BadAid),
-        },
-        CommandCode::DltEqpt => match module_of(shape, first) {
-            Some(module) => Command::Table(Op::DeleteModule(module)),
-            None => return Some(Cause::BadAid),
-        },
-        CommandCode::RmvMid => match middle_of(shape, first) {
-            Some(middle) => Command::Table(Op::TakeOut(middle)),
-            None => return Some(Cause::BadAid),
-        },
-        CommandCode::RstMid => match middle_of(shape, first) {
-            Some(middle) => Command::Table(Op::PutBack(middle)),
-            None => return Some(Cause::BadAid),
-        },
-        CommandCode::InitSys => Command::Table(Op::Restart),
-    };
-    None
-}
-
-/// An entry, an edit or a deletion of a connection.
-// Apart, so that other commands pay for no room of a connection.
-#[inline(never)]
-fn connection(
-    shape: Shape,
-    code: CommandCode,
-    unit: &[u8],
-    named: Named,
-    command: &mut Command,
-) -> Option<Cause>
-    requires first { IsIn unit.now named.first }
-    requires second { IsIn unit.now named.second }
-    requires value { IsIn unit.now named.value }
-    requires label { IsIn unit.now named.label }
-    requires code { IsOfConnection code }
-    ensures asked { MatchOption result (asked_for shape code (named_by unit.now named) ≡ Ok (asked_by unit.now command.new)) (λ q. asked_for shape code (named_by unit.now named) ≡ Err q) }
-    ensures apt { result ≡ None → IsAptCommand shape unit.now command.new }
-{
-    match operation(shape, code, unit, named) {
-        Ok(op) => {
-            *command = Command::Table(op);
-            None
+        CommandCode::EntCrsT0 | CommandCode::EdCrsT0 | CommandCode::DltCrsT0 => connection(
+            shape, code, unit, named,
+        ),
+        CommandCode::EntEqpt => {
+            let module = module_of(shape, first).ok_or(Cause::BadAid)?;
+            Ok(Command::Table(Op::EnterModule(module)))
         }
-        Err(cause) => Some(cause),
+        CommandCode::DltEqpt => {
+            let module = module_of(shape, first).ok_or(Cause::BadAid)?;
+            Ok(Command::Table(Op::DeleteModule(module)))
+        }
+        CommandCode::RmvMid => {
+            let middle = middle_of(shape, first).ok_or(Cause::BadAid)?;
+            Ok(Command::Table(Op::TakeOut(middle)))
+        }
+        CommandCode::RstMid => {
+            let middle = middle_of(shape, first).ok_or(Cause::BadAid)?;
+            Ok(Command::Table(Op::PutBack(middle)))
+        }
+        CommandCode::InitSys => Ok(Command::Table(Op::Restart)),
     }
 }
 
-fn operation(shape: Shape, code: CommandCode, unit: &[u8], named: Named) -> Result<Op, Cause>
+/// An entry, an edit or a deletion of a connection.
+fn connection(shape: Shape, code: CommandCode, unit: &[u8], named: Named) -> Result<Command, Cause>
     requires first { IsIn unit.now named.first }
     requires second { IsIn unit.now named.second }
     requires value { IsIn unit.now named.value }
     requires label { IsIn unit.now named.label }
     requires code { IsOfConnection code }
-    ensures asked { MatchResult result (λ op. asked_for shape code (named_by unit.now named) ≡ Ok (asked_by unit.now (Command.Table op))) (λ q. asked_for shape code (named_by unit.now named) ≡ Err q) }
-    ensures apt { IfOk result (IsAptOp shape) }
+    ensures asked { MatchResult result (λ c. asked_for shape code (named_by unit.now named) ≡ Ok (asked_by unit.now c)) (λ q. asked_for shape code (named_by unit.now named) ≡ Err q) }
+    ensures apt { IfOk result (IsAptCommand shape unit.now) }
 {
     let cct = cct_of(named.value.text(unit))?;
     let label = label_of(named.label.text(unit))?;
     let (from, to) = ends_of(shape, named.first.text(unit), named.second.text(unit))?;
-    Ok(match code {
+    let op = match code {
         CommandCode::DltCrsT0 => Op::Delete { from, to, cct },
         CommandCode::EdCrsT0 => Op::Edit(conn(from, to, cct, label)),
         _ => Op::Enter(conn(from, to, cct, label)),
-    })
+    };
+    Ok(Command::Table(op))
 }
 
 fn conn(from: Port, to: Port, cct: Option<Cct>, label: Label) -> Conn

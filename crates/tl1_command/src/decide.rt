@@ -63,12 +63,6 @@ pub fn command_with(
     let parts = parts_of(unit, blocks);
     match refusal(sid, user, code, unit, blocks, &parts, tagged) {
         Some(cause) => Err(cause),
-        None => {
-            let mut command = Command::Header;
-            match asked(shape, code, unit, parts.named(), &mut command) {
-                Some(cause) => Err(cause),
-                None => Ok(command),
-            }
-        }
+        None => asked(shape, code, unit, parts.named()),
     }
 }
