@@ -1,7 +1,7 @@
 -- The parts of a record have their lengths.
 use Rattle.std.proofs.Common.{◌≡◌, ◌≤◌, ℕ, Bool, true, false, nat_lt, not, ◌&&◌, List, [], ◌∷◌, ◌++◌, length, take, drop, get_or, append_assoc, length-append, length-drop, refl, sym, ◌∙◌, ap, arith}
 use borrow.Rule.Slice.PartMut.{put_mid}
-use Rattle.std.proofs.lemmas.List.{drop_at, take_all, take_at}
+use Rattle.std.proofs.lemmas.List.{drop_at, take_at}
 use Rattle.dxc_model.specs.declared.op.Change.{Change}
 use Rattle.dxc_model.specs.declared.op.Change.TheVariants.{Enter, Delete, Edit, EnterModule, DeleteModule, TakeOut, PutBack}
 use Rattle.dxc_model.specs.Labels.{are_label_bytes, is_label}
@@ -68,9 +68,9 @@ spelling_size change l is =
     let d = label_size (label_of change) (label_few (label_of change) is) in
     omega arith
 
--- the parts of a record, each put where it belongs
-pub filled : (f l : List ℕ) (zs : List ℕ) → length f ≡ 14 → length l ≡ 25 → length zs ≡ 25 → put_mid 14 25 (f ++ (take 25 zs ++ zs)) l ≡ (f ++ l) ++ zs
-filled f l zs a b d = rw (take_all 25 zs (omega arith), take_at f (zs ++ zs) 14 a, drop_at f (zs ++ zs) 14 a, drop_at zs zs 25 d, append_assoc f l zs) refl
+-- the label's bytes, put behind what is in front of them
+pub filled : (f l ys zs : List ℕ) → length f ≡ 15 → length l ≡ 24 → length ys ≡ 24 → put_mid 15 24 (f ++ (ys ++ zs)) l ≡ (f ++ l) ++ zs
+filled f l ys zs a b d = rw (take_at f (ys ++ zs) 15 a, drop_at f (ys ++ zs) 15 a, drop_at ys zs 24 d, append_assoc f l zs) refl
 
-pub part_size : (f zs : List ℕ) → length f ≡ 14 → length zs ≡ 25 → length (take 25 (drop 14 (f ++ (take 25 zs ++ zs)))) ≡ 25
-part_size f zs a d = rw (drop_at f (take 25 zs ++ zs) 14 a, take_all 25 zs (omega arith), take_at zs zs 25 d) d
+pub part_size : (f ys zs : List ℕ) → length f ≡ 15 → length ys ≡ 24 → length (take 24 (drop 15 (f ++ (ys ++ zs)))) ≡ 24
+part_size f ys zs a d = rw (drop_at f (ys ++ zs) 15 a, take_at ys zs 24 d) d

@@ -1,11 +1,10 @@
-ghost use Rattle.std.specs.Prelude.{◌≡◌, ◌≤◌, ◌∷◌, ◌++◌, drop, length, true};
+ghost use Rattle.std.specs.Prelude.{◌≡◌, ◌≤◌, ◌∷◌, ◌++◌, [], drop, length, true};
 ghost use Rattle.dxc_model.specs.Labels.{is_label};
-ghost use Rattle.xc_journal.specs.Spelling.{spelling, front, change_bytes, choice_bytes, cct_byte, conn_bytes, module_bytes, middle_bytes, label_bytes};
-ghost use Rattle.xc_journal.specs.Spelling.{label_of as label_in};
+ghost use Rattle.xc_journal.specs.Spelling.{spelling, front, change_bytes, choice_bytes, cct_byte, conn_bytes, module_bytes, middle_bytes, label_of};
 
 use arrayvec::ArrayVec;
 use byteorder::{BigEndian, ByteOrder};
-use dxc_model::{Cct, Change, Conn, Label};
+use dxc_model::{Cct, Change, Conn};
 use dxc_num::Middle;
 use roll_plan::{Chain, Choice};
 
@@ -82,50 +81,37 @@ fn behind(choices: &[Choice]) -> &[Choice]
     }
 }
 
-// What is in front of the label.
-fn front_of(change: &Change, choices: &[Choice]) -> [u8; 14]
+// What is in front of the label's bytes: the last of these bytes is their number.
+#[inline(always)]
+fn front_of(change: &Change, choices: &[Choice], count: u8) -> [u8; 15]
     requires { length choices.now ≤ 2 }
-    ensures { result ≡ front change.now choices.now }
+    ensures { result ≡ front change.now choices.now ++ count ∷ [] }
 {
     let c = of_change(change);
     let a = of_choice(choices);
     let b = of_choice(behind(choices));
     let n = choices.len() as u8;
     [
-        SEALED, c[0], c[1], c[2], c[3], c[4], c[5], n, a[0], a[1], a[2], b[0], b[1], b[2],
+        SEALED, c[0], c[1], c[2], c[3], c[4], c[5], n, a[0], a[1], a[2], b[0], b[1], b[2], count,
     ]
-}
-
-// The label of the connection that is changed, or the empty one.
-fn label_of(change: &Change) -> Label
-    ensures { result ≡ label_in change.now }
-{
-    match change {
-        Change::Enter(conn) | Change::Delete(conn) | Change::Edit(conn) => conn.label,
-        _ => Label::default(),
-    }
-}
-
-// Its length and its bytes, filled up with zeros.
-fn of_label(label: &Label) -> [u8; 25]
-    ensures bytes { result ≡ label_bytes label.now }
-    ensures label { is_label label.now ≡ true }
-{
-    let mut bytes = [0; 25];
-    bytes[0] = label.bytes().len() as u8;
-    bytes[1..].copy_from_slice(label.padded());
-    bytes
 }
 
 /// The sealed record of a change with its choices, in version 2. It is read back where there are as many choices as the change
 /// joins or parts legs: one or two for a one-way or two-way connection that is entered or deleted, at most one for an edit, none
 /// for a module or a middle.
+#[inline(always)]
 pub fn record_of(change: &Change, choices: &ArrayVec<Choice, 2>) -> [u8; 64]
     ensures spelled { result ≡ spelling change.now choices.now.items }
-    ensures label { is_label (label_in change.now) ≡ true }
+    ensures label { is_label (label_of change.now) ≡ true }
 {
     let mut record = [0; 64];
-    record[..14].copy_from_slice(&front_of(change, choices.as_slice()));
-    record[14..39].copy_from_slice(&of_label(&label_of(change)));
+    match change {
+        Change::Enter(conn) | Change::Delete(conn) | Change::Edit(conn) => {
+            let count = conn.label.bytes().len() as u8;
+            record[..15].copy_from_slice(&front_of(change, choices.as_slice(), count));
+            record[15..39].copy_from_slice(conn.label.padded());
+        }
+        _ => record[..15].copy_from_slice(&front_of(change, choices.as_slice(), 0)),
+    }
     record
 }

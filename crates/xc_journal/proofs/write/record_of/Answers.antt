@@ -1,18 +1,20 @@
-use Rattle.std.proofs.Common.{◌≡◌, ◌∙◌, ◌++◌, ap, refl, sym}
-use Rattle.dxc_model.specs.Labels.{is_label}
-use Rattle.xc_journal.specs.Spelling.{front, label_bytes, zeros}
-use Rattle.xc_journal.specs.Spelling.{label_of as label_in}
+use Rattle.std.proofs.Common.{◌≡◌, ◌∙◌, ◌++◌, [], ◌∷◌, List, ℕ, ap, append_assoc, drop, length, refl, rules, sym}
+use Rattle.std.proofs.lemmas.List.{drop-replicate}
+use Rattle.xc_journal.specs.Spelling.{front, label_bytes, label_of, label_zeros, zeros}
 use Rattle.xc_journal.proofs.Bytes.{filled, part_size}
 use Rattle.xc_journal.proofs.write.record_of.Goals as goal
 
-pub returns-clause-spelled : goal.returns-clause-spelled
-returns-clause-spelled c =
+pub returns-in-Enter-clause-spelled : goal.returns-in-Enter-clause-spelled
+returns-in-Enter-clause-spelled c =
     let change = c.args.change.now in
     let choices = c.args.choices.now.items in
-    let f : c.copy_from_slice.new.self ≡ front change choices = c.copy_from_slice.ensures.after ∙ c.front_of.ensures ∙ ap (front change) c.as_slice.ensures.value in
-    let l : c.copy_from_slice-2.new.self ≡ label_bytes (label_in change) = c.copy_from_slice-2.ensures.after ∙ c.of_label.ensures.bytes ∙ ap label_bytes c.label_of.ensures in
-    let size = c.copy_from_slice-2.ensures.len ∙ part_size c.copy_from_slice.new.self zeros c.copy_from_slice.ensures.len refl in
-    filled c.copy_from_slice.new.self c.copy_from_slice-2.new.self zeros c.copy_from_slice.ensures.len size refl ∙ (λ i. (f i ++ l i) ++ zeros)
-
-pub returns-clause-label : goal.returns-clause-label
-returns-clause-label c = ap is_label (sym c.label_of.ensures) ∙ c.of_label.ensures.label
+    let l : List ℕ = c.in-Enter.conn.label in
+    let same : label_of change ≡ l = search rules in
+    let f : c.copy_from_slice-in-Enter.new.self ≡ front change choices ++ length l ∷ [] =
+    c.copy_from_slice-in-Enter.ensures.after ∙ c.front_of-in-Enter.ensures ∙ (λ i. front change (c.as_slice-in-Enter.ensures.value i) ++ length (c.bytes.ensures.bytes i) ∷ []) in
+    let t : c.copy_from_slice-in-Enter-2.new.self ≡ l ++ drop (length l) label_zeros = c.copy_from_slice-in-Enter-2.ensures.after ∙ (c.padded.ensures ∙ ap (λ (zs : List ℕ). l ++ zs) (sym (drop-replicate (length l) 24 0))) in
+    let size = c.copy_from_slice-in-Enter-2.ensures.len ∙ part_size c.copy_from_slice-in-Enter.new.self label_zeros zeros c.copy_from_slice-in-Enter.ensures.len refl in
+    filled c.copy_from_slice-in-Enter.new.self c.copy_from_slice-in-Enter-2.new.self label_zeros zeros c.copy_from_slice-in-Enter.ensures.len size refl
+    ∙ (λ i. (f i ++ t i) ++ zeros)
+    ∙ ap (λ (x : List ℕ). x ++ zeros) (append_assoc (front change choices) (length l ∷ []) (l ++ drop (length l) label_zeros))
+    ∙ ap (λ (x : List ℕ). (front change choices ++ label_bytes x) ++ zeros) (sym same)
