@@ -1,10 +1,14 @@
 -- What a session heard of the users, one case longer.
-use Rattle.std.proofs.Common.{◌≡◌, ◌≢◌, ℕ, List, [], ◌∷◌, ◌++◌, append-nil, append_assoc, refl, sym, ◌∙◌, subst}
+use Rattle.std.proofs.Common.{◌≡◌, ◌≢◌, ℕ, Option, List, [], ◌∷◌, ◌++◌, append-nil, append_assoc, refl, sym, ◌∙◌, subst}
 use base.Stored.{Gv}
 use Rattle.turnstile.specs.Turning.{Each}
 use Rattle.dxc_outside.specs.declared.clock.Moment.{Moment}
 use Rattle.dxc_outside.specs.declared.gate.GatePlace.{GatePlace}
+use Rattle.dxc_outside.specs.declared.gate.Pass1.{Pass1}
+use Rattle.dxc_outside.specs.declared.gate.Pass1.TheVariants.{Go, Stop}
 use Rattle.dxc_model.specs.declared.user.SessionUser.{SessionUser}
+use Rattle.shelf_file.specs.Contents.{Contents}
+use Rattle.tl1_text.specs.Units.{Input}
 use Rattle.user_admin.specs.declared.op.UserEntry.{UserEntry}
 use Rattle.user_admin.specs.declared.op.UserRow.{UserRow}
 use Rattle.user_admin.specs.Histories.{Opening}
@@ -14,7 +18,9 @@ use Rattle.craft_session.specs.Asks.{Language, user_after}
 use Rattle.craft_session.specs.Consulting.{Consults, others_pass, unit_hears, quiet_passes}
 use Rattle.craft_session.specs.Gated.{users_kept}
 use Rattle.craft_session.specs.Happenings.{Happening, Request, unit, quiet}
-use Rattle.craft_session.specs.Hearing.{Heard, HeardBehind, IsAsked, Wanted, nothing, unasked}
+use Rattle.craft_session.specs.Desks.{ConsultedIs, put_down}
+use Rattle.craft_session.specs.Hearing.{AskedIs, Heard, HeardBehind, IsAsked, Wanted, nothing, unasked}
+use Rattle.craft_session.specs.Meanings.{asks, tag_of, wants}
 use Rattle.craft_session.specs.Seats.{UserSeatAt}
 use Rattle.craft_session.specs.Sessions.{Beginning, Consulted}
 
@@ -58,3 +64,9 @@ asked_nothing seat w by a rows gate unasked_gate none is no_rows = record {
   rows_are = no_rows;
   entered = λ h saw. record { entries = []; saw = subst (λ (x : List UserEntry). Saw seat.opening seat.seen x) (sym (append-nil h)) saw; places = []; were = unasked_gate; gated = users_kept [] tt };
 }
+
+-- what was heard, with the tag of the unit that asked it
+pub consulted_by : (s : Contents) (user : SessionUser) (u : Input) (seat : UserSeatAt) (rows : List UserRow) (then_seen : List Gv) (gate : List GatePlace → Type 0) (tag : Option (List ℕ)) (a : Ask) (how : Pass1)
+    → tag ≡ tag_of u → AskedIs seat (wants s user u) (λ x. asks s user x u) rows then_seen gate (put_down how a) → ConsultedIs s user u seat rows then_seen gate tag a how
+consulted_by s user u seat rows then_seen gate tag a Go is asked = (is, asked)
+consulted_by s user u seat rows then_seen gate tag a Stop is asked = asked

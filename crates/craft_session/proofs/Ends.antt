@@ -50,6 +50,13 @@ abbrev pub pass_goes : Pass1 → Bool
 pass_goes pass.Stop = false
 pass_goes _ = true
 
+-- no stop came
+pub stop_went : {X : Type 0} → pass.Go ≡ pass.Stop → X
+stop_went is = absurd (apart pass_goes pass.Go pass.Go pass.Stop refl refl refl is)
+
+pub stop_goes : {X : Type 0} → pass.Stop ≡ pass.Go → X
+stop_goes is = stop_went (sym is)
+
 abbrev pub changed_goes : Changed → Bool
 changed_goes changed.Stopped = false
 changed_goes _ = true

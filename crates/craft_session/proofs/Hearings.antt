@@ -19,7 +19,6 @@ use Rattle.craft_session.specs.Asks.{Language, user_after}
 use Rattle.craft_session.specs.Consulting.{Consults, consults_none, others_pass, unit_hears, quiet_passes}
 use Rattle.craft_session.specs.Happenings.{Happening, unit, quiet, units_in}
 use Rattle.craft_session.specs.Hearing.{Heard, Hears, Wanted, nothing, to_look, to_do}
-use Rattle.craft_session.specs.Meanings.{wants}
 use Rattle.craft_session.specs.PlainUsers.{ConsultsAlone, HearsOf, IsExcusedBy, IsUsersOpeningOf, IsUsersUnsoundBy, PlaysUsers, users_room_of}
 use Rattle.craft_session.proofs.Streams.{units_in-append, units_in-quiet}
 

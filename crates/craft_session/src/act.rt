@@ -25,16 +25,16 @@ pub fn act<D: Disk + Drop, G: Gate, R: Wait>(
     seat: &mut Seat<D>,
     attending: &mut Attending,
     rows: &mut Vec<Conn>,
-    ask: Ask,
+    ask: &Ask,
     gate: &mut G,
     rt: &R,
 ) -> Option<Acted>
     requires room { ports seat.old.opening.first.fold.table.shape ≤ vec_capacity rows.old }
-    requires apt { IsAptAsk seat.old.opening.first.fold.table.shape ask }
+    requires apt { IsAptAsk seat.old.opening.first.fold.table.shape ask.now }
     ensures same { IsSameSeat seat.old seat.new }
-    ensures acts { (h : List Entry) → Saw seat.old.opening seat.old.seen h → ActedIs seat.old.opening seat.old.place h attending.old ask result rows.new.items attending.new seat.new.seen }
+    ensures acts { (h : List Entry) → Saw seat.old.opening seat.old.seen h → ActedIs seat.old.opening seat.old.place h attending.old ask.now result rows.new.items attending.new seat.new.seen }
     ensures listed { result ≡ Some Acted.Listed → AllByRecursion (IsOfShape seat.old.opening.first.fold.table.shape) rows.new.items }
-    ensures user { attending.new.user ≡ user_after attending.old.user ask }
+    ensures user { attending.new.user ≡ user_after attending.old.user ask.now }
     ensures room { vec_capacity rows.new ≡ vec_capacity rows.old }
     ensures acted { result ≢ None → G.stops gate.new ≡ G.stops gate.old }
     ensures stopped { result ≡ None → Rose (G.stops gate.old) (G.stops gate.new) }
@@ -42,9 +42,9 @@ pub fn act<D: Disk + Drop, G: Gate, R: Wait>(
     ensures entered { (h : List Entry) → Saw seat.old.opening seat.old.seen h → Entered seat.old.opening seat.old.place (G.asked gate.old gate.new) false false h seat.new.seen }
 {
     match ask {
-        Ask::Refused(cause) => Some(Acted::Denied(cause)),
+        Ask::Refused(cause) => Some(Acted::Denied(*cause)),
         Ask::LogsIn(named) => {
-            attending.user = named;
+            attending.user = *named;
             Some(Acted::Completed)
         }
         Ask::LogsOut => {
@@ -63,7 +63,7 @@ pub fn act<D: Disk + Drop, G: Gate, R: Wait>(
             Some(Acted::Completed)
         }
         Ask::Lists(selection) => {
-            seat.rows(selection, rows, rt);
+            seat.rows(*selection, rows, rt);
             Some(Acted::Listed)
         }
         Ask::Restarts => match seat.restart(gate, rt) {
@@ -71,7 +71,7 @@ pub fn act<D: Disk + Drop, G: Gate, R: Wait>(
             Changed::Denied(cause) => Some(Acted::Denied(cause)),
             Changed::Stopped => None,
         },
-        Ask::Changes(op) => match seat.change(&op, gate, rt) {
+        Ask::Changes(op) => match seat.change(op, gate, rt) {
             Changed::Done => Some(Acted::Completed),
             Changed::Denied(cause) => Some(Acted::Denied(cause)),
             Changed::Stopped => None,

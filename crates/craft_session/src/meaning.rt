@@ -1,14 +1,15 @@
 //! What a unit asks of a session, behind what the users answer to it.
-ghost use Rattle.std.specs.Prelude.{◌≡◌, ◌≢◌, ◌≤◌, [], IfSome, None, length, map};
+ghost use Rattle.std.specs.Prelude.{◌≡◌, ◌≢◌, ◌≤◌, [], IfSome, None, is_some, length, map};
 ghost use Rattle.dxc_causes.specs.Causes.{Rose};
 ghost use Rattle.dxc_num.specs.Dimensions.{Dimensions};
 ghost use Rattle.tl1_text.specs.Spans.{AreBlocksOf, block_at};
+ghost use Rattle.tl1_text.specs.Tags.{ctag_of as tag_in};
 ghost use Rattle.tl1_text.specs.Units.{whole};
 ghost use Rattle.tl1_command.specs.Commands.{asked_by, IsAptCommand};
 ghost use Rattle.user_admin.specs.Spellable.{NamesUid};
 ghost use Rattle.user_admin.specs.Verdicts.{IsChanging};
 ghost use Rattle.craft_session.specs.Asks.{IsAptAsk};
-ghost use Rattle.craft_session.specs.Desks.{ConsultedIs};
+ghost use Rattle.craft_session.specs.Desks.{ConsultedIs, put_down};
 ghost use Rattle.craft_session.specs.Gated.{NothingAsked};
 ghost use Rattle.craft_session.specs.Hearing.{AskedIs, IsAsked, to_do};
 ghost use Rattle.tl1_command.specs.Meanings.{meaning};
@@ -20,41 +21,45 @@ use crate::ask::Ask;
 use crate::users::UserDesk;
 use dxc_disk::Disk;
 use dxc_model::{Cause, Class, Op, SessionUser, Uid};
-use dxc_outside::Gate;
+use dxc_outside::{Gate, Pass1};
 use shelf_file::Shelf;
 use std::sync::Wait;
-use tl1_command::{Command, command_of};
+use tl1_command::{Command, command_with};
 use tl1_text::grammar::blocks;
 use tl1_text::{Blocks, Ctag, ctag_in, ctag_of};
 use user_admin::turns::UserTook;
 use user_admin::{UserOp, upper, user_command_of};
 
-/// The tag of a whole unit, and what the unit asks of the session of a user; the rows of users that it reads stand in `users` then. None: the
-/// gate stopped before the users were changed.
+/// Puts down the tag of a whole unit, and what the unit asks of the session of a user; the rows of users that it reads stand in `users` then.
+/// Stop: the gate stopped before the users were changed.
+// What is asked is large, so it is written where it is made out, and handed on by reference.
 pub fn consult<U: Disk + Drop, G: Gate, R: Wait>(
     shelf: &Shelf,
     users: &mut UserDesk<U>,
     user: &SessionUser,
     unit: &[u8],
+    tag: &mut Option<Ctag>,
+    ask: &mut Ask,
     gate: &mut G,
     rt: &R,
-) -> Option<(Option<Ctag>, Ask)>
+) -> Pass1
     requires short { length unit.now ≤ 2047 }
     requires no_rows { users.old.rows.items ≡ [] }
     ensures same { IsSameUserSeat users.old.seat users.new.seat }
-    ensures consulted { ConsultedIs shelf.now user.now (whole unit.now) users.old.seat users.new.rows.items users.new.seat.seen (G.asked gate.old gate.new) result }
-    ensures apt { IfSome result (λ p. IsAptAsk shelf.now.shape p.1) }
-    ensures unstopped { result ≢ None → G.stops gate.new ≡ G.stops gate.old }
-    ensures stopped { result ≡ None → Rose (G.stops gate.old) (G.stops gate.new) }
+    ensures consulted { ConsultedIs shelf.now user.now (whole unit.now) users.old.seat users.new.rows.items users.new.seat.seen (G.asked gate.old gate.new) tag.new ask.new result }
+    ensures apt { result ≡ Pass1.Go → IsAptAsk shelf.now.shape ask.new }
+    ensures unstopped { result ≡ Pass1.Go → G.stops gate.new ≡ G.stops gate.old }
+    ensures stopped { result ≡ Pass1.Stop → Rose (G.stops gate.old) (G.stops gate.new) }
     ensures later { G.stops gate.old ≤ G.stops gate.new }
 {
     let Ok(found) = blocks(unit) else {
-        return Some((ctag_of(unit), Ask::Refused(Cause::BadText)));
+        *tag = ctag_of(unit);
+        *ask = Ask::Refused(Cause::BadText);
+        return Pass1::Go;
     };
-    match ask_in(shelf, users, user, unit, &found, gate, rt) {
-        Some(ask) => Some((ctag_in(unit, &found), ask)),
-        None => None,
-    }
+    *tag = ctag_in(unit, &found);
+    let tagged = tag.is_some();
+    ask_in(shelf, users, user, unit, &found, tagged, ask, gate, rt)
 }
 
 /// What a unit in the grammar asks. The blocks are the unit's. One that is no command may be one of the users'.
@@ -64,24 +69,33 @@ fn ask_in<U: Disk + Drop, G: Gate, R: Wait>(
     user: &SessionUser,
     unit: &[u8],
     found: &Blocks,
+    tagged: bool,
+    ask: &mut Ask,
     gate: &mut G,
     rt: &R,
-) -> Option<Ask>
+) -> Pass1
     requires short { length unit.now ≤ 2047 }
     requires blocks { AreBlocksOf unit.now found.now.block.items }
+    requires tagged { tagged ≡ is_some (tag_in unit.now) }
     requires no_rows { users.old.rows.items ≡ [] }
     ensures same { IsSameUserSeat users.old.seat users.new.seat }
-    ensures asked { AskedIs users.old.seat (command_wants shelf.now user.now (map (block_at unit.now) found.now.block.items) (meaning shelf.now.shape shelf.now.sid user.now (map (block_at unit.now) found.now.block.items))) (λ x. command_ask shelf.now user.now x (map (block_at unit.now) found.now.block.items) (meaning shelf.now.shape shelf.now.sid user.now (map (block_at unit.now) found.now.block.items))) users.new.rows.items users.new.seat.seen (G.asked gate.old gate.new) result }
-    ensures apt { IfSome result (IsAptAsk shelf.now.shape) }
-    ensures unstopped { result ≢ None → G.stops gate.new ≡ G.stops gate.old }
-    ensures stopped { result ≡ None → Rose (G.stops gate.old) (G.stops gate.new) }
+    ensures asked { AskedIs users.old.seat (command_wants shelf.now user.now (map (block_at unit.now) found.now.block.items) (meaning shelf.now.shape shelf.now.sid user.now (map (block_at unit.now) found.now.block.items))) (λ x. command_ask shelf.now user.now x (map (block_at unit.now) found.now.block.items) (meaning shelf.now.shape shelf.now.sid user.now (map (block_at unit.now) found.now.block.items))) users.new.rows.items users.new.seat.seen (G.asked gate.old gate.new) (put_down result ask.new) }
+    ensures apt { result ≡ Pass1.Go → IsAptAsk shelf.now.shape ask.new }
+    ensures unstopped { result ≡ Pass1.Go → G.stops gate.new ≡ G.stops gate.old }
+    ensures stopped { result ≡ Pass1.Stop → Rose (G.stops gate.old) (G.stops gate.new) }
     ensures later { G.stops gate.old ≤ G.stops gate.new }
 {
-    match command_of(shelf.shape(), shelf.sid(), *user, unit, found) {
-        Ok(command) => Some(served(users, user, unit, command, rt)),
+    match &command_with(shelf.shape(), shelf.sid(), user, unit, found, tagged) {
+        Ok(command) => {
+            served(users, user, unit, command, ask, rt);
+            Pass1::Go
+        }
         Err(cause) => match cause {
-            Cause::UnknownCommand => ask_users(shelf, users, user, unit, found, gate, rt),
-            _ => Some(Ask::Refused(cause)),
+            Cause::UnknownCommand => hear_users(shelf, users, user, unit, found, ask, gate, rt),
+            _ => {
+                *ask = Ask::Refused(*cause);
+                Pass1::Go
+            }
         },
     }
 }
@@ -91,30 +105,31 @@ fn served<U: Disk + Drop, R: Wait>(
     users: &mut UserDesk<U>,
     user: &SessionUser,
     unit: &[u8],
-    command: Command,
+    command: &Command,
+    ask: &mut Ask,
     rt: &R,
-) -> Ask
-    requires within { (d : Dimensions) × IsAptCommand d unit.now command }
+)
+    requires within { (d : Dimensions) × IsAptCommand d unit.now command.now }
     requires no_rows { users.old.rows.items ≡ [] }
     ensures same { IsSameUserSeat users.old.seat users.new.seat }
-    ensures asked { IsAsked users.old.seat (session_wants (asked_by unit.now command)) (λ x. session_ask user.now x (asked_by unit.now command)) result users.new.rows.items users.new.seat.seen NothingAsked }
-    ensures apt { (d : Dimensions) → IsAptCommand d unit.now command → IsAptAsk d result }
+    ensures asked { IsAsked users.old.seat (session_wants (asked_by unit.now command.now)) (λ x. session_ask user.now x (asked_by unit.now command.now)) ask.new users.new.rows.items users.new.seat.seen NothingAsked }
+    ensures apt { (d : Dimensions) → IsAptCommand d unit.now command.now → IsAptAsk d ask.new }
 {
     match command {
         Command::ActUser { uid, pid } => {
-            act_user(users, user, uid.text(unit), pid.text(unit), rt)
+            act_user(users, user, uid.text(unit), pid.text(unit), ask, rt);
         }
         Command::CancUser { uid } => {
             if is_other_user(user, uid.text(unit)) {
-                Ask::Refused(Cause::OtherUser)
+                *ask = Ask::Refused(Cause::OtherUser);
             } else {
-                Ask::LogsOut
+                *ask = Ask::LogsOut;
             }
         }
-        Command::Header => Ask::Completes,
-        Command::Allow => Ask::Allows,
-        Command::Inhibit => Ask::Inhibits,
-        Command::Table(op) => on_table(op),
+        Command::Header => *ask = Ask::Completes,
+        Command::Allow => *ask = Ask::Allows,
+        Command::Inhibit => *ask = Ask::Inhibits,
+        Command::Table(op) => on_table(op, ask),
     }
 }
 
@@ -126,19 +141,21 @@ fn act_user<U: Disk + Drop, R: Wait>(
     user: &SessionUser,
     uid: &[u8],
     pid: &[u8],
+    ask: &mut Ask,
     rt: &R,
-) -> Ask
+)
     requires no_rows { users.old.rows.items ≡ [] }
     ensures same { IsSameUserSeat users.old.seat users.new.seat }
-    ensures asked { IsAsked users.old.seat (login_wants uid.now pid.now) (λ x. log_in user.now (named_by uid.now x)) result users.new.rows.items users.new.seat.seen NothingAsked }
-    ensures apt { (d : Dimensions) → IsAptAsk d result }
+    ensures asked { IsAsked users.old.seat (login_wants uid.now pid.now) (λ x. log_in user.now (named_by uid.now x)) ask.new users.new.rows.items users.new.seat.seen NothingAsked }
+    ensures apt { (d : Dimensions) → IsAptAsk d ask.new }
 {
     let Some(uid) = Uid::of(uid) else {
-        return Ask::Refused(Cause::BadIdentity);
+        *ask = Ask::Refused(Cause::BadIdentity);
+        return;
     };
     match users.seat.login(uid, pid, rt) {
-        Some(class) => log_in_as(user, upper(uid), class),
-        None => Ask::Refused(Cause::BadIdentity),
+        Some(class) => *ask = log_in_as(user, upper(uid), class),
+        None => *ask = Ask::Refused(Cause::BadIdentity),
     }
 }
 
@@ -166,8 +183,8 @@ fn is_other_user(user: &SessionUser, name: &[u8]) -> bool
 }
 
 /// An operation on the table. A command never asks for a look.
-fn on_table(op: Op) -> Ask
-    ensures { result ≡ table_ask op }
+fn on_table(op: &Op, ask: &mut Ask)
+    ensures { ask.new ≡ table_ask op.now }
 {
     match op {
         Op::Enter(_)
@@ -176,16 +193,46 @@ fn on_table(op: Op) -> Ask
         | Op::EnterModule(_)
         | Op::DeleteModule(_)
         | Op::TakeOut(_)
-        | Op::PutBack(_) => Ask::Changes(op),
-        Op::Rows(selection) => Ask::Lists(selection),
-        Op::Restart => Ask::Restarts,
-        Op::Look(_) => Ask::Refused(Cause::UnknownCommand),
+        | Op::PutBack(_) => *ask = Ask::Changes(*op),
+        Op::Rows(selection) => *ask = Ask::Lists(*selection),
+        Op::Restart => *ask = Ask::Restarts,
+        Op::Look(_) => *ask = Ask::Refused(Cause::UnknownCommand),
+    }
+}
+
+/// Puts down what a unit asks that may be a command of the users. The blocks are the unit's.
+// Apart, as `act_user` is.
+#[inline(never)]
+fn hear_users<U: Disk + Drop, G: Gate, R: Wait>(
+    shelf: &Shelf,
+    users: &mut UserDesk<U>,
+    user: &SessionUser,
+    unit: &[u8],
+    found: &Blocks,
+    ask: &mut Ask,
+    gate: &mut G,
+    rt: &R,
+) -> Pass1
+    requires short { length unit.now ≤ 2047 }
+    requires blocks { AreBlocksOf unit.now found.now.block.items }
+    requires no_rows { users.old.rows.items ≡ [] }
+    ensures same { IsSameUserSeat users.old.seat users.new.seat }
+    ensures asked { AskedIs users.old.seat (users_want (user_meaning shelf.now.sid user.now (map (block_at unit.now) found.now.block.items))) (λ x. users_ask x (user_meaning shelf.now.sid user.now (map (block_at unit.now) found.now.block.items))) users.new.rows.items users.new.seat.seen (G.asked gate.old gate.new) (put_down result ask.new) }
+    ensures apt { (d : Dimensions) → result ≡ Pass1.Go → IsAptAsk d ask.new }
+    ensures unstopped { result ≡ Pass1.Go → G.stops gate.new ≡ G.stops gate.old }
+    ensures stopped { result ≡ Pass1.Stop → Rose (G.stops gate.old) (G.stops gate.new) }
+    ensures later { G.stops gate.old ≤ G.stops gate.new }
+{
+    match ask_users(shelf, users, user, unit, found, gate, rt) {
+        Some(heard) => {
+            *ask = heard;
+            Pass1::Go
+        }
+        None => Pass1::Stop,
     }
 }
 
 /// What a unit asks that may be a command of the users. The blocks are the unit's.
-// Apart, as `act_user` is.
-#[inline(never)]
 fn ask_users<U: Disk + Drop, G: Gate, R: Wait>(
     shelf: &Shelf,
     users: &mut UserDesk<U>,

@@ -1,4 +1,4 @@
-ghost use Rattle.std.specs.Prelude.{◌≡◌, ◌≢◌, ◌≤◌, ◌<◌, ◌+◌, ◌^◌, ◌↔◌, false, ℕ, List, [], length, IsTrue, IfSome, None};
+ghost use Rattle.std.specs.Prelude.{◌≡◌, ◌≢◌, ◌≤◌, ◌<◌, ◌+◌, ◌^◌, ◌↔◌, false, ℕ, List, [], length, IsTrue};
 ghost use Rattle.dxc_causes.specs.Causes.{Rose, Counted};
 ghost use Rattle.dxc_outside.specs.declared.clock.Moment.{Moment};
 ghost use Rattle.dxc_outside.specs.Links.{LinkState};
@@ -25,7 +25,7 @@ use crate::reports::report;
 use crate::say::say;
 use dxc_disk::Disk;
 use dxc_model::Cause;
-use dxc_outside::{Clock, Gate, Got, Link};
+use dxc_outside::{Clock, Gate, Got, Link, Pass1};
 use std::sync::Wait;
 use tl1_text::{Ctag, UnitKind};
 
@@ -141,40 +141,45 @@ fn answer<K: Link, C: Clock, G: Gate, D: Disk + Drop, U: Disk + Drop, R: Wait>(
     ensures later { G.stops gate.old ≤ G.stops gate.new }
     ensures asked { AreEntered desk.old.seat desk.old.users.seat (G.asked gate.old gate.new) desk.new.seat.seen desk.new.users.seat.seen }
 {
-    let Some((tag, ask)) = ask_of(desk, gate, rt, kind) else {
-        return Progress::Stopped;
-    };
+    let mut tag = None;
+    let mut ask = Ask::Completes;
+    match ask_of(desk, &mut tag, &mut ask, gate, rt, kind) {
+        Pass1::Go => {}
+        Pass1::Stop => return Progress::Stopped,
+    }
     let acted = act(
         &mut desk.seat,
         &mut desk.attending,
         &mut desk.rows,
-        ask,
+        &ask,
         gate,
         rt,
     );
     match acted {
-        Some(acted) => Progress::of(say(desk, link, clock, tag, acted)),
+        Some(acted) => Progress::of(say(desk, link, clock, &tag, acted)),
         None => Progress::Stopped,
     }
 }
 
-/// The tag of the unit that ended, and what it asks behind what the users answer to it. None: the gate stopped before they were changed.
+/// Puts down the tag of the unit that ended, and what it asks behind what the users answer to it. Stop: the gate stopped before they were changed.
 fn ask_of<G: Gate, D: Disk + Drop, U: Disk + Drop, R: Wait>(
     desk: &mut Desk<D, U>,
+    tag: &mut Option<Ctag>,
+    ask: &mut Ask,
     gate: &mut G,
     rt: &R,
     kind: UnitKind,
-) -> Option<(Option<Ctag>, Ask)>
+) -> Pass1
     requires short { kind ≡ UnitKind.Whole → length desk.old.reader.kept ≤ 2047 }
     ensures shelf { desk.new.shelf ≡ desk.old.shelf }
     ensures seat { desk.new.seat ≡ desk.old.seat }
     ensures users { IsSameUserSeat desk.old.users.seat desk.new.users.seat }
     ensures attending { desk.new.attending ≡ desk.old.attending }
     ensures reader { desk.new.reader ≡ desk.old.reader }
-    ensures consulted { ConsultedIs (arc_value desk.old.shelf) desk.old.attending.user (input_of kind desk.old.reader) desk.old.users.seat desk.new.users.rows.items desk.new.users.seat.seen (G.asked gate.old gate.new) result }
-    ensures apt { IfSome result (λ p. IsAptAsk (arc_value desk.old.shelf).shape p.1) }
-    ensures unstopped { result ≢ None → G.stops gate.new ≡ G.stops gate.old }
-    ensures stopped { result ≡ None → Rose (G.stops gate.old) (G.stops gate.new) }
+    ensures consulted { ConsultedIs (arc_value desk.old.shelf) desk.old.attending.user (input_of kind desk.old.reader) desk.old.users.seat desk.new.users.rows.items desk.new.users.seat.seen (G.asked gate.old gate.new) tag.new ask.new result }
+    ensures apt { result ≡ Pass1.Go → IsAptAsk (arc_value desk.old.shelf).shape ask.new }
+    ensures unstopped { result ≡ Pass1.Go → G.stops gate.new ≡ G.stops gate.old }
+    ensures stopped { result ≡ Pass1.Stop → Rose (G.stops gate.old) (G.stops gate.new) }
     ensures later { G.stops gate.old ≤ G.stops gate.new }
 {
     desk.users.rows.clear();
@@ -184,10 +189,16 @@ fn ask_of<G: Gate, D: Disk + Drop, U: Disk + Drop, R: Wait>(
             &mut desk.users,
             &desk.attending.user,
             desk.reader.unit(),
+            tag,
+            ask,
             gate,
             rt,
         ),
-        UnitKind::TooLong | UnitKind::More => Some((None, Ask::Refused(Cause::TooLong))),
+        UnitKind::TooLong | UnitKind::More => {
+            *tag = None;
+            *ask = Ask::Refused(Cause::TooLong);
+            Pass1::Go
+        }
     }
 }
 

@@ -1,5 +1,6 @@
-use Rattle.std.proofs.Common.{◌≡◌, ◌≤◌, List, ℕ, length, IfSome, refl, sym, ◌∙◌, ap, subst}
+use Rattle.std.proofs.Common.{◌≡◌, ◌≤◌, List, ℕ, length, refl, sym, ◌∙◌, ap, subst}
 use Rattle.std.specs.Arc.{arc_value}
+use Rattle.dxc_outside.specs.declared.gate.Pass1.TheVariants.{Go}
 use Rattle.tl1_text.specs.declared.reader.UnitKind.{UnitKind}
 use Rattle.tl1_text.specs.Units.{Input, whole}
 use Rattle.shelf_file.specs.Contents.{Contents}
@@ -9,7 +10,7 @@ use Rattle.craft_session.specs.Hearing.{unasked}
 use Rattle.craft_session.specs.Meanings.{asks, tag_of, wants}
 use Rattle.craft_session.proofs.Asking.{input_long}
 use Rattle.craft_session.proofs.Consulted.{asked_nothing}
-use Rattle.craft_session.proofs.Ends.{some_there, stayed}
+use Rattle.craft_session.proofs.Ends.{stayed, stop_went}
 use Rattle.craft_session.proofs.session.ask_of.Goals as goal
 
 pub consult-requires-clause-short : goal.consult-requires-clause-short
@@ -27,8 +28,8 @@ returns-in-Whole g c =
       users = r.same;
       attending = refl;
       reader = refl;
-      consulted = subst (λ (w : Contents × Input). ConsultedIs w.0 desk.attending.user w.1 desk.users.seat c.consult.new.users.rows.items c.consult.new.users.seat.seen (g.G.Gate.asked c.args.gate.now c.consult.new.gate) c.consult.result) (λ i. (c.deref.ensures i, whole_is i)) r.consulted;
-      apt = subst (λ (x : Contents). IfSome c.consult.result (λ p. IsAptAsk x.shape p.1)) c.deref.ensures r.apt;
+      consulted = subst (λ (w : Contents × Input). ConsultedIs w.0 desk.attending.user w.1 desk.users.seat c.consult.new.users.rows.items c.consult.new.users.seat.seen (g.G.Gate.asked c.args.gate.now c.consult.new.gate) c.consult.new.tag c.consult.new.ask c.consult.result) (λ i. (c.deref.ensures i, whole_is i)) r.consulted;
+      apt = subst (λ (x : Contents). c.consult.result ≡ Go → IsAptAsk x.shape c.consult.new.ask) c.deref.ensures r.apt;
       unstopped = r.unstopped;
       stopped = r.stopped;
       later = r.later;
@@ -46,8 +47,8 @@ returns-in-TooLong g c =
       attending = refl;
       reader = refl;
       consulted = (sym (ap tag_of long), asked_nothing _ _ _ _ _ (g.G.Gate.asked c.args.gate.now c.args.gate.now) (g.G.Gate.unasked c.args.gate.now) (ap (wants s desk.attending.user) long) (sym (ap (asks s desk.attending.user unasked) long)) c.clear.ensures);
-      apt = tt;
+      apt = λ _. tt;
       unstopped = λ _. refl;
-      stopped = λ is. absurd (some_there _ _ refl is);
+      stopped = λ is. stop_went is;
       later = stayed _ _ refl;
     }
