@@ -14,7 +14,7 @@ use Rattle.dxc_outside.specs.Links.{LinkState, IsSent}
 use Rattle.dxc_outside.proofs.LinkSteps.{wrote_none, wrote_more, sent_whole}
 
 pub sent_none : (told : Type 0) (k : LinkState) → IsSent told k k Whole []
-sent_none told k = record { part = []; rest = []; split = refl; wrote = wrote_none told k; whole = λ _. refl; cause = record { later = omega arith; cause = λ is. cc } }
+sent_none told k = record { part = []; rest = []; split = refl; wrote = wrote_none told k; whole = λ _. refl; cause = record { later = omega arith; cause = λ is. cc }; no_fault = λ _. refl }
 
 -- more was written behind it
 pub sent_more : (told : Type 0) (k j m : LinkState) (xs ys : List ℕ) (sent : Sent) → IsSent told k j Whole xs → IsSent told j m sent ys → IsSent told k m sent (xs ++ ys)
@@ -25,6 +25,7 @@ sent_more told k j m xs ys sent first next = record {
   wrote = wrote_more told k j m xs next.part (sent_whole told k j xs first) next.wrote;
   whole = next.whole;
   cause = record { later = omega (arith, first.cause.later, next.cause.later); cause = λ is. let rose = next.cause.cause is in omega (arith, first.cause.later, rose) };
+  no_fault = λ is. next.no_fault is ∙ first.no_fault refl;
 }
 
 -- nothing was written behind what was cut
@@ -36,6 +37,7 @@ sent_cut told k m xs ys sent is s = record {
   wrote = s.wrote;
   whole = λ no. cc;
   cause = record { later = s.cause.later; cause = λ _. s.cause.cause is };
+  no_fault = λ no. cc;
 }
 
 pub sent_is : (told : Type 0) (k m : LinkState) (xs : List ℕ) (sent : Sent) → sent ≡ Whole → IsSent told k m sent xs → IsSent told k m Whole xs

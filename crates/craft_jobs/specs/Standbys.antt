@@ -51,6 +51,7 @@ module _ (disk_told link_told : Type 0) (k k' : LinkState) (d d' : DiskState) (e
     pub read_fault : end ≡ standby.ReadFault → Rose k.read_faults k'.read_faults
     pub no_read_fault : end ≢ standby.ReadFault → k'.read_faults ≡ k.read_faults
     pub write_fault : end ≡ standby.WriteFault → Rose k.write_faults k'.write_faults
+    pub no_write_fault : end ≢ standby.WriteFault → k'.write_faults ≡ k.write_faults
     pub disk_fault : end ≡ standby.DiskFault → Rose d.faults d'.faults
     pub spent : end ≡ standby.Spent → Counted k.reads k'.reads (2 ^ 32)
     pub sound_link : IsSoundLink k → (end ≢ standby.ReadFault) × (end ≢ standby.WriteFault)

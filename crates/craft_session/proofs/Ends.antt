@@ -1,12 +1,14 @@
 -- What ended otherwise, and counts along calls, over plain variables.
 use Rattle.std.specs.Prelude.{is_some}
-use Rattle.std.proofs.Common.{◌≡◌, ◌≢◌, ◌<◌, ◌≤◌, ◌+◌, ℕ, Bool, true, false, Option, Some, None, le_of_eq, true≢false, ap, refl, sym, ◌∙◌, subst, arith}
+use Rattle.std.proofs.Common.{◌≡◌, ◌≢◌, ◌<◌, ◌≤◌, ◌+◌, ℕ, Bool, true, false, Option, Some, None, le_of_eq, true≢false, List, ap, refl, sym, ◌∙◌, subst, arith}
 use Rattle.dxc_causes.specs.Causes.{Counted, Rose}
+use Rattle.dxc_outside.specs.declared.clock.Moment.{Moment}
 use Rattle.dxc_outside.specs.declared.gate.Pass1.{Pass1}
 use Rattle.dxc_outside.specs.declared.gate.Pass1.TheVariants as pass
 use Rattle.dxc_outside.specs.declared.link.Got.TheVariants.{Bytes, Quiet, End as NoMore, Failed as NotRead}
 use Rattle.dxc_outside.specs.declared.send.Sent.{Sent}
 use Rattle.dxc_outside.specs.declared.send.Sent.TheVariants.{Whole, Cut as Sent_cut}
+use Rattle.dxc_outside.specs.Links.{LinkState}
 use Rattle.roll_engine.specs.declared.answer.Advance.{Advance}
 use Rattle.roll_engine.specs.declared.answer.Advance.TheVariants as advance
 use Rattle.xc_core.specs.declared.restarts.Restarting.{Restarting}
@@ -21,7 +23,11 @@ use Rattle.craft_session.specs.declared.end.Progress.{Progress}
 use Rattle.craft_session.specs.declared.end.Progress.TheVariants.{On, Cut, Stopped}
 use Rattle.craft_session.specs.declared.mend.Mended.{Mended}
 use Rattle.craft_session.specs.declared.mend.Mended.TheVariants as mended
+use Rattle.craft_session.specs.Asks.{Language}
+use Rattle.craft_session.specs.Happenings.{Request}
 use Rattle.craft_session.specs.Progresses.{progress_of}
+use Rattle.craft_session.specs.Seats.{SeatAt, UserSeatAt}
+use Rattle.craft_session.specs.Sessions.{Beginning, IsServed, IsSession, Now}
 
 -- by a test that holds of the one and not of the other
 pub apart : {A : Type 0} (test : A → Bool) (how one other : A) → how ≡ one → test one ≡ true → test other ≡ false → how ≢ other
@@ -143,3 +149,14 @@ quiet_came is = cc
 
 pub end_came : NoMore ≡ NotRead → ⊥
 end_came is = cc
+
+-- no write failed but for one that ended the session
+unfailed : (l : Language Request Moment) (told clock_told : Type 0) (k j : LinkState) (c d : List Moment) (b : Beginning) (now : Now) (end : SessionEnd) → IsSession l told clock_told k j c d b now end → end ≢ session.WriteFault → j.write_faults ≡ k.write_faults
+unfailed l told clock_told k j c d b now session.End x other = x.no_fault
+unfailed l told clock_told k j c d b now session.ReadFault x other = x.no_fault
+unfailed l told clock_told k j c d b now session.Spent x other = x.no_fault
+unfailed l told clock_told k j c d b now session.Stopped x other = x.no_fault
+unfailed l told clock_told k j c d b now session.WriteFault x other = absurd (other refl)
+
+pub no_write_fault : (l : Language Request Moment) (told clock_told : Type 0) (k j : LinkState) (c d : List Moment) (old new : SeatAt) (users then_users : UserSeatAt) (end : SessionEnd) → IsServed l told clock_told k j c d old new users then_users end → end ≢ session.WriteFault → j.write_faults ≡ k.write_faults
+no_write_fault l told clock_told k j c d old new users then_users end s other = unfailed l told clock_told k j c d _ _ end s.session other

@@ -439,14 +439,14 @@ module _ (disk_told : Type 0) (disk users_disk : DiskState) (own : ℕ) (o : Ope
     stopped items out q = elim q.stopped [ inl y ↦ inl (to_stop items out q y) | inr y ↦ inr (to_users_stop items out q y) ]
 
     wrote_all : Served (language s) told clock_told k l c d b now → WroteAll disk_told disk users_disk own o p clock_told c d s told k l
-    wrote_all x = record { items = x.items; out = x.out; exchanged = x.exchanged; answered = answered x.items x.rest x.out x.no_unit x.past }
+    wrote_all x = record { items = x.items; out = x.out; exchanged = x.exchanged; no_fault = x.no_fault; answered = answered x.items x.rest x.out x.no_unit x.past }
 
     scripted : (end : SessionEnd) → IsSession (language s) told clock_told k l c d b now end → IsScript disk_told disk users_disk own o p clock_told c d s told k l end
     scripted End x = wrote_all x
     scripted ReadFault x = wrote_all x
     scripted Spent x = wrote_all x
     scripted WriteFault x = record { items = x.items; ahead = x.ahead; out = x.out; exchanged = x.exchanged; answered = in_part x.items x.out x.past; rose = x.rose }
-    scripted Stopped x = record { items = x.items; ahead = x.ahead; out = x.out; exchanged = x.exchanged; answered = stopped x.items x.out x.past }
+    scripted Stopped x = record { items = x.items; ahead = x.ahead; out = x.out; exchanged = x.exchanged; no_fault = x.no_fault; answered = stopped x.items x.out x.past }
 
 no_codes : (h : List Entry) → codes h ≡ [] → h ≡ []
 no_codes [] is = refl

@@ -237,7 +237,7 @@ module _ (l : Language Request Moment) (clock_told : Type 0) (c : List Moment) (
 module _ (l : Language Request Moment) (told clock_told : Type 0) (k : LinkState) (c : List Moment) (b : Beginning) where
   -- nothing has happened
   pub stands_none : (now : Now) (r : Reader) → Saw b.opening now.seen b.before → SawUsers b.users now.users b.users_before → now.attending ≡ nobody → Holds [] (hand r) → Stands l told clock_told k k c c b now false More r []
-  stands_none now r saw users none holds = record { items = []; rest = []; out = []; exchanged = exchanged_none told k; made = holds; past = past_none l clock_told c b now saw users none }
+  stands_none now r saw users none holds = record { items = []; rest = []; out = []; exchanged = exchanged_none told k; no_fault = refl; made = holds; past = past_none l clock_told c b now saw users none }
 
   module _ (j : LinkState) (d : List Moment) (now : Now) (r : Reader) where
     module _ (kind : UnitKind) (ahead : List ℕ) (s : Stands l told clock_told k j c d b now false kind r ahead) (u : Request) (j2 : LinkState) (d2 : List Moment) (is : IsUnit s.rest u.input) (reply : Reply) (after : Now)
@@ -252,6 +252,7 @@ module _ (l : Language Request Moment) (told clock_told : Type 0) (k : LinkState
             rest = [];
             out = s.out ++ l.response said.moment u reply;
             exchanged = exchanged_wrote told k j j2 (s.items ++ bytes ahead) s.out (l.response said.moment u reply) s.exchanged wrote;
+            no_fault = said.wrote.no_fault refl ∙ s.no_fault;
             made = subst (λ (h : List ℕ). Holds [] h) (sym none) holds_none;
             past = past_answered l clock_told c b d now s.items s.rest s.out s.past u is d2 said.moment said.now said.later reply after hears acts;
           }
@@ -279,7 +280,7 @@ module _ (l : Language Request Moment) (told clock_told : Type 0) (k : LinkState
 
       -- a stop came
       halts_by : (j2 : LinkState) (d2 : List Moment) (after : Now) → j2 ≡ j → d2 ≡ d → StopPast l clock_told c d b after s.items s.out → Halts l told clock_told k j2 c d2 b after
-      halts_by j2 d2 after link clock past = rw (link, clock) (record { items = s.items; ahead = ahead; out = s.out; exchanged = s.exchanged; past = past })
+      halts_by j2 d2 after link clock past = rw (link, clock) (record { items = s.items; ahead = ahead; out = s.out; exchanged = s.exchanged; no_fault = s.no_fault; past = past })
 
       pub goes_stopped : (j2 : LinkState) (d2 : List Moment) (after : Now) → j2 ≡ j → d2 ≡ d → ((h : List UserEntry) → SawUsers b.users now.users h → HeardBehind b.users b.place h (l.wants now.attending.user u) (l.heard u) after.users)
           → ((h : List Entry) → Saw b.opening now.seen h → Stops b.opening b.place h now.attending (l.asks now.attending.user u) after.attending after.seen) → Halts l told clock_told k j2 c d2 b after
@@ -302,7 +303,7 @@ module _ (l : Language Request Moment) (told clock_told : Type 0) (k : LinkState
     -- a piece came
     pub stands_piece : (j2 : LinkState) (n : ℕ) (buffer piece : List ℕ) → Stands l told clock_told k j c d b now false More r [] → IsRead told j j2 (Bytes n) buffer → piece ≡ take n buffer
         → Stands l told clock_told k j2 c d b now false More r piece
-    stands_piece j2 n buffer piece s read is = rw is (record { items = s.items; rest = s.rest; out = s.out; exchanged = exchanged_on j2 (Bytes n) buffer s read; made = s.made; past = s.past })
+    stands_piece j2 n buffer piece s read is = rw is (record { items = s.items; rest = s.rest; out = s.out; exchanged = exchanged_on j2 (Bytes n) buffer s read; no_fault = read.write_faults ∙ s.no_fault; made = s.made; past = s.past })
 
     -- nothing came
     pub stands_quiet : (j2 : LinkState) (buffer : List ℕ) → Stands l told clock_told k j c d b now false More r [] → IsRead told j j2 Quiet buffer → Stands l told clock_told k j2 c d b now (is_some now.attending.watch) More r []
@@ -311,6 +312,7 @@ module _ (l : Language Request Moment) (told clock_told : Type 0) (k : LinkState
       rest = s.rest;
       out = s.out;
       exchanged = subst (λ (x : List Item). Exchanged told k j2 x s.out) (sym (append-nil (s.items ++ quiet_item ∷ []))) (exchanged_on j2 Quiet buffer s read);
+      no_fault = read.write_faults ∙ s.no_fault;
       made = s.made;
       past = past_quiet l clock_told c b d now s.items s.rest s.out s.past (rest_of s.made);
     }
@@ -328,6 +330,7 @@ module _ (l : Language Request Moment) (told clock_told : Type 0) (k : LinkState
           rest = s.rest ++ front;
           out = s.out;
           exchanged = subst (λ (x : List Item). Exchanged told k j x s.out) items s.exchanged;
+          no_fault = s.no_fault;
           made = (feeds s.rest s.made).made;
           past = past_bytes l clock_told c b d now s.items s.rest s.out false s.past front;
         }
@@ -361,6 +364,7 @@ module _ (l : Language Request Moment) (told clock_told : Type 0) (k : LinkState
       rest = s.rest;
       out = s.out;
       exchanged = subst (λ (x : List Item). Exchanged told k j x s.out) (append-nil s.items) s.exchanged;
+      no_fault = s.no_fault;
       no_unit = rest_of s.made;
       past = s.past;
     }
@@ -372,6 +376,7 @@ module _ (l : Language Request Moment) (told clock_told : Type 0) (k : LinkState
       rest = s.rest;
       out = s.out;
       exchanged = subst (λ (x : List Item). Exchanged told k j2 x s.out) (ap (λ (x : List Item). s.items ++ x) none ∙ append-nil s.items) (exchanged_on j2 got buffer s read);
+      no_fault = read.write_faults ∙ s.no_fault;
       no_unit = rest_of s.made;
       past = s.past;
     }
@@ -419,6 +424,7 @@ module _ (l : Language Request Moment) (told clock_told : Type 0) (k : LinkState
             rest = due_now.rest;
             out = due_now.out ++ x.bytes;
             exchanged = exchanged_wrote told k j j2 (due_now.items ++ bytes ahead) due_now.out x.bytes due_now.exchanged (subst (λ (y : List ℕ). Wrote told j j2 y) whole x.wrote.wrote);
+            no_fault = x.wrote.no_fault refl ∙ due_now.no_fault;
             made = due_now.made;
             past = past_looked l clock_told c b d now due_now.items due_now.rest due_now.out past_now cursor watch looked given seen look_now x.taken x.bytes
                 (subst (λ (ms : List Moment). AreReported l.report (notices found cursor) ms x.bytes) all x.reported) d2 x.gave;

@@ -61,6 +61,7 @@ bytes_from front bytes lines = joined (blocks_from front bytes lines)
 pub record Filled (told : Type 0) (k j : LinkState) (old new : Draft) (lines : List (List ℕ)) : Type 0 where
   pub full : List ℕ
   pub wrote : Wrote told k j full
+  pub no_fault : j.write_faults ≡ k.write_faults
   pub same : new.head ≡ old.head
   pub unended : IsUnended new
   pub goes_on : (more : List (List ℕ)) → bytes_from old.head old.bytes (lines ++ more) ≡ full ++ bytes_from old.head new.bytes more

@@ -177,6 +177,7 @@ module _ (disk_told : Type 0) (disk users_disk : DiskState) (place : ℕ) (o : O
         pub items : List Item
         pub out : List ℕ
         pub exchanged : Exchanged told k l items out
+        pub no_fault : l.write_faults ≡ k.write_faults
         pub answered : Answered items out
 
       -- a write failed, and the bytes ahead, read behind the last that happened, were dropped
@@ -194,6 +195,7 @@ module _ (disk_told : Type 0) (disk users_disk : DiskState) (place : ℕ) (o : O
         pub ahead : List ℕ
         pub out : List ℕ
         pub exchanged : Exchanged told k l (items ++ bytes ahead) out
+        pub no_fault : l.write_faults ≡ k.write_faults
         pub answered : AnsweredToStop items out ⊎ AnsweredToUsersStop items out
 
       -- what was written, by the session's end

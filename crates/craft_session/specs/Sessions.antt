@@ -150,6 +150,7 @@ module _ (l : Language Request Moment) where
     pub rest : List ℕ
     pub out : List ℕ
     pub exchanged : Exchanged told k j (items ++ bytes ahead) out
+    pub no_fault : j.write_faults ≡ k.write_faults
     pub made : Made rest kind r
     pub past : Past clock_told c d b now due items rest out
 
@@ -168,6 +169,7 @@ module _ (l : Language Request Moment) where
     pub ahead : List ℕ
     pub out : List ℕ
     pub exchanged : Exchanged told k j (items ++ bytes ahead) out
+    pub no_fault : j.write_faults ≡ k.write_faults
     pub past : StopPast clock_told c d b now items out
 
   -- how a session stands after a unit, with a look for changes due or not
@@ -182,6 +184,7 @@ module _ (l : Language Request Moment) where
     pub rest : List ℕ
     pub out : List ℕ
     pub exchanged : Exchanged told k j items out
+    pub no_fault : j.write_faults ≡ k.write_faults
     pub no_unit : IsRest rest
     pub past : Past clock_told c d b now false items rest out
 

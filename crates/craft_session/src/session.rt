@@ -223,6 +223,7 @@ pub fn serve_session<K: Link, C: Clock, G: Gate, D: Disk + Drop, U: Disk + Drop,
     ensures read_fault { result ≡ SessionEnd.ReadFault → Rose (K.state link.old).read_faults (K.state link.new).read_faults }
     ensures no_read_fault { result ≢ SessionEnd.ReadFault → (K.state link.new).read_faults ≡ (K.state link.old).read_faults }
     ensures write_fault { result ≡ SessionEnd.WriteFault → Rose (K.state link.old).write_faults (K.state link.new).write_faults }
+    ensures no_write_fault { result ≢ SessionEnd.WriteFault → (K.state link.new).write_faults ≡ (K.state link.old).write_faults }
     ensures stopped { result ≡ SessionEnd.Stopped → Rose (G.stops gate.old) (G.stops gate.new) }
     ensures unstopped { result ≢ SessionEnd.Stopped → G.stops gate.new ≡ G.stops gate.old }
     ensures later { G.stops gate.old ≤ G.stops gate.new }

@@ -45,7 +45,9 @@ pub fn run_lines<N: Lines, G: Gate>(
     ensures said_end { (N.state lines.new).ended ≡ true → (result ≡ LinesEnd.End) ⊎ ((N.state lines.old).ended ≡ true) }
     ensures all_read { N.told → result ≡ LinesEnd.End → (N.state lines.new).left ≡ [] }
     ensures read_fault { result ≡ LinesEnd.ReadFault → Rose (N.state lines.old).read_faults (N.state lines.new).read_faults }
+    ensures no_read_fault { result ≢ LinesEnd.ReadFault → (N.state lines.new).read_faults ≡ (N.state lines.old).read_faults }
     ensures write_fault { result ≡ LinesEnd.WriteFault → Rose (N.state lines.old).write_faults (N.state lines.new).write_faults }
+    ensures no_write_fault { result ≢ LinesEnd.WriteFault → (N.state lines.new).write_faults ≡ (N.state lines.old).write_faults }
     ensures stopped { result ≡ LinesEnd.Stopped → Rose (G.stops gate.old) (G.stops gate.new) }
     ensures unstopped { result ≢ LinesEnd.Stopped → G.stops gate.new ≡ G.stops gate.old }
 {
@@ -84,7 +86,9 @@ fn run_frame<N: Lines, G: Gate>(
     ensures said_end { (N.state lines.new).ended ≡ true → (result ≡ Some LinesEnd.End) ⊎ ((N.state lines.old).ended ≡ true) }
     ensures all_read { N.told → result ≡ Some LinesEnd.End → (N.state lines.new).left ≡ [] }
     ensures read_faults { HasCause (N.state lines.old).read_faults (N.state lines.new).read_faults (result ≡ Some LinesEnd.ReadFault) }
+    ensures no_read_fault { result ≢ Some LinesEnd.ReadFault → (N.state lines.new).read_faults ≡ (N.state lines.old).read_faults }
     ensures write_faults { HasCause (N.state lines.old).write_faults (N.state lines.new).write_faults (result ≡ Some LinesEnd.WriteFault) }
+    ensures no_write_fault { result ≢ Some LinesEnd.WriteFault → (N.state lines.new).write_faults ≡ (N.state lines.old).write_faults }
     ensures stopped { result ≡ Some LinesEnd.Stopped → Rose (G.stops gate.old) (G.stops gate.new) }
     ensures unstopped { result ≢ Some LinesEnd.Stopped → G.stops gate.new ≡ G.stops gate.old }
     ensures asked { G.asked gate.old gate.new (GatePlace.Frame ∷ []) }

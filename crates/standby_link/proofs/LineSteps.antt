@@ -29,6 +29,7 @@ sends_none told k n = record {
   wrote = wrote_none told k;
   whole = λ is. (refl, omega arith);
   cause = λ some. absurd (none_some {A = Lost} None refl some);
+  no_fault = λ _. refl;
 }
 
 -- one item
@@ -42,6 +43,7 @@ sends_one told old new n m lost a message is number sends = ⊎_elim
       wrote = subst (λ (l : List ℕ). Wrote told old new l) is whole.1;
       whole = λ _. (refl, omega (arith, number));
       cause = λ some. absurd (none_some lost whole.0 some);
+      no_fault = λ _. whole.2;
     })
     (λ cut. record {
       part = cut.1.part;
@@ -50,6 +52,7 @@ sends_one told old new n m lost a message is number sends = ⊎_elim
       wrote = cut.1.wrote;
       whole = λ none. cc;
       cause = λ _. (cut.0, cut.1.cause.cause refl);
+      no_fault = λ none. absurd (let no : None ≡ Some Link = sym none ∙ cut.0 in cc);
     })
     sends
 
@@ -72,8 +75,8 @@ lost_here (Some x) none some = cc
 
 -- a Sync that was sent whole, and the wait for its Have
 pub syncs_whole : (told : Type 0) (old mid new : LinkState) (n m : ℕ) (kept part rest message : List ℕ) (before sent lost : Option Lost) → kept ≡ part → m ≡ n + 1 → message ≡ spelled (n + 1) sync → is_some sent ≡ false → SendsOne told old mid sent message
-    → IfNone lost (WaitsFor told mid new kept rest m) → IfSome lost (λ why. WaitsInVain told mid new kept m why) → ((lost ≡ Some End) ↔ IsTrue new.ended) → new.reads ≤ mid.reads + 256 → (lost ≢ Some Link → new.read_faults ≡ mid.read_faults) → Syncs told (line old n part before) (line new m rest lost)
-syncs_whole told old mid new n m kept part rest message before sent lost same number is here sends came vain end few no_fault = ⊎_elim
+    → IfNone lost (WaitsFor told mid new kept rest m) → IfSome lost (λ why. WaitsInVain told mid new kept m why) → ((lost ≡ Some End) ↔ IsTrue new.ended) → new.reads ≤ mid.reads + 256 → (lost ≢ Some Link → new.read_faults ≡ mid.read_faults) → new.write_faults ≡ mid.write_faults → Syncs told (line old n part before) (line new m rest lost)
+syncs_whole told old mid new n m kept part rest message before sent lost same number is here sends came vain end few no_fault writes = ⊎_elim
     (λ whole. inr (
       mid,
       record {
@@ -84,6 +87,7 @@ syncs_whole told old mid new n m kept part rest message before sent lost same nu
         end = end;
         few = few;
         no_fault = no_fault;
+        no_write_fault = writes ∙ whole.2;
       },
     ))
     (λ cut. absurd (lost_here sent here cut.0))
@@ -113,6 +117,7 @@ sends_more told a b c n m k lost acts more first next =
       wrote = wrote_more told a b c first.part next.part first.wrote next.wrote;
       whole = λ none. ((next.whole none).0, omega (arith, whole.1, (next.whole none).1, length-append acts more));
       cause = λ some. ((next.cause some).0, omega (arith, (next.cause some).1, first.wrote.later));
+      no_fault = λ none. next.no_fault none ∙ first.no_fault refl;
     }
 
 -- more that wasn't sent any more
@@ -124,6 +129,7 @@ sends_less told a b n m lost acts more some sends = record {
   wrote = sends.wrote;
   whole = λ none. absurd (none_some lost none some);
   cause = sends.cause;
+  no_fault = sends.no_fault;
 }
 
 no_pieces : (n at : ℕ) → pieces_in n at [] ≡ []

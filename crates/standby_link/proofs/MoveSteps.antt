@@ -171,6 +171,10 @@ both_then None (Some m) P Q on both = both
 both_then (Some l) None P Q on both = both
 both_then (Some l) (Some m) P Q on both = on l m both
 
+unlost : (lost : Option Lost) → (IsSome lost → ⊥) → lost ≡ None
+unlost None never = refl
+unlost (Some why) never = absurd (never refl)
+
 -- A file that is sent.
 module _ (told : Type 0) (d d' : DiskState) (k0 : LinkState) (m : LineState) where
   pub file_sent : SentActs told k0 m.link 0 m.number m.lost (pieces 0 d.reads_as) → SendsFile told d d' k0 m
@@ -181,6 +185,7 @@ module _ (told : Type 0) (d d' : DiskState) (k0 : LinkState) (m : LineState) whe
     wrote = all.wrote;
     whole = λ none. ((all.whole none).0, omega (arith, (all.whole none).1));
     cause = λ some. inl (all.cause some);
+    no_fault = λ here. all.no_fault (unlost m.lost (λ some. here (all.cause some).0));
   }
 
   pub file_unread : (n at : ℕ) → Sending told k0 m.link 0 n 0 at d.reads_as → m.lost ≡ Some Disk → Rose d.faults d'.faults → SendsFile told d d' k0 m
@@ -197,6 +202,7 @@ module _ (told : Type 0) (d d' : DiskState) (k0 : LinkState) (m : LineState) whe
         wrote = sending.sends.wrote;
         whole = λ none. absurd (none_is m.lost Disk none gone);
         cause = λ some. inr (gone, rose);
+        no_fault = λ _. sending.sends.no_fault refl;
       }
 
 -- a joining is a primary's first step

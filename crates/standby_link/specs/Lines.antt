@@ -30,13 +30,15 @@ pub record SentActs (told : Type 0) (old new : LinkState) (n m : ℕ) (lost : Op
   pub wrote : Wrote told old new part
   pub whole : lost ≡ None → (rest ≡ []) × (m ≡ n + length acts)
   pub cause : IsSome lost → (lost ≡ Some Link) × Rose old.write_faults new.write_faults
+  -- a write that failed loses the line
+  pub no_fault : lost ≡ None → new.write_faults ≡ old.write_faults
 
 abbrev pub Sends : (told : Type 0) (old new : LineState) (acts : List Act) → Type 0
 Sends told old new acts = SentActs told old.link new.link old.number new.number new.lost acts
 
 -- one message was sent, or the link took a part of it and is lost
 abbrev pub SendsOne : (told : Type 0) (old new : LinkState) (lost : Option Lost) (message : List ℕ) → Type 0
-SendsOne told old new lost message = ((lost ≡ None) × Wrote told old new message) ⊎ ((lost ≡ Some Link) × IsSent told old new Cut message)
+SendsOne told old new lost message = ((lost ≡ None) × Wrote told old new message × (new.write_faults ≡ old.write_faults)) ⊎ ((lost ≡ Some Link) × IsSent told old new Cut message)
 
 -- A Sync was sent, after which the link was as `mid`, and its Have came; or the line was lost.
 pub record SentSync (told : Type 0) (mid : LinkState) (old new : LineState) : Type 0 where
@@ -48,6 +50,7 @@ pub record SentSync (told : Type 0) (mid : LinkState) (old new : LineState) : Ty
   pub few : new.link.reads ≤ mid.reads + 256
   -- a read that failed loses the line
   pub no_fault : new.lost ≢ Some Link → new.link.read_faults ≡ mid.read_faults
+  pub no_write_fault : new.link.write_faults ≡ old.link.write_faults
 
 abbrev pub Syncs : (told : Type 0) (old new : LineState) → Type 0
 Syncs told old new =

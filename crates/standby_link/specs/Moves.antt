@@ -1,5 +1,5 @@
 -- What a mirrored disk's calls are of a primary and its standby.
-use Rattle.std.specs.Prelude.{◌≡◌, ◌⊎◌, ℕ, ◌+◌, ◌^◌, ◌<◌, true, false, List, [], ◌∷◌, ◌++◌, length, Option, Some, None, IsSome, Result, MatchResult, OnOk, OnErr}
+use Rattle.std.specs.Prelude.{◌≡◌, ◌≢◌, ◌⊎◌, ℕ, ◌+◌, ◌^◌, ◌<◌, true, false, List, [], ◌∷◌, ◌++◌, length, Option, Some, None, IsSome, Result, MatchResult, OnOk, OnErr}
 use Rattle.dxc_causes.specs.Causes.{Rose}
 use Rattle.dxc_disk.specs.Disks.{DiskState}
 use Rattle.dxc_outside.specs.Items.{Item as LinkItem}
@@ -115,6 +115,8 @@ pub record SendsFile (told : Type 0) (d d' : DiskState) (k : LinkState) (m : Lin
   pub wrote : Wrote told k m.link sent
   pub whole : m.lost ≡ None → (unsent ≡ []) × (m.number ≡ length (pieces 0 d.reads_as))
   pub cause : IsSome m.lost → ((m.lost ≡ Some Link) × Rose k.write_faults m.link.write_faults) ⊎ ((m.lost ≡ Some Disk) × Rose d.faults d'.faults)
+  -- a write that failed loses the line
+  pub no_fault : m.lost ≢ Some Link → m.link.write_faults ≡ k.write_faults
 
 -- A joining: the file is sent, and then a sync, whose Have it waits for.
 pub record Joins (told link_told : Type 0) (d d' : DiskState) (k : LinkState) (m : LineState) : Type 0 where

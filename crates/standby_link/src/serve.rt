@@ -23,6 +23,7 @@ pub fn serve_standby<K: Link, D: Disk>(link: &mut K, disk: &mut D) -> StandbyEnd
     ensures read_fault { result ≡ StandbyEnd.ReadFault → Rose (K.state link.old).read_faults (K.state link.new).read_faults }
     ensures no_read_fault { result ≢ StandbyEnd.ReadFault → (K.state link.new).read_faults ≡ (K.state link.old).read_faults }
     ensures write_fault { result ≡ StandbyEnd.WriteFault → Rose (K.state link.old).write_faults (K.state link.new).write_faults }
+    ensures no_write_fault { result ≢ StandbyEnd.WriteFault → (K.state link.new).write_faults ≡ (K.state link.old).write_faults }
     ensures disk_fault { result ≡ StandbyEnd.DiskFault → Rose (D.state disk.old).faults (D.state disk.new).faults }
     ensures few { (K.state link.new).reads ≤ (K.state link.old).reads + 2 ^ 32 }
     ensures spent { result ≡ StandbyEnd.Spent → Counted (K.state link.old).reads (K.state link.new).reads (2 ^ 32) }
@@ -42,6 +43,7 @@ fn serve<K: Link, D: Disk>(link: &mut K, disk: &mut D) -> StandbyEnd
     ensures read_fault { HasCause (K.state link.old).read_faults (K.state link.new).read_faults (result ≡ StandbyEnd.ReadFault) }
     ensures no_read_fault { result ≢ StandbyEnd.ReadFault → (K.state link.new).read_faults ≡ (K.state link.old).read_faults }
     ensures write_fault { HasCause (K.state link.old).write_faults (K.state link.new).write_faults (result ≡ StandbyEnd.WriteFault) }
+    ensures no_write_fault { result ≢ StandbyEnd.WriteFault → (K.state link.new).write_faults ≡ (K.state link.old).write_faults }
     ensures disk_fault { HasCause (D.state disk.old).faults (D.state disk.new).faults (result ≡ StandbyEnd.DiskFault) }
     ensures few { (K.state link.new).reads ≤ (K.state link.old).reads + 2 ^ 32 }
     ensures spent { result ≡ StandbyEnd.Spent → Counted (K.state link.old).reads (K.state link.new).reads (2 ^ 32) }
@@ -83,6 +85,7 @@ fn turn<K: Link, D: Disk>(
     ensures read_fault { HasCause (K.state link.old).read_faults (K.state link.new).read_faults (result ≡ Err StandbyEnd.ReadFault) }
     ensures no_read_fault { result ≢ Err StandbyEnd.ReadFault → (K.state link.new).read_faults ≡ (K.state link.old).read_faults }
     ensures write_fault { HasCause (K.state link.old).write_faults (K.state link.new).write_faults (result ≡ Err StandbyEnd.WriteFault) }
+    ensures no_write_fault { result ≢ Err StandbyEnd.WriteFault → (K.state link.new).write_faults ≡ (K.state link.old).write_faults }
     ensures disk_fault { HasCause (D.state disk.old).faults (D.state disk.new).faults (result ≡ Err StandbyEnd.DiskFault) }
     ensures sound { IsSoundLink (K.state link.old) → IsSoundLink (K.state link.new) × (result ≢ Err StandbyEnd.ReadFault) × (result ≢ Err StandbyEnd.WriteFault) }
 {
@@ -110,6 +113,7 @@ fn take_in<K: Link, D: Disk>(
     ensures ends { IfErr result IsOfItem }
     ensures link { OnlyWrites (K.state link.old) (K.state link.new) }
     ensures write_fault { HasCause (K.state link.old).write_faults (K.state link.new).write_faults (result ≡ Err StandbyEnd.WriteFault) }
+    ensures no_write_fault { result ≢ Err StandbyEnd.WriteFault → (K.state link.new).write_faults ≡ (K.state link.old).write_faults }
     ensures disk_fault { HasCause (D.state disk.old).faults (D.state disk.new).faults (result ≡ Err StandbyEnd.DiskFault) }
     ensures sound { IsSoundLink (K.state link.old) → IsSoundLink (K.state link.new) × (result ≢ Err StandbyEnd.WriteFault) }
 {
@@ -130,6 +134,7 @@ fn send_have<K: Link>(link: &mut K, number: u64) -> Result<(), StandbyEnd>
     ensures link { OnlyWrites (K.state link.old) (K.state link.new) }
     ensures ends { IfErr result IsOfItem }
     ensures cause { HasCause (K.state link.old).write_faults (K.state link.new).write_faults (result ≡ Err StandbyEnd.WriteFault) }
+    ensures no_fault { result ≢ Err StandbyEnd.WriteFault → (K.state link.new).write_faults ≡ (K.state link.old).write_faults }
     ensures sound { IsSoundLink (K.state link.old) → IsSoundLink (K.state link.new) × (result ≢ Err StandbyEnd.WriteFault) }
 {
     let mut message = [3; 9];

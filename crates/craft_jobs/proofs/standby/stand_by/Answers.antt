@@ -12,6 +12,7 @@ returns g c =
       read_fault = e.read_fault;
       no_read_fault = e.no_read_fault;
       write_fault = e.write_fault;
+      no_write_fault = e.no_write_fault;
       disk_fault = e.disk_fault;
       spent = e.spent;
       sound_link = e.sound_link;

@@ -6,6 +6,7 @@ use Rattle.craft_session.specs.Gated.{AreEntered}
 use Rattle.craft_session.specs.Meanings.{language}
 use Rattle.craft_session.specs.Seats.{SeatAt, UserSeatAt, PlaceAt}
 use Rattle.craft_session.specs.Sessions.{IsServed}
+use Rattle.craft_session.proofs.Ends.{no_write_fault}
 use Rattle.craft_session.proofs.session.serve_session.Goals as goal
 
 pub returns-clause-session : goal.returns-clause-session
@@ -21,3 +22,6 @@ returns-clause-asked g c =
     let seat_is : c.begin.new.self.seat ≡ c.args.place.now.seat = c.begin.ensures.seat ∙ ap (λ (p : PlaceAt). p.seat) c.place.view_is in
     let users_is : c.begin.new.self.users.seat ≡ c.args.place.now.users = ap (λ (u : UserDesk g.row.U.Denot). u.seat) c.begin.ensures.users ∙ ap (λ (p : PlaceAt). p.users) c.place.view_is in
     subst (λ (w : SeatAt × UserSeatAt). AreEntered w.0 w.1 (g.G.Gate.asked c.args.gate.now c.serve-end.new.gate) c.serve-end.new.desk.seat.seen c.serve-end.new.desk.users.seat.seen) (λ i. (seat_is i, users_is i)) c.serve-end.ensures.asked
+
+pub returns-clause-no_write_fault : goal.returns-clause-no_write_fault
+returns-clause-no_write_fault g c = λ other. no_write_fault _ _ _ _ _ _ _ _ _ _ _ _ c.serve-end.ensures.session other

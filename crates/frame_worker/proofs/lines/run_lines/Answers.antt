@@ -35,6 +35,12 @@ same_end e f is = cc
 pub returns-in-Some-clause-stopped : goal.returns-in-Some-clause-stopped
 returns-in-Some-clause-stopped g c = λ is. subst (λ (n : ℕ). Rose n (g.G.Gate.stops c.run_frame.new.gate)) c.loop.invariant.unstopped (c.in-Some.ensures.stopped (ap (λ (e : LinesEnd). Some e) is))
 
+pub returns-in-Some-clause-no_read_fault : goal.returns-in-Some-clause-no_read_fault
+returns-in-Some-clause-no_read_fault g c = λ other. c.in-Some.ensures.no_read_fault (λ is. other (same_end c.in-Some.end ReadFault is)) ∙ c.loop.invariant.read_faults
+
+pub returns-in-Some-clause-no_write_fault : goal.returns-in-Some-clause-no_write_fault
+returns-in-Some-clause-no_write_fault g c = λ other. c.in-Some.ensures.no_write_fault (λ is. other (same_end c.in-Some.end WriteFault is)) ∙ c.loop.invariant.write_faults
+
 pub returns-in-Some-clause-unstopped : goal.returns-in-Some-clause-unstopped
 returns-in-Some-clause-unstopped g c = λ other. c.in-Some.ensures.unstopped (λ is. other (same_end c.in-Some.end Stopped is)) ∙ c.loop.invariant.unstopped
 
@@ -44,14 +50,13 @@ returns-clause-unstopped g c = λ _. c.loop.invariant.unstopped
 pub loop-preserved : goal.loop-preserved
 loop-preserved g c =
     let i = c.loop.invariant in let n = c.loop.counter in
-    let read = c.run_frame.ensures.read_faults.later in let write = c.run_frame.ensures.write_faults.later in
-    let reads = i.read_faults in let writes = i.write_faults in record {
+    record {
       fabric = search rules;
       run = run_more c.args.fabric.now.size g.N.Lines.told n 1 Spent (g.N.Lines.state c.args.lines.now) (g.N.Lines.state c.loop.lines) (g.N.Lines.state c.run_frame.new.lines) c.args.seat.now.reader.worker c.loop.seat.reader.worker c.run_frame.new.seat.reader.worker refl
           i.run c.in_default.ensures.run;
       said_end = λ h. ⊎_elim (λ end. absurd (c.in_default.not-Some End end)) (λ old. i.said_end old) (c.run_frame.ensures.said_end h);
-      read_faults = omega arith;
-      write_faults = omega arith;
+      read_faults = c.run_frame.ensures.no_read_fault (c.in_default.not-Some ReadFault) ∙ i.read_faults;
+      write_faults = c.run_frame.ensures.no_write_fault (c.in_default.not-Some WriteFault) ∙ i.write_faults;
       unstopped = c.run_frame.ensures.unstopped (c.in_default.not-Some Stopped) ∙ i.unstopped;
       asked = subst (λ (places : List GatePlace). g.G.Gate.asked c.args.gate.now c.run_frame.new.gate places) (replicate_more n place.Frame)
           (g.G.Gate.asked_on c.args.gate.now c.loop.gate c.run_frame.new.gate (replicate n place.Frame) (place.Frame ∷ []) i.asked c.run_frame.ensures.asked);
