@@ -1,6 +1,6 @@
 //! Legs put in, taken out and moved.
 ghost use Rattle.std.specs.Prelude.{◌≡◌, ◌≤◌};
-ghost use Rattle.paull_matrix.specs.Colourings.{CanPlace, IsFreeFor, IsHeld, with_leg, without_leg};
+ghost use Rattle.paull_matrix.specs.Colourings.{CanPlace, Holds, IsFreeFor, IsHeld, with_leg, without_leg};
 
 use crate::matrix::Matrix;
 use dxc_num::{Leg, Middle, Route};
@@ -35,23 +35,20 @@ impl Matrix {
         }
     }
 
-    /// Moves a leg that is held to a middle that is free in its row and column.
+    /// Moves a leg from the middle that it is on to one that is free in its row and column.
     #[inline(always)]
-    pub fn recolour(&mut self, leg: Leg, middle: Middle)
-        requires held { IsHeld self.old leg }
-        requires free { (middle.0 ≤ self.old.shape.slots) × IsFreeFor self.old leg middle.0 }
-        ensures { self.new ≡ with_leg leg middle.0 self.old }
+    pub fn recolour(&mut self, leg: Leg, from: Middle, to: Middle)
+        requires held { Holds self.old leg from.0 }
+        requires free { (to.0 ≤ self.old.shape.slots) × IsFreeFor self.old leg to.0 }
+        ensures { self.new ≡ with_leg leg to.0 self.old }
     {
         let row = self.shape.module_of(leg.input);
         let column = self.shape.module_of(leg.output);
-        let route = Route {
+        self.routes[leg.output.0 as usize] = Some(Route {
             input: leg.input,
-            middle,
-        };
-        if let Some(old) = self.routes[leg.output.0 as usize] {
-            self.routes[leg.output.0 as usize] = Some(route);
-            self.rows.turn(row, old.middle, middle, leg);
-            self.columns.turn(column, old.middle, middle, leg);
-        }
+            middle: to,
+        });
+        self.rows.turn(row, from, to, leg);
+        self.columns.turn(column, from, to, leg);
     }
 }

@@ -7,4 +7,4 @@ use Rattle.paull_chain.specs.Works.{AreValidMoves}
 pub recolour-requires-clause-held : goal.recolour-requires-clause-held
 recolour-requires-clause-held c =
     let v = subst (λ (ms : List Move). AreValidMoves ms c.loop-step.matrix) (drop-cons c.args.moves.now c.loop-step.step-index _ c.loop-step-test.true) c.loop-step.invariant.left in
-    (_, v.0)
+    v.0

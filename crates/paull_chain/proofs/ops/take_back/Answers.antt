@@ -15,7 +15,7 @@ pub recolour-requires-clause-held : goal.recolour-requires-clause-held
 recolour-requires-clause-held c =
     let made = c.requires in let i = c.loop-left.invariant in let t = c.loop-left-test.true in let few = i.few in
     let r = back_step c.args.moves.now (c.loop-left.left - 1) none made.0 c.loop-left.matrix (omega arith) made.1.0 made.1.1 (last c.args.moves.now c.loop-left.left made.0 c.loop-left.matrix (omega arith) (i.back made.0 made.1)) in
-    (_, r.held)
+    r.held
 
 pub recolour-requires-clause-free : goal.recolour-requires-clause-free
 recolour-requires-clause-free c =
