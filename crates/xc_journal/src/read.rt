@@ -140,6 +140,7 @@ fn is_same(a: &[u8; 64], b: &[u8; 64]) -> bool
 /// The change with its choices that a record of this version, 1 or 2, spells; one of version 1 is filled up with zeros. None
 /// exactly where the bytes are no record of that version. Whether its ports, modules and middles are of a shape, and whether an
 /// edit changes the CCT, is for its caller to test.
+#[inline(always)]
 pub fn entry_of(bytes: &[u8; 64], version: u8) -> Option<(Change, ArrayVec<Choice, 2>)>
     requires { (version ≡ 1) ⊎ (version ≡ 2) }
     ensures found { IfSome result (λ v. (bytes.now ≡ spelling v.0 v.1.items) × IsEntry version v.0 v.1.items) }
