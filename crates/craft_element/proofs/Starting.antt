@@ -7,6 +7,7 @@ use Rattle.dxc_disk.specs.Disks.{CountsOn, DiskState, IsSound, Spends}
 use Rattle.fabric_words.specs.New.{AreNew}
 use Rattle.fabric_words.specs.Seats.{FabricId}
 use Rattle.shelf_file.specs.Contents.{Contents}
+use Rattle.journal_core.specs.Rooms.{opening_room}
 use Rattle.journal_core.specs.declared.fault.JournalWhy.{JournalWhy}
 use Rattle.journal_core.specs.declared.fault.JournalWhy.TheVariants as why_of
 use Rattle.user_admin.specs.declared.fault.UserOpenFault.{UserOpenFault}
@@ -26,7 +27,7 @@ use Rattle.craft_words.specs.declared.status.Status.{Status}
 use Rattle.craft_words.specs.declared.status.Status.TheVariants.{CannotOpen, Disk, NoMemory}
 use Rattle.craft_element.specs.Statuses.{status_of_users_fault, status_of_users_why}
 use Rattle.craft_jobs.proofs.Counting.{rose_behind}
-use Rattle.craft_element.specs.Openings.{AreUsersNotStarted, AreUsersStarted, Began, Found, HasController, HasOpening, HasUsers, IsStarted, IsTaken, Named, NoController, NoUsers, NotStarted, Opens, Sources, opening_room, users_name}
+use Rattle.craft_element.specs.Openings.{AreUsersNotStarted, AreUsersStarted, Began, Found, HasController, HasOpening, HasUsers, IsStarted, IsTaken, Named, NoController, NoUsers, NotStarted, Opens, Sources, users_name}
 
 -- the users' disk stood against it
 why_disk : (w : JournalWhy) → status_of_users_why w ≡ Disk → w ≡ why_of.Disk

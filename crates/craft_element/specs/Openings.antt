@@ -7,6 +7,7 @@ use Rattle.dxc_outside.specs.Asked.{Asking, shelf_named, journal_named}
 use Rattle.dxc_outside.specs.Openings.{OpenerState, IsShelfPart}
 use Rattle.fabric_words.specs.New.{AreNew}
 use Rattle.fabric_words.specs.Seats.{FabricId}
+use Rattle.journal_core.specs.Rooms.{opening_room}
 use Rattle.shelf_file.specs.declared.fault.ShelfFault.TheVariants as fault
 use Rattle.shelf_file.specs.Contents.{Contents, IsShelf}
 use Rattle.shelf_file.specs.Checks.{IsFirstFault}
@@ -76,10 +77,6 @@ NoShelf told o p name NotEmpty = ⊥
 -- no disk was handed out, and why
 abbrev pub NoDisk : {D : Type 0} → Sources D → Sources D → Status → Type 0
 NoDisk before after status = (after.stops ≡ before.stops) × ((status ≡ NoMemory) ⊎ ((status ≡ CannotOpen) × Rose before.opener.faults after.opener.faults))
-
--- the most that an opening takes of a disk's room
-abbrev pub opening_room : ℕ
-opening_room = 131_081
 
 -- An opening of a disk left these faults, room and margin: it took of the room what it may, and each fault in it lowered the margin.
 pub record IsTaken (d : DiskState) (faults room margin : ℕ) : Type 0 where

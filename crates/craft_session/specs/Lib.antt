@@ -17,7 +17,6 @@ pub mod Seats
 pub mod Sessions
 pub mod Desks
 pub mod Plain
-pub mod Rooms
 pub mod PlainUsers
 pub mod Scripts
 pub mod Places

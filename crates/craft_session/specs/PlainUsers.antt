@@ -17,7 +17,7 @@ use Rattle.craft_session.specs.Asks.{Language, user_after}
 use Rattle.craft_session.specs.Consulting.{Consults}
 use Rattle.craft_session.specs.Happenings.{Happening, unit, quiet}
 use Rattle.craft_session.specs.Hearing.{Heard, Wanted, unasked, found, nothing, to_look, to_do, heard_of}
-use Rattle.craft_session.specs.Rooms.{opening_room}
+use Rattle.journal_core.specs.Rooms.{opening_room}
 
 -- a fault of the disk has an excuse
 abbrev pub IsExcusedBy : Type 0 → UserOutcome → Type 0

@@ -31,7 +31,7 @@ use Rattle.craft_session.specs.Meanings.{language}
 use Rattle.craft_session.specs.Moments.{Gives}
 use Rattle.craft_session.specs.Plain.{At, Excuse, Plays, PlaysTo, Said, alone, said_in, standing}
 use Rattle.craft_session.specs.PlainUsers.{ConsultsAlone}
-use Rattle.craft_session.specs.Rooms.{opening_room}
+use Rattle.journal_core.specs.Rooms.{opening_room}
 use Rattle.craft_session.specs.Runs.{Run, Walk}
 use Rattle.craft_session.specs.Walks.{CutsAt, FrontOf, nobody}
 
