@@ -68,6 +68,9 @@ fn extend(
     Some(module_of(shape, turned(side), leg))
 }
 
+// Both chains go on by two legs a round. So many rounds would be 128 legs, and the two have fewer together.
+const ROUNDS: u16 = 32;
+
 /// Walks both chains in step until one of them ends, and tells which: the shorter one, the row chain where they are equal.
 ///
 /// One of them ends within as many legs as there are modules.
@@ -86,20 +89,26 @@ pub fn shorter(
     requires none { (rows.old.items ≡ []) × (columns.old.items ≡ []) }
     ensures { IsShorter matrix.now a.0 b.0 row column result (legs_on result rows.new.items columns.new.items) }
 {
-    let modules = matrix.shape().modules();
+    let _shape = matrix.shape();
     let mut row_at = row;
     let mut column_at = column;
-    let mut side = Side::Row;
-    for done in 0..modules {
-        match extend(matrix, side, row_at, a, b, rows) {
+    for pairs in 0..ROUNDS {
+        match extend(matrix, Side::Row, row_at, a, b, rows) {
             Some(next) => row_at = next,
             None => return Side::Row,
         }
-        match extend(matrix, turned(side), column_at, a, b, columns) {
+        match extend(matrix, Side::Column, column_at, a, b, columns) {
             Some(next) => column_at = next,
             None => return Side::Column,
         }
-        side = turned(side);
+        match extend(matrix, Side::Column, row_at, a, b, rows) {
+            Some(next) => row_at = next,
+            None => return Side::Row,
+        }
+        match extend(matrix, Side::Row, column_at, a, b, columns) {
+            Some(next) => column_at = next,
+            None => return Side::Column,
+        }
     }
     unreachable!()
 }
