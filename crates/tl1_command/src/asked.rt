@@ -1,4 +1,4 @@
-ghost use Rattle.std.specs.Prelude.{◌≡◌, MatchResult, Ok, Err, IfOk};
+ghost use Rattle.std.specs.Prelude.{◌≡◌, [], MatchResult, Ok, Err, IfOk};
 ghost use Rattle.dxc_num.specs.Dimensions.{Dimensions, IsModule};
 ghost use Rattle.tl1_text.specs.Spans.{IsIn, text_at};
 ghost use Rattle.dxc_model.specs.Operations.{ArePorts};
@@ -13,7 +13,8 @@ use dxc_model::{Cause, Cct, CommandCode, Conn, Label, Op, Selection};
 use dxc_num::{Port, Shape};
 
 /// The CCT that a value names, none where it is empty.
-fn cct_of(value: &[u8]) -> Result<Option<Cct>, Cause>
+#[inline(always)]
+pub fn cct_of(value: &[u8]) -> Result<Option<Cct>, Cause>
     ensures { result ≡ cct_named value.now }
 {
     if value.is_empty() {
@@ -41,7 +42,8 @@ fn or_one_way(cct: Option<Cct>) -> Cct
 }
 
 /// Two different ports.
-fn ends_of(shape: Shape, from: &[u8], to: &[u8]) -> Result<(Port, Port), Cause>
+#[inline(always)]
+pub fn ends_of(shape: Shape, from: &[u8], to: &[u8]) -> Result<(Port, Port), Cause>
     ensures ends { MatchResult result (λ e. ends_named shape from.now to.now ≡ Ok (ends_by e)) (λ q. ends_named shape from.now to.now ≡ Err q) }
     ensures ports { IfOk result (λ e. ArePorts shape e.0 e.1) }
 {
@@ -53,7 +55,8 @@ fn ends_of(shape: Shape, from: &[u8], to: &[u8]) -> Result<(Port, Port), Cause>
     Ok((from, to))
 }
 
-fn selection_or_all_of(shape: Shape, text: &[u8]) -> Result<Selection, Cause>
+#[inline(always)]
+pub fn selection_or_all_of(shape: Shape, text: &[u8]) -> Result<Selection, Cause>
     ensures { result ≡ selection_or_all shape text.now }
 {
     if text.is_empty() {
@@ -70,6 +73,7 @@ fn is_all(text: &[u8]) -> bool
 }
 
 /// What a command with its parameters asks for, or why it is denied.
+#[inline(never)]
 pub fn asked(shape: Shape, code: CommandCode, unit: &[u8], named: Named) -> Result<Command, Cause>
     requires first { IsIn unit.now named.first }
     requires second { IsIn unit.now named.second }
@@ -117,6 +121,7 @@ pub fn asked(shape: Shape, code: CommandCode, unit: &[u8], named: Named) -> Resu
 }
 
 /// An entry, an edit or a deletion of a connection.
+#[inline(never)]
 fn connection(shape: Shape, code: CommandCode, unit: &[u8], named: Named) -> Result<Command, Cause>
     requires first { IsIn unit.now named.first }
     requires second { IsIn unit.now named.second }
@@ -135,6 +140,14 @@ fn connection(shape: Shape, code: CommandCode, unit: &[u8], named: Named) -> Res
         _ => Op::Enter(conn(from, to, cct, label)),
     };
     Ok(Command::Table(op))
+}
+
+/// A connection without a label.
+#[inline(always)]
+pub fn unlabelled(from: Port, to: Port, cct: Option<Cct>) -> Conn
+    ensures { result ≡ record { from = from; to = to; cct = one_way_or cct; label = [] } }
+{
+    conn(from, to, cct, Label::default())
 }
 
 fn conn(from: Port, to: Port, cct: Option<Cct>, label: Label) -> Conn

@@ -1,4 +1,4 @@
-ghost use Rattle.std.specs.Prelude.{◌≡◌};
+ghost use Rattle.std.specs.Prelude.{◌≡◌, true, Some, IfSome};
 ghost use Rattle.tl1_command.specs.Codes.{code_named, is_same_text};
 
 use dxc_model::CommandCode;
@@ -11,8 +11,50 @@ pub fn is_same(text: &[u8], name: &str) -> bool
 }
 
 /// The command of a code, case aside; None where it is no command's.
-#[tactic(auto, unfolding(crate::specs::Codes::code_named))]
+#[inline(always)]
 pub fn code_of(text: &[u8]) -> Option<CommandCode>
+    ensures { result ≡ code_named text.now }
+{
+    match frequent(text) {
+        Some(code) => Some(code),
+        None => any_code_of(text),
+    }
+}
+
+/// The command of a code that is frequent and written in capitals.
+#[inline(always)]
+#[tactic(auto, unfolding(crate::specs::Codes::code_named))]
+fn frequent(text: &[u8]) -> Option<CommandCode>
+    ensures { IfSome result (λ c. code_named text.now ≡ Some c) }
+{
+    if is_exactly(text, b"ENT-CRS-T0") {
+        Some(CommandCode::EntCrsT0)
+    } else if is_exactly(text, b"DLT-CRS-T0") {
+        Some(CommandCode::DltCrsT0)
+    } else if is_exactly(text, b"RTRV-HDR") {
+        Some(CommandCode::RtrvHdr)
+    } else if is_exactly(text, b"RTRV-CRS-T0") {
+        Some(CommandCode::RtrvCrsT0)
+    } else {
+        None
+    }
+}
+
+/// Whether a text is a name whose length its type tells, so that it takes a few compares and no call.
+#[inline(always)]
+fn is_exactly<const N: usize>(text: &[u8], name: &[u8; N]) -> bool
+    ensures { result ≡ true → text.now ≡ name.now }
+{
+    match text.as_array::<N>() {
+        Some(text) => text == name,
+        None => false,
+    }
+}
+
+/// The command of any code.
+#[inline(never)]
+#[tactic(auto, unfolding(crate::specs::Codes::code_named))]
+fn any_code_of(text: &[u8]) -> Option<CommandCode>
     ensures { result ≡ code_named text.now }
 {
     if is_same(text, "ACT-USER") {

@@ -80,6 +80,8 @@ pub struct Pair {
 
 impl Pair {
     /// The first two values of the block of a number.
+    #[inline(always)]
+    #[tactic(auto, unfolding(tl1_text::specs::Walk::values_of))]
     fn at(unit: &[u8], blocks: &Blocks, number: usize) -> Pair
         requires short { length unit.now ≤ 2047 }
         requires blocks { AreBlocksOf unit.now blocks.now.block.items }
@@ -88,6 +90,19 @@ impl Pair {
         let Some(block) = block_of(blocks, number) else {
             return Pair::one(Span::default());
         };
+        if block.text(unit).is_empty() {
+            return Pair::one(block);
+        }
+        Pair::of(unit, block)
+    }
+
+    /// The first two values of a block.
+    #[inline(never)]
+    fn of(unit: &[u8], block: Span) -> Pair
+        requires short { length unit.now ≤ 2047 }
+        requires block { IsBlockIn unit.now block }
+        ensures { IsPair unit.now (values_behind unit.now (Some block)) result }
+    {
         let first = first_param(unit, block);
         let Some(rest) = first.others else {
             return Pair::one(first.value);
