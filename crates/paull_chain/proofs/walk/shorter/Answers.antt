@@ -1,4 +1,4 @@
-use Rattle.std.proofs.Common.{arith, ◌≡◌, ◌+◌, ◌*◌, ◌<◌, List, length, sym, ap, ◌∙◌, subst}
+use Rattle.std.proofs.Common.{arith, List, length, sym, ap, ◌∙◌, subst}
 use Rattle.dxc_num.specs.declared.port.Leg.{Leg}
 use Rattle.paull_matrix.specs.declared.side.Side.TheVariants.{Row, Column}
 use Rattle.paull_chain.proofs.Bound.{short}

@@ -5,7 +5,7 @@ use Rattle.dxc_model.specs.Operations.{op_of as named_op}
 use Rattle.dxc_model.specs.Tables.{Board}
 use Rattle.dxc_model.specs.Verdicts.{Grants}
 use Rattle.xc_recovery.proofs.Once.{granted_once}
-use Rattle.xc_recovery.proofs.record.may_take.Goals as goal
+use Rattle.xc_recovery.proofs.record.is_granted.Goals as goal
 
 pub returns-in-Ok : goal.returns-in-Ok
 returns-in-Ok c =
