@@ -16,6 +16,7 @@ module _ (told : Type 0) (a b : LinkState) (bytes : List ℕ) where
     split = sym (take-append-drop count bytes);
     wrote = write.wrote;
     whole = λ _. drop_all count bytes (omega (arith, is));
+    no_fault = λ _. write.no_fault (λ is_failed. cc);
     cause = record { later = write.wrote.later; cause = λ is_cut. cc };
   }
 
@@ -27,11 +28,12 @@ module _ (told : Type 0) (a b : LinkState) (bytes : List ℕ) where
     split = sym (take-append-drop count bytes) ∙ ap (λ (l : List ℕ). take count bytes ++ l) then.split ∙ sym (append_assoc (take count bytes) then.part then.rest);
     wrote = wrote_more told a b c (take count bytes) then.part write.wrote then.wrote;
     whole = then.whole;
+    no_fault = λ is_whole. then.no_fault is_whole ∙ write.no_fault (λ is_failed. cc);
     cause = record { later = omega (arith, write.wrote.later, then.cause.later); cause = λ is. let rose = then.cause.cause is in omega (arith, write.wrote.later, rose) };
   }
 
   failed : IsWrite told a b Failed bytes → IsSent told a b Cut bytes
-  failed write = record { part = []; rest = bytes; split = refl; wrote = write.wrote; whole = λ is_whole. cc; cause = record { later = write.cause.later; cause = λ _. write.cause.cause refl } }
+  failed write = record { part = []; rest = bytes; split = refl; wrote = write.wrote; whole = λ is_whole. cc; no_fault = λ is_whole. cc; cause = record { later = write.cause.later; cause = λ _. write.cause.cause refl } }
 
 pub returns-then-count-bytes : goal.returns-then-count-bytes
 returns-then-count-bytes g c = took_all _ _ _ _ _ c.if-count-bytes.true c.in-Took.ensures
