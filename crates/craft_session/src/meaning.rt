@@ -33,6 +33,7 @@ use user_admin::{UserOp, upper, user_command_of};
 /// Puts down the tag of a whole unit, and what the unit asks of the session of a user; the rows of users that it reads stand in `users` then.
 /// Stop: the gate stopped before the users were changed.
 // What is asked is large, so it is written where it is made out, and handed on by reference.
+#[inline(always)]
 pub fn consult<U: Disk + Drop, G: Gate, R: Wait>(
     shelf: &Shelf,
     users: &mut UserDesk<U>,
