@@ -7,3 +7,4 @@ pub mod Told
 pub mod Moved
 pub mod Deals
 pub mod Asked
+pub mod Known

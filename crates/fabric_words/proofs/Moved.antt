@@ -88,6 +88,20 @@ pub in_names : (m : Mover) (phase : Phase) → phase ≡ m.phase → (l : Leg) �
 in_names m phase is (l, k, inl p) = (l, k, subst (λ (q : Phase). HasIn q l k) (sym (is ∙ p)) (refl, refl))
 in_names m phase is (l, k, inr p) = (l, k, subst (λ (q : Phase). HasIn q l k) (sym (is ∙ p)) (refl, refl))
 
+-- what is kept of a path is what the phase names
+pub names_it : (phase : Phase) (a : Leg) (b : Middle) → (l : Leg) × (k : Middle) × HasIn phase l k → ((l : Leg) (k : Middle) → HasIn phase l k → (a ≡ l) × (b ≡ k)) → HasIn phase a b
+names_it phase a b (l, k, has) kept = let e = kept l k has in subst (λ (t : Leg × Middle). HasIn phase t.0 t.1) (λ i. (sym e.0 i, sym e.1 i)) has
+
+pub named_in_set : (m : Mover) (phase : Phase) (a : Leg) (b : Middle) → phase ≡ m.phase → (l : Leg) × (k : Middle) × (m.phase ≡ InSet l k) → ((l : Leg) (k : Middle) → HasIn phase l k → (a ≡ l) × (b ≡ k)) → HasIn phase a b × (phase ≡ InSet a b)
+named_in_set m phase a b is (l, k, at) kept =
+    let has : HasIn phase l k = subst (λ (q : Phase). HasIn q l k) (sym (is ∙ at)) (refl, refl) in
+    let e = kept l k has in (names_it phase a b (l, k, has) kept, is ∙ (at ∙ (λ i. InSet (sym e.0 i) (sym e.1 i))))
+
+pub named_mid_set : (z : Size) (m : Mover) (phase : Phase) (a : Leg) (b : Middle) → phase ≡ m.phase → (l : Leg) × (k : Middle) × (m.phase ≡ MidSet l k) × HasSwitch m → ((l : Leg) (k : Middle) → HasIn phase l k → (a ≡ l) × (b ≡ k)) → HasIn phase a b × (phase ≡ MidSet a b)
+named_mid_set z m phase a b is (l, k, at, room) kept =
+    let has : HasIn phase l k = subst (λ (q : Phase). HasIn q l k) (sym (is ∙ at)) (refl, refl) in
+    let e = kept l k has in (names_it phase a b (l, k, has) kept, is ∙ (at ∙ (λ i. MidSet (sym e.0 i) (sym e.1 i))))
+
 -- the words on the path that a phase names are of the shape
 pub phase_inside : (z : Size) (m : Mover) (p : Phase) (l : Leg) (k : Middle) → HasIn p l k → IsPhaseLaid z.shape m p → (q : ℕ) × IsHalfLaid z.shape m l k q
 phase_inside z m Rest l k has laid = absurd has

@@ -4,3 +4,5 @@ pub mod Plays
 pub mod Seats
 pub mod Laws
 pub mod New
+pub mod Looks
+pub mod Stands

@@ -4,11 +4,13 @@
 mod ask;
 mod fabric;
 pub mod laws;
+mod looks;
 mod mover;
 mod path;
 pub mod place;
 mod plays;
 mod reader;
+mod stand;
 mod table;
 mod worker;
 

@@ -10,12 +10,14 @@ ghost use Rattle.fabric_words.specs.declared.table.View.TheVariants.{AsMover};
 ghost use Rattle.fabric_words.specs.Places.{IsRegInside, reg_word};
 
 use crate::fabric::Fabric;
-use crate::path::{forget, forget_after, middle_of, path_of, phase_after};
+use crate::looks::Looks;
+use crate::path::{forget_after, middle_of};
 use crate::place;
-use crate::plays::{ClearsIn, ClearsMid, ClearsOut, Looks, Reads, SetsIn, SetsMid, Switches};
+use crate::plays::{ClearsIn, ClearsMid, ClearsOut, LooksAt, Reads, SetsIn, SetsMid, Switches};
+use crate::stand::Stand;
 use crate::table::{Aim, Token};
 use dxc_num::{Leg, Middle, Reg};
-use fabric_core::{Phase, Seen, Size};
+use fabric_core::{Phase, Size};
 use std::marker::Model;
 
 /// The seat of the one that writes the registers. It knows all their words, and keeps its phase, the number of its switches, and what its
@@ -24,12 +26,12 @@ use std::marker::Model;
 pub struct MoverSeat {
     token: Token,
     size: Size,
-    phase: Phase,
+    phase: Stand,
     // The input module and the output module of the leg that the phase names.
     row: u16,
     column: u16,
     switches: u64,
-    seen: [Seen; 8],
+    seen: Looks,
 }
 
 impl Model for MoverSeat {
@@ -51,11 +53,11 @@ impl MoverSeat {
         MoverSeat {
             token,
             size,
-            phase: Phase::Rest,
+            phase: Stand::new(),
             row: 0,
             column: 0,
             switches: 0,
-            seen: [Seen::NOTHING; 8],
+            seen: Looks::new(),
         }
     }
 
@@ -66,7 +68,7 @@ impl MoverSeat {
         ensures sized { IsSize self.now.fabric.size }
         ensures ruled { IsMoverRuled self.now.fabric.size self.now.mover }
     {
-        self.phase
+        self.phase.phase()
     }
 
     /// How many switches were made since the fabric was made.
@@ -83,7 +85,7 @@ impl MoverSeat {
         requires { worker < self.now.fabric.size.workers }
         ensures { result ≡ has_passed (looks_of self.now.mover worker) }
     {
-        self.seen[worker as usize].passed
+        self.seen.passed(worker)
     }
 
     /// Begins a path for a leg over a middle: its IN word.
@@ -104,7 +106,7 @@ impl MoverSeat {
         shared.compare_exchange_with::<SetsIn>(&mut self.token, word, 0, slot + 1, &aim);
         self.row = row;
         self.column = column;
-        self.phase = Phase::InSet { leg, to: middle };
+        self.phase.begin(leg, middle);
     }
 
     /// Sets the MID word of the path that was begun.
@@ -115,14 +117,12 @@ impl MoverSeat {
         ensures fabric { self.new.fabric ≡ self.old.fabric }
         ensures event { Moves self.old.fabric.size self.old.mover SetMid self.new.mover }
     {
-        let Phase::InSet { leg, to } = self.phase else {
-            unreachable!()
-        };
+        let (_, to) = self.phase.path();
         let word = place::of_mid(self.size.shape, to, self.column);
         let value = self.row as u64 + 1;
         let shared = &fabric.board.shared;
         shared.store::<SetsMid>(&mut self.token, word, value);
-        self.phase = Phase::MidSet { leg, to };
+        self.phase.go_on();
     }
 
     /// Turns OUT to the path: the leg is joined, or moved. Its number is one more than `switches()`.
@@ -133,16 +133,14 @@ impl MoverSeat {
         ensures fabric { self.new.fabric ≡ self.old.fabric }
         ensures event { Moves self.old.fabric.size self.old.mover SwitchOut self.new.mover }
     {
-        let Phase::MidSet { leg, to } = self.phase else {
-            unreachable!()
-        };
+        let (leg, to) = self.phase.path();
         let word = place::of_out(self.size.shape, leg.output);
         let number = self.switches + 1;
         let value = number * 256 + to.0 as u64 + 1;
         let shared = &fabric.board.shared;
         let found = shared.swap::<Switches>(&mut self.token, word, value);
         self.switches = number;
-        self.phase = phase_after(leg, found);
+        self.phase.turn(found);
         forget_after(found, &mut self.seen);
     }
 
@@ -162,11 +160,8 @@ impl MoverSeat {
         let found = shared.swap::<ClearsOut>(&mut self.token, word, 0);
         self.row = row;
         self.column = column;
-        self.phase = Phase::Old {
-            leg,
-            old: middle_of(found),
-        };
-        forget(&mut self.seen);
+        self.phase.leave(leg, middle_of(found));
+        self.seen.forget();
     }
 
     /// Looks at the frame word of a worker.
@@ -179,9 +174,8 @@ impl MoverSeat {
     {
         let word = place::of_frame(self.size.shape, worker);
         let shared = &fabric.board.shared;
-        let found = shared.load::<Looks>(&mut self.token, word);
-        let at = worker as usize;
-        self.seen[at] = self.seen[at].after(found);
+        let found = shared.load::<LooksAt>(&mut self.token, word);
+        self.seen.note(worker, found);
         found
     }
 
@@ -193,11 +187,11 @@ impl MoverSeat {
         ensures fabric { self.new.fabric ≡ self.old.fabric }
         ensures event { Moves self.old.fabric.size self.old.mover ClearMid self.new.mover }
     {
-        let (leg, old) = path_of(self.phase);
+        let (_, old) = self.phase.path();
         let word = place::of_mid(self.size.shape, old, self.column);
         let shared = &fabric.board.shared;
         shared.store::<ClearsMid>(&mut self.token, word, 0);
-        self.phase = Phase::Freed { leg, old };
+        self.phase.free();
     }
 
     /// Clears the IN word of a path whose MID word is none.
@@ -208,11 +202,11 @@ impl MoverSeat {
         ensures fabric { self.new.fabric ≡ self.old.fabric }
         ensures event { Moves self.old.fabric.size self.old.mover ClearIn self.new.mover }
     {
-        let (leg, old) = path_of(self.phase);
+        let (_, old) = self.phase.path();
         let word = place::of_in(self.size.shape, self.row, old);
         let shared = &fabric.board.shared;
         shared.store::<ClearsIn>(&mut self.token, word, 0);
-        self.phase = Phase::Rest;
+        self.phase.rest();
     }
 
     /// Loads a register. It changes nothing.

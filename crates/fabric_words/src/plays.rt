@@ -52,9 +52,9 @@ impl Play<Aim, View> for ClearsOut {
     ghost then = { cleared_out };
 }
 
-pub(crate) struct Looks;
+pub(crate) struct LooksAt;
 
-impl Play<Aim, View> for Looks {
+impl Play<Aim, View> for LooksAt {
     ghost then = { looked_at };
 }
 

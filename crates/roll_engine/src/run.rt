@@ -3,7 +3,7 @@ ghost use Rattle.std.specs.Prelude.{◌≡◌, ◌≢◌, ◌+◌, ◌<◌, ◌�
 ghost use Rattle.dxc_causes.specs.Causes.{Rose};
 ghost use Rattle.dxc_num.specs.declared.register.WriteKind.TheVariants.{ClearMid};
 ghost use Rattle.roll_plan.specs.Works.{writes_of};
-ghost use Rattle.roll_plan.specs.Nexts.{BeginsMove, IsNext};
+ghost use Rattle.roll_plan.specs.Nexts.{Begins, BeginsMove, IsNext};
 ghost use Rattle.fabric_core.specs.State.{IsSize};
 ghost use Rattle.fabric_core.specs.Owned.{IsMoverRuled};
 ghost use Rattle.fabric_core.specs.Moving.{AllPassed};
@@ -20,7 +20,7 @@ use crate::rolling::Rolling;
 use dxc_num::{RegWrite, WriteKind};
 use dxc_outside::{Gate, GatePlace, Pass1};
 use fabric_words::{Fabric, MoverSeat, Phase};
-use roll_plan::{Move, Next, move_write, next_at_step};
+use roll_plan::{Move, Next, move_write, next_at_step, writes_of_join, writes_of_part};
 
 // Looks at the workers where the write clears an old MID word. Some: a frame that may still follow it.
 #[inline(always)]
@@ -150,6 +150,50 @@ fn move_on<G: Gate>(
     write_on(fabric, mover, rolling, clear_in, gate)
 }
 
+// Makes the next three writes of the work in hand. Done: all are made.
+#[inline(always)]
+fn three_on<G: Gate>(
+    fabric: &Fabric,
+    mover: &mut MoverSeat,
+    rolling: &mut Rolling,
+    writes: [RegWrite; 3],
+    gate: &mut G,
+) -> Advance
+    requires own { mover.old.fabric ≡ fabric.now }
+    requires few { rolling.old.step < 946 }
+    requires next { Begins 3 (writes_of rolling.old.work) rolling.old.step writes }
+    requires ready { IsReady fabric.now.size (rest_of rolling.old) mover.old.mover }
+    ensures own { mover.new.fabric ≡ fabric.now }
+    ensures walks { Walks G.stops G.asked fabric.now.size rolling.old rolling.new mover.old.mover mover.new.mover gate.old gate.new result }
+    ensures all { result ≡ Advance.Done → rolling.new ≡ gone_on 3 rolling.old }
+{
+    match write_two(fabric, mover, rolling, writes[0], writes[1], gate) {
+        Advance::Done => {}
+        answer => return answer,
+    }
+    write_on(fabric, mover, rolling, writes[2], gate)
+}
+
+// Makes the next write of the work in hand, of whatever kind: after a stop, one stands alone.
+#[inline(never)]
+fn one_on<G: Gate>(
+    fabric: &Fabric,
+    mover: &mut MoverSeat,
+    rolling: &mut Rolling,
+    write: RegWrite,
+    gate: &mut G,
+) -> Advance
+    requires own { mover.old.fabric ≡ fabric.now }
+    requires few { rolling.old.step < 951 }
+    requires next { slice_get (writes_of rolling.old.work) rolling.old.step ≡ Some write }
+    requires ready { IsReady fabric.now.size (rest_of rolling.old) mover.old.mover }
+    ensures own { mover.new.fabric ≡ fabric.now }
+    ensures walks { Walks G.stops G.asked fabric.now.size rolling.old rolling.new mover.old.mover mover.new.mover gate.old gate.new result }
+    ensures one { result ≡ Advance.Done → rolling.new ≡ gone_on 1 rolling.old }
+{
+    write_on(fabric, mover, rolling, write, gate)
+}
+
 // Makes what comes next of the work in hand. Done: it is made.
 #[inline(always)]
 fn next_on<G: Gate>(
@@ -169,7 +213,13 @@ fn next_on<G: Gate>(
 {
     match next {
         Next::All(step) => move_on(fabric, mover, rolling, step, gate),
-        Next::One(write) => write_on(fabric, mover, rolling, write, gate),
+        Next::Join(leg, middle) => {
+            three_on(fabric, mover, rolling, writes_of_join(leg, middle), gate)
+        }
+        Next::Part(leg, middle) => {
+            three_on(fabric, mover, rolling, writes_of_part(leg, middle), gate)
+        }
+        Next::One(write) => one_on(fabric, mover, rolling, write, gate),
     }
 }
 

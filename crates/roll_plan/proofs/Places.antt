@@ -3,12 +3,19 @@ use Rattle.std.proofs.Common.{◌≡◌, ℕ, Option, Some, None, zero, suc, ◌
 use Rattle.std.specs.Prelude.{IfSome, ◌≤◌}
 use Rattle.std.proofs.lemmas.List.{at_drop_more}
 use Rattle.std.proofs.lemmas.Option.{slice_get_within}
+use Rattle.dxc_num.specs.declared.port.Leg.{Leg}
+use Rattle.dxc_num.specs.declared.port.Middle.{Middle}
 use Rattle.dxc_num.specs.declared.register.RegWrite.{RegWrite}
+use Rattle.dxc_num.specs.declared.register.WriteKind.TheVariants.{SwitchOut, ClearIn}
+use Rattle.roll_plan.specs.declared.op.Choice.{Choice}
+use Rattle.roll_plan.specs.declared.next.Next.{Next}
+use Rattle.roll_plan.specs.declared.next.Next.TheVariants.{All, One}
+use Rattle.roll_plan.specs.declared.next.Next.TheVariants as next
 use Rattle.roll_plan.specs.declared.op.Move.{Move}
 use Rattle.roll_plan.specs.declared.op.LegOp.{LegOp}
 use Rattle.roll_plan.specs.declared.op.LegOp.TheVariants.{Join, Part, Shift}
-use Rattle.roll_plan.specs.Works.{join_writes, move_writes, moves_of, moves_writes, op_writes, ops_writes, switches_in}
-use Rattle.roll_plan.specs.Nexts.{BeginsMove}
+use Rattle.roll_plan.specs.Works.{write, join_writes, part_writes, move_writes, moves_of, moves_writes, op_writes, ops_writes, switches_in}
+use Rattle.roll_plan.specs.Nexts.{Begins, BeginsMove, IsNext}
 
 pub moves_length : (vs : List Move) → length (moves_writes vs) ≡ 5 * length vs
 moves_length [] = refl
@@ -51,12 +58,27 @@ begins_at (Join l h moves) v i t e room is = let n = moves_length moves.items in
 begins_at (Part l k) v i t e room is = absurd (omega arith)
 begins_at (Shift moves) v i t e room is = let n = moves_length moves.items in (λ r low. moves_at moves.items v i r (t + r) (omega arith) low room is, omega arith)
 
--- a move of the op in hand is one of the work
-pub begins_in : (ops : List LegOp) (op : LegOp) (t place i : ℕ) (found : Option Move) → op ≡ get_or ops i op → i < length ops → ((r : ℕ) → slice_get (ops_writes ops) (t + r) ≡ slice_get (ops_writes (drop i ops)) (place + r))
-    → IfSome found (λ v. BeginsMove (op_writes op) place v × (place + 5 ≤ length (op_writes op))) → IfSome found (BeginsMove (ops_writes ops) t)
-begins_in ops op t place i None is low same h = tt
-begins_in ops op t place i (Some v) is low same h = λ r few. let room = h.1 in
-    same r ∙ (left ops i (place + r) op is low ∙ (at_front (op_writes op) (ops_writes (drop (i + 1) ops)) (place + r) (omega arith) ∙ h.0 r few))
+-- what comes next at a place of the op in hand comes next in the work
+module _ (ops : List LegOp) (op : LegOp) (t place i : ℕ) (is : op ≡ get_or ops i op) (low : i < length ops) (same : (r : ℕ) → slice_get (ops_writes ops) (t + r) ≡ slice_get (ops_writes (drop i ops)) (place + r)) where
+  at_in : (r : ℕ) → place + r < length (op_writes op) → slice_get (ops_writes ops) (t + r) ≡ slice_get (op_writes op) (place + r)
+  at_in r room = same r ∙ (left ops i (place + r) op is low ∙ at_front (op_writes op) (ops_writes (drop (i + 1) ops)) (place + r) room)
+
+  here_in : place < length (op_writes op) → slice_get (ops_writes ops) t ≡ slice_get (op_writes op) place
+  here_in room = let et : t ≡ t + 0 = omega arith in let ep : place + 0 ≡ place = omega arith in ap (slice_get (ops_writes ops)) et ∙ (at_in 0 (omega arith) ∙ ap (slice_get (op_writes op)) ep)
+
+  begins_in : (n : ℕ) (first : List RegWrite) (w : RegWrite) → slice_get first n ≡ Some w → Begins (n + 1) (op_writes op) place first → Begins (n + 1) (ops_writes ops) t first
+  begins_in n first w last h r few = let room = slice_get_within (op_writes op) (place + n) w (h n (omega arith) ∙ last) in at_in r (omega arith) ∙ h r few
+
+  pub next_in : (o : Option Next) → place < length (op_writes op) → IsNext (op_writes op) place o → IsNext (ops_writes ops) t o
+  next_in None room h = here_in room ∙ h
+  next_in (Some (One w)) room h = here_in room ∙ h
+  next_in (Some (All v)) room h = begins_in 4 (move_writes v) (write ClearIn v.leg v.from) refl h
+  next_in (Some (next.Join l k)) room h = begins_in 2 (join_writes l k) (write SwitchOut l k) refl h
+  next_in (Some (next.Part l k)) room h = begins_in 2 (part_writes l k) (write ClearIn l k) refl h
+
+-- behind its moves the writes of an op are those of its join
+pub join_at : (op : LegOp) (l : Leg) (h : Choice) (moves : List Move) (place : ℕ) → op_writes op ≡ moves_writes moves ++ join_writes l h.middle → place ≡ 5 * length moves → Begins 3 (op_writes op) place (join_writes l h.middle)
+join_at op l h moves place is at r few = let n = moves_length moves in ap (λ (ws : List RegWrite). slice_get ws (place + r)) is ∙ at_back (moves_writes moves) (join_writes l h.middle) (place + r) r (omega arith)
 
 pub switches_on : (xs ys : List RegWrite) → switches_in (xs ++ ys) ≡ switches_in xs + switches_in ys
 switches_on [] ys = omega arith

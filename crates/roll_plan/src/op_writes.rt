@@ -28,6 +28,54 @@ pub fn move_write(step: Move, place: usize) -> RegWrite
     }
 }
 
+/// The writes of the join of a leg at a middle, in order.
+#[inline(always)]
+pub fn writes_of_join(leg: Leg, middle: Middle) -> [RegWrite; 3]
+    ensures { result ≡ join_writes leg middle }
+{
+    [
+        RegWrite {
+            kind: WriteKind::SetIn,
+            leg,
+            middle,
+        },
+        RegWrite {
+            kind: WriteKind::SetMid,
+            leg,
+            middle,
+        },
+        RegWrite {
+            kind: WriteKind::SwitchOut,
+            leg,
+            middle,
+        },
+    ]
+}
+
+/// The writes of the part of a leg from a middle, in order.
+#[inline(always)]
+pub fn writes_of_part(leg: Leg, middle: Middle) -> [RegWrite; 3]
+    ensures { result ≡ part_writes leg middle }
+{
+    [
+        RegWrite {
+            kind: WriteKind::ClearOut,
+            leg,
+            middle,
+        },
+        RegWrite {
+            kind: WriteKind::ClearMid,
+            leg,
+            middle,
+        },
+        RegWrite {
+            kind: WriteKind::ClearIn,
+            leg,
+            middle,
+        },
+    ]
+}
+
 #[inline(always)]
 fn moves_write(moves: &[Move], place: usize) -> Option<RegWrite>
     ensures { result ≡ slice_get (moves_writes moves.now) place }

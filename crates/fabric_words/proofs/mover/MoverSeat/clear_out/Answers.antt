@@ -2,7 +2,8 @@ use Rattle.std.proofs.Common.{◌∙◌, List, sym, ap, subst}
 use Rattle.fabric_core.specs.declared.event.CoreEvent.TheVariants.{ClearOut}
 use Rattle.fabric_core.specs.Steps.{Moves}
 use Rattle.fabric_core.specs.Allowed.{MayMove}
-use Rattle.dxc_num.specs.declared.port.Middle.{Middle}
+use Rattle.fabric_core.specs.declared.phase.Phase.{Phase}
+use Rattle.fabric_core.specs.Owned.{HasIn}
 use Rattle.fabric_core.specs.declared.seen.Seen.{Seen}
 use Rattle.fabric_core.specs.declared.phase.Phase.TheVariants.{Old}
 use Rattle.fabric_words.specs.Seats.{MoverAt, IsMoverSeat, mover_in}
@@ -22,9 +23,10 @@ swap-found-requires c = let s = c.self.inside in let f = c.fabric.inside in let 
 pub invariant_of-self : goal.invariant_of-self
 invariant_of-self c = let s = c.self.inside in let f = c.fabric.inside in let r = c.self.invariant.0 in
     let can = subst (λ (v : MoverAt). MayMove v.fabric.size v.mover (ClearOut c.args.leg)) (sym c.self.view_is) c.requires.allowed in
-    let t = clear_out_told f.board.shared.table_id.slots s.size s.token.me c.swap-found.new.seat.me c.of_out-word.result s.phase s.switches s.seen r c.args.leg can.0 c.swap-found.result c.of_out-word.ensures can.1 c.swap-found.ensures.2 in (
-      subst (λ (u : Middle × List Seen). IsMoverSeat s.size c.swap-found.new.seat.me (Old c.args.leg u.0) s.switches u.1) (λ i. (sym c.middle_of.ensures i, sym c.forget.ensures i)) t.0,
-      modules_of s.size.shape (Old c.args.leg c.middle_of.result) c.args.leg c.module_of-row.result c.module_of-column.result (λ a b has. has.0) (c.module_of-row.ensures, c.module_of-column.ensures),
+    let t = clear_out_told f.board.shared.table_id.slots s.size s.token.me c.swap-found.new.seat.me c.of_out-word.result s.phase s.switches s.seen r c.args.leg can.0 c.swap-found.result c.of_out-word.ensures can.1 c.swap-found.ensures.2 in
+    let is = c.leave.ensures ∙ ap (Old c.args.leg) c.middle_of.ensures in (
+      subst (λ (u : Phase × List Seen). IsMoverSeat s.size c.swap-found.new.seat.me u.0 s.switches u.1) (λ i. (sym is i, sym c.forget.ensures i)) t.0,
+      modules_of s.size.shape c.leave.new.self c.args.leg c.module_of-row.result c.module_of-column.result (λ a b has. (subst (λ (p : Phase). HasIn p a b) c.leave.ensures has).0) (c.module_of-row.ensures, c.module_of-column.ensures),
     )
 
 pub returns-clause-event : goal.returns-clause-event

@@ -1,4 +1,4 @@
-use Rattle.std.proofs.Common.{◌<◌, ◌∙◌, sym, ap, subst, rules, set}
+use Rattle.std.proofs.Common.{◌<◌, ◌∙◌, sym, ap, subst, List}
 use Rattle.fabric_core.specs.declared.seen.Seen.{Seen}
 use Rattle.fabric_words.specs.Seats.{MoverAt, IsMoverSeat}
 use Rattle.fabric_words.proofs.At.{ours, frame_low, looks_at}
@@ -14,5 +14,5 @@ load-found-requires c = let s = c.self.inside in let f = c.fabric.inside in let 
 pub invariant_of-self : goal.invariant_of-self
 invariant_of-self c = let s = c.self.inside in let f = c.fabric.inside in let r = c.self.invariant.0 in
     let low = subst (λ (v : MoverAt). c.args.worker < v.fabric.size.workers) (sym c.self.view_is) c.requires.low in
-    let t = look_told f.board.shared.table_id.slots s.size s.token.me c.load-found.new.seat.me c.of_frame-word.result s.phase s.switches s.seen r c.args.worker c.load-found.result (search rules) low c.of_frame-word.ensures c.load-found.ensures.2 in
-    (subst (λ (x : Seen). IsMoverSeat s.size c.load-found.new.seat.me s.phase s.switches (set s.seen c.args.worker x)) (sym c.after.ensures) t.0, c.self.invariant.1)
+    let t = look_told f.board.shared.table_id.slots s.size s.token.me c.load-found.new.seat.me c.of_frame-word.result s.phase s.switches s.seen r c.args.worker c.load-found.result c.note.ensures.full low c.of_frame-word.ensures c.load-found.ensures.2 in
+    (subst (λ (x : List Seen). IsMoverSeat s.size c.load-found.new.seat.me s.phase s.switches x) (sym c.note.ensures.noted) t.0, c.self.invariant.1)

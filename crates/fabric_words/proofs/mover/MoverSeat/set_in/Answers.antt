@@ -3,10 +3,11 @@ use Rattle.dxc_num.specs.Dimensions.{module_of}
 use Rattle.fabric_core.specs.declared.event.CoreEvent.TheVariants.{SetIn}
 use Rattle.fabric_core.specs.Steps.{Moves}
 use Rattle.fabric_core.specs.Allowed.{MayMove}
+use Rattle.fabric_core.specs.declared.phase.Phase.{Phase}
 use Rattle.fabric_core.specs.declared.phase.Phase.TheVariants.{InSet}
 use Rattle.fabric_core.specs.Registers.{in_cell}
 use Rattle.fabric_core.proofs.Cells.{module_lt}
-use Rattle.fabric_words.specs.Seats.{MoverAt, mover_in}
+use Rattle.fabric_words.specs.Seats.{MoverAt, IsMoverSeat, AreModules, mover_in}
 use Rattle.fabric_words.proofs.At.{ours, in_low, sets_in_at}
 use Rattle.fabric_words.proofs.Moved.{modules_of, set_in_told}
 use Rattle.fabric_words.proofs.mover.MoverSeat.set_in.Goals as goal
@@ -25,6 +26,7 @@ pub invariant_of-self : goal.invariant_of-self
 invariant_of-self c = let s = c.self.inside in let f = c.fabric.inside in let r = c.self.invariant.0 in
     let can = subst (λ (v : MoverAt). MayMove v.fabric.size v.mover (SetIn c.args.leg c.args.middle)) (sym c.self.view_is) c.requires.allowed in
     let t = set_in_told f.board.shared.table_id.slots s.size s.token.me c.compare_exchange_with.new.seat.me c.of_in-word.result s.phase s.switches s.seen r (record { leg = c.args.leg; middle = c.args.middle }) (c.slot_of-slot.result + 1) c.compare_exchange_with.result can c.compare_exchange_with.ensures.2 in
+    subst (λ (p : Phase). IsMoverSeat s.size c.compare_exchange_with.new.seat.me p s.switches s.seen × AreModules s.size.shape p c.module_of-row.result c.module_of-column.result) (sym c.begin.ensures)
     (t.0, modules_of s.size.shape (InSet c.args.leg c.args.middle) c.args.leg c.module_of-row.result c.module_of-column.result (λ a b has. has.0) (c.module_of-row.ensures, c.module_of-column.ensures))
 
 pub returns-clause-event : goal.returns-clause-event

@@ -1,6 +1,6 @@
 use Rattle.std.proofs.Common.{ℕ, ◌≡◌, ◌≤◌, ◌+◌, ◌*◌, drop, slice_get}
 use Rattle.roll_plan.specs.Works.{ops_writes}
-use Rattle.roll_plan.proofs.next.move_at_step.Given as goal
+use Rattle.roll_plan.proofs.next.next_at_step.Given as goal
 
 abbrev pub invariant-loop-op : goal.invariant-loop-op
 invariant-loop-op l = record {
