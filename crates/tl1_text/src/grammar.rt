@@ -21,9 +21,8 @@ pub fn blocks(unit: &[u8]) -> Result<Blocks, BadText>
         return Err(BadText);
     };
     let mut block = ArrayVec::new();
-    if cut(unit, code, &mut block) {
-        Ok(Blocks { block })
-    } else {
-        Err(BadText)
+    if !cut(unit, code, &mut block) {
+        return Err(BadText);
     }
+    Ok(Blocks { block })
 }
