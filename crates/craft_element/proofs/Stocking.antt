@@ -1,7 +1,7 @@
 -- What a state of an opening comes to.
 use Rattle.std.proofs.Common.{◌≡◌, ◌≢◌, ◌<◌, ◌++◌, ℕ, true, false, List, Option, Some, None, length, inl, inr, sym, ◌∙◌, ap, subst, append_assoc}
 use Rattle.std.proofs.lemmas.List.{map-append}
-use Rattle.std.specs.Prelude.{IfSome}
+use Rattle.std.specs.Prelude.{IfNone, IfSome}
 use base.Stored.{Gv}
 use Rattle.turnstile.specs.Turning.{Each, Found}
 use Rattle.turnstile.proofs.Lists.{each_after, map_once}
@@ -15,7 +15,7 @@ use Rattle.xc_core.specs.Seeing.{Saw, codes, entry_coded, place_of}
 use Rattle.xc_core.specs.States.{HomeIs, Opening, Stands, StandsFor, began, opening_of}
 use Rattle.xc_core.proofs.Standing.{table_is}
 use Rattle.craft_element.specs.declared.stock.Stock.{Stock}
-use Rattle.craft_element.specs.Stocks.{IsLeft, IsStock, IsStockAfter}
+use Rattle.craft_element.specs.Stocks.{IsAway, IsHeldUp, IsLeft, IsStock, IsStockAfter}
 
 module _ {D : Type 0} (told : Type 0) (state : D → DiskState) where
   -- a state that was found stands for a history behind the opening
@@ -44,4 +44,20 @@ module _ {D : Type 0} (told : Type 0) (state : D → DiskState) where
         others = subst (λ (n : ℕ). Each (λ e. e.place ≢ n) f.later) is f.others;
         numbers = each_after (λ (e : Entry). e.place < places) f.begun f.later f.numbers;
         after = subst (λ (l : List Entry). IsStockAfter o l s) whole (stock_after o x (d ++ (f.begun ++ f.later)) s (found_stands o x (f.begun ++ f.later) f.opening_is f.stands_for) stock);
+      }
+
+  -- the same where its Provisioner is away
+  pub held_up_at : (o : Opening) (own by places : ℕ) (h : List Entry) (seen in_turn : List Gv) (x : State D) (r : Option Stock) → by ≡ own → Found entry_coded.code (opening_of state) place_of (Stands told state) by places o seen x in_turn → Saw o seen h → IfNone r (IsAway x) → IfNone r (IsHeldUp told state own places o h)
+  held_up_at o own by places h seen in_turn x (Some s) is f saw none = none
+  held_up_at o own by places h seen in_turn x None is f saw away =
+      let d = began o.due in
+      let same : d ++ f.begun ≡ h = map_once entry_coded.code entry_coded.inj (d ++ f.begun) h (map-append entry_coded.code d f.begun ∙ ap (λ (l : List Gv). codes d ++ l) (sym f.before) ∙ saw.codes_are) in
+      let whole : d ++ (f.begun ++ f.later) ≡ h ++ f.later = sym (append_assoc d f.begun f.later) ∙ ap (λ (l : List Entry). l ++ f.later) same in
+      record {
+        later = f.later;
+        others = subst (λ (n : ℕ). Each (λ e. e.place ≢ n) f.later) is f.others;
+        numbers = each_after (λ (e : Entry). e.place < places) f.begun f.later f.numbers;
+        found = x;
+        stands_for = subst (λ (l : List Entry). StandsFor told state o x l) whole (found_stands o x (f.begun ++ f.later) f.opening_is f.stands_for);
+        away = away;
       }

@@ -1,15 +1,16 @@
 -- What a state comes to, and what the sessions of a place left.
-use Rattle.std.specs.Prelude.{◌≡◌, ◌≢◌, ◌<◌, ◌++◌, ℕ, false, List, length}
+use Rattle.std.specs.Prelude.{◌≡◌, ◌≢◌, ◌<◌, ◌⊎◌, ◌++◌, ℕ, true, false, List, length}
 use Rattle.turnstile.specs.Turning.{Each}
+use Rattle.dxc_disk.specs.Disks.{DiskState}
 use Rattle.dxc_model.specs.declared.entry.Entry.{Entry}
 use Rattle.dxc_model.specs.declared.op.Selection.TheVariants.{All}
 use Rattle.dxc_model.specs.Histories.{IsLegal, changes_of, table_after}
 use Rattle.dxc_model.specs.Tables.{rows}
-use Rattle.xc_core.specs.declared.state.Home.TheVariants.{In}
+use Rattle.xc_core.specs.declared.state.Home.TheVariants.{In, Out}
 use Rattle.xc_core.specs.declared.state.State.{State}
 use Rattle.xc_core.specs.Provisioners.{Boxed}
 use Rattle.xc_core.specs.Reckonings.{Past, ReckonsTo}
-use Rattle.xc_core.specs.States.{Opening, rules_of}
+use Rattle.xc_core.specs.States.{Opening, StandsFor, rules_of}
 use Rattle.craft_element.specs.declared.stock.Stock.{Stock}
 
 -- the connections of a state's table, and the switches of its Provisioner, which is home and not halted
@@ -19,6 +20,16 @@ pub record IsStock {D : Type 0} (x : State D) (s : Stock) : Type 0 where
   pub ready : driver.value.p.halted ≡ false
   pub connections : s.connections ≡ length (rows x.table All)
   pub switches : s.switches ≡ length driver.value.p.mover.mover.log
+
+-- the Provisioner of a state which is home, and halted
+pub record IsHaltedHome {D : Type 0} (x : State D) : Type 0 where
+  pub driver : Boxed D
+  pub is_home : x.home ≡ In driver
+  pub halted : driver.value.p.halted ≡ true
+
+-- a place has the Provisioner, or a restart is due
+abbrev pub IsAway : {D : Type 0} → State D → Type 0
+IsAway x = (x.home ≡ Out) ⊎ IsHaltedHome x
 
 -- behind a history from the opening on: the connections of the plain table after it, and the switches of its changes, each by its planned work
 pub record IsStockAfter (o : Opening) (h : List Entry) (s : Stock) : Type 0 where
@@ -34,3 +45,12 @@ pub record IsLeft (own places : ℕ) (o : Opening) (h : List Entry) (s : Stock) 
   pub others : Each (λ e. e.place ≢ own) later
   pub numbers : Each (λ e. e.place < places) later
   pub after : IsStockAfter o (h ++ later) s
+
+-- behind a history that a place has seen stand entries of the others of so many places, and a state that stands for both has its Provisioner away
+pub record IsHeldUp {D : Type 0} (told : Type 0) (state : D → DiskState) (own places : ℕ) (o : Opening) (h : List Entry) : Type 0 where
+  pub later : List Entry
+  pub others : Each (λ e. e.place ≢ own) later
+  pub numbers : Each (λ e. e.place < places) later
+  pub found : State D
+  pub stands_for : StandsFor told state o found (h ++ later)
+  pub away : IsAway found

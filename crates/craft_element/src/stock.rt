@@ -1,11 +1,11 @@
 //! What the sessions of a place left.
-ghost use Rattle.std.specs.Prelude.{◌≤◌, List, IfSome, vec_capacity};
+ghost use Rattle.std.specs.Prelude.{◌≤◌, List, IfNone, IfSome, vec_capacity};
 ghost use Rattle.dxc_num.specs.Dimensions.{ports};
 ghost use Rattle.dxc_model.specs.declared.entry.Entry.{Entry};
 ghost use Rattle.xc_core.specs.Seeing.{Saw};
 ghost use Rattle.xc_core.specs.States.{opening_of};
 ghost use Rattle.xc_core.specs.Turns.{HasPass};
-ghost use Rattle.craft_element.specs.Stocks.{IsLeft, IsStock};
+ghost use Rattle.craft_element.specs.Stocks.{IsAway, IsHeldUp, IsLeft, IsStock};
 
 use dxc_disk::Disk;
 use dxc_model::{Conn, Selection};
@@ -24,6 +24,7 @@ pub struct Stock {
 fn stock_in<D: Disk + Drop>(state: &State<D>, rows: &mut Vec<Conn>) -> Option<Stock>
     requires room { ports state.now.table.shape ≤ vec_capacity rows.old }
     ensures stock { IfSome result (IsStock state.now) }
+    ensures none { IfNone result (IsAway state.now) }
 {
     let Home::In(provisioner) = &state.home else {
         return None;
@@ -49,6 +50,7 @@ pub fn stock_of<D: Disk + Drop, R: Wait>(
     requires pass { HasPass turns.now pass.old }
     requires room { ports (opening_of D.state turns.now.first).first.fold.table.shape ≤ vec_capacity rows.old }
     ensures left { (h : List Entry) → Saw (opening_of D.state turns.now.first) pass.old.seen h → IfSome result (IsLeft pass.old.number turns.now.passes (opening_of D.state turns.now.first) h) }
+    ensures none { (h : List Entry) → Saw (opening_of D.state turns.now.first) pass.old.seen h → IfNone result (IsHeldUp D.told D.state pass.old.number turns.now.passes (opening_of D.state turns.now.first) h) }
 {
     let turn = turns.enter(pass, rt);
     let stock = stock_in(turn.state(), rows);

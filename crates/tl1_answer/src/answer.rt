@@ -1,4 +1,4 @@
-ghost use Rattle.std.specs.Prelude.{◌≡◌, ◌≤◌, ◌↔◌, true, false, [], ◌∷◌, IsTrue, length, codes, option_map};
+ghost use Rattle.std.specs.Prelude.{◌≡◌, ◌≤◌, ◌<◌, ◌+◌, ◌↔◌, true, false, [], ◌∷◌, IsTrue, length, codes, option_map};
 ghost use Rattle.dxc_outside.specs.Moments.{IsMoment};
 ghost use Rattle.tl1_answer.specs.Messages.{head, report as whole_report, with_line};
 
@@ -113,6 +113,7 @@ impl Answer {
         requires inside { IsOfShape shape conn.now }
         ensures added { result ≡ true → IsAdded self.old (row_text shape conn.now ∷ []) self.new }
         ensures kept { result ≡ false → self.new ≡ self.old }
+        ensures ample { length self.old.bytes + 80 < 4096 → result ≡ true }
     {
         let has_room = self.block.len() < 4096 - AMPLE;
         if has_room {
@@ -126,6 +127,7 @@ impl Answer {
         requires unended { IsUnended self.old }
         ensures added { result ≡ true → IsAdded self.old (denial cause) self.new }
         ensures kept { result ≡ false → self.new ≡ self.old }
+        ensures ample { length self.old.bytes + 80 < 4096 → result ≡ true }
     {
         let has_room = self.block.len() < 4096 - AMPLE;
         if has_room {

@@ -1,7 +1,12 @@
-use Rattle.std.proofs.Common.{◌≡◌, false, List, ap, length, rules, ◌∙◌}
+use Rattle.std.proofs.Common.{◌≡◌, true, false, inr, List, ap, length, rules, ◌∙◌}
 use Rattle.std.specs.Prelude.{vec_len}
 use Rattle.dxc_model.specs.declared.conn.Conn.{Conn}
 use Rattle.craft_element.proofs.stock.stock_in.Goals as goal
+
+pub returns-then-halted-clause-none : goal.returns-then-halted-clause-none
+returns-then-halted-clause-none g c =
+    let halted : c.in-In.provisioner.value.p.halted ≡ true = search rules in
+    inr (record { driver = c.in-In.provisioner; is_home = c.in-In.is; halted = halted })
 
 pub returns : goal.returns
 returns g c =
@@ -16,4 +21,5 @@ returns g c =
         connections = c.len.ensures ∙ whole ∙ ap (λ (xs : List Conn). length xs) c.rows.ensures.rows;
         switches = switches;
       };
+      none = tt;
     }

@@ -1,11 +1,11 @@
 use Rattle.std.proofs.Common.{◌≤◌, ◌++◌, sym, ◌∙◌, ap, subst}
-use Rattle.std.specs.Prelude.{IfSome, vec_capacity}
+use Rattle.std.specs.Prelude.{IfNone, IfSome, vec_capacity}
 use Rattle.dxc_num.specs.Dimensions.{Dimensions, ports}
 use Rattle.xc_core.specs.declared.state.State.{State}
 use Rattle.xc_core.specs.States.{began, opening_of}
 use Rattle.xc_core.proofs.Turning.{state_shape}
-use Rattle.craft_element.proofs.Stocking.{found_stands, left_at}
-use Rattle.craft_element.specs.Stocks.{IsStock}
+use Rattle.craft_element.proofs.Stocking.{found_stands, held_up_at, left_at}
+use Rattle.craft_element.specs.Stocks.{IsAway, IsStock}
 use Rattle.craft_element.proofs.stock.stock_of.Goals as goal
 
 pub stock_in-stock-requires : goal.stock_in-stock-requires
@@ -26,4 +26,8 @@ returns g c = record {
       let stock = c.stock_in-stock in
       left_at g.D.Disk.told g.D.Disk.state (opening_of g.D.Disk.state c.args.turns.now.first) c.args.pass.now.number c.enter-turn.result.own c.args.turns.now.passes h c.args.pass.now.seen c.enter-turn.result.seen c.enter-turn.result.state stock.result c.enter-turn.ensures.turn.1 c.enter-turn.ensures.found saw
       (subst (λ (s : State g.row.D.Denot). IfSome stock.result (IsStock s)) c.state.ensures stock.ensures.stock);
+  none = λ h saw.
+      let stock = c.stock_in-stock in
+      held_up_at g.D.Disk.told g.D.Disk.state (opening_of g.D.Disk.state c.args.turns.now.first) c.args.pass.now.number c.enter-turn.result.own c.args.turns.now.passes h c.args.pass.now.seen c.enter-turn.result.seen c.enter-turn.result.state stock.result c.enter-turn.ensures.turn.1 c.enter-turn.ensures.found saw
+      (subst (λ (s : State g.row.D.Denot). IfNone stock.result (IsAway s)) c.state.ensures stock.ensures.none);
 }
