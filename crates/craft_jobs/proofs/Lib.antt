@@ -1,6 +1,7 @@
 pub mod Counting
 pub mod Faulting
 pub mod Handing
+pub mod Jobs
 pub mod StandingBy
 pub mod Starting
 pub mod Wording

@@ -2,7 +2,9 @@
 ghost use Rattle.std.specs.Prelude.{◌≡◌, ◌∷◌, [], IfOk, IsOk, length, vec_len};
 ghost use Rattle.std.specs.Arc.{arc_value};
 ghost use Rattle.dxc_outside.specs.Asked.{AskedFor, asked_each, lines_named};
+ghost use Rattle.fabric_core.specs.State.{new_worker};
 ghost use Rattle.fabric_words.specs.New.{AreNew};
+ghost use Rattle.craft_jobs.specs.Handed.{AreJobsOf, IsJobOf};
 ghost use Rattle.craft_jobs.specs.Missing.{IsMade};
 
 use crate::frames::FrameJob;
@@ -21,8 +23,8 @@ fn frame_job<O: Opener>(
     fabric: &Arc<Fabric>,
     seat: WorkerSeat,
 ) -> Result<FrameJob<O::Lines, O::Gate>, Status>
-    requires own { seat.reader.fabric ≡ arc_value fabric.now }
-    requires unused { seat.reader.worker.frame ≡ 0 }
+    requires { seat.reader ≡ record { fabric = arc_value fabric.now; worker = new_worker number } }
+    ensures job { IfOk result (λ job. IsJobOf O.lines_for (arc_value fabric.now) name.now number job) }
     ensures made { IsMade (O.state opener.old).faults (O.state opener.new).faults result }
     ensures asked { O.asked opener.old opener.new (lines_named name.now number ∷ []) }
 {
@@ -52,6 +54,8 @@ pub fn frame_jobs<O: Opener>(
     requires seats { AreNew (arc_value fabric.now) 0 seats.items }
     requires each { length seats.items ≡ workers }
     ensures jobs { IfOk result (λ jobs. vec_len jobs ≡ workers) }
+    // Each has the seat of its worker, and the lines that were handed out for that worker.
+    ensures workers { IfOk result (λ jobs. AreJobsOf O.lines_for (arc_value fabric.now) name.now 0 jobs.items) }
     ensures made { IsMade (O.state opener.old).faults (O.state opener.new).faults result }
     ensures asked { AskedFor (O.asked opener.old opener.new) (asked_each (lines_named name.now) workers) (IsOk result) }
 {

@@ -1,5 +1,5 @@
 -- The load mode: its seat, how its session ends, and what that left.
-use Rattle.std.proofs.Common.{◌≡◌, ◌≢◌, ◌↔◌, ◌<◌, ◌≤◌, ◌++◌, ◌^◌, arith, ℕ, Bool, true, false, IsTrue, List, [], ◌∷◌, append-nil, Option, Result, Ok, Err, length, slice_index_or, inl, inr, refl, sym, ◌∙◌, ap, subst}
+use Rattle.std.proofs.Common.{◌≡◌, ◌≢◌, ◌↔◌, ◌<◌, ◌≤◌, ◌++◌, ◌^◌, arith, ℕ, Bool, true, false, IsTrue, List, [], ◌∷◌, append-nil, Option, Result, Ok, Err, inl, inr, refl, sym, ◌∙◌, ap, subst}
 use Rattle.std.specs.Prelude.{IfOk, IfSome, MatchResult}
 use Rattle.std.specs.Arc.{arc_value}
 use Rattle.dxc_causes.specs.Causes.{Counted, Rose}
@@ -9,10 +9,6 @@ use Rattle.dxc_disk.specs.MemView.{mem_state}
 use Rattle.dxc_num.specs.Dimensions.{ports}
 use Rattle.dxc_outside.specs.Links.{LinkState}
 use Rattle.dxc_model.specs.declared.entry.Entry.{Entry}
-use Rattle.fabric_core.specs.State.{new_worker}
-use Rattle.fabric_words.specs.declared.worker.WorkerSeat.{WorkerSeat}
-use Rattle.fabric_words.specs.New.{AreNew}
-use Rattle.fabric_words.specs.Seats.{FabricId}
 use Rattle.shelf_file.specs.Contents.{Contents}
 use Rattle.turnstile.specs.Passing.{Gate, Token}
 use Rattle.turnstile.specs.Turning.{Each}
@@ -40,11 +36,6 @@ use Rattle.craft_element.specs.Stocks.{IsLeft, IsStockAfter}
 use Rattle.craft_element.proofs.Wording.{sent_words}
 use Rattle.craft_server.specs.Loads.{IsLoad, IsLoaded, IsLoadedOn, IsLoadServed, IsSummed, LoadsOn, load_moments, stock_in}
 use Rattle.craft_server.proofs.Starting.{of_disk, users_of_disk}
-
--- the first of a fabric's new seats
-pub first_new : (f : FabricId) (n : ℕ) (seats : List WorkerSeat) (d : WorkerSeat) → AreNew f n seats → 0 < length seats → (slice_index_or seats 0 d).reader ≡ record { fabric = f; worker = new_worker n }
-first_new f n [] d all some = absurd (omega (arith, some))
-first_new f n (x ∷ xs) d all some = all.0
 
 -- of an element that was opened, and of none
 pub if_started : {A : Type 0} (P : A → Type 0) (Q : Status → Type 0) (r : Result A Status) → MatchResult r P Q → IfOk r P

@@ -121,6 +121,10 @@ impl<
 
     ghost asked_on = { λ _ _ _ _ _ _ _. tt };
 
+    ghost lines_for = { λ _ _ _. Unit {0} };
+
+    ghost listener_for = { λ _ _. Unit {0} };
+
     fn shelf(&mut self, _alloc: Global, name: &str, into: &mut Vec<u8>) -> Opened<()> {
         match append_file(&self.system, name, into) {
             Ok(()) => Opened::Open(()),

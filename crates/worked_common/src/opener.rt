@@ -110,6 +110,10 @@ impl Opener for RowOpener {
 
     ghost asked_on = { λ _ _ _ _ _ _ _. tt };
 
+    ghost lines_for = { λ _ _ _. Unit {0} };
+
+    ghost listener_for = { λ _ _. Unit {0} };
+
     fn shelf(&mut self, _alloc: Global, _name: &str, into: &mut Vec<u8>) -> Opened<()> {
         match self.opened(Some(())) {
             Opened::Open(()) => {}

@@ -1,5 +1,6 @@
-use Rattle.std.proofs.Common.{[], ◌∷◌}
+use Rattle.std.proofs.Common.{[], ◌∷◌, ◌∙◌, ap, subst, sym}
 use Rattle.dxc_outside.specs.Asked.{lines_named}
+use Rattle.fabric_words.specs.declared.worker.WorkerSeat.{WorkerSeat}
 use Rattle.craft_jobs.proofs.Faulting.{is_made, kept, no_memory, not_opened}
 use Rattle.craft_jobs.proofs.workers.frame_job.Goals as goal
 
@@ -32,3 +33,9 @@ returns-in-Err-clause-asked g c = g.O.Opener.asked_on c.args.opener.now c.lines.
 
 pub returns-in-Ok-new-clause-asked : goal.returns-in-Ok-new-clause-asked
 returns-in-Ok-new-clause-asked g c = g.O.Opener.asked_on c.args.opener.now c.lines.new.self c.gate.new.self (lines_named c.args.name.now c.args.number ∷ []) [] c.lines.ensures.asked c.gate.ensures.asked
+
+pub returns-in-Ok-new-clause-job : goal.returns-in-Ok-new-clause-job
+returns-in-Ok-new-clause-job g c = record {
+  seat = ap (λ (w : WorkerSeat). w.reader) c.in-Ok-new.ensures.seat ∙ c.requires;
+  lines = subst (λ lines. g.O.Opener.lines_for lines c.args.name.now c.args.number) (sym c.in-Ok-new.ensures.lines) (c.lines.ensures.lines_for c.in-Open.lines c.in-Open.is);
+}

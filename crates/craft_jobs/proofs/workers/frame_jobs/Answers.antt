@@ -1,8 +1,11 @@
 use Rattle.std.proofs.Common.{◌≡◌, ◌≤◌, ℕ, arith, rules, true≢false, subst, sym}
 use Rattle.std.proofs.lemmas.Result.{err_from_is_err_and}
+use Rattle.std.specs.Arc.{arc_value}
 use Rattle.dxc_outside.specs.Asked.{asked_each, lines_named}
 use Rattle.dxc_outside.proofs.Asking.{asked_all, each_cut, each_next}
+use Rattle.craft_jobs.specs.Handed.{AreJobsOf}
 use Rattle.craft_jobs.proofs.Faulting.{behind, is_made, no_memory}
+use Rattle.craft_jobs.proofs.Jobs.{jobs_more, pushed}
 use Rattle.craft_jobs.proofs.workers.frame_jobs.Goals as goal
 
 all_of : (n m : ℕ) → m ≤ n → n ≤ m → n ≡ m
@@ -23,6 +26,8 @@ loop-number-preserved g c = record {
   seats = search rules;
   each = search rules;
   jobs = search rules;
+  handed = subst (λ jobs. AreJobsOf g.O.Opener.lines_for (arc_value c.args.fabric.now) c.args.name.now 0 jobs) (sym (pushed _ _ _ _ (sym c.if-is_err.ensures.value) c.push.ensures.items))
+      (jobs_more _ _ _ 0 c.loop-number.number c.loop-number.jobs.items c.in_ok-job.job (let e = c.loop-number.invariant.jobs in omega (arith, e)) c.loop-number.invariant.handed c.in_ok-job.ensures.job);
   later = let up = c.frame_job.ensures.made.counted in omega (arith, c.loop-number.invariant.later, up);
   asked = each_next g.O.Opener.asked g.O.Opener.asked_on c.args.opener.now c.loop-number.opener c.frame_job.new.opener (lines_named c.args.name.now) c.loop-number.number c.loop-number.invariant.asked c.frame_job.ensures.asked;
 }

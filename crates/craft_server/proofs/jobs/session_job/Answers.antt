@@ -1,4 +1,4 @@
-use Rattle.std.proofs.Common.{◌∙◌, [], ◌∷◌}
+use Rattle.std.proofs.Common.{◌∙◌, [], ◌∷◌, refl}
 use Rattle.dxc_outside.specs.Asked.{listener_named}
 use Rattle.craft_jobs.proofs.Faulting.{is_made, kept, no_memory, not_opened}
 use Rattle.craft_server.proofs.jobs.session_job.Goals as goal
@@ -23,3 +23,6 @@ returns-in-Failed-clause-asked g c = c.listener.ensures.asked
 
 pub returns-in-NoMemory-clause-asked : goal.returns-in-NoMemory-clause-asked
 returns-in-NoMemory-clause-asked g c = c.listener.ensures.asked
+
+pub returns-in-Open-clause-job : goal.returns-in-Open-clause-job
+returns-in-Open-clause-job g c = (refl, c.listener.ensures.listener_for c.in-Open.listener c.in-Open.is)
