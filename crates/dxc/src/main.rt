@@ -4,7 +4,7 @@
 use craft_server::{Status, dxc_run};
 use dxc_console::{held_streams, help_asked, tell_status, words_given};
 use dxc_host::{HostClock, HostOpener, TermLink, ThreadSpawner};
-use dxc_outside::AlwaysGo;
+use dxc_outside::Sent;
 use std::io::{self, IsTerminal};
 use std::process::ExitCode;
 
@@ -20,16 +20,25 @@ fn main(rt: HostRuntime) -> ExitCode {
     } else if let Some(status) = help_asked(&rt, &words) {
         status
     } else {
-        dxc_run(
-            alloc,
-            &words,
-            &mut HostOpener::new(rt, Vec::new(alloc)),
-            &mut TermLink::new(rt.reader(), io::writer(&rt), rt),
-            &mut HostClock::new(rt),
-            &mut AlwaysGo,
-            &mut ThreadSpawner::new(rt, Vec::new(alloc)),
-            &rt,
-        )
+        match TermLink::new(alloc, rt.reader(), io::writer(&rt), rt) {
+            Ok((mut terminal, mut gate)) => {
+                let status = dxc_run(
+                    alloc,
+                    &words,
+                    &mut HostOpener::new(rt, Vec::new(alloc)),
+                    &mut terminal,
+                    &mut HostClock::new(),
+                    &mut gate,
+                    &mut ThreadSpawner::new(rt, Vec::new(alloc)),
+                    &rt,
+                );
+                match terminal.finish() {
+                    Sent::Whole => status,
+                    Sent::Cut => Status::Link,
+                }
+            }
+            Err(_) => Status::NoMemory,
+        }
     };
     tell_status(&rt, status, &words, rt.stderr().is_terminal());
     ExitCode::from(status.number())

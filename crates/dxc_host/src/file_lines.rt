@@ -8,6 +8,9 @@ use std::io;
 use std::os::unix::fs::FileExt;
 use std::rt::Files;
 
+/// So many bytes have room on either way.
+const ROOM: usize = 1 << 16;
+
 /// Lines over two files of the operating system. They tell nothing of their content. A read takes what the input gives at once, up to 64 KiB,
 /// and no frame may be longer. Frames that are written are held until the input is to be read again, or until they have no room; so who
 /// trickles frames into the input sees what comes of each at once. Output is written at its place: a frame that failed is whole at the
@@ -40,7 +43,7 @@ impl FileLines {
         let Ok(to) = format!(in alloc; "{name}.{worker}.out") else {
             return Opened::NoMemory;
         };
-        let (Ok(ahead), Ok(held)) = (Held::new(alloc), Held::new(alloc)) else {
+        let (Ok(ahead), Ok(held)) = (Held::new(alloc, ROOM), Held::new(alloc, ROOM)) else {
             return Opened::NoMemory;
         };
         match open_both(files, from.as_str(), to.as_str()) {

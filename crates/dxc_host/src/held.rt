@@ -1,15 +1,11 @@
 ghost use Rattle.std.specs.Prelude.{◌≡◌, ◌+◌, ◌≤◌, IfOk, length};
 
-use dxc_causes::NoMemory;
-use std::alloc::Global;
+use std::alloc::{AllocError, Global};
 use std::fs::File;
 use std::io::{self, Read};
 use std::marker::Model;
 
-/// So many bytes have room.
-const ROOM: usize = 1 << 16;
-
-/// Bytes on their way between a file and frames, in room that is taken once. Contracts see how many there are.
+/// Bytes on their way into a stream or out of it, in room that is taken once. Contracts see how many there are.
 #[derive(Drop)]
 pub(crate) struct Held {
     bytes: Vec<u8>,
@@ -28,8 +24,9 @@ impl Model for Held {
 }
 
 impl Held {
-    pub(crate) fn new(alloc: Global) -> Result<Held, NoMemory> {
-        let bytes = Vec::from_elem(alloc, 0, ROOM)?;
+    /// So many bytes have room.
+    pub(crate) fn new(alloc: Global, room: usize) -> Result<Held, AllocError> {
+        let bytes = Vec::from_elem(alloc, 0, room)?;
         Ok(Held {
             bytes,
             start: 0,

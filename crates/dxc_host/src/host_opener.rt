@@ -2,10 +2,11 @@ ghost use Rattle.std.specs.Prelude.{◌≡◌, ◌≤◌, ◌+◌, ◌++◌, Lis
 ghost use Rattle.dxc_causes.specs.Causes.{HasCause};
 ghost use Rattle.dxc_outside.specs.Openings.{IsClosed, most_shelf_bytes};
 
-use crate::{FileLines, HostClock, TcpDoor, TcpLink};
+use crate::changes::Changes;
+use crate::{FileLines, HostClock, HostGate, TcpDoor, TcpLink};
 use dxc_disk::FileDisk;
-use dxc_outside::{AlwaysGo, Opened, Opener, most_shelf_bytes};
-use std::alloc::Global;
+use dxc_outside::{Opened, Opener, most_shelf_bytes};
+use std::alloc::{AllocError, Global};
 use std::fs::File;
 use std::io::{self, ErrorKind, Read};
 use std::net::{Net, TcpListener, TcpStream};
@@ -16,6 +17,8 @@ use std::rt::{Clock as SystemClock, Files};
 pub struct HostOpener<T> {
     system: T,
     bound: Vec<(String, TcpListener)>,
+    /// What its listeners and its gates share, from the first listener on.
+    changes: Option<Changes>,
     faults: u64,
 }
 
@@ -27,6 +30,7 @@ impl<T: Drop> HostOpener<T> {
         HostOpener {
             system,
             bound,
+            changes: None,
             faults: 0,
         }
     }
@@ -76,12 +80,25 @@ fn bind<T: Net<Listener = TcpListener, Stream = TcpStream>>(
     Ok(listener)
 }
 
-// A link to whoever listens at the address.
+// The count, for one more holder.
+fn share(alloc: Global, changes: &mut Option<Changes>) -> Result<Changes, AllocError> {
+    if let Some(changes) = changes {
+        return changes.shared();
+    }
+    let made = Changes::new(alloc)?;
+    let shared = made.shared()?;
+    *changes = Some(made);
+    Ok(shared)
+}
+
+// A link to whoever listens at the address. No gate is asked for what it is sent.
 fn call<T: Net<Listener = TcpListener, Stream = TcpStream>>(
+    alloc: Global,
     net: &T,
     address: &str,
 ) -> io::Result<TcpLink> {
-    TcpLink::new(TcpStream::connect(net, address)?)
+    let stream = TcpStream::connect(net, address)?;
+    TcpLink::new(alloc, stream, Changes::new(alloc)?)
 }
 
 impl<
@@ -101,9 +118,9 @@ impl<
 
     type Listener = TcpDoor<T>;
 
-    type Clock = HostClock<T>;
+    type Clock = HostClock;
 
-    type Gate = AlwaysGo;
+    type Gate = HostGate;
 
     type Peer = TcpLink;
 
@@ -153,24 +170,31 @@ impl<
     }
 
     fn listener(&mut self, alloc: Global, address: &str) -> Opened<TcpDoor<T>> {
+        let Ok(changes) = share(alloc, &mut self.changes) else {
+            return Opened::NoMemory;
+        };
         match bind(alloc, &self.system, &mut self.bound, address) {
-            Ok(listener) => Opened::Open(TcpDoor::new(listener, self.system)),
+            Ok(listener) => Opened::Open(TcpDoor::new(alloc, listener, self.system, changes)),
             Err(error) => self.not_opened(&error),
         }
     }
 
-    fn peer(&mut self, _alloc: Global, address: &str) -> Opened<TcpLink> {
-        match call(&self.system, address) {
+    fn peer(&mut self, alloc: Global, address: &str) -> Opened<TcpLink> {
+        match call(alloc, &self.system, address) {
             Ok(link) => Opened::Open(link),
             Err(error) => self.not_opened(&error),
         }
     }
 
-    fn clock(&mut self) -> HostClock<T> {
-        HostClock::new(self.system)
+    fn clock(&mut self) -> HostClock {
+        HostClock::new()
     }
 
-    fn gate(&mut self) -> AlwaysGo {
-        AlwaysGo
+    fn gate(&mut self) -> HostGate {
+        let changes = match &self.changes {
+            Some(changes) => changes.shared().ok(),
+            None => None,
+        };
+        HostGate::new(changes)
     }
 }

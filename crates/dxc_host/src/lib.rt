@@ -2,10 +2,14 @@
 //! traits of `dxc_outside`. They tell nothing of what they hold, and a call fails only where its count rose.
 #![tactic(auto)]
 
+mod changes;
 mod file_lines;
 mod held;
 mod host_clock;
+mod host_gate;
 mod host_opener;
+mod outbox;
+mod patient;
 mod shown;
 mod tcp_door;
 mod tcp_link;
@@ -15,6 +19,7 @@ mod utc;
 
 pub use file_lines::FileLines;
 pub use host_clock::HostClock;
+pub use host_gate::HostGate;
 pub use host_opener::HostOpener;
 pub use tcp_door::TcpDoor;
 pub use tcp_link::TcpLink;

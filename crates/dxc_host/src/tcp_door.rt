@@ -1,7 +1,9 @@
 ghost use Rattle.std.specs.Prelude.{[], ◌≡◌};
 
 use crate::TcpLink;
+use crate::changes::Changes;
 use dxc_outside::{Came, Listener};
+use std::alloc::Global;
 use std::net::TcpListener;
 use std::rt::Clock as SystemClock;
 use std::sync::Wait;
@@ -14,25 +16,35 @@ const REST_MILLIS: u64 = 100;
 /// A listener over TCP, which never says End. It tells nothing of who calls.
 #[derive(Drop)]
 pub struct TcpDoor<T> {
+    alloc: Global,
     listener: TcpListener,
     system: T,
+    changes: Changes,
     faults: u64,
 }
 
 impl<T: SystemClock + Drop> TcpDoor<T> {
-    pub fn new(listener: TcpListener, system: T) -> TcpDoor<T>
+    /// What a link needs is taken as it is made.
+    pub(crate) fn new(
+        alloc: Global,
+        listener: TcpListener,
+        system: T,
+        changes: Changes,
+    ) -> TcpDoor<T>
         ensures { result.faults ≡ 0 }
     {
         TcpDoor {
+            alloc,
             listener,
             system,
+            changes,
             faults: 0,
         }
     }
 
     fn answer(&self) -> io::Result<TcpLink> {
         let (stream, _) = self.listener.accept()?;
-        TcpLink::new(stream)
+        TcpLink::new(self.alloc, stream, self.changes.shared()?)
     }
 }
 

@@ -1,7 +1,10 @@
 ghost use Rattle.std.specs.Prelude.{[], false, ◌≡◌, IfOk};
 
+use crate::changes::Changes;
+use crate::outbox::Outbox;
 use dxc_outside::{Got, Link, Put};
-use std::io::{self, ErrorKind, Read, Write};
+use std::alloc::Global;
+use std::io::{self, ErrorKind, Read};
 use std::net::TcpStream;
 use std::time::Duration;
 
@@ -11,10 +14,12 @@ const QUIET_MILLIS: u64 = 200;
 /// How long a write waits for a caller that takes nothing before it fails.
 const WRITE_SECONDS: u64 = 10;
 
-/// A link over a TCP stream. It tells nothing of its content.
-#[derive(Drop)]
+/// A link over a TCP stream. It tells nothing of its content. From the first read on what is written is collected. It goes out
+/// before each read, where it has no room, with what is written behind a change that a gate let to a journal, and where the link is
+/// dropped.
 pub struct TcpLink {
     stream: TcpStream,
+    outbox: Outbox,
     ended: bool,
     reads: u64,
     read_faults: u64,
@@ -22,8 +27,8 @@ pub struct TcpLink {
 }
 
 impl TcpLink {
-    /// A link over the stream, whose calls time out from now on. What is written goes out at once.
-    pub fn new(stream: TcpStream) -> io::Result<TcpLink>
+    /// A link over the stream, whose calls time out from now on. What is written isn't delayed by the host.
+    pub(crate) fn new(alloc: Global, stream: TcpStream, changes: Changes) -> io::Result<TcpLink>
         ensures ended { IfOk result (λ t. t.ended ≡ false) }
         ensures reads { IfOk result (λ t. t.reads ≡ 0) }
         ensures read_faults { IfOk result (λ t. t.read_faults ≡ 0) }
@@ -32,13 +37,30 @@ impl TcpLink {
         stream.set_read_timeout(Some(Duration::from_millis(QUIET_MILLIS)))?;
         stream.set_write_timeout(Some(Duration::from_secs(WRITE_SECONDS)))?;
         stream.set_nodelay(true)?;
+        let outbox = Outbox::new(alloc, changes)?;
         Ok(TcpLink {
             stream,
+            outbox,
             ended: false,
             reads: 0,
             read_faults: 0,
             write_faults: 0,
         })
+    }
+}
+
+impl Drop for TcpLink {
+    // Nobody is left who could be told of a fault.
+    fn drop(self) {
+        let TcpLink {
+            mut stream,
+            mut outbox,
+            ended: _,
+            reads: _,
+            read_faults: _,
+            write_faults: _,
+        } = self;
+        let _ = outbox.empty(&mut stream);
     }
 }
 
@@ -58,6 +80,10 @@ impl Link for TcpLink {
     fn read(&mut self, into: &mut [u8]) -> Got {
         self.reads = self.reads.saturating_add(1);
         self.ended = false;
+        if !self.outbox.empty(&mut self.stream) {
+            self.read_faults = self.read_faults.saturating_add(1);
+            return Got::Failed;
+        }
         match self.stream.read(into) {
             Ok(0) => {
                 self.ended = true;
@@ -75,9 +101,10 @@ impl Link for TcpLink {
     }
 
     fn write(&mut self, from: &[u8]) -> Put {
-        match self.stream.write(from) {
-            Ok(count) if count > 0 => Put::Took(count),
-            _ => {
+        let may_wait = self.reads > 0;
+        match self.outbox.write(&mut self.stream, from, may_wait) {
+            Some(count) => Put::Took(count),
+            None => {
                 self.write_faults = self.write_faults.saturating_add(1);
                 Put::Failed
             }

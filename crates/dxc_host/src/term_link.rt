@@ -1,25 +1,23 @@
-ghost use Rattle.std.specs.Prelude.{[], false, ◌≡◌, ◌≤◌, length, IfOk};
+ghost use Rattle.std.specs.Prelude.{[], false, ◌≡◌, IfOk};
 
-use dxc_outside::{Got, Link, Put};
-use std::io::{self, ErrorKind, Read, Write};
+use crate::HostGate;
+use crate::changes::Changes;
+use crate::outbox::Outbox;
+use crate::patient::{Patient, rest};
+use dxc_outside::{Got, Link, Put, Sent};
+use std::alloc::{AllocError, Global};
+use std::io::{ErrorKind, Read, Write};
 use std::rt::Clock as SystemClock;
-use std::thread;
-use std::time::Duration;
-
-/// How long a call rests where a stream that doesn't block has nothing to give, or no room.
-const REST_MILLIS: u64 = 50;
-
-/// How often a write is tried again where there is no room: for ten seconds in all.
-const MOST_RESTS: u32 = 200;
 
 /// A link over a reader and a writer, as standard input and output. It tells nothing of its content. A read that was
 /// interrupted, that timed out, or, after a rest, that found nothing is a Quiet; a write that takes 0 bytes counts as failed,
-/// and so does one that found no room for ten seconds.
-#[derive(Drop)]
+/// and so does one that found no room for ten seconds. From the first read on what is written is collected. It goes out before each
+/// read, where it has no room, with what is written behind a change that the gate let to a journal, and by `finish`, without which
+/// the link can't be let go.
 pub struct TermLink<R: Read, W: Write, T: SystemClock> {
     input: R,
-    output: W,
-    system: T,
+    output: Patient<W, T>,
+    outbox: Outbox,
     ended: bool,
     reads: u64,
     read_faults: u64,
@@ -27,60 +25,59 @@ pub struct TermLink<R: Read, W: Write, T: SystemClock> {
 }
 
 impl<R: Read, W: Write, T: SystemClock> TermLink<R, W, T> {
-    pub fn new(input: R, output: W, system: T) -> TermLink<R, W, T>
-        ensures ended { result.ended ≡ false }
-        ensures reads { result.reads ≡ 0 }
-        ensures read_faults { result.read_faults ≡ 0 }
-        ensures write_faults { result.write_faults ≡ 0 }
+    /// A link, and the gate for what is done over it.
+    pub fn new(
+        alloc: Global,
+        input: R,
+        output: W,
+        system: T,
+    ) -> Result<(TermLink<R, W, T>, HostGate), AllocError>
+    where
+        R: Drop,
+        W: Drop,
+        T: Drop,
+        ensures ended { IfOk result (λ made. made.0.ended ≡ false) }
+        ensures reads { IfOk result (λ made. made.0.reads ≡ 0) }
+        ensures read_faults { IfOk result (λ made. made.0.read_faults ≡ 0) }
+        ensures write_faults { IfOk result (λ made. made.0.write_faults ≡ 0) }
     {
-        TermLink {
+        let changes = Changes::new(alloc)?;
+        let gate = HostGate::new(Some(changes.shared()?));
+        let outbox = Outbox::new(alloc, changes)?;
+        let link = TermLink {
             input,
-            output,
-            system,
+            output: Patient { output, system },
+            outbox,
             ended: false,
             reads: 0,
             read_faults: 0,
             write_faults: 0,
+        };
+        Ok((link, gate))
+    }
+
+    /// Writes out what was collected. `Cut` where that fails.
+    pub fn finish(self) -> Sent
+    where
+        R: Drop,
+        W: Drop,
+        T: Drop,
+    {
+        let TermLink {
+            input: _,
+            mut output,
+            mut outbox,
+            ended: _,
+            reads: _,
+            read_faults: _,
+            write_faults: _,
+        } = self;
+        if outbox.empty(&mut output) {
+            Sent::Whole
+        } else {
+            Sent::Cut
         }
     }
-}
-
-// A standard stream can't be waited for, so it is asked again after a rest.
-fn rest<T: SystemClock>(system: &T) {
-    thread::sleep(system, Duration::from_millis(REST_MILLIS));
-}
-
-fn write_some<W: Write, T: SystemClock>(
-    output: &mut W,
-    system: &T,
-    from: &[u8],
-) -> io::Result<usize>
-    ensures { IfOk result (λ count. count ≤ length from.now) }
-{
-    match output.write(from) {
-        Err(e) if e.kind() == ErrorKind::WouldBlock => write_later(output, system, from),
-        answer => answer,
-    }
-}
-
-// Tries again where there was no room.
-#[inline(never)]
-fn write_later<W: Write, T: SystemClock>(
-    output: &mut W,
-    system: &T,
-    from: &[u8],
-) -> io::Result<usize>
-    ensures { IfOk result (λ count. count ≤ length from.now) }
-{
-    for _ in 1..MOST_RESTS {
-        rest(system);
-        match output.write(from) {
-            Err(e) if e.kind() == ErrorKind::WouldBlock => {}
-            answer => return answer,
-        }
-    }
-    rest(system);
-    output.write(from)
 }
 
 impl<R: Read, W: Write, T: SystemClock> Link for TermLink<R, W, T> {
@@ -99,6 +96,10 @@ impl<R: Read, W: Write, T: SystemClock> Link for TermLink<R, W, T> {
     fn read(&mut self, into: &mut [u8]) -> Got {
         self.reads = self.reads.saturating_add(1);
         self.ended = false;
+        if !self.outbox.empty(&mut self.output) {
+            self.read_faults = self.read_faults.saturating_add(1);
+            return Got::Failed;
+        }
         match self.input.read(into) {
             Ok(0) => {
                 self.ended = true;
@@ -107,7 +108,7 @@ impl<R: Read, W: Write, T: SystemClock> Link for TermLink<R, W, T> {
             Ok(count) => Got::Bytes(count),
             Err(e) => match e.kind() {
                 ErrorKind::WouldBlock => {
-                    rest(&self.system);
+                    rest(&self.output.system);
                     Got::Quiet
                 }
                 ErrorKind::Interrupted | ErrorKind::TimedOut => Got::Quiet,
@@ -120,9 +121,10 @@ impl<R: Read, W: Write, T: SystemClock> Link for TermLink<R, W, T> {
     }
 
     fn write(&mut self, from: &[u8]) -> Put {
-        match write_some(&mut self.output, &self.system, from) {
-            Ok(count) if count > 0 => Put::Took(count),
-            _ => {
+        let may_wait = self.reads > 0;
+        match self.outbox.write(&mut self.output, from, may_wait) {
+            Some(count) => Put::Took(count),
+            None => {
                 self.write_faults = self.write_faults.saturating_add(1);
                 Put::Failed
             }

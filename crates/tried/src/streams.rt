@@ -1,19 +1,67 @@
 use dxc_host::{HostOpener, TermLink};
-use dxc_outside::{Came, Clock, Got, Link, Listener, Opened, Opener, Put};
+use dxc_outside::{
+    Came, Clock, Gate, GatePlace, Got, Link, Listener, Opened, Opener, Pass1, Put, Sent,
+};
 use std::net::{TcpListener, TcpStream};
 use std::test::Fail;
 
 #[test]
 fn a_terminal_reads_and_writes(rt: HostRuntime) -> Result<(), Fail> {
     let mut written = Vec::new(rt.alloc());
-    let mut link = TermLink::new(b"abc".as_slice(), &mut written, rt.clone()?);
+    let (mut link, _gate) = TermLink::new(
+        rt.alloc(),
+        b"abc".as_slice(),
+        &mut written,
+        rt.clone()?,
+    )?;
     let mut piece = [0u8; 2];
     assert!(rt; link.read(&mut piece) == Got::Bytes(2) && piece == *b"ab");
     assert!(rt; link.read(&mut piece) == Got::Bytes(1) && piece == *b"cb");
     assert!(rt; link.read(&mut piece) == Got::End);
     assert!(rt; link.write(b"xyz") == Put::Took(3));
-    drop(link);
+    assert!(rt; link.finish() == Sent::Whole);
     assert!(rt; written.as_slice() == b"xyz".as_slice());
+    Ok(())
+}
+
+// What is written before the first read goes out at once, and what is written behind it before the next.
+#[test]
+fn a_full_terminal_fails_as_it_is_written_out(rt: HostRuntime) -> Result<(), Fail> {
+    let alloc = rt.alloc();
+    let mut piece = [0u8; 1];
+    let (mut three, mut one) = ([0u8; 3], [0u8; 1]);
+    let (mut link, _gate) = TermLink::new(alloc, b"abc".as_slice(), three.as_mut_slice(), rt)?;
+    assert!(rt; link.write(b"wx") == Put::Took(2));
+    assert!(rt; link.read(&mut piece) == Got::Bytes(1));
+    assert!(rt; link.write(b"yz") == Put::Took(2));
+    assert!(rt; link.read(&mut piece) == Got::Failed);
+    assert!(rt; link.finish() == Sent::Whole, "nothing is left");
+    let (mut link, _gate) = TermLink::new(alloc, b"abc".as_slice(), one.as_mut_slice(), rt)?;
+    assert!(rt; link.read(&mut piece) == Got::Bytes(1));
+    assert!(rt; link.write(b"yz") == Put::Took(2));
+    assert!(rt; link.finish() == Sent::Cut);
+    Ok(())
+}
+
+// A link's first write behind a change may be its answer.
+#[test]
+fn a_changes_answer_goes_out_at_once(rt: HostRuntime) -> Result<(), Fail> {
+    let mut room = [0u8; 4];
+    let mut piece = [0u8; 1];
+    let made = TermLink::new(
+        rt.alloc(),
+        b"abc".as_slice(),
+        room.as_mut_slice(),
+        rt.clone()?,
+    )?;
+    let (mut link, mut gate) = made;
+    assert!(rt; link.read(&mut piece) == Got::Bytes(1));
+    assert!(rt; link.write(b"xy") == Put::Took(2));
+    assert!(rt; gate.pass(GatePlace::Register) == Pass1::Go);
+    assert!(rt; link.write(b"z") == Put::Took(1));
+    assert!(rt; gate.pass(GatePlace::Journal) == Pass1::Go);
+    assert!(rt; link.write(b"uv") == Put::Failed, "five bytes are too many");
+    assert!(rt; link.finish() == Sent::Whole);
     Ok(())
 }
 
@@ -45,8 +93,12 @@ fn callers_are_heard(rt: HostRuntime) -> Result<(), Fail> {
     assert!(rt; peer.write(b"ab") == Put::Took(2));
     assert!(rt; link.read(&mut piece) == Got::Bytes(2) && piece == *b"ab");
     assert!(rt; link.write(b"c") == Put::Took(1));
+    assert!(rt; peer.read(&mut piece) == Got::Quiet, "it is collected");
+    assert!(rt; link.read(&mut piece) == Got::Quiet);
     assert!(rt; peer.read(&mut piece) == Got::Bytes(1) && piece == *b"cb");
+    assert!(rt; link.write(b"d") == Put::Took(1));
     drop(link);
+    assert!(rt; peer.read(&mut piece) == Got::Bytes(1) && piece == *b"db");
     assert!(rt; peer.read(&mut piece) == Got::End);
     assert!(rt;
         25 <= opener.clock().now().year,
