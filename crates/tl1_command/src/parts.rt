@@ -160,6 +160,7 @@ impl Parts {
     }
 }
 
+#[inline(always)]
 pub fn parts_of(unit: &[u8], blocks: &Blocks) -> Parts
     requires short { length unit.now ≤ 2047 }
     requires blocks { AreBlocksOf unit.now blocks.now.block.items }
