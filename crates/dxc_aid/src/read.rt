@@ -1,8 +1,8 @@
 // Names as they are read.
-ghost use Rattle.std.specs.Prelude.{◌≡◌, ◌<◌, ◌≤◌, ◌==◌, IfSome, length, position};
+ghost use Rattle.std.specs.Prelude.{◌≡◌, ◌<◌, ◌≤◌, ◌==◌, true, Some, IfSome, length, position};
 ghost use Rattle.std.specs.Option.{option_map, option_and_then};
 ghost use Rattle.dxc_num.specs.Dimensions.{IsModule, IsPort, IsWorking};
-ghost use Rattle.dxc_aid.specs.Names.{is_same_text, up_to, number_of as written_number, behind as text_behind, port_of_numbers as read_numbers, module_named, port_named, selection_named, middle_named, numbered};
+ghost use Rattle.dxc_aid.specs.Names.{is_same_text, up_to, number_of as written_number, behind as text_behind, port_of_numbers as read_numbers, port_at, module_named, port_named, selection_named, middle_named, numbered};
 
 use dxc_model::Selection;
 use dxc_num::{Middle, Port, Shape};
@@ -11,6 +11,19 @@ use dxc_num::{Middle, Port, Shape};
 /// exactly where the text is no name of a port of the shape.
 #[tactic(auto, unfolding(crate::specs::Names::port_named))]
 pub fn port_of(shape: Shape, text: &[u8]) -> Option<Port>
+    ensures name { result ≡ port_named shape text.now }
+    ensures inside { IfSome result (IsPort shape) }
+{
+    match behind_exactly(b"DS0-", text) {
+        Some(numbers) => port_of_numbers(shape, numbers),
+        None => any_port_of(shape, text),
+    }
+}
+
+/// The same, most of whose names have their letters in capitals.
+#[inline(never)]
+#[tactic(auto, unfolding(crate::specs::Names::port_named))]
+fn any_port_of(shape: Shape, text: &[u8]) -> Option<Port>
     ensures name { result ≡ port_named shape text.now }
     ensures inside { IfSome result (IsPort shape) }
 {
@@ -49,6 +62,28 @@ pub fn selection_of(shape: Shape, text: &[u8]) -> Option<Selection>
     }
     let port = port_of(shape, text)?;
     Some(Selection::Port(port))
+}
+
+/// What follows four bytes that are this text as it stands.
+#[inline(always)]
+fn behind_exactly<'a>(front: &[u8; 4], text: &'a [u8]) -> Option<&'a [u8]>
+    ensures { IfSome result (λ t. text_behind front.now text.now ≡ Some t.now) }
+{
+    let Some((first, rest)) = text.split_first_chunk::<4>() else {
+        return None;
+    };
+    if is_exactly(first, front) {
+        Some(rest)
+    } else {
+        None
+    }
+}
+
+#[inline(always)]
+fn is_exactly(text: &[u8; 4], front: &[u8; 4]) -> bool
+    ensures { result ≡ true → is_same_text text.now front.now ≡ true }
+{
+    text == front
 }
 
 /// What follows four bytes that are this text but for case.
@@ -102,14 +137,53 @@ fn number_behind(front: &[u8; 4], most: u16, text: &[u8]) -> Option<u16>
     Some(number - 1)
 }
 
+/// The port of two numbers joined by `-`.
+#[inline(always)]
 fn port_of_numbers(shape: Shape, text: &[u8]) -> Option<Port>
+    ensures port { result ≡ read_numbers shape text.now }
+    ensures inside { IfSome result (IsPort shape) }
+{
+    match text {
+        [one, b'-', slot @ ..] if (b'1'..=b'9').contains(one) => {
+            port_in(shape, (*one - b'0') as u16, slot)
+        }
+        _ => port_at_dash(shape, text),
+    }
+}
+
+/// The port of a module's number and a slot's text.
+#[inline(always)]
+fn port_in(shape: Shape, number: u16, slot: &[u8]) -> Option<Port>
+    requires least { 1 ≤ number }
+    ensures port { result ≡ option_and_then (λ m. option_map (λ s. port_at shape m s) (option_and_then (up_to shape.slots) (written_number slot.now))) (up_to shape.modules number) }
+    ensures inside { IfSome result (IsPort shape) }
+{
+    if number > shape.modules() {
+        return None;
+    }
+    let slot = number_up_to(shape.slots(), slot)?;
+    Some(port_numbered(shape, number, slot))
+}
+
+/// The same by the place of the `-`.
+#[inline(never)]
+fn port_at_dash(shape: Shape, text: &[u8]) -> Option<Port>
     ensures port { result ≡ read_numbers shape text.now }
     ensures inside { IfSome result (IsPort shape) }
 {
     let at = dash(text)?;
     let number = number_up_to(shape.modules(), &text[..at])?;
     let slot = number_up_to(shape.slots(), &text[at + 1..])?;
-    Some(Port((number - 1) * shape.slots() + (slot - 1)))
+    Some(port_numbered(shape, number, slot))
+}
+
+fn port_numbered(shape: Shape, number: u16, slot: u16) -> Port
+    requires number { (1 ≤ number) × (number ≤ shape.modules) }
+    requires slot { (1 ≤ slot) × (slot ≤ shape.slots) }
+    ensures port { result ≡ port_at shape number slot }
+    ensures inside { IsPort shape result }
+{
+    Port((number - 1) * shape.slots() + (slot - 1))
 }
 
 /// The place of the first `-`.

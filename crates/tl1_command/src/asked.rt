@@ -1,11 +1,13 @@
-ghost use Rattle.std.specs.Prelude.{◌≡◌, [], MatchResult, Ok, Err, IfOk};
+ghost use Rattle.std.specs.Prelude.{◌≡◌, ℕ, List, [], Option, IfSome, MatchResult, Ok, Err, IfOk};
 ghost use Rattle.dxc_num.specs.Dimensions.{Dimensions, IsModule};
 ghost use Rattle.tl1_text.specs.Spans.{IsIn, text_at};
+ghost use Rattle.dxc_model.specs.declared.conn.Cct.{Cct as ACct};
+ghost use Rattle.dxc_model.specs.declared.op.Op.{Op as AnOp};
 ghost use Rattle.dxc_model.specs.Operations.{ArePorts};
 ghost use Rattle.tl1_command.specs.Commands.{asked_by, named_by, IsAptCommand, ends_by};
-ghost use Rattle.tl1_command.specs.Meanings.{cct_named, label_named, or_one_way as one_way_or, ends_named, selection_or_all, names_all, asked as asked_for, IsOfConnection};
+ghost use Rattle.tl1_command.specs.Meanings.{cct_named, label_named, or_one_way as one_way_or, ends_named, selection_or_all, names_all, asked as asked_for, asked_of_ends, asks_table, Ends, IsOfConnection};
 
-use crate::code::is_same;
+use crate::code::{is_exactly, is_same};
 use crate::command::Command;
 use crate::parts::Named;
 use dxc_aid::{middle_of, module_of, port_of, selection_of};
@@ -15,6 +17,33 @@ use dxc_num::{Port, Shape};
 /// The CCT that a value names, none where it is empty.
 #[inline(always)]
 pub fn cct_of(value: &[u8]) -> Result<Option<Cct>, Cause>
+    ensures { result ≡ cct_named value.now }
+{
+    match frequent_cct(value) {
+        Some(cct) => Ok(cct),
+        None => any_cct_of(value),
+    }
+}
+
+/// The CCT of a value that is empty, or a CCT in capitals.
+#[inline(always)]
+fn frequent_cct(value: &[u8]) -> Option<Option<Cct>>
+    ensures { IfSome result (λ c. cct_named value.now ≡ Ok c) }
+{
+    if value.is_empty() {
+        Some(None)
+    } else if is_exactly(value, b"2WAY") {
+        Some(Some(Cct::TwoWay))
+    } else if is_exactly(value, b"1WAY") {
+        Some(Some(Cct::OneWay))
+    } else {
+        None
+    }
+}
+
+/// The CCT of any value.
+#[inline(never)]
+fn any_cct_of(value: &[u8]) -> Result<Option<Cct>, Cause>
     ensures { result ≡ cct_named value.now }
 {
     if value.is_empty() {
@@ -140,6 +169,25 @@ fn connection(shape: Shape, code: CommandCode, unit: &[u8], named: Named) -> Res
         _ => Op::Enter(conn(from, to, cct, label)),
     };
     Ok(Command::Table(op))
+}
+
+/// The ports and the CCT of a connection without a label.
+#[inline(always)]
+pub fn unlabelled_ends(
+    shape: Shape,
+    unit: &[u8],
+    named: Named,
+) -> Result<(Port, Port, Option<Cct>), Cause>
+    requires first { IsIn unit.now named.first }
+    requires second { IsIn unit.now named.second }
+    requires value { IsIn unit.now named.value }
+    requires label { text_at unit.now named.label ≡ [] }
+    ensures asked { (makes : Ends → Option ACct → List ℕ → AnOp) → MatchResult result (λ r. asked_of_ends shape (named_by unit.now named) makes ≡ Ok (asks_table (makes (record { from = r.0; to = r.1 }) r.2 []))) (λ q. asked_of_ends shape (named_by unit.now named) makes ≡ Err q) }
+    ensures ports { IfOk result (λ r. ArePorts shape r.0 r.1) }
+{
+    let cct = cct_of(named.value.text(unit))?;
+    let (from, to) = ends_of(shape, named.first.text(unit), named.second.text(unit))?;
+    Ok((from, to, cct))
 }
 
 /// A connection without a label.

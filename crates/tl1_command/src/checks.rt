@@ -3,6 +3,7 @@ ghost use Rattle.std.specs.List.{list_any};
 ghost use Rattle.tl1_text.specs.Spans.{block_at, AreBlocksOf};
 ghost use Rattle.tl1_text.specs.Tags.{is_ctag};
 ghost use Rattle.tl1_command.specs.Blocks.{tag_text, has_value_from as has_from};
+ghost use Rattle.tl1_command.specs.Codes.{is_same_text};
 ghost use Rattle.tl1_command.specs.Meanings.{named_in, is_other_target as other_target, is_not_logged_in as not_logged_in, is_not_entitled as not_entitled, is_missing as misses, has_too_many as too_many, has_general as general_there, first_refusal};
 ghost use Rattle.tl1_command.specs.Parts.{AreParts};
 
@@ -15,10 +16,19 @@ use tl1_text::{Blocks, Sid};
 pub fn is_other_target(sid: &Sid, target: &[u8]) -> bool
     ensures { result ≡ other_target sid.now target.now }
 {
-    !target.is_empty() && !target.eq_ignore_ascii_case(sid.bytes())
+    !target.is_empty() && !is_named(sid, target)
+}
+
+/// A TID is the SID, case aside. Apart, since most units have none.
+#[inline(never)]
+fn is_named(sid: &Sid, target: &[u8]) -> bool
+    ensures { result ≡ is_same_text target.now sid.now }
+{
+    target.eq_ignore_ascii_case(sid.bytes())
 }
 
 /// Nobody is logged in, and the command isn't ACT-USER.
+#[inline(always)]
 fn is_not_logged_in(user: &SessionUser, code: CommandCode) -> bool
     ensures { result ≡ not_logged_in user.now code }
 {
@@ -29,6 +39,7 @@ fn is_not_logged_in(user: &SessionUser, code: CommandCode) -> bool
 }
 
 /// Somebody is logged in whose class isn't in the command's column.
+#[inline(always)]
 fn is_not_entitled(user: &SessionUser, code: CommandCode) -> bool
     ensures { result ≡ not_entitled user.now code }
 {
@@ -39,6 +50,7 @@ fn is_not_entitled(user: &SessionUser, code: CommandCode) -> bool
 }
 
 /// A parameter that isn't optional is empty.
+#[inline(always)]
 fn is_missing(form: Form, unit: &[u8], blocks: &Blocks, parts: &Parts) -> bool
     requires parts { AreParts unit.now (map (block_at unit.now) blocks.now.block.items) parts.now }
     ensures { result ≡ misses form (named_in (map (block_at unit.now) blocks.now.block.items)) }
@@ -51,6 +63,7 @@ fn is_missing(form: Form, unit: &[u8], blocks: &Blocks, parts: &Parts) -> bool
 }
 
 /// A parameter of the AID block or of a payload block that the command doesn't name isn't empty.
+#[inline(always)]
 fn has_too_many(form: Form, unit: &[u8], blocks: &Blocks, parts: &Parts) -> bool
     requires short { length unit.now ≤ 2047 }
     requires blocks { AreBlocksOf unit.now blocks.now.block.items }
@@ -89,6 +102,7 @@ pub fn has_general(unit: &[u8], blocks: &Blocks) -> bool
 }
 
 /// The first cause of those that code, user and the parts of the unit show, before the parameters are read.
+#[inline(always)]
 pub fn refusal(
     sid: &Sid,
     user: &SessionUser,

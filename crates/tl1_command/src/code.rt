@@ -42,7 +42,7 @@ fn frequent(text: &[u8]) -> Option<CommandCode>
 
 /// Whether a text is a name whose length its type tells, so that it takes a few compares and no call.
 #[inline(always)]
-fn is_exactly<const N: usize>(text: &[u8], name: &[u8; N]) -> bool
+pub(crate) fn is_exactly<const N: usize>(text: &[u8], name: &[u8; N]) -> bool
     ensures { result ≡ true → text.now ≡ name.now }
 {
     match text.as_array::<N>() {

@@ -51,6 +51,7 @@ impl Form {
     }
 }
 
+#[inline(always)]
 pub fn form_of(code: CommandCode) -> Form
     ensures form { result ≡ form_in code }
     ensures few { result.aids ≤ 2 }

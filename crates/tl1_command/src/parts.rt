@@ -1,10 +1,12 @@
-ghost use Rattle.std.specs.Prelude.{◌≡◌, ◌≤◌, ℕ, List, IfSome, None, length, map, drop};
+ghost use Rattle.std.specs.Prelude.{◌≡◌, ◌≤◌, ℕ, true, List, [], ◌∷◌, IfSome, None, length, map, drop};
 ghost use Rattle.std.specs.List.{list_any};
 ghost use Rattle.tl1_text.specs.Spans.{IsBlockIn, block_at, AreBlocksOf};
 ghost use Rattle.tl1_text.specs.Values.{values_behind};
+ghost use Rattle.tl1_text.specs.Walk.{values_of};
 ghost use Rattle.tl1_command.specs.Blocks.{block as block_in, is_there};
 ghost use Rattle.tl1_command.specs.Parts.{HasValues, IsPair, AreParts};
 
+use crate::code::is_exactly;
 use tl1_text::{Blocks, Span, first_param};
 
 /// The parameters that a command may name: two AIDs, and of the first payload block a value and a label.
@@ -41,18 +43,22 @@ pub fn block_of(blocks: &Blocks, number: usize) -> Option<Span>
 
 /// Whether a value of a block is there.
 #[inline(always)]
+#[tactic(auto, unfolding(tl1_text::specs::Walk::values_of))]
 pub fn has_value(unit: &[u8], block: Option<Span>) -> bool
     requires short { length unit.now ≤ 2047 }
     requires block { IfSome block (IsBlockIn unit.now) }
     ensures { result ≡ list_any is_there (values_behind unit.now block) }
 {
-    match block {
-        Some(_) => is_there_in(unit, block),
-        None => false,
+    let Some(span) = block else {
+        return false;
+    };
+    if span.text(unit).is_empty() {
+        return false;
     }
+    is_there_in(unit, block)
 }
 
-/// The same. Apart, since most units have no such block.
+/// The same. Apart, since most units have no such block, or an empty one.
 #[inline(never)]
 fn is_there_in(unit: &[u8], block: Option<Span>) -> bool
     requires short { length unit.now ≤ 2047 }
@@ -68,6 +74,15 @@ fn is_there_in(unit: &[u8], block: Option<Span>) -> bool
         left = param.others;
     }
     false
+}
+
+/// Whether a block is a CCT in capitals, so that it is its one value.
+#[inline(always)]
+#[tactic(auto, unfolding(tl1_text::specs::Walk::values_of))]
+fn is_way(text: &[u8]) -> bool
+    ensures { result ≡ true → values_of text.now ≡ text.now ∷ [] }
+{
+    is_exactly(text, b"2WAY") || is_exactly(text, b"1WAY")
 }
 
 /// The first two values of a block, which are empty where they aren't there, and the block of the further ones.
@@ -90,7 +105,11 @@ impl Pair {
         let Some(block) = block_of(blocks, number) else {
             return Pair::one(Span::default());
         };
-        if block.text(unit).is_empty() {
+        let text = block.text(unit);
+        if text.is_empty() {
+            return Pair::one(block);
+        }
+        if is_way(text) {
             return Pair::one(block);
         }
         Pair::of(unit, block)
@@ -160,6 +179,7 @@ impl Parts {
     }
 }
 
+#[inline(always)]
 pub fn parts_of(unit: &[u8], blocks: &Blocks) -> Parts
     requires short { length unit.now ≤ 2047 }
     requires blocks { AreBlocksOf unit.now blocks.now.block.items }
