@@ -1,7 +1,5 @@
 -- What is written next.
 use Rattle.std.specs.Prelude.{◌≡◌, ℕ, ◌+◌, ◌<◌, List, Option, Some, None, slice_get}
-use Rattle.dxc_num.specs.declared.port.Leg.{Leg}
-use Rattle.dxc_num.specs.declared.port.Middle.{Middle}
 use Rattle.dxc_num.specs.declared.register.RegWrite.{RegWrite}
 use Rattle.roll_plan.specs.declared.op.Move.{Move}
 use Rattle.roll_plan.specs.declared.next.Next.{Next}

@@ -10,4 +10,4 @@ returns-in_err-step c = let n = moves_length c.args.moves.now in let h : length 
 
 pub returns : goal.returns
 returns c = let h = c.in_ok-step.ensures.lookup in
-    sym (moves_at c.args.moves.now c.in_ok-step.step.now (c.args.place / 5) (c.args.place % 5) c.args.place (omega arith) (omega arith) h.3.0 h.1 ∙ c.move_write.ensures)
+    sym (moves_at c.args.moves.now c.in_ok-step.step.now c.in_ok-step.step.now (c.args.place / 5) (c.args.place % 5) c.args.place (omega arith) (omega arith) h.3.0 h.1 ∙ c.move_write.ensures)
