@@ -11,7 +11,7 @@ fn make_moves(matrix: &mut Matrix, moves: &[Move])
     ensures { matrix.new ≡ after moves.now matrix.old }
 {
     for step in moves {
-        matrix.recolour(step.leg, step.from, step.to);
+        matrix.turn(step.leg, step.from, step.to);
     }
 }
 
@@ -23,7 +23,7 @@ fn take_back(matrix: &mut Matrix, moves: &[Move])
     while left > 0 {
         left -= 1;
         let step = moves[left];
-        matrix.recolour(step.leg, step.to, step.from);
+        matrix.turn(step.leg, step.to, step.from);
     }
 }
 

@@ -1,12 +1,18 @@
 -- A planned work that a rolling begins.
-use Rattle.std.proofs.Common.{◌≡◌, Bool, true, false, List, ◌∷◌, [], Option, sym, subst}
+use Rattle.std.proofs.Common.{◌≡◌, ◌<◌, ℕ, Bool, true, false, List, ◌∷◌, [], Option, Some, None, IfSome, MatchOption, sym, subst}
 use Rattle.std.specs.Bool.{OnTrue, OnFalse}
+use Rattle.dxc_num.specs.declared.port.Leg.{Leg}
 use Rattle.dxc_num.specs.declared.port.Middle.{Middle}
 use Rattle.dxc_model.specs.declared.op.Change.{Change}
 use Rattle.dxc_model.specs.Tables.{Board}
 use Rattle.dxc_model.specs.Verdicts.{MayTake}
 use Rattle.roll_plan.specs.declared.op.LegOp.{LegOp}
-use Rattle.paull_matrix.specs.Colourings.{Colouring}
+use Rattle.roll_plan.specs.declared.op.Chain.TheVariants.{Direct}
+use Rattle.roll_plan.specs.Works.{IsDirectJoin}
+use Rattle.paull_matrix.specs.Colourings.{Colouring, IsFreeFor, IsProperColouring}
+use Rattle.paull_matrix.specs.Middles.{IsLowest}
+use Rattle.paull_chain.specs.Choices.{IsJoinable, Plans}
+use Rattle.paull_chain.proofs.Planning.{joins_direct}
 use Rattle.roll_engine.specs.Rollings.{RollingAt}
 use Rattle.roll_engine.specs.UnderWay.{unmade}
 use Rattle.xc_recovery.specs.declared.leg_task.LegTask.{LegTask}
@@ -20,6 +26,12 @@ use Rattle.xc_recovery.proofs.Spelled.{changes_made}
 pub begun_unmade : (P : LegOp → Type 0) (r : RollingAt) (b : Bool) → OnTrue b (Begins P r) → OnTrue b (r ≡ unmade r.work)
 begun_unmade P r true begun = begun.3
 begun_unmade P r false begun = tt
+
+-- the join at the lowest middle that is free for the leg is its planned one
+pub plans_direct : (c : Colouring) (l : Leg) → IsProperColouring c → IsJoinable c l → (r : Option Middle) → MatchOption r ((k : ℕ) → k < c.shape.slots → IsFreeFor c l k → ⊥) (λ m. IsLowest (IsFreeFor c l) c.shape.slots m.0)
+    → IfSome r (λ m. (op : LegOp) → IsDirectJoin l m op → Plans c l op)
+plans_direct c l proper joinable None low = tt
+plans_direct c l proper joinable (Some m) low = λ op is. (record { middle = m; chain = Direct }, low, joins_direct c l m op proper joinable.0 joinable.1 joinable.2 low.0 low.1 is)
 
 -- a work of a change is valid
 pub begun_valid : (t : Board) (c : Colouring) (change : Change) (os : List LegOp) (b : Bool) → IsPlaced t c → MayTake t change → OnTrue b (ChangesPlanned t c change os) → OnTrue b (IsChangeWork t c change os)

@@ -1,4 +1,4 @@
 use Rattle.xc_recovery.proofs.plan.begin_served.Goals as goal
 
-pub returns : goal.returns
-returns c = (c.plan_join.result, c.plan_join.ensures.planned, c.begin.ensures.ops, c.begin.ensures.unmade)
+pub returns-in-Some : goal.returns-in-Some
+returns-in-Some c = (c.direct.result, c.in-Some.ensures c.direct.result c.direct.ensures.direct, c.begin.ensures.ops, c.begin.ensures.unmade)

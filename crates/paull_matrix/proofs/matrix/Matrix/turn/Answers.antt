@@ -2,7 +2,7 @@ use Rattle.std.proofs.Common.{◌≡◌, ◌≤◌, ℕ, sym, subst, rules, Some
 use Rattle.paull_matrix.specs.Colourings.{Colouring, colouring_of, Holds, IsFreeFor, with_leg}
 use Rattle.paull_matrix.specs.Indexes.{Cells, IsMatrix, with_cell}
 use Rattle.paull_matrix.proofs.Indexed.{matrix_turned}
-use Rattle.paull_matrix.proofs.matrix.Matrix.recolour.Goals as goal
+use Rattle.paull_matrix.proofs.matrix.Matrix.turn.Goals as goal
 
 pub invariant_of-self : goal.invariant_of-self
 invariant_of-self c =
