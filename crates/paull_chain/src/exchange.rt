@@ -46,17 +46,37 @@ fn push_exchange(
     push_seconds(moves, legs, false, spare, on);
 }
 
-/// The join on the middle that the exchange of a chain makes free: the one on which the chain begins.
+/// Makes of an op the join on the middle that the exchange of a chain makes free: the one on which the chain begins.
+#[inline(always)]
+pub fn join_in_place(
+    op: &mut LegOp,
+    leg: Leg,
+    side: Side,
+    legs: &[Leg],
+    a: Middle,
+    b: Middle,
+    spare: Middle,
+)
+    requires { length legs.now ≤ 63 }
+    ensures { JoinsAfter leg (choice_on side a b) legs.now spare.0 op.new }
+{
+    let (middle, next, with) = match side {
+        Side::Row => (b, a, Chain::Row(a)),
+        Side::Column => (a, b, Chain::Column(b)),
+    };
+    *op = LegOp::direct(leg, middle);
+    if let LegOp::Join { choice, moves, .. } = op {
+        choice.chain = with;
+        push_exchange(moves, legs, middle, next, spare);
+    }
+}
+
+/// That join.
 pub fn join_after(leg: Leg, side: Side, legs: &[Leg], a: Middle, b: Middle, spare: Middle) -> LegOp
     requires { length legs.now ≤ 63 }
     ensures { JoinsAfter leg (choice_on side a b) legs.now spare.0 result }
 {
-    let (middle, next, chain) = match side {
-        Side::Row => (b, a, Chain::Row(a)),
-        Side::Column => (a, b, Chain::Column(b)),
-    };
-    let choice = Choice { middle, chain };
-    let mut moves = ArrayVec::new();
-    push_exchange(&mut moves, legs, middle, next, spare);
-    LegOp::Join { leg, choice, moves }
+    let mut op = LegOp::default();
+    join_in_place(&mut op, leg, side, legs, a, b, spare);
+    op
 }

@@ -11,5 +11,5 @@ mod works;
 
 pub use choices::expand;
 pub use ops::{apply, undo};
-pub use plan::{may_join, plan_join};
+pub use plan::{may_join, plan_chain, plan_join};
 pub use works::{apply_work, undo_work};

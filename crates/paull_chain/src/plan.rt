@@ -6,7 +6,7 @@ ghost use Rattle.paull_matrix.specs.Middles.{FindsLowest, IsLowest, IsSetOf};
 ghost use Rattle.paull_chain.specs.Choices.{IsJoinable, NeedsChain, Plans};
 ghost use Rattle.paull_chain.specs.Works.{IsValidWork};
 
-use crate::exchange::join_after;
+use crate::exchange::join_in_place;
 use crate::walk::{legs_of, module_of, shorter};
 use arrayvec::ArrayVec;
 use dxc_num::{Leg, Middle};
@@ -47,11 +47,12 @@ fn lowest_beside(matrix: &Matrix, side: Side, leg: Leg) -> Middle
     }
 }
 
-// The join after the exchange of the shorter chain.
-fn by_chain(matrix: &Matrix, leg: Leg, a: Middle, b: Middle) -> LegOp
+// Makes of an op the join after the exchange of the shorter chain.
+#[inline(always)]
+fn by_chain(matrix: &Matrix, leg: Leg, a: Middle, b: Middle, op: &mut LegOp)
     requires leg { IsJoinable matrix.now leg }
     requires needs { NeedsChain matrix.now leg a.0 b.0 }
-    ensures { Plans matrix.now leg result }
+    ensures { Plans matrix.now leg op.new }
 {
     let shape = matrix.shape();
     let row = shape.module_of(leg.input);
@@ -60,7 +61,7 @@ fn by_chain(matrix: &Matrix, leg: Leg, a: Middle, b: Middle) -> LegOp
     let mut columns = ArrayVec::new();
     let side = shorter(matrix, row, column, a, b, &mut rows, &mut columns);
     let legs = legs_of(side, &rows, &columns);
-    join_after(leg, side, legs, a, b, shape.spare())
+    join_in_place(op, leg, side, legs, a, b, shape.spare());
 }
 
 /// Whether a join of the leg may be planned: its ends are ports, both its sides are unused, and the spare is empty.
@@ -76,6 +77,18 @@ pub fn may_join(matrix: &Matrix, leg: Leg) -> bool
     matrix.is_empty(matrix.shape().spare())
 }
 
+/// Makes of an op the join of a new leg for which no working middle is free: the one after the exchange of the shorter of its
+/// two chains.
+pub fn plan_chain(matrix: &Matrix, leg: Leg, op: &mut LegOp)
+    requires leg { IsJoinable matrix.now leg }
+    requires none { (k : ℕ) → k < matrix.now.shape.slots → ¬ IsFreeFor matrix.now leg k }
+    ensures { Plans matrix.now leg op.new }
+{
+    let a = lowest_beside(matrix, Side::Row, leg);
+    let b = lowest_beside(matrix, Side::Column, leg);
+    by_chain(matrix, leg, a, b, op);
+}
+
 /// The join of a new leg: on the lowest working middle that is free in its row and column, or else after the exchange of
 /// the shorter of its two chains.
 ///
@@ -88,7 +101,7 @@ pub fn plan_join(matrix: &Matrix, leg: Leg) -> LegOp
     if let Some(middle) = lowest_for(matrix, leg) {
         return LegOp::direct(leg, middle);
     }
-    let a = lowest_beside(matrix, Side::Row, leg);
-    let b = lowest_beside(matrix, Side::Column, leg);
-    by_chain(matrix, leg, a, b)
+    let mut op = LegOp::default();
+    plan_chain(matrix, leg, &mut op);
+    op
 }

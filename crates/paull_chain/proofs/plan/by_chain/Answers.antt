@@ -8,8 +8,8 @@ use Rattle.paull_chain.specs.Walks.{IsShorter, legs_on}
 use Rattle.paull_chain.proofs.Planning.{needs_apart, plans, shorter_low}
 use Rattle.paull_chain.proofs.plan.by_chain.Goals as goal
 
-pub join_after-requires : goal.join_after-requires
-join_after-requires c =
+pub join_in_place-requires : goal.join_in_place-requires
+join_in_place-requires c =
     let d : Colouring = c.args.matrix.now in
     let z = c.shape-shape.ensures.value in
     let side = c.shorter-side.result in
@@ -28,6 +28,6 @@ returns c =
     let legs = legs_on side c.shorter-side.new.rows.items c.shorter-side.new.columns.items in
     let h = subst (λ (w : ℕ × ℕ). IsShorter d c.args.a.0 c.args.b.0 w.0 w.1 side legs)
     (λ i. ((c.module_of-row.ensures ∙ ap (λ (x : Dimensions). module_on x Row c.args.leg) z) i, (c.module_of-column.ensures ∙ ap (λ (x : Dimensions). module_on x Column c.args.leg) z) i)) c.shorter-side.ensures in
-    let after = subst (λ (w : List Leg × ℕ). JoinsAfter c.args.leg (choice_on side c.args.a c.args.b) w.0 w.1 c.join_after.result) (λ i. (c.legs_of-legs.ensures i, (c.spare.ensures ∙ ap (λ (x : Dimensions). x.slots) z) i)) c.join_after.ensures in
+    let after = subst (λ (w : List Leg × ℕ). JoinsAfter c.args.leg (choice_on side c.args.a c.args.b) w.0 w.1 c.join_in_place.new.op) (λ i. (c.legs_of-legs.ensures i, (c.spare.ensures ∙ ap (λ (x : Dimensions). x.slots) z) i)) c.join_in_place.ensures in
     plans d c.args.leg c.args.a c.args.b c.shape-shape.ensures.proper c.requires.leg.0 c.requires.leg.1 c.requires.leg.2 n.in_row.0 n.in_column.0 (needs_apart d c.args.leg c.args.a.0 c.args.b.0 n) n.in_row.1 n.in_column.1
-    n side legs c.join_after.result h after
+    n side legs c.join_in_place.new.op h after

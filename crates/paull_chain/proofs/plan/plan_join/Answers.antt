@@ -17,4 +17,4 @@ returns-in-Some-clause-valid c =
     joins_valid d c.args.leg (record { middle = c.in-Some.middle; chain = Direct }) c.direct.result r.0 r.2 (joins_direct d c.args.leg c.in-Some.middle c.direct.result c.in-Some.ensures.proper r.0 r.1 r.2 low.0 low.1 c.direct.ensures.direct)
 
 pub returns-clause-valid : goal.returns-clause-valid
-returns-clause-valid c = plan_valid c.args.matrix.now c.args.leg c.by_chain.result c.requires.0 c.requires.2 c.by_chain.ensures
+returns-clause-valid c = plan_valid c.args.matrix.now c.args.leg c.plan_chain.new.op c.requires.0 c.requires.2 c.plan_chain.ensures
