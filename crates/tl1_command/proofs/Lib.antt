@@ -1,3 +1,4 @@
 pub mod Anys
 pub mod TagFacts
 pub mod LabelBytes
+pub mod Commas

@@ -5,6 +5,7 @@
 mod asked;
 pub mod checks;
 pub mod code;
+mod comma;
 mod command;
 mod decide;
 mod form;

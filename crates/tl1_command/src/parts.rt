@@ -7,6 +7,7 @@ ghost use Rattle.tl1_command.specs.Blocks.{block as block_in, is_there};
 ghost use Rattle.tl1_command.specs.Parts.{HasValues, IsPair, AreParts};
 
 use crate::code::is_exactly;
+use crate::comma::first_of;
 use tl1_text::{Blocks, Span, first_param};
 
 /// The parameters that a command may name: two AIDs, and of the first payload block a value and a label.
@@ -122,11 +123,11 @@ impl Pair {
         requires block { IsBlockIn unit.now block }
         ensures { IsPair unit.now (values_behind unit.now (Some block)) result }
     {
-        let first = first_param(unit, block);
+        let first = first_of(unit, block);
         let Some(rest) = first.others else {
             return Pair::one(first.value);
         };
-        let second = first_param(unit, rest);
+        let second = first_of(unit, rest);
         Pair {
             first: first.value,
             second: second.value,
