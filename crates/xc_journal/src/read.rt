@@ -41,6 +41,7 @@ fn conn_in(bytes: &[u8; 64]) -> Option<Conn>
 }
 
 // What the bytes are where they are a record; the same of those below.
+#[inline(always)]
 fn change_in(bytes: &[u8; 64]) -> Option<Change>
     ensures change { result ≡ read_change bytes.now }
     ensures fits { IfSome result FitsChange }
