@@ -74,22 +74,42 @@ impl<const N: usize> Text<N> {
         self.append_long(&text);
     }
 
-    /// Puts a text of any length behind; a short one, as most names and tags are, by a few moves.
+    /// Puts a text of any length behind; one of at most 64 bytes, as most are, by two moves.
     #[inline(always)]
     pub fn append(&mut self, text: &[u8])
         requires { length self.old + length text.now ≤ N }
         ensures text { self.new ≡ self.old ++ text.now }
         ensures len { length self.new ≡ length self.old + length text.now }
     {
-        match text {
-            [a] => self.put(&[*a]),
-            [a, b] => self.put(&[*a, *b]),
-            [a, b, c] => self.put(&[*a, *b, *c]),
-            [a, b, c, d] => self.put(&[*a, *b, *c, *d]),
-            [a, b, c, d, e] => self.put(&[*a, *b, *c, *d, *e]),
-            [a, b, c, d, e, f] => self.put(&[*a, *b, *c, *d, *e, *f]),
+        match text.len() {
+            2..=4 => self.put_ends::<2>(text),
+            5..=8 => self.put_ends::<4>(text),
+            9..=16 => self.put_ends::<8>(text),
+            17..=32 => self.put_ends::<16>(text),
+            33..=64 => self.put_ends::<32>(text),
             _ => self.append_long(text),
         }
+    }
+
+    /// Puts a text behind by its first bytes and its last, which may lie over one another.
+    #[inline(always)]
+    fn put_ends<const M: usize>(&mut self, text: &[u8])
+        requires least { M ≤ length text.now }
+        requires most { length text.now ≤ M + M }
+        requires room { length self.old + length text.now ≤ N }
+        ensures text { self.new ≡ self.old ++ text.now }
+        ensures len { length self.new ≡ length self.old + length text.now }
+    {
+        let (Some((first, _)), Some((front, last))) = (
+            text.split_first_chunk::<M>(),
+            text.split_last_chunk::<M>(),
+        ) else {
+            unreachable!()
+        };
+        let kept = self.len() + front.len();
+        self.put(first);
+        self.cut(kept);
+        self.put(last);
     }
 
     #[inline(always)]

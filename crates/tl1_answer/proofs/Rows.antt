@@ -2,8 +2,11 @@
 use Rattle.std.proofs.Common.{◌≡◌, ℕ, List, [], ◌∷◌, ◌++◌, codes, refl, sym, ◌∙◌, ap, append_assoc, append-nil}
 use Rattle.dxc_num.specs.Dimensions.{Dimensions}
 use Rattle.dxc_model.specs.declared.conn.Conn.{Conn}
+use Rattle.dxc_model.specs.declared.cause.Cause.{Cause}
+use Rattle.dxc_model.specs.Causes.{row_of}
 use Rattle.dxc_aid.specs.Names.{port_name}
 use Rattle.tl1_answer.specs.Messages.{with_line}
+use Rattle.tl1_answer.specs.Responses.{denial, with_lines}
 use Rattle.tl1_answer.specs.Texts.{cct_text, with_label, with_conn, row_text}
 use Rattle.tl1_answer.proofs.Headers.{behind, behind_front}
 
@@ -31,11 +34,7 @@ row_line front d c =
     ∙ sym (append_assoc (blanks ++ row) (codes "\"") (codes "\r\n"))
     ∙ ap (λ (l : List ℕ). l ++ codes "\r\n") (append_assoc blanks row (codes "\""))
 
-pub comment_line : (front text : List ℕ) → ((front ++ codes "   /* ") ++ text) ++ codes " */\r\n" ≡ with_line front (codes "/* " ++ text ++ codes " */")
-comment_line front text =
-    let blanks : List ℕ = front ++ codes "   " in
-    let comment : List ℕ = codes "/* " ++ text in
-    ap (λ (l : List ℕ). (l ++ text) ++ codes " */\r\n") (sym (append_assoc front (codes "   ") (codes "/* ")))
-    ∙ ap (λ (l : List ℕ). l ++ codes " */\r\n") (append_assoc blanks (codes "/* ") text)
-    ∙ sym (append_assoc (blanks ++ comment) (codes " */") (codes "\r\n"))
-    ∙ ap (λ (l : List ℕ). l ++ codes "\r\n") (append_assoc blanks comment (codes " */"))
+pub denial_lines : (front : List ℕ) (q : Cause) → front ++ with_lines [] (denial q) ≡ with_lines front (denial q)
+denial_lines front q =
+    let comment = codes "/* " ++ (row_of q).text ++ codes " */" in
+    sym (behind_front front (codes "   " ∷ (row_of q).code ∷ codes "\r\n" ∷ codes "   " ∷ comment ∷ codes "\r\n" ∷ []))

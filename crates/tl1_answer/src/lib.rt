@@ -3,6 +3,7 @@
 
 mod answer;
 mod append;
+mod denials;
 pub mod laws;
 mod message;
 mod stamp;

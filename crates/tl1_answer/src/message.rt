@@ -4,6 +4,7 @@ ghost use Rattle.tl1_answer.specs.Messages.{header, or_zero, code_text, head, re
 ghost use Rattle.tl1_answer.specs.Responses.{with_lines, denial};
 
 use crate::answer::Code;
+use crate::denials::lines_of;
 use crate::stamp::Stamp;
 use dxc_aid::Text;
 use dxc_model::Cause;
@@ -63,10 +64,7 @@ pub fn append_denial(out: &mut Text<4096>, cause: Cause)
     ensures lines { out.new ≡ with_lines out.old (denial cause) }
     ensures short { length out.new ≤ length out.old + 80 }
 {
-    append_line(out, cause.code().as_bytes());
-    out.put(b"   /* ");
-    out.append(cause.text().as_bytes());
-    out.put(b" */\r\n");
+    out.append(lines_of(cause));
 }
 
 /// The completion code behind a blank, and the line's end.

@@ -1,5 +1,6 @@
 // The date and time of a header.
-ghost use Rattle.std.specs.Prelude.{◌≡◌, ◌≤◌, ◌+◌, ◌/◌, ◌%◌, length};
+ghost use Rattle.std.specs.Prelude.{◌≡◌, ◌≤◌, ◌+◌, ◌/◌, ◌%◌, true, [], ◌∷◌, length};
+ghost use Rattle.std.specs.Int.{w16, w32, to_le_bytes};
 ghost use Rattle.dxc_outside.specs.Moments.{IsMoment};
 ghost use Rattle.tl1_answer.specs.Messages.{stamp_text};
 
@@ -40,7 +41,7 @@ impl Stamp {
         requires { IsMoment moment }
         ensures { self.new ≡ moment }
     {
-        if self.moment != moment {
+        if !is_same(self.moment, moment) {
             self.text = text_of(moment);
             self.moment = moment;
         }
@@ -51,6 +52,30 @@ impl Stamp {
     {
         &self.text
     }
+}
+
+/// Whether two moments are one: four of their fields are compared as one number, and then two.
+#[inline(always)]
+fn is_same(left: Moment, right: Moment) -> bool
+    ensures { result ≡ true → left ≡ right }
+{
+    date_of(left) == date_of(right) && time_of(left) == time_of(right)
+}
+
+/// Year, month, day and hour as one number.
+#[inline(always)]
+fn date_of(moment: Moment) -> u32
+    ensures { to_le_bytes w32 result ≡ moment.year ∷ moment.month ∷ moment.day ∷ moment.hour ∷ [] }
+{
+    u32::from_le_bytes([moment.year, moment.month, moment.day, moment.hour])
+}
+
+/// Minute and second as one number.
+#[inline(always)]
+fn time_of(moment: Moment) -> u16
+    ensures { to_le_bytes w16 result ≡ moment.minute ∷ moment.second ∷ [] }
+{
+    u16::from_le_bytes([moment.minute, moment.second])
 }
 
 #[inline(never)]
