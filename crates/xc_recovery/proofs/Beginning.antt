@@ -1,5 +1,5 @@
 -- A planned work that a rolling begins.
-use Rattle.std.proofs.Common.{◌≡◌, ◌<◌, ℕ, Bool, true, false, List, ◌∷◌, [], Option, Some, None, IfSome, MatchOption, sym, subst}
+use Rattle.std.proofs.Common.{◌≡◌, ◌<◌, ℕ, Bool, true, false, List, ◌∷◌, [], Option, Some, None, MatchOption, sym, subst}
 use Rattle.std.specs.Bool.{OnTrue, OnFalse}
 use Rattle.dxc_num.specs.declared.port.Leg.{Leg}
 use Rattle.dxc_num.specs.declared.port.Middle.{Middle}
@@ -29,8 +29,8 @@ begun_unmade P r false begun = tt
 
 -- the join at the lowest middle that is free for the leg is its planned one
 pub plans_direct : (c : Colouring) (l : Leg) → IsProperColouring c → IsJoinable c l → (r : Option Middle) → MatchOption r ((k : ℕ) → k < c.shape.slots → IsFreeFor c l k → ⊥) (λ m. IsLowest (IsFreeFor c l) c.shape.slots m.0)
-    → IfSome r (λ m. (op : LegOp) → IsDirectJoin l m op → Plans c l op)
-plans_direct c l proper joinable None low = tt
+    → MatchOption r ((k : ℕ) → k < c.shape.slots → IsFreeFor c l k → ⊥) (λ m. (op : LegOp) → IsDirectJoin l m op → Plans c l op)
+plans_direct c l proper joinable None low = low
 plans_direct c l proper joinable (Some m) low = λ op is. (record { middle = m; chain = Direct }, low, joins_direct c l m op proper joinable.0 joinable.1 joinable.2 low.0 low.1 is)
 
 -- a work of a change is valid
