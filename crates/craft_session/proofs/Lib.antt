@@ -1,3 +1,4 @@
+pub mod Codes
 pub mod Crossing
 pub mod Streams
 pub mod Asking

@@ -1,10 +1,11 @@
 //! What a unit asks of a session, behind what the users answer to it.
-ghost use Rattle.std.specs.Prelude.{◌≡◌, ◌≢◌, ◌≤◌, [], IfSome, None, is_some, length, map};
+ghost use Rattle.std.specs.Prelude.{◌≡◌, ◌≢◌, ◌≤◌, true, [], IfSome, None, is_some, length, map};
 ghost use Rattle.dxc_causes.specs.Causes.{Rose};
 ghost use Rattle.dxc_num.specs.Dimensions.{Dimensions};
 ghost use Rattle.tl1_text.specs.Spans.{AreBlocksOf, block_at};
 ghost use Rattle.tl1_text.specs.Tags.{ctag_of as tag_in};
 ghost use Rattle.tl1_text.specs.Units.{whole};
+ghost use Rattle.tl1_command.specs.Blocks.{code_text};
 ghost use Rattle.tl1_command.specs.Commands.{asked_by, IsAptCommand};
 ghost use Rattle.user_admin.specs.Spellable.{NamesUid};
 ghost use Rattle.user_admin.specs.Verdicts.{IsChanging};
@@ -13,7 +14,7 @@ ghost use Rattle.craft_session.specs.Desks.{ConsultedIs, put_down};
 ghost use Rattle.craft_session.specs.Gated.{NothingAsked};
 ghost use Rattle.craft_session.specs.Hearing.{AskedIs, IsAsked, to_do};
 ghost use Rattle.tl1_command.specs.Meanings.{meaning};
-ghost use Rattle.user_admin.specs.Commands.{user_meaning};
+ghost use Rattle.user_admin.specs.Commands.{code_named, user_meaning};
 ghost use Rattle.craft_session.specs.Meanings.{command_ask, command_wants, heard_ask, is_other_user as other_user, log_in, login_wants, named_by, op_wants, session_ask, session_wants, table_ask, users_ask, users_want};
 ghost use Rattle.craft_session.specs.Seats.{IsSameUserSeat};
 
@@ -24,6 +25,7 @@ use dxc_model::{Cause, Class, Op, SessionUser, Uid};
 use dxc_outside::{Gate, Pass1};
 use shelf_file::Shelf;
 use std::sync::Wait;
+use tl1_command::parts::block_text;
 use tl1_command::{Command, command_with};
 use tl1_text::grammar::blocks;
 use tl1_text::{Blocks, Ctag, ctag_in, ctag_of};
@@ -202,8 +204,6 @@ fn on_table(op: &Op, ask: &mut Ask)
 }
 
 /// Puts down what a unit asks that may be a command of the users. The blocks are the unit's.
-// Apart, as `act_user` is.
-#[inline(never)]
 fn hear_users<U: Disk + Drop, G: Gate, R: Wait>(
     shelf: &Shelf,
     users: &mut UserDesk<U>,
@@ -224,6 +224,10 @@ fn hear_users<U: Disk + Drop, G: Gate, R: Wait>(
     ensures stopped { result ≡ Pass1.Stop → Rose (G.stops gate.old) (G.stops gate.new) }
     ensures later { G.stops gate.old ≤ G.stops gate.new }
 {
+    if is_short(unit, found) {
+        *ask = Ask::Refused(Cause::UnknownCommand);
+        return Pass1::Go;
+    }
     match ask_users(shelf, users, user, unit, found, gate, rt) {
         Some(heard) => {
             *ask = heard;
@@ -233,7 +237,17 @@ fn hear_users<U: Disk + Drop, G: Gate, R: Wait>(
     }
 }
 
+/// Whether a unit's code has fewer bytes than `ED-USER-SECU`, the shortest of those that keep users.
+fn is_short(unit: &[u8], found: &Blocks) -> bool
+    requires blocks { AreBlocksOf unit.now found.now.block.items }
+    ensures { result ≡ true → code_named (code_text (map (block_at unit.now) found.now.block.items)) ≡ None }
+{
+    block_text(unit, found, 0).len() < 12
+}
+
 /// What a unit asks that may be a command of the users. The blocks are the unit's.
+// Apart, since an operation on them holds a PID, and a unit that asks for none clears no room of it.
+#[inline(never)]
 fn ask_users<U: Disk + Drop, G: Gate, R: Wait>(
     shelf: &Shelf,
     users: &mut UserDesk<U>,

@@ -1,5 +1,5 @@
 //! Reports of what changed, each with the next moment.
-ghost use Rattle.std.specs.Prelude.{◌≡◌, ◌≢◌, ◌≤◌, ◌<◌, ◌^◌, false, is_some, ℕ, ◌+◌, List, length, slice_index_or};
+ghost use Rattle.std.specs.Prelude.{◌≡◌, ◌≢◌, ◌≤◌, ◌<◌, ◌^◌, false, Some, is_some, ℕ, ◌+◌, List, length, slice_index_or};
 ghost use Rattle.std.specs.Arc.{arc_value};
 ghost use Rattle.std.specs.List.{AllByRecursion};
 ghost use Rattle.dxc_outside.specs.declared.clock.Moment.{Moment};
@@ -47,9 +47,33 @@ pub fn report<K: Link, C: Clock, D: Disk + Drop, U: Disk + Drop, R: Wait>(
     ensures unstopped { result ≢ Progress.Stopped }
     ensures entered { (h : List Entry) → Saw desk.old.seat.opening desk.old.seat.seen h → Entered desk.old.seat.opening desk.old.seat.place NothingAsked false false h desk.new.seat.seen }
 {
-    let Some(cursor) = desk.attending.watch else {
-        return Progress::On;
-    };
+    match desk.attending.watch {
+        Some(cursor) => report_since(desk, link, clock, cursor, rt),
+        None => Progress::On,
+    }
+}
+
+/// Looks for changes behind the cursor, and writes a report of each, with the next moments.
+// Apart, since a session without reports clears no room of a look.
+#[inline(never)]
+fn report_since<K: Link, C: Clock, D: Disk + Drop, U: Disk + Drop, R: Wait>(
+    desk: &mut Desk<D, U>,
+    link: &mut K,
+    clock: &mut C,
+    cursor: u64,
+    rt: &R,
+) -> Progress
+    requires watched { desk.old.attending.watch ≡ Some cursor }
+    ensures shelf { desk.new.shelf ≡ desk.old.shelf }
+    ensures seat { IsSameSeat desk.old.seat desk.new.seat }
+    ensures users { desk.new.users ≡ desk.old.users }
+    ensures reader { desk.new.reader ≡ desk.old.reader }
+    ensures link { Writes K.told (K.state link.old) (K.state link.new) }
+    ensures goes { (k : LinkState) → (c : List Moment) → (b : Beginning) → (r : Reader) → (ahead : List ℕ) → IsAt b desk.old.seat desk.old.users.seat → Stands (language (arc_value desk.old.shelf)) K.told C.told k (K.state link.old) c (C.coming clock.old) b (now desk.old) (is_some desk.old.attending.watch) More r ahead
+        → Goes (language (arc_value desk.old.shelf)) K.told C.told k (K.state link.new) c (C.coming clock.new) b (now desk.new) result false r ahead }
+    ensures unstopped { result ≢ Progress.Stopped }
+    ensures entered { (h : List Entry) → Saw desk.old.seat.opening desk.old.seat.seen h → Entered desk.old.seat.opening desk.old.seat.place NothingAsked false false h desk.new.seat.seen }
+{
     let looked = desk.seat.look(cursor, &mut desk.changes, rt);
     desk.attending.watch = Some(looked.newest);
     Progress::of(tell(desk, link, clock, looked))
