@@ -12,6 +12,8 @@ pub mod Plains
 pub mod CutBlocks
 pub mod Codes
 pub mod CutOns
+pub mod StopFacts
+pub mod StopRuns
 pub mod FirstParams
 pub mod TagFacts
 pub mod Totals

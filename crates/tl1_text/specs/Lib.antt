@@ -4,6 +4,7 @@ pub mod Grammar
 pub mod Places
 pub mod Walk
 pub mod Spans
+pub mod Stops
 pub mod Cuts
 pub mod Values
 pub mod Tags

@@ -10,10 +10,11 @@ use crate::span::Span;
 use arrayvec::ArrayVec;
 
 /// A block has at most so many parameters.
-const PARAMS: usize = 8;
+pub const PARAMS: usize = 8;
 
 /// Where the code ends that begins a unit: one to three words of letters and digits joined by `-`, with a colon behind
 /// them. None only where the unit isn't in the grammar.
+#[inline(always)]
 pub fn code_end(unit: &[u8]) -> Option<usize>
     ensures { MatchOption result (blocks_of unit.now ≡ None) (IsCode unit.now) }
 {
@@ -84,7 +85,7 @@ pub fn cut(unit: &[u8], code: usize, found: &mut ArrayVec<Span, 10>) -> bool
 
 /// Where the quotes end that begin at a byte behind a mark; a mark stands there, or nothing. None only where the unit isn't in
 /// the grammar.
-fn quotes_end(unit: &[u8], at: usize) -> Option<usize>
+pub fn quotes_end(unit: &[u8], at: usize) -> Option<usize>
     requires some { 0 < at }
     requires within { at < length unit.now }
     requires not_plain { plain (slice_index unit.now at) ≡ false }

@@ -6,11 +6,13 @@ mod cutting;
 pub mod grammar;
 mod kept;
 pub mod laws;
+mod leaps;
 mod letter;
 mod look;
 mod reader;
 mod sid;
 mod span;
+mod stops;
 mod values;
 
 pub use ctag::{Ctag, ctag_in, ctag_of};
