@@ -20,9 +20,10 @@ pub fn carry_frame(fabric: &Fabric, seat: &mut WorkerSeat, input: &[u8], output:
     ensures carried { (ns : List Note) × (seat.new.reader.worker ≡ after_frame ns seat.old.reader.worker) × IsFrame fabric.now.size seat.old.reader.worker.number input.now output.new ns }
 {
     seat.begin_frame(fabric);
-    for output_module in 0..fabric.shape().modules() {
-        if output_module % fabric.workers() == seat.number() {
-            let lanes = Lanes::of(fabric.shape(), output_module);
+    let (shape, workers, number) = (fabric.shape(), fabric.workers(), seat.number());
+    let mut lanes = Lanes::of(shape, 0);
+    for output_module in 0..shape.modules() {
+        if output_module % workers == number {
             carry_outputs(
                 fabric,
                 &mut seat.reader,
@@ -32,8 +33,9 @@ pub fn carry_frame(fabric: &Fabric, seat: &mut WorkerSeat, input: &[u8], output:
                 output,
             );
         } else {
-            idle_outputs(fabric.shape(), output_module, output);
+            idle_outputs(shape, output_module, output);
         }
+        lanes = lanes.next(shape, output_module);
     }
     seat.end_frame(fabric);
 }

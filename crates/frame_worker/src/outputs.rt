@@ -1,5 +1,5 @@
 //! The outputs of one module: the loop in which the product spends its time.
-ghost use Rattle.std.specs.Prelude.{◌≡◌, ◌<◌, ◌*◌, ◌%◌, List, length};
+ghost use Rattle.std.specs.Prelude.{◌≡◌, ◌<◌, ◌+◌, ◌*◌, ◌%◌, List, length};
 ghost use Rattle.dxc_num.specs.Dimensions.{ports, module_of};
 ghost use Rattle.fabric_core.specs.declared.worker.Hold.TheVariants.{Empty};
 ghost use Rattle.fabric_core.specs.declared.worker.Note.{Note};
@@ -31,6 +31,8 @@ pub(crate) struct Lanes {
 }
 
 impl Lanes {
+    /// Kept out of line, so that the loop over outputs is compiled with these places as plain numbers, and counts by one of them.
+    #[inline(never)]
     pub(crate) fn of(shape: Shape, output_module: u16) -> Lanes
         ensures { result ≡ lanes_of shape output_module }
     {
@@ -45,6 +47,25 @@ impl Lanes {
             outs,
             first,
             end: first + slots,
+        }
+    }
+
+    /// Those of the next module, which lie behind them.
+    #[inline(always)]
+    pub(crate) fn next(self, shape: Shape, output_module: u16) -> Lanes
+        requires lanes { self ≡ lanes_of shape output_module }
+        requires place { output_module < shape.modules }
+        ensures { result ≡ lanes_of shape (output_module + 1) }
+    {
+        // They lie within the table.
+        let _ = (shape.slots(), output_module);
+        Lanes {
+            modules: self.modules,
+            slots: self.slots,
+            mids: self.mids + 1,
+            outs: self.outs,
+            first: self.end,
+            end: self.end + self.slots,
         }
     }
 }
@@ -79,7 +100,7 @@ fn carry_one(
 }
 
 /// The bytes of the outputs of one module, three loads each.
-#[inline(never)]
+#[inline(always)]
 pub(crate) fn carry_outputs(
     fabric: &Fabric,
     reader: &mut Reader,
