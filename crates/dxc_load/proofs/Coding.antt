@@ -1,9 +1,10 @@
 -- Completion codes, response by response.
-use Rattle.std.proofs.Common.{◌≡◌, ◌+◌, ◌-◌, ◌<◌, ◌≤◌, ◌⊎◌, inl, inr, ℕ, zero, suc, arith, Bool, true, false, if◌then◌else◌, ◌==◌, List, [], ◌∷◌, ◌++◌, length, length-append, take, drop, slice_range, refl, sym, ap, ap₂, subst, ◌∙◌}
+use Rattle.std.proofs.Common.{◌≡◌, ◌≢◌, get_or, ◌+◌, ◌-◌, ◌<◌, ◌≤◌, ◌⊎◌, inl, inr, ℕ, zero, suc, arith, Bool, true, false, if◌then◌else◌, ◌==◌, List, [], ◌∷◌, ◌++◌, length, length-append, take, drop, slice_range, refl, sym, ap, ap₂, subst, ◌∙◌}
 use Rattle.std.specs.Prelude.{slice_index}
 use Rattle.std.proofs.Math.Seq.{take-length}
 use Rattle.std.proofs.lemmas.Bool.{eqb-true}
-use Rattle.std.proofs.lemmas.List.{drop_all, length-drop, nil_from_length, take-append-drop, take_rest}
+use Rattle.std.proofs.lemmas.Bool.Decides.{nat_tests}
+use Rattle.std.proofs.lemmas.List.{drop_all, length-drop, nil_from_length, take-append-drop, take_all, take_more, take_rest}
 use Rattle.dxc_load.specs.Codes.{Spot, Login, Front, Tag, Code, Rest, HasNoCode, HasNone, IsBehind, IsNextCode, codes_at, coded_from, next_spot}
 
 -- no byte of those before a place has the value
@@ -84,6 +85,22 @@ pub parted_at : (byte at : ℕ) (text : List ℕ) → at < length text → (slic
 parted_at byte at text lt is =
     let that : slice_index text at ≡ byte = eqb-true (slice_index text at) byte is in
     sym (take-append-drop at text) ∙ ap (λ (xs : List ℕ). take at text ++ xs) (drop_next at text lt ∙ ap₂ (λ (b : ℕ) (bs : List ℕ). b ∷ bs) that (sym (take_rest text (at + 1))))
+
+-- the same, byte by byte
+none_joined : (byte : ℕ) (xs ys : List ℕ) → HasNone byte xs → HasNone byte ys → HasNone byte (xs ++ ys)
+none_joined byte [] ys first next = next
+none_joined byte (x ∷ xs) ys first next = (first.0, none_joined byte xs ys first.1 next)
+
+pub none_further : (byte : ℕ) (text : List ℕ) (at : ℕ) → at < length text → HasNone byte (take at text) → get_or text at 0 ≢ byte → HasNone byte (take (at + 1) text)
+none_further byte text at lt none other =
+    let not : (get_or text at 0 == byte) ≡ false = grind (arith, nat_tests, other) in
+    subst (HasNone byte) (sym (take_more text at 0 lt)) (none_joined byte (take at text) (get_or text at 0 ∷ []) none (not, tt))
+
+pub none_whole : (byte : ℕ) (text : List ℕ) (at : ℕ) → length text ≤ at → HasNone byte (take at text) → HasNone byte text
+none_whole byte text at all none = subst (HasNone byte) (take_all at text all) none
+
+pub parted_where : (byte at : ℕ) (text : List ℕ) → at < length text → get_or text at 0 ≡ byte → text ≡ take at text ++ byte ∷ take (length text - (at + 1)) (drop (at + 1) text)
+parted_where byte at text lt is = let same : (get_or text at 0 == byte) ≡ true = grind (arith, nat_tests, is) in parted_at byte at text lt same
 
 -- a code that isn't there, and the next one
 module _ (text : List ℕ) where

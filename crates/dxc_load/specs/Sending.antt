@@ -8,7 +8,7 @@ use Rattle.dxc_load.specs.Script.{commands_behind, login_text, most_commands, te
 
 -- what a link of the load shows
 abbrev pub link_state : LoadLink → LinkState
-link_state l = record { left = bytes (text_left l.number l.text.items l.at l.sent); written = l.written.items; ended = l.ended; reads = l.reads; read_faults = 0; write_faults = l.write_faults; sound = false }
+link_state l = record { left = bytes (text_left l.number l.text l.at l.sent); written = l.written.items; ended = l.ended; reads = l.reads; read_faults = 0; write_faults = l.write_faults; sound = false }
 
 -- before its session: the log-in and all commands are left to read
 abbrev pub unread : ℕ → LinkState

@@ -13,15 +13,25 @@ pub struct Codes {
 /// How many bytes a response of the load has in front of its tag: a header of 30, since its SID has four, then an M and two blanks.
 const FRONT: usize = 33;
 
-/// The byte that ends a response.
-const END: u8 = b';';
-
-/// What stands behind the first such byte.
-fn behind(byte: u8, text: &[u8]) -> Option<&[u8]>
-    ensures { MatchOption result (HasNone byte text.now) (λ rest. IsBehind byte text.now rest.now) }
+/// What stands behind the byte that ends a response.
+#[inline(always)]
+fn behind_end(text: &[u8]) -> Option<&[u8]>
+    ensures { MatchOption result (HasNone 59 text.now) (λ rest. IsBehind 59 text.now rest.now) }
 {
-    let at = memchr(byte, text)?;
+    let at = memchr(b';', text)?;
     Some(&text[at + 1..])
+}
+
+/// What stands behind the first blank, before which there are few bytes.
+fn behind_blank(text: &[u8]) -> Option<&[u8]>
+    ensures { MatchOption result (HasNone 32 text.now) (λ rest. IsBehind 32 text.now rest.now) }
+{
+    for at in 0..text.len() {
+        if text[at] == b' ' {
+            return Some(&text[at + 1..]);
+        }
+    }
+    None
 }
 
 /// The first letter of the next response's completion code, and what stands behind it. The text begins in the response before. Behind the
@@ -29,9 +39,9 @@ fn behind(byte: u8, text: &[u8]) -> Option<&[u8]>
 fn next_code(text: &[u8]) -> Option<(u8, &[u8])>
     ensures { MatchOption result (HasNoCode text.now) (λ p. IsNextCode text.now p.0 p.1.now) }
 {
-    let response = behind(END, text)?;
+    let response = behind_end(text)?;
     let tag = response.get(FRONT..)?;
-    let code = behind(b' ', tag)?;
+    let code = behind_blank(tag)?;
     let (letter, rest) = code.split_first()?;
     Some((*letter, rest))
 }

@@ -1,6 +1,5 @@
-use Rattle.std.proofs.Common.{◌≢◌, rules}
+use Rattle.std.proofs.Common.{◌≢◌, length, rules}
 use Rattle.dxc_outside.specs.declared.link.Got.TheVariants.{End}
-use Rattle.arrayvec.specs.ArrayVec.{array_vec_len}
 use Rattle.dxc_load.proofs.Sending.{few_reads}
 use Rattle.dxc_load.proofs.link.LoadLinkLink.read.Goals as goal
 
@@ -10,4 +9,4 @@ invariant_of-self-clause-few c = λ on.
     let e = c.next_piece-got.ensures in
     let now = c.next_piece-got.new in
     let some : c.next_piece-got.result ≢ End = search rules in
-    (few_reads self.ended self.reads self.sent self.at (array_vec_len self.text) now.sent now.at c.saturating_add-self.result self.few (λ ended. let all = self.all ended in (all.1, all.2)) (e.last some) (e.further some) c.saturating_add-self.ensures, e.short some)
+    (few_reads self.ended self.reads self.sent self.at (length self.text) now.sent now.at c.saturating_add-self.result self.few (λ ended. let all = self.all ended in (all.1, all.2)) (e.last some) (e.further some) c.saturating_add-self.ensures, e.short some)
