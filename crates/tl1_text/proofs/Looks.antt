@@ -7,6 +7,7 @@ use Rattle.std.proofs.lemmas.List.Sums.{prefix_len-le-length}
 use Rattle.std.specs.List.{prefix_len}
 use lib.Lanes.{chunk, zip2, mask_l, top}
 use Rattle.tl1_text.specs.Reading.{IsRun, first_set}
+use Rattle.tl1_text.proofs.Runs.{run_front}
 use Rattle.tl1_text.proofs.Slices.{two_parts}
 
 zip2-map : (h : ℕ → ℕ → ℕ) (f g : ℕ → ℕ) (xs : List ℕ) → zip2 h (map f xs) (map g xs) ≡ map (λ x. h (f x) (g x)) xs
@@ -84,3 +85,8 @@ run_further text a b first next = subst (λ (l : List ℕ). IsRun l) (two_parts 
 -- a run, and one byte behind it
 pub run_more : (text : List ℕ) (at : ℕ) → at < length text → IsRun (take at text) → get_or text at 0 ≢ 59 → get_or text at 0 ≢ 34 → IsRun (take (at + 1) text)
 run_more text at lt run semicolon quote = subst (λ (l : List ℕ). IsRun l) (sym (take_more text at 0 lt)) (run_append (take at text) (get_or text at 0 ∷ []) run (semicolon, quote, tt))
+
+-- a run up to a place, and one that begins before it
+pub run_again : (text : List ℕ) (at from b : ℕ) → from ≤ at → IsRun (take at text) → IsRun (take b (drop from text)) → IsRun (take (from + b) text)
+run_again text at from b le first next =
+    run_further text from b (subst (λ (l : List ℕ). IsRun l) (front_of_front from at text le) (run_front from (take at text) first)) next

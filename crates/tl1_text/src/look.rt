@@ -1,5 +1,5 @@
 // Looks for the end of a run of bytes, sixteen at once.
-ghost use Rattle.std.specs.Prelude.{◌≡◌, ◌≤◌, ◌+◌, length, take, drop};
+ghost use Rattle.std.specs.Prelude.{◌≡◌, ◌≤◌, ◌<◌, ◌+◌, length, take, drop};
 ghost use Rattle.tl1_text.specs.Reading.{IsRun, first_set as lowest};
 
 use std::simd::prelude::*;
@@ -20,17 +20,32 @@ pub fn run_of(text: &[u8]) -> usize
             return at;
         }
     }
-    run_from(text, at)
+    run_to_end(text, at)
 }
 
-/// The same, where those up to a place are known to.
-fn run_from(text: &[u8], from: usize) -> usize
-    requires within { from ≤ length text.now }
-    requires run { IsRun (take from text.now) }
+/// The same, where fewer bytes are left than are looked at once. Few units have such an end, so it stands out of line.
+#[inline(never)]
+fn run_to_end(text: &[u8], at: usize) -> usize
+    requires left { (at ≤ length text.now) × (length text.now < at + 16) }
+    requires run { IsRun (take at text.now) }
     ensures within { result ≤ length text.now }
     ensures run { IsRun (take result text.now) }
 {
-    for at in from..text.len() {
+    let _ = at;
+    if text.len() < LANES {
+        return run_in_short(text);
+    }
+    // Some of the last sixteen were looked at before.
+    let last = text.len() - LANES;
+    last + run_at(text, last)
+}
+
+/// The same of a text that is shorter than what is looked at once.
+fn run_in_short(text: &[u8]) -> usize
+    ensures within { result ≤ length text.now }
+    ensures run { IsRun (take result text.now) }
+{
+    for at in 0..text.len() {
         if text[at] == b';' {
             return at;
         }
