@@ -1,4 +1,4 @@
-ghost use Rattle.std.specs.Prelude.{◌≡◌, true, Some, IfSome};
+ghost use Rattle.std.specs.Prelude.{◌≡◌, ◌++◌, true, Some, IfSome};
 ghost use Rattle.tl1_command.specs.Codes.{code_named, is_same_text};
 
 use dxc_model::CommandCode;
@@ -27,13 +27,13 @@ pub fn code_of(text: &[u8]) -> Option<CommandCode>
 fn frequent(text: &[u8]) -> Option<CommandCode>
     ensures { IfSome result (λ c. code_named text.now ≡ Some c) }
 {
-    if is_exactly(text, b"ENT-CRS-T0") {
+    if is_both(text, b"ENT-CRS-", b"T0") {
         Some(CommandCode::EntCrsT0)
-    } else if is_exactly(text, b"DLT-CRS-T0") {
+    } else if is_both(text, b"DLT-CRS-", b"T0") {
         Some(CommandCode::DltCrsT0)
     } else if is_exactly(text, b"RTRV-HDR") {
         Some(CommandCode::RtrvHdr)
-    } else if is_exactly(text, b"RTRV-CRS-T0") {
+    } else if is_both(text, b"RTRV-CRS", b"-T0") {
         Some(CommandCode::RtrvCrsT0)
     } else {
         None
@@ -47,6 +47,17 @@ pub(crate) fn is_exactly<const N: usize>(text: &[u8], name: &[u8; N]) -> bool
 {
     match text.as_array::<N>() {
         Some(text) => text == name,
+        None => false,
+    }
+}
+
+/// Whether a text is a name of more than eight bytes, of which the first eight are one compare.
+#[inline(always)]
+fn is_both<const N: usize>(text: &[u8], front: &[u8; 8], back: &[u8; N]) -> bool
+    ensures { result ≡ true → text.now ≡ front.now ++ back.now }
+{
+    match text.split_first_chunk::<8>() {
+        Some((first, rest)) => first == front && is_exactly(rest, back),
         None => false,
     }
 }
