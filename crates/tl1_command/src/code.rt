@@ -27,12 +27,12 @@ pub fn code_of(text: &[u8]) -> Option<CommandCode>
 fn frequent(text: &[u8]) -> Option<CommandCode>
     ensures { IfSome result (λ c. code_named text.now ≡ Some c) }
 {
-    if is_both(text, b"ENT-CRS-", b"T0") {
+    if is_exactly(text, b"RTRV-HDR") {
+        Some(CommandCode::RtrvHdr)
+    } else if is_both(text, b"ENT-CRS-", b"T0") {
         Some(CommandCode::EntCrsT0)
     } else if is_both(text, b"DLT-CRS-", b"T0") {
         Some(CommandCode::DltCrsT0)
-    } else if is_exactly(text, b"RTRV-HDR") {
-        Some(CommandCode::RtrvHdr)
     } else if is_both(text, b"RTRV-CRS", b"-T0") {
         Some(CommandCode::RtrvCrsT0)
     } else {
