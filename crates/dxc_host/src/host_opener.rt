@@ -150,8 +150,8 @@ impl<
     }
 
     /// A file that isn't there is made. A journal has one owner: another that is opened while the first is held is a fault.
-    fn journal(&mut self, _alloc: Global, name: &str) -> Opened<FileDisk> {
-        match FileDisk::open(&self.system, name) {
+    fn journal(&mut self, alloc: Global, name: &str) -> Opened<FileDisk> {
+        match FileDisk::open(alloc, &self.system, name) {
             Ok(disk) => Opened::Open(disk),
             Err(error) => self.not_opened(&error),
         }

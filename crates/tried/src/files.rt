@@ -8,13 +8,17 @@ const NAME: &str = "disk_test.jnl";
 
 #[test]
 fn a_file_keeps_what_was_written(rt: HostRuntime) -> Result<(), Fail> {
-    let mut disk = CountedDisk::new(FileDisk::open(&rt, NAME)?);
+    let alloc = rt.alloc();
+    let mut disk = CountedDisk::new(FileDisk::open(alloc, &rt, NAME)?);
     assert!(rt; write_and_sync(&mut disk, 0, b"abcdef") == Ok(()));
     assert!(rt; disk.length() == Ok(6));
     assert!(rt; disk.reads() == 1 && disk.writes() == 1 && disk.syncs() == 1);
-    assert!(rt; FileDisk::open(&rt, NAME).is_err(), "it has one owner");
+    assert!(rt;
+        FileDisk::open(alloc, &rt, NAME).is_err(),
+        "it has one owner"
+    );
     drop(disk);
-    let mut again = FileDisk::open(&rt, NAME)?;
+    let mut again = FileDisk::open(alloc, &rt, NAME)?;
     let mut two = [0; 2];
     assert!(rt; again.read(2, &mut two) == Ok(()) && two == *b"cd");
     assert!(rt; again.read(5, &mut two) == Err(DiskFault));

@@ -5,7 +5,7 @@ ghost use Rattle.xc_journal.specs.Spelling.{spelling};
 ghost use Rattle.xc_journal.specs.Entries.{FitsChange, MayChoose, IsOfFirstVersion, IsEntry};
 ghost use Rattle.xc_journal.specs.Reading.{read_cct, read_label, read_conn, read_change, read_chain, read_choice, read_choices};
 
-use crate::write::record_of;
+use crate::write::spell;
 use arrayvec::ArrayVec;
 use byteorder::{BigEndian, ByteOrder};
 use dxc_model::{Cct, Change, Conn, Label};
@@ -132,10 +132,14 @@ fn is_of_first_version(change: &Change, number: usize) -> bool
     }
 }
 
-fn is_same(a: &[u8; 64], b: &[u8; 64]) -> bool
-    ensures { IsTrue result ↔ (a.now ≡ b.now) }
+// Whether the bytes spell the change with its choices.
+#[inline(always)]
+fn is_spelled(bytes: &[u8; 64], change: &Change, choices: &ArrayVec<Choice, 2>) -> bool
+    ensures { IsTrue result ↔ (bytes.now ≡ spelling change.now choices.now.items) }
 {
-    a.as_slice() == b.as_slice()
+    let mut record = [0; 64];
+    spell(change, choices, &mut record);
+    *bytes == record
 }
 
 /// The change with its choices that a record of this version, 1 or 2, spells; one of version 1 is filled up with zeros. None
@@ -157,7 +161,7 @@ pub fn entry_of(bytes: &[u8; 64], version: u8) -> Option<(Change, ArrayVec<Choic
         return None;
     }
     // A record is read by spelling it again, so no two of them are read as one value.
-    if !is_same(&record_of(&change, &choices), bytes) {
+    if !is_spelled(bytes, &change, &choices) {
         return None;
     }
     Some((change, choices))

@@ -96,6 +96,23 @@ fn front_of(change: &Change, choices: &[Choice], count: u8) -> [u8; 15]
     ]
 }
 
+// Spells the record where it is to lie, since an array that is handed up is copied at each level.
+#[inline(always)]
+pub(crate) fn spell(change: &Change, choices: &ArrayVec<Choice, 2>, record: &mut [u8; 64])
+    ensures spelled { «record».new ≡ spelling change.now choices.now.items }
+    ensures label { is_label (label_of change.now) ≡ true }
+{
+    *record = [0; 64];
+    match change {
+        Change::Enter(conn) | Change::Delete(conn) | Change::Edit(conn) => {
+            let count = conn.label.bytes().len() as u8;
+            record[..15].copy_from_slice(&front_of(change, choices.as_slice(), count));
+            record[15..39].copy_from_slice(conn.label.padded());
+        }
+        _ => record[..15].copy_from_slice(&front_of(change, choices.as_slice(), 0)),
+    }
+}
+
 /// The sealed record of a change with its choices, in version 2. It is read back where there are as many choices as the change
 /// joins or parts legs: one or two for a one-way or two-way connection that is entered or deleted, at most one for an edit, none
 /// for a module or a middle.
@@ -105,13 +122,6 @@ pub fn record_of(change: &Change, choices: &ArrayVec<Choice, 2>) -> [u8; 64]
     ensures label { is_label (label_of change.now) ≡ true }
 {
     let mut record = [0; 64];
-    match change {
-        Change::Enter(conn) | Change::Delete(conn) | Change::Edit(conn) => {
-            let count = conn.label.bytes().len() as u8;
-            record[..15].copy_from_slice(&front_of(change, choices.as_slice(), count));
-            record[15..39].copy_from_slice(conn.label.padded());
-        }
-        _ => record[..15].copy_from_slice(&front_of(change, choices.as_slice(), 0)),
-    }
+    spell(change, choices, &mut record);
     record
 }

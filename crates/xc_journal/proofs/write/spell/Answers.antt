@@ -2,7 +2,7 @@ use Rattle.std.proofs.Common.{◌≡◌, ◌∙◌, ◌++◌, [], ◌∷◌, Lis
 use Rattle.std.proofs.lemmas.List.{drop-replicate}
 use Rattle.xc_journal.specs.Spelling.{front, label_bytes, label_of, label_zeros, zeros}
 use Rattle.xc_journal.proofs.Bytes.{filled, part_size}
-use Rattle.xc_journal.proofs.write.record_of.Goals as goal
+use Rattle.xc_journal.proofs.write.spell.Goals as goal
 
 pub returns-in-Enter-clause-spelled : goal.returns-in-Enter-clause-spelled
 returns-in-Enter-clause-spelled c =
