@@ -1,5 +1,5 @@
 -- Where each word lies: IN, MID, OUT, and then a frame word for each worker.
-use Rattle.std.specs.Prelude.{ℕ, ◌+◌, ◌<◌}
+use Rattle.std.specs.Prelude.{◌≡◌, ℕ, ◌+◌, ◌^◌, ◌<◌}
 use Rattle.dxc_num.specs.Dimensions.{Dimensions, IsPort, ports}
 use Rattle.dxc_num.specs.declared.port.Port.{Port}
 use Rattle.dxc_num.specs.declared.port.Middle.{Middle}
@@ -39,3 +39,10 @@ abbrev pub IsRegInside : Dimensions → Reg → Type 0
 IsRegInside d (In i k) = (i < d.modules) × IsMiddle d k
 IsRegInside d (Mid k j) = IsMiddle d k × (j < d.modules)
 IsRegInside d (Out y) = IsPort d y
+
+-- where MID, OUT and frame words begin, far below the largest number
+pub record AreBegins (d : Dimensions) (mids outs frames : ℕ) : Type 0 where
+  pub mids_are : mids ≡ in_count d
+  pub outs_are : outs ≡ in_count d + mid_count d
+  pub frames_are : frames ≡ in_count d + (mid_count d + ports d)
+  pub low : frames < 2 ^ 32

@@ -4,6 +4,7 @@
 mod ask;
 mod fabric;
 pub mod laws;
+mod layout;
 mod looks;
 mod mover;
 mod path;

@@ -10,9 +10,9 @@ ghost use Rattle.fabric_words.specs.declared.table.View.TheVariants.{AsMover};
 ghost use Rattle.fabric_words.specs.Places.{IsRegInside, reg_word};
 
 use crate::fabric::Fabric;
+use crate::layout::Layout;
 use crate::looks::Looks;
 use crate::path::{forget_after, middle_of};
-use crate::place;
 use crate::plays::{ClearsIn, ClearsMid, ClearsOut, LooksAt, Reads, SetsIn, SetsMid, Switches};
 use crate::stand::Stand;
 use crate::table::{Aim, Token};
@@ -25,7 +25,7 @@ use std::marker::Model;
 #[derive(Drop)]
 pub struct MoverSeat {
     token: Token,
-    size: Size,
+    layout: Layout,
     phase: Stand,
     // The input module and the output module of the leg that the phase names.
     row: u16,
@@ -39,9 +39,9 @@ impl Model for MoverSeat {
 
     ghost Value = { MoverAt };
 
-    ghost view = { λ s. record { fabric = record { table = s.token.table_id; size = s.size }; mover = mover_in s.token.me.0 } };
+    ghost view = { λ s. record { fabric = record { table = s.token.table_id; size = s.layout }; mover = mover_in s.token.me.0 } };
 
-    ghost invariant = { λ s. IsMoverSeat s.size s.token.me s.phase s.switches s.seen × AreModules s.size.shape s.phase s.row s.column };
+    ghost invariant = { λ s. IsMoverSeat s.layout s.token.me s.phase s.switches s.seen × AreModules s.layout.shape s.phase s.row s.column };
 }
 
 impl MoverSeat {
@@ -52,7 +52,7 @@ impl MoverSeat {
     {
         MoverSeat {
             token,
-            size,
+            layout: Layout::of(size),
             phase: Stand::new(),
             row: 0,
             column: 0,
@@ -96,11 +96,10 @@ impl MoverSeat {
         ensures fabric { self.new.fabric ≡ self.old.fabric }
         ensures event { Moves self.old.fabric.size self.old.mover (SetIn leg middle) self.new.mover }
     {
-        let shape = self.size.shape;
-        let row = shape.module_of(leg.input);
-        let column = shape.module_of(leg.output);
-        let slot = shape.slot_of(leg.input) as u64;
-        let word = place::of_in(shape, row, middle);
+        let row = self.layout.module_of(leg.input);
+        let column = self.layout.module_of(leg.output);
+        let slot = self.layout.slot_of(leg.input) as u64;
+        let word = self.layout.of_in(row, middle);
         let aim = Aim { leg, middle };
         let shared = &fabric.board.shared;
         shared.compare_exchange_with::<SetsIn>(&mut self.token, word, 0, slot + 1, &aim);
@@ -118,7 +117,7 @@ impl MoverSeat {
         ensures event { Moves self.old.fabric.size self.old.mover SetMid self.new.mover }
     {
         let (_, to) = self.phase.path();
-        let word = place::of_mid(self.size.shape, to, self.column);
+        let word = self.layout.of_mid(to, self.column);
         let value = self.row as u64 + 1;
         let shared = &fabric.board.shared;
         shared.store::<SetsMid>(&mut self.token, word, value);
@@ -134,7 +133,7 @@ impl MoverSeat {
         ensures event { Moves self.old.fabric.size self.old.mover SwitchOut self.new.mover }
     {
         let (leg, to) = self.phase.path();
-        let word = place::of_out(self.size.shape, leg.output);
+        let word = self.layout.of_out(leg.output);
         let number = self.switches + 1;
         let value = number * 256 + to.0 as u64 + 1;
         let shared = &fabric.board.shared;
@@ -152,10 +151,9 @@ impl MoverSeat {
         ensures fabric { self.new.fabric ≡ self.old.fabric }
         ensures event { Moves self.old.fabric.size self.old.mover (ClearOut leg) self.new.mover }
     {
-        let shape = self.size.shape;
-        let row = shape.module_of(leg.input);
-        let column = shape.module_of(leg.output);
-        let word = place::of_out(shape, leg.output);
+        let row = self.layout.module_of(leg.input);
+        let column = self.layout.module_of(leg.output);
+        let word = self.layout.of_out(leg.output);
         let shared = &fabric.board.shared;
         let found = shared.swap::<ClearsOut>(&mut self.token, word, 0);
         self.row = row;
@@ -172,7 +170,7 @@ impl MoverSeat {
         ensures fabric { self.new.fabric ≡ self.old.fabric }
         ensures event { self.new.mover ≡ looked worker result self.old.mover }
     {
-        let word = place::of_frame(self.size.shape, worker);
+        let word = self.layout.of_frame(worker);
         let shared = &fabric.board.shared;
         let found = shared.load::<LooksAt>(&mut self.token, word);
         self.seen.note(worker, found);
@@ -188,7 +186,7 @@ impl MoverSeat {
         ensures event { Moves self.old.fabric.size self.old.mover ClearMid self.new.mover }
     {
         let (_, old) = self.phase.path();
-        let word = place::of_mid(self.size.shape, old, self.column);
+        let word = self.layout.of_mid(old, self.column);
         let shared = &fabric.board.shared;
         shared.store::<ClearsMid>(&mut self.token, word, 0);
         self.phase.free();
@@ -203,7 +201,7 @@ impl MoverSeat {
         ensures event { Moves self.old.fabric.size self.old.mover ClearIn self.new.mover }
     {
         let (_, old) = self.phase.path();
-        let word = place::of_in(self.size.shape, self.row, old);
+        let word = self.layout.of_in(self.row, old);
         let shared = &fabric.board.shared;
         shared.store::<ClearsIn>(&mut self.token, word, 0);
         self.phase.rest();
@@ -216,7 +214,7 @@ impl MoverSeat {
         ensures same { self.new ≡ self.old }
         ensures word { result ≡ reg_word self.old.fabric.size.shape self.old.mover.registers reg }
     {
-        let word = place::of_reg(self.size.shape, reg);
+        let word = self.layout.of_reg(reg);
         let shared = &fabric.board.shared;
         shared.load::<Reads>(&mut self.token, word)
     }

@@ -1,5 +1,5 @@
 -- A loop over the writes that are left.
-use Rattle.std.proofs.Common.{◌≡◌, ◌≢◌, ℕ, zero, suc, ◌+◌, List, [], ◌∷◌, ◌++◌, drop, sym, refl, ap, ap₂, ◌∙◌, subst, ⊎_elim, arith, Option, Some, None, length-append, append_assoc}
+use Rattle.std.proofs.Common.{◌≡◌, ◌≢◌, ℕ, zero, suc, ◌+◌, ◌*◌, ◌<◌, List, [], ◌∷◌, ◌++◌, drop, length, get_or, sym, refl, ap, ap₂, ◌∙◌, subst, ⊎_elim, arith, Option, Some, None, length-append, append_assoc}
 use Rattle.std.specs.Prelude.{slice_get}
 use Rattle.dxc_num.specs.declared.port.Leg.{Leg}
 use Rattle.dxc_num.specs.declared.port.Middle.{Middle}
@@ -7,11 +7,17 @@ use Rattle.dxc_num.specs.declared.register.RegWrite.{RegWrite}
 use Rattle.dxc_num.specs.declared.register.WriteKind.{WriteKind}
 use Rattle.dxc_num.specs.declared.register.WriteKind.TheVariants.{ClearMid}
 use Rattle.roll_plan.specs.declared.work.Work.{Work}
-use Rattle.roll_plan.specs.Works.{write, writes_of}
+use Rattle.roll_plan.specs.declared.op.Move.{Move}
+use Rattle.roll_plan.specs.declared.op.LegOp.{LegOp}
+use Rattle.roll_plan.specs.declared.op.LegOp.TheVariants.{Join, Part, Shift}
+use Rattle.roll_plan.specs.declared.next.Next.TheVariants.{All}
+use Rattle.roll_plan.specs.Works.{write, join_writes, moves_of, moves_writes, op_writes, ops_writes, writes_of}
+use Rattle.roll_plan.specs.Nexts.{BeginsMove}
+use Rattle.roll_plan.proofs.Places.{begins_at, next_front}
 use Rattle.fabric_core.specs.declared.size.Size.{Size}
 use Rattle.fabric_core.specs.declared.mover.Mover.{Mover}
 use Rattle.fabric_core.specs.declared.phase.Phase.TheVariants.{MidSet, Old}
-use Rattle.roll_engine.specs.Rollings.{RollingAt, rest_of}
+use Rattle.roll_engine.specs.Rollings.{RollingAt, moves_of_first, rest_of}
 use Rattle.roll_engine.specs.Writes.{Looks, Makes}
 use Rattle.roll_engine.specs.Courses.{Course, GoesByKind, IsOld, IsReady, course_of}
 use Rattle.roll_engine.specs.Answers.{GoesOn, IsSeen, IsInFrame}
@@ -41,6 +47,16 @@ rest_some r w at = left_some (writes_of r.work) r.step w at
 
 pub some_left : (r : RollingAt) (w : RegWrite) → slice_get (writes_of r.work) r.step ≡ Some w → rest_of r ≢ []
 some_left r w at e = let h : w ∷ rest_of (next r) ≡ [] = sym (rest_some r w at) ∙ e in cc
+
+-- the moves of the first op come before all else
+begins_op : (op : LegOp) (v d : Move) (i t : ℕ) → t ≡ 5 * i → i < length (moves_of op) → v ≡ get_or (moves_of op) i d → BeginsMove (op_writes op) t v
+begins_op (Join l choice moves) v d i t e low is = next_front (moves_writes moves.items) (join_writes l choice.middle) t (All v) (begins_at moves.items v d i t e low is)
+begins_op (Part l k) v d i t e low is = absurd (omega arith)
+begins_op (Shift moves) v d i t e low is = begins_at moves.items v d i t e low is
+
+pub begins_first : (ops : List LegOp) (d : Move) (i t : ℕ) → t ≡ 5 * i → i < length (moves_of_first ops) → BeginsMove (ops_writes ops) t (get_or (moves_of_first ops) i d)
+begins_first [] d i t e low = absurd (omega arith)
+begins_first (op ∷ ops) d i t e low = next_front (op_writes op) (ops_writes ops) t (All (get_or (moves_of op) i d)) (begins_op op (get_or (moves_of op) i d) d i t e low refl)
 
 pub goes_none : (z : Size) (r : RollingAt) (m : Mover) → GoesOn z r r m m
 goes_none z r m = record { work = refl; behind = refl; advances = record { writes = []; split = refl; runs = ([], refl) }; step = omega arith }

@@ -1,5 +1,5 @@
 -- The next writes, one call behind the other.
-use Rattle.std.proofs.Common.{◌≡◌, ◌≢◌, ◌≤◌, ℕ, List, [], ◌∷◌, ◌++◌, Some, Option, sym, refl, ap, ◌∙◌, subst, arith, length-append, append_assoc}
+use Rattle.std.proofs.Common.{◌≡◌, ◌≤◌, ℕ, List, [], ◌∷◌, ◌++◌, Some, Option, sym, refl, ap, ◌∙◌, subst, arith, length-append, append_assoc}
 use Rattle.std.specs.Prelude.{slice_get}
 use Rattle.dxc_causes.specs.Causes.{Rose}
 use Rattle.dxc_num.specs.declared.register.RegWrite.{RegWrite}
@@ -14,7 +14,7 @@ use Rattle.fabric_core.specs.declared.size.Size.{Size}
 use Rattle.fabric_core.specs.declared.mover.Mover.{Mover}
 use Rattle.roll_engine.specs.declared.answer.Advance.{Advance}
 use Rattle.roll_engine.specs.declared.answer.Advance.TheVariants.{Done, InFrame, Stopped}
-use Rattle.roll_engine.specs.Rollings.{RollingAt, rest_of}
+use Rattle.roll_engine.specs.Rollings.{RollingAt, at_step, rest_of}
 use Rattle.roll_engine.specs.Writes.{Looks, Makes}
 use Rattle.roll_engine.specs.Courses.{IsOld, IsReady}
 use Rattle.roll_engine.specs.Answers.{AnswerIs, GoesOn, IsSeen, asked_at}
@@ -58,10 +58,10 @@ halted_on z old mid new m a b (InFrame f) h k = record {
 }
 halted_on z old mid new m a b Stopped h k = k
 
-pub halted_is : (z : Size) (before left : List RegWrite) (m b : Mover) (answer : Advance) → answer ≢ Done → IsHalted z before left m b answer → AnswerIs z before left m b answer
-halted_is z before left m b Done other h = absurd (other refl)
-halted_is z before left m b (InFrame f) other h = h
-halted_is z before left m b Stopped other h = h
+pub answer_is : (z : Size) (before left : List RegWrite) (m b : Mover) (answer : Advance) → (answer ≡ Done → left ≡ []) → IsHalted z before left m b answer → AnswerIs z before left m b answer
+answer_is z before left m b Done all h = all refl
+answer_is z before left m b (InFrame f) all h = h
+answer_is z before left m b Stopped all h = h
 
 module _ {G : Type 0} (stops : G → ℕ) (asks : G → G → List GatePlace → Type 0) (z : Size) where
   pub walks_none : ((g : G) → asks g g []) → (r : RollingAt) (m : Mover) (g : G) → IsReady z (rest_of r) m → Walks stops asks z r r m m g g Done
@@ -92,6 +92,10 @@ module _ {G : Type 0} (stops : G → ℕ) (asks : G → G → List GatePlace →
   pub walks_then : ((old between new : G) (before after : List GatePlace) → asks old between before → asks between new after → asks old new (before ++ after)) → (old mid new : RollingAt) (m a b : Mover) (g h g' : G) (before answer : Advance)
       → before ≡ Done → Walks stops asks z old mid m a g h before → Walks stops asks z mid new a b h g' answer → Walks stops asks z old new m b g g' answer
   walks_then on old mid new m a b g h g' before answer done one two = walks_on on old mid new m a b g h g' answer (subst (λ (x : Advance). Walks stops asks z old mid m a g h x) done one) two
+
+  -- the count of the writes made goes from the rolling into a local, and back
+  pub walks_reached : (r r' : RollingAt) (n t : ℕ) (m m' : Mover) (g g' : G) (answer : Advance) → n ≡ r.step → r' ≡ at_step t r → Walks stops asks z (at_step n r) (at_step t r) m m' g g' answer → Walks stops asks z r r' m m' g g' answer
+  walks_reached r r' n t m m' g g' answer en er h = subst (λ (p : RollingAt × RollingAt). Walks stops asks z p.0 p.1 m m' g g' answer) (λ i. (at_step (en i) r, sym er i)) h
 
   -- what came of one write, the next one
   module _ (r : RollingAt) (w : RegWrite) (m m' : Mover) (g g' : G) (at : slice_get (writes_of r.work) r.step ≡ Some w) (ready : IsReady z (rest_of r) m) where

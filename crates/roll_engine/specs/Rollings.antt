@@ -1,8 +1,10 @@
 -- A work that is being made, and how far it has come.
-use Rattle.std.specs.Prelude.{ℕ, ◌+◌, List, drop}
+use Rattle.std.specs.Prelude.{ℕ, List, [], ◌∷◌, drop}
 use Rattle.dxc_num.specs.declared.register.RegWrite.{RegWrite}
+use Rattle.roll_plan.specs.declared.op.LegOp.{LegOp}
+use Rattle.roll_plan.specs.declared.op.Move.{Move}
 use Rattle.roll_plan.specs.declared.work.Work.{Work}
-use Rattle.roll_plan.specs.Works.{writes_of}
+use Rattle.roll_plan.specs.Works.{moves_of, writes_of}
 use Rattle.roll_engine.specs.declared.rolling.Behind.{Behind}
 
 -- a work in hand of which the first `step` writes are made, and what comes behind it
@@ -15,6 +17,11 @@ pub record RollingAt : Type 0 where
 abbrev pub rest_of : RollingAt → List RegWrite
 rest_of r = drop r.step (writes_of r.work)
 
--- so many writes more are made
-abbrev pub gone_on : ℕ → RollingAt → RollingAt
-gone_on n r = record r { step = r.step + n }
+-- so many writes are made
+abbrev pub at_step : ℕ → RollingAt → RollingAt
+at_step n r = record r { step = n }
+
+-- the moves of the first op
+abbrev pub moves_of_first : List LegOp → List Move
+moves_of_first [] = []
+moves_of_first (op ∷ ops) = moves_of op

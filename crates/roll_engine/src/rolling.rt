@@ -1,9 +1,9 @@
-ghost use Rattle.std.specs.Prelude.{◌≡◌, ◌+◌, ◌^◌, ◌<◌, ◌↔◌, [], ◌∷◌, IsTrue, drop};
+ghost use Rattle.std.specs.Prelude.{◌≡◌, ◌+◌, ◌≤◌, ◌↔◌, [], ◌∷◌, IsTrue, drop, length};
 
 use arrayvec::ArrayVec;
 use dxc_num::{Leg, Middle, Port};
 use fabric_words::Phase;
-use roll_plan::{LegOp, Work};
+use roll_plan::{LegOp, Move, Work};
 use std::marker::Model;
 
 mod joins;
@@ -43,7 +43,7 @@ impl Model for Rolling {
 impl Rolling {
     ghost use Rattle.roll_plan.specs.Works.{part_writes};
     ghost use Rattle.roll_engine.specs.declared.rolling.Behind.TheVariants.{Nothing, PartsFrom};
-    ghost use Rattle.roll_engine.specs.Rollings.{rest_of};
+    ghost use Rattle.roll_engine.specs.Rollings.{at_step, moves_of_first, rest_of};
     ghost use Rattle.roll_engine.specs.Cold.{IsCold, IsColdFrom, cold_start};
     ghost use Rattle.roll_engine.specs.UnderWay.{unmade};
 
@@ -137,11 +137,26 @@ impl Rolling {
         self.step
     }
 
-    /// One write more is made.
-    pub(crate) fn go_on(&mut self)
-        requires { self.old.step + 1 < 2 ^ 64 }
-        ensures { self.new ≡ record self.old { step = self.old.step + 1 } }
+    /// The moves of the first op.
+    #[inline(always)]
+    pub(crate) fn first_moves(&self) -> &[Move]
+        ensures value { result.now ≡ moves_of_first self.now.work.ops.items }
+        ensures few { length result.now ≤ 94 }
     {
-        self.step += 1;
+        let Some(op) = self.work.ops.as_slice().get(0) else {
+            return &[];
+        };
+        match op {
+            LegOp::Join { moves, .. } => moves.as_slice(),
+            LegOp::Part { .. } => &[],
+            LegOp::Shift { moves } => moves.as_slice(),
+        }
+    }
+
+    /// So many of its writes are made now.
+    pub(crate) fn reach(&mut self, step: usize)
+        ensures { self.new ≡ at_step step self.old }
+    {
+        self.step = step;
     }
 }

@@ -5,7 +5,7 @@ use Rattle.fabric_words.specs.Seats.{FabricId}
 use Rattle.roll_engine.specs.Allowed.{CanMake}
 use Rattle.roll_engine.specs.Courses.{Course}
 use Rattle.roll_engine.proofs.Stepping.{can_looks, course_looks, ready_can}
-use Rattle.roll_engine.proofs.run.step_on.Goals as goal
+use Rattle.roll_engine.proofs.make.step_on.Goals as goal
 
 pub make-requires-clause-can : goal.make-requires-clause-can
 make-requires-clause-can g c = let z : Size = c.args.mover.now.fabric.size in let l = c.clear_way.ensures.looks in
