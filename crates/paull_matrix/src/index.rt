@@ -116,14 +116,15 @@ impl Index {
         self.free[at] = freed(self.free[at], middle);
     }
 
-    /// Puts a leg of the module that is on one middle on another one.
+    /// Puts a leg of the module that is on one middle on another one. The shape is the index's own, which the caller has at hand.
     #[inline(always)]
-    pub fn turn(&mut self, module: u16, from: Middle, to: Middle, leg: Leg)
-        requires { («module» < self.old.shape.modules) × (from.0 ≤ self.old.shape.slots) × (to.0 ≤ self.old.shape.slots) }
+    pub fn turn(&mut self, shape: Shape, module: u16, from: Middle, to: Middle, leg: Leg)
+        requires same { shape ≡ self.old.shape }
+        requires inside { («module» < self.old.shape.modules) × (from.0 ≤ self.old.shape.slots) × (to.0 ≤ self.old.shape.slots) }
         ensures { self.new ≡ with_cell «module» to.0 (Some leg) (with_cell «module» from.0 None self.old) }
     {
-        let left = cell(self.shape, module, from);
-        let reached = cell(self.shape, module, to);
+        let left = cell(shape, module, from);
+        let reached = cell(shape, module, to);
         self.legs[left] = None;
         self.legs[reached] = Some(leg);
         let from_at = word(module, from);
