@@ -3,7 +3,7 @@ ghost use Rattle.std.specs.Prelude.{◌≡◌, ◌≤◌};
 ghost use Rattle.paull_matrix.specs.Colourings.{CanPlace, Holds, IsFreeFor, IsHeld, with_leg, without_leg};
 
 use crate::matrix::Matrix;
-use dxc_num::{Leg, Middle, Route};
+use dxc_num::{Leg, Middle, Route, Shape};
 
 impl Matrix {
     /// Puts in a leg whose sides are unused, on a middle that is free in its row and column.
@@ -42,7 +42,17 @@ impl Matrix {
         requires free { (to.0 ≤ self.old.shape.slots) × IsFreeFor self.old leg to.0 }
         ensures { self.new ≡ with_leg leg to.0 self.old }
     {
-        let shape = self.shape;
+        self.turn_in(self.shape, leg, from, to);
+    }
+
+    /// The same by a caller who has the shape at hand, so that it isn't read again.
+    #[inline(always)]
+    pub fn turn_in(&mut self, shape: Shape, leg: Leg, from: Middle, to: Middle)
+        requires same { shape ≡ self.old.shape }
+        requires held { Holds self.old leg from.0 }
+        requires free { (to.0 ≤ self.old.shape.slots) × IsFreeFor self.old leg to.0 }
+        ensures { self.new ≡ with_leg leg to.0 self.old }
+    {
         let row = shape.module_of(leg.input);
         let column = shape.module_of(leg.output);
         self.routes[leg.output.0 as usize] = Some(Route {

@@ -5,6 +5,7 @@ use Rattle.paull_chain.specs.Works.{AreValidMoves, after}
 abbrev pub invariant-loop-at : goal.invariant-loop-at
 invariant-loop-at l = record {
   on : l.fn.start ≤ l.at;
+  same : l.matrix.shape ≡ l.fn.matrix.shape;
   left : AreValidMoves (drop l.at l.moves) l.matrix;
   whole : after (drop l.at l.moves) l.matrix ≡ after (drop l.fn.start l.fn.moves) l.fn.matrix;
 }
