@@ -1,17 +1,47 @@
 //! Ops on the matrix, made and taken back.
-ghost use Rattle.std.specs.Prelude.{◌≡◌};
+ghost use Rattle.std.specs.Prelude.{◌≡◌, ◌≤◌, drop};
 ghost use Rattle.paull_matrix.specs.Colourings.{Colouring};
 ghost use Rattle.paull_chain.specs.Works.{after, after_op, AreValidMoves, IsValidOp, MovesMade, OpMade};
 
+use dxc_num::{Middle, Shape};
 use paull_matrix::Matrix;
 use roll_plan::{LegOp, Move};
 
+// Makes those moves from a place on that go from one middle to another, and tells where the next one stands.
+#[inline(always)]
+fn make_run(
+    matrix: &mut Matrix,
+    shape: Shape,
+    moves: &[Move],
+    start: usize,
+    from: Middle,
+    to: Middle,
+) -> usize
+    requires same { shape ≡ matrix.old.shape }
+    requires valid { AreValidMoves (drop start moves.now) matrix.old }
+    ensures made { AreValidMoves (drop result moves.now) matrix.new × (after (drop result moves.now) matrix.new ≡ after (drop start moves.now) matrix.old) }
+    ensures on { start ≤ result }
+    ensures shape { matrix.new.shape ≡ matrix.old.shape }
+{
+    let mut at = start;
+    while at < moves.len() && moves[at].from == from && moves[at].to == to {
+        matrix.turn_in(shape, moves[at].leg, from, to);
+        at += 1;
+    }
+    at
+}
+
+// The moves of a chain come in three runs, and within one what hangs on its middles alone is reckoned once.
 fn make_moves(matrix: &mut Matrix, moves: &[Move])
     requires { AreValidMoves moves.now matrix.old }
     ensures { matrix.new ≡ after moves.now matrix.old }
 {
-    for step in moves {
-        matrix.turn(step.leg, step.from, step.to);
+    let shape = matrix.shape();
+    let mut at = 0;
+    while at < moves.len() {
+        let step = moves[at];
+        matrix.turn_in(shape, step.leg, step.from, step.to);
+        at = make_run(matrix, shape, moves, at + 1, step.from, step.to);
     }
 }
 

@@ -1,3 +1,4 @@
 pub mod Middles
 pub mod Colourings
 pub mod Indexes
+pub mod CellCodes

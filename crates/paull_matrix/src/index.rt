@@ -2,6 +2,7 @@ ghost use Rattle.std.specs.Prelude.{◌≡◌, ◌≢◌, ◌≤◌, ◌<◌, �
 ghost use Rattle.paull_matrix.specs.Middles.{IsSetOf};
 ghost use Rattle.paull_matrix.specs.Indexes.{Cells, HasFreeSets, cell_of, leg_in, no_cells, with_cell, word_of};
 
+use crate::cell::Cell;
 use crate::middle_set::MiddleSet;
 use dxc_causes::NoMemory;
 use dxc_num::{Leg, Middle, Shape};
@@ -12,7 +13,7 @@ use std::marker::Model;
 #[derive(Drop)]
 pub struct Index {
     shape: Shape,
-    legs: Vec<Option<Leg>>,
+    legs: Vec<Cell>,
     free: Vec<u64>,
 }
 
@@ -72,7 +73,7 @@ impl Index {
         ensures { IfOk result (λ x. x ≡ no_cells shape) }
     {
         let modules = shape.modules() as usize;
-        let legs = Vec::from_elem(alloc, None, modules * (shape.slots() as usize + 1))?;
+        let legs = Vec::from_elem(alloc, Cell::free(), modules * (shape.slots() as usize + 1))?;
         let free = Vec::from_elem(alloc, all_free(), modules * 2)?;
         Ok(Index { shape, legs, free })
     }
@@ -82,7 +83,7 @@ impl Index {
         requires { («module» < self.now.shape.modules) × (middle.0 ≤ self.now.shape.slots) }
         ensures { result ≡ leg_in self.now «module» middle.0 }
     {
-        self.legs[cell(self.shape, module, middle)]
+        self.legs[cell(self.shape, module, middle)].get()
     }
 
     /// The middles on which no leg of the module is.
@@ -100,7 +101,7 @@ impl Index {
         requires { («module» < self.old.shape.modules) × (middle.0 ≤ self.old.shape.slots) }
         ensures { self.new ≡ with_cell «module» middle.0 (Some leg) self.old }
     {
-        self.legs[cell(self.shape, module, middle)] = Some(leg);
+        self.legs[cell(self.shape, module, middle)] = Cell::of(leg);
         let at = word(module, middle);
         self.free[at] = taken(self.free[at], middle);
     }
@@ -111,21 +112,22 @@ impl Index {
         requires { («module» < self.old.shape.modules) × (middle.0 ≤ self.old.shape.slots) }
         ensures { self.new ≡ with_cell «module» middle.0 None self.old }
     {
-        self.legs[cell(self.shape, module, middle)] = None;
+        self.legs[cell(self.shape, module, middle)] = Cell::free();
         let at = word(module, middle);
         self.free[at] = freed(self.free[at], middle);
     }
 
-    /// Puts a leg of the module that is on one middle on another one.
+    /// Puts a leg of the module that is on one middle on another one. The shape is the index's own, which the caller has at hand.
     #[inline(always)]
-    pub fn turn(&mut self, module: u16, from: Middle, to: Middle, leg: Leg)
-        requires { («module» < self.old.shape.modules) × (from.0 ≤ self.old.shape.slots) × (to.0 ≤ self.old.shape.slots) }
+    pub fn turn(&mut self, shape: Shape, module: u16, from: Middle, to: Middle, leg: Leg)
+        requires same { shape ≡ self.old.shape }
+        requires inside { («module» < self.old.shape.modules) × (from.0 ≤ self.old.shape.slots) × (to.0 ≤ self.old.shape.slots) }
         ensures { self.new ≡ with_cell «module» to.0 (Some leg) (with_cell «module» from.0 None self.old) }
     {
-        let left = cell(self.shape, module, from);
-        let reached = cell(self.shape, module, to);
-        self.legs[left] = None;
-        self.legs[reached] = Some(leg);
+        let left = cell(shape, module, from);
+        let reached = cell(shape, module, to);
+        self.legs[left] = Cell::free();
+        self.legs[reached] = Cell::of(leg);
         let from_at = word(module, from);
         self.free[from_at] = freed(self.free[from_at], from);
         let to_at = word(module, to);
@@ -136,7 +138,7 @@ impl Index {
     pub fn clear(&mut self)
         ensures { self.new ≡ no_cells self.old.shape }
     {
-        self.legs.as_mut_slice().fill(None);
+        self.legs.as_mut_slice().fill(Cell::free());
         self.free.as_mut_slice().fill(all_free());
     }
 }

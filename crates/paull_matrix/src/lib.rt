@@ -1,6 +1,7 @@
 //! The matrix of a network (Paull 1962): which leg stands on which middle, indexed by rows and columns.
 #![tactic(auto)]
 
+mod cell;
 mod index;
 mod matrix;
 mod middle_set;
