@@ -8,7 +8,7 @@ use Rattle.dxc_outside.specs.Links.{LinkState}
 use Rattle.dxc_outside.specs.declared.listener.Came.{Came}
 use Rattle.dxc_outside.specs.declared.listener.Came.TheVariants.{Link, End, Failed}
 use Rattle.standby_link.specs.declared.end.StandbyEnd.{StandbyEnd}
-use Rattle.standby_link.specs.Serves.{bytes_in}
+use Rattle.standby_link.specs.Serves.{IsPrompt, bytes_in}
 use Rattle.craft_words.specs.declared.status.Status.{Status}
 use Rattle.craft_words.specs.declared.status.Status.TheVariants.{CannotOpen, Done}
 use Rattle.craft_jobs.specs.Counts.{RoseBy}
@@ -24,11 +24,11 @@ pub no_disk_fault : (disk_told link_told : Type 0) (k k' : LinkState) (d d' : Di
 no_disk_fault disk_told link_told k k' d d' end (inl unbegun) counts sound rose = never_rises d.room d.margin d.faults d'.faults d'.margin 1 counts sound.margin (omega arith) sound.enough (unbegun.spent sound.enough).margin rose
 no_disk_fault disk_told link_told k k' d d' end (inr served) counts sound rose = never_rises d.room d.margin d.faults d'.faults d'.margin (1 + length (bytes_in served.came)) counts sound.margin (omega arith) sound.enough (served.spent sound.enough).1 rose
 
-module _ (opener_told disk_told listener_told link_told : Type 0) {D L K : Type 0} (disk : D → DiskState) (listener : L → ListenerState K) (link : K → LinkState) (journal_at : List ℕ → Option D) (listener_at : List ℕ → Option L) (faults later : ℕ) (journal address : List ℕ) (b : HasBoth opener_told disk_told listener_told link_told disk listener link journal_at listener_at journal address) (door : L) where
+module _ (opener_told disk_told listener_told link_told : Type 0) {D L K : Type 0} (disk : D → DiskState) (listener : L → ListenerState K) (link : K → LinkState) (begun : LinkState → Type 0) (journal_at : List ℕ → Option D) (listener_at : List ℕ → Option L) (faults later : ℕ) (journal address : List ℕ) (b : HasBoth opener_told disk_told listener_told link_told disk listener link begun journal_at listener_at journal address) (door : L) where
   -- the first link was served
   pub served_one : (first : Came K) (caller served : K) (copy : D) (end : StandbyEnd) (status : Status) → first ≡ Link caller → status ≡ status_of_standby end → IsFirst listener_told link (listener b.door) (listener door) first → RanStandby disk_told link_told (link caller) (link served) (disk b.copy) (disk copy) end
-      → StandsBy opener_told disk_told listener_told link_told disk listener link journal_at listener_at faults later journal address status
-  served_one first caller served copy end status is status_is came ran =
+      → IsPrompt begun link_told (link caller) (link served) → StandsBy opener_told disk_told listener_told link_told disk listener link begun journal_at listener_at faults later journal address status
+  served_one first caller served copy end status is status_is came ran prompt =
       let one = subst (λ (f : Came K). IsFirst listener_told link (listener b.door) (listener door) f) is came in
       inr (inr (
         b,
@@ -40,18 +40,19 @@ module _ (opener_told disk_told listener_told link_told : Type 0) {D L K : Type 
           new_disk = copy;
           end = end;
           ran = ran;
+          prompt = prompt;
           status_is = status_is;
         })),
       ))
 
   -- the listener said End
-  pub nobody_came : (first : Came K) → first ≡ End → IsFirst listener_told link (listener b.door) (listener door) first → StandsBy opener_told disk_told listener_told link_told disk listener link journal_at listener_at faults later journal address Done
+  pub nobody_came : (first : Came K) → first ≡ End → IsFirst listener_told link (listener b.door) (listener door) first → StandsBy opener_told disk_told listener_told link_told disk listener link begun journal_at listener_at faults later journal address Done
   nobody_came first is came =
       let one = subst (λ (f : Came K). IsFirst listener_told link (listener b.door) (listener door) f) is came in
       inr (inr (b, inl (record { status_is = refl; new_door = door; ended = one.ended refl; nobody = λ t. one.coming t ∙ one.end t refl })))
 
   -- 16 accepts failed
-  pub none_accepted : (first : Came K) → first ≡ Failed → IsFirst listener_told link (listener b.door) (listener door) first → StandsBy opener_told disk_told listener_told link_told disk listener link journal_at listener_at faults later journal address CannotOpen
+  pub none_accepted : (first : Came K) → first ≡ Failed → IsFirst listener_told link (listener b.door) (listener door) first → StandsBy opener_told disk_told listener_told link_told disk listener link begun journal_at listener_at faults later journal address CannotOpen
   none_accepted first is came =
       let one = subst (λ (f : Came K). IsFirst listener_told link (listener b.door) (listener door) f) is came in
       inr (inr (b, inr (inl (record { status_is = refl; new_door = door; risen = one.risen refl; unsound = one.sound }))))

@@ -18,9 +18,9 @@ standby_words standby.BadMessage is = cc
 standby_words standby.NotEmpty is = cc
 standby_words standby.Spent is = cc
 
-pub stands_words : (opener_told told listener_told link_told : Type 0) {D L K : Type 0} (state : D → DiskState) (listener : L → ListenerState K) (link : K → LinkState) (journal_at : List ℕ → Option D) (listener_at : List ℕ → Option L) (faults later : ℕ) (journal address : List ℕ) (status : Status)
-    → StandsBy opener_told told listener_told link_told state listener link journal_at listener_at faults later journal address status → status ≡ BadWords → ⊥
-stands_words opener_told told listener_told link_told state listener link journal_at listener_at faults later journal address status stands is = elim stands [
+pub stands_words : (opener_told told listener_told link_told : Type 0) {D L K : Type 0} (state : D → DiskState) (listener : L → ListenerState K) (link : K → LinkState) (begun : LinkState → Type 0) (journal_at : List ℕ → Option D) (listener_at : List ℕ → Option L) (faults later : ℕ) (journal address : List ℕ) (status : Status)
+    → StandsBy opener_told told listener_told link_told state listener link begun journal_at listener_at faults later journal address status → status ≡ BadWords → ⊥
+stands_words opener_told told listener_told link_told state listener link begun journal_at listener_at faults later journal address status stands is = elim stands [
   | inl memory ↦ (let no = sym memory ∙ is in cc)
   | inr further ↦ (elim further [
     | inl closed ↦ (let no = sym closed.0 ∙ is in cc)

@@ -9,7 +9,7 @@ use Rattle.dxc_outside.specs.declared.listener.Came.{Came}
 use Rattle.dxc_outside.specs.declared.listener.Came.TheVariants as answer
 use Rattle.standby_link.specs.declared.end.StandbyEnd.{StandbyEnd}
 use Rattle.standby_link.specs.declared.end.StandbyEnd.TheVariants as standby
-use Rattle.standby_link.specs.Serves.{Served, Unbegun, bytes_in}
+use Rattle.standby_link.specs.Serves.{IsPrompt, Served, Unbegun, bytes_in}
 use Rattle.craft_words.specs.declared.status.Status.{Status}
 use Rattle.craft_words.specs.declared.status.Status.TheVariants.{Done, Disk, CannotOpen, NoMemory, Link, Spent, BadMessage, NotEmpty}
 use Rattle.craft_jobs.specs.Counts.{RoseBy}
@@ -57,7 +57,7 @@ module _ (disk_told link_told : Type 0) (k k' : LinkState) (d d' : DiskState) (e
     pub sound_link : IsSoundLink k → (end ≢ standby.ReadFault) × (end ≢ standby.WriteFault)
     pub sound_disk : end ≡ standby.DiskFault → IsSound (1 + read_in ends) d → ⊥
 
-module _ (opener_told disk_told listener_told link_told : Type 0) {D L K : Type 0} (disk : D → DiskState) (listener : L → ListenerState K) (link : K → LinkState) where
+module _ (opener_told disk_told listener_told link_told : Type 0) {D L K : Type 0} (disk : D → DiskState) (listener : L → ListenerState K) (link : K → LinkState) (begun : LinkState → Type 0) where
   -- the disk and the listener that the opener handed out, the one by the journal's name and the other by the address
   pub record HasBoth (journal_at : List ℕ → Option D) (listener_at : List ℕ → Option L) (journal address : List ℕ) : Type 0 where
     pub copy : D
@@ -74,6 +74,7 @@ module _ (opener_told disk_told listener_told link_told : Type 0) {D L K : Type 
     pub new_disk : D
     pub end : StandbyEnd
     pub ran : RanStandby disk_told link_told (link caller) (link new_caller) (disk d) (disk new_disk) end
+    pub prompt : IsPrompt begun link_told (link caller) (link new_caller)
     pub status_is : status ≡ status_of_standby end
 
   -- the listener said End before a link came

@@ -3,6 +3,7 @@ ghost use Rattle.std.specs.Prelude.{◌≡◌, ◌∷◌, []};
 ghost use Rattle.dxc_outside.specs.Asked.{AskedFor, journal_named, listener_named};
 ghost use Rattle.craft_jobs.specs.Missing.{IsOfNoOpening};
 ghost use Rattle.craft_jobs.specs.Standbys.{IsFirst, RanStandby, StandsBy, status_of_standby};
+ghost use Rattle.standby_link.specs.Serves.{IsPrompt};
 
 use craft_words::Status;
 use dxc_disk::Disk;
@@ -23,7 +24,7 @@ pub fn run_standby<O: Opener, R: Wait>(
     address: &str,
     rt: &R,
 ) -> Status
-    ensures stands_by { StandsBy O.told O.Journal.told O.Listener.told O.Listener.Link.told O.Journal.state O.Listener.state O.Listener.Link.state (O.journal_at opener.old) (O.listener_at opener.old) (O.state opener.old).faults (O.state opener.new).faults journal.now address.now result }
+    ensures stands_by { StandsBy O.told O.Journal.told O.Listener.told O.Listener.Link.told O.Journal.state O.Listener.state O.Listener.Link.state O.Listener.Link.begun (O.journal_at opener.old) (O.listener_at opener.old) (O.state opener.old).faults (O.state opener.new).faults journal.now address.now result }
     ensures asked { AskedFor (O.asked opener.old opener.new) (journal_named journal.now ∷ listener_named address.now ∷ []) (IsOfNoOpening result) }
 {
     let mut disk = match opener.journal(alloc, journal) {
@@ -58,7 +59,8 @@ fn after_standby(end: StandbyEnd) -> Status
 
 // Serves the link on the disk to its end.
 fn stand_by<K: Link, D: Disk>(link: &mut K, disk: &mut D) -> StandbyEnd
-    ensures { RanStandby D.told K.told (K.state link.old) (K.state link.new) (D.state disk.old) (D.state disk.new) result }
+    ensures ran { RanStandby D.told K.told (K.state link.old) (K.state link.new) (D.state disk.old) (D.state disk.new) result }
+    ensures prompt { IsPrompt K.begun K.told (K.state link.old) (K.state link.new) }
 {
     serve_standby(link, disk)
 }

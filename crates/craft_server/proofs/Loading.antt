@@ -9,6 +9,7 @@ use Rattle.dxc_disk.specs.MemView.{mem_state}
 use Rattle.dxc_num.specs.Dimensions.{ports}
 use Rattle.dxc_outside.specs.Links.{LinkState}
 use Rattle.dxc_model.specs.declared.entry.Entry.{Entry}
+use Rattle.fabric_words.specs.contracts.fabric.Fabric as fabric_row
 use Rattle.shelf_file.specs.Contents.{Contents}
 use Rattle.turnstile.specs.Passing.{Gate, Token}
 use Rattle.turnstile.specs.Turning.{Each}
@@ -25,7 +26,7 @@ use Rattle.craft_session.specs.Places.{place_at}
 use Rattle.craft_session.specs.Seats.{PlaceAt, SeatAt, seat_at}
 use Rattle.craft_session.proofs.Scripts.{script_seen}
 use Rattle.dxc_load.specs.declared.summary.Summary.{Summary}
-use Rattle.dxc_load.specs.Sending.{link_state, unread}
+use Rattle.dxc_load.specs.Sending.{fabric_of, link_state, unread}
 use Rattle.craft_words.specs.declared.status.Status.{Status}
 use Rattle.craft_words.specs.declared.status.Status.TheVariants.{BadWords}
 use Rattle.craft_words.specs.declared.status.Status.TheVariants as Status_of
@@ -97,13 +98,15 @@ module _ (told users_told : Type 0) {D U : Type 0} (state : D → DiskState) (us
   p = users_opening users_state x.users
 
   -- a session on the load's element, summed up
-  summed_on : (place : PlaceAt) (k : LinkState) (v : Summary) → place ≡ place_at (arc_value x.controller.shelf) o p 1 0 → k ≡ unread number → IsSummed told place k v → IsLoadedOn told users_told state users_state number v
+  summed_on : (place : PlaceAt) (k : LinkState) (v : Summary) → place ≡ place_at (arc_value x.controller.shelf) o p 1 0 → k ≡ unread number (arc_value x.controller.fabric) → IsSummed told place k v → IsLoadedOn told users_told state users_state number v
   summed_on place k v is unread_is s =
       let l = link_state s.link in
+      let fabric = arc_value x.controller.fabric in
+      let start = unread number fabric in
       let first = place_at el.shelf o p 1 0 in
       let at : place ≡ first = is ∙ ap (λ (y : Contents). place_at y o p 1 0) el.started.shelf in
-      let served = subst (λ (q : PlaceAt). IsLoadServed told q s.new (unread number) l) at (subst (λ (m : LinkState). IsLoadServed told place s.new m l) unread_is s.served) in
-      let seen = script_seen told (Unit {0}) (Unit {0}) (state el.disk) (users_state el.users_disk) (unread number) l load_moments load_moments el.shelf first.seat s.new.seat first.users s.new.users
+      let served = subst (λ (q : PlaceAt). IsLoadServed told q s.new start l) at (subst (λ (m : LinkState). IsLoadServed told place s.new m l) unread_is s.served) in
+      let seen = script_seen told (Unit {0}) (Unit {0}) (state el.disk) (users_state el.users_disk) start l load_moments load_moments el.shelf first.seat s.new.seat first.users s.new.users
       (of_disk told state el.disk el.shelf 1 x.controller el.started) (users_of_disk users_told users_state el.users_disk el.shelf x.users el.users_started) refl refl refl served.seat.2 served.users.2 served.numbers served.users_numbers served.astray served.session in
       let seat = s.new.seat in
       let left = subst (λ (y : Opening). (h : List Entry) → Saw y seat.seen h → IsLeft seat.place seat.places y h (stock_in v)) served.seat.0 s.left in
@@ -111,22 +114,23 @@ module _ (told users_told : Type 0) {D U : Type 0} (state : D → DiskState) (us
       record {
         shelf = el.shelf;
         is_shelf = el.is_shelf;
-        fabric = arc_value x.controller.fabric;
+        fabric = fabric;
         disk = el.disk;
         fresh = el.fresh;
         opening = o;
-        opened = subst (λ (file : List ℕ). IsOpening told file el.shelf (arc_value x.controller.fabric) o) el.fresh.content el.started.opening;
+        opened = subst (λ (file : List ℕ). IsOpening told file el.shelf fabric o) el.fresh.content el.started.opening;
         users_disk = el.users_disk;
         users_fresh = el.users_fresh;
         users_opening = p;
         users_opened = subst (λ (file : List ℕ). IsUsersOpening users_told file el.shelf p) el.users_fresh.content el.users_started.opening;
         link = s.link;
         wrote = seen.0;
+        own = s.link.carrier.own ∙ fabric_row.the_row.coded.inj (fabric_of s.link) fabric seen.0.exchanged.lasting;
         all_read = served.all_read;
         left = left_alone o h (stock_in v) (subst (λ (n : ℕ). IsLeft n 1 o h (stock_in v)) served.seat.1 (subst (λ (n : ℕ). IsLeft seat.place n o h (stock_in v)) served.seat.2 (left h seen.1)));
         sum = s.sum;
       }
 
-  pub loaded_on : (place : PlaceAt) (k : LinkState) (stops later : ℕ) (r : Result Summary Status) → place ≡ place_at (arc_value x.controller.shelf) o p 1 0 → k ≡ unread number → MatchResult r (IsSummed told place k) (NotLoaded stops later) → MatchResult r (IsLoadedOn told users_told state users_state number) (NotLoaded stops later)
+  pub loaded_on : (place : PlaceAt) (k : LinkState) (stops later : ℕ) (r : Result Summary Status) → place ≡ place_at (arc_value x.controller.shelf) o p 1 0 → k ≡ unread number (arc_value x.controller.fabric) → MatchResult r (IsSummed told place k) (NotLoaded stops later) → MatchResult r (IsLoadedOn told users_told state users_state number) (NotLoaded stops later)
   loaded_on place k stops later (Ok v) is unread_is s = summed_on place k v is unread_is s
   loaded_on place k stops later (Err e) is unread_is not = not

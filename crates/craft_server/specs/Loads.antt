@@ -70,7 +70,7 @@ pub record IsSummed (disk_told : Type 0) (old : PlaceAt) (k : LinkState) (v : Su
   pub sum : IsSumOf link v
 
 -- The script was sent to one session, alone on new journals, and all of it was read. Connections and switches are what its own history comes to;
--- codes and bytes are those of its link.
+-- codes and bytes are those of its link, whose worker is one of the session's fabric.
 pub record IsLoadedOn (told users_told : Type 0) {D U : Type 0} (state : D → DiskState) (users_state : U → DiskState) (number : ℕ) (v : Summary) : Type 0 where
   pub shelf : Contents
   pub is_shelf : IsLoadShelf shelf
@@ -84,7 +84,8 @@ pub record IsLoadedOn (told users_told : Type 0) {D U : Type 0} (state : D → D
   pub users_opening : UsersOpening
   pub users_opened : IsUsersOpening users_told [] shelf users_opening
   pub link : LoadLink
-  pub wrote : WroteAll told (state disk) (users_state users_disk) 0 opening users_opening (Unit {0}) load_moments load_moments shelf (Unit {0}) (unread number) (link_state link)
+  pub wrote : WroteAll told (state disk) (users_state users_disk) 0 opening users_opening (Unit {0}) load_moments load_moments shelf (Unit {0}) (unread number fabric) (link_state link)
+  pub own : link.carrier.seat.reader.fabric ≡ fabric
   pub all_read : (link_state link).left ≡ []
   pub left : IsStockAfter opening wrote.answered.walk.history (stock_in v)
   pub sum : IsSumOf link v

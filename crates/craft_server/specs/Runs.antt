@@ -21,7 +21,7 @@ use Rattle.craft_server.specs.Scripts.{RanSession}
 use Rattle.craft_server.specs.Serving.{IsServing, named_in}
 use Rattle.craft_jobs.specs.Standbys.{StandsBy}
 
--- whether opener, disk, terminal, clock, peer, listener and the listener's links tell what they hold
+-- whether opener, disk, terminal, clock, peer, listener and the listener's links tell what they hold, and where reads of terminal and links began
 pub record Told : Type 1 where
   pub opener : Type 0
   pub disk : Type 0
@@ -30,9 +30,11 @@ pub record Told : Type 1 where
   pub peer : Type 0
   pub listener : Type 0
   pub link : Type 0
+  pub terminal_begun : LinkState → Type 0
+  pub link_begun : LinkState → Type 0
 
-abbrev pub told_by : (opener disk terminal clock peer listener link : Type 0) → Told
-told_by opener disk terminal clock peer listener link = record { opener = opener; disk = disk; terminal = terminal; clock = clock; peer = peer; listener = listener; link = link }
+abbrev pub told_by : (opener disk terminal clock peer listener link : Type 0) (terminal_begun link_begun : LinkState → Type 0) → Told
+told_by opener disk terminal clock peer listener link terminal_begun link_begun = record { opener = opener; disk = disk; terminal = terminal; clock = clock; peer = peer; listener = listener; link = link; terminal_begun = terminal_begun; link_begun = link_begun }
 
 -- what the program is lent, at a moment
 pub record Lent (D : Type 0) : Type 0 where
@@ -53,7 +55,7 @@ pub record IsUntouched {D : Type 0} (before after : Lent D) : Type 0 where
 module _ (told : Told) {D : Type 0} (state : D → DiskState) where
   -- one session was served over the terminal
   pub record RanScript (before after : Lent D) (s : Contents) (o : Opening) (p : UsersOpening) (disk users_disk : D) (status : Status) : Type 0 where
-    pub session : RanSession told.disk told.terminal told.clock (state disk) (state users_disk) s o p before.terminal after.terminal before.clock after.clock before.sources.stops after.sources.stops status
+    pub session : RanSession told.disk told.terminal told.clock told.terminal_begun (state disk) (state users_disk) s o p before.terminal after.terminal before.clock after.clock before.sources.stops after.sources.stops status
     pub spawner : after.spawner ≡ before.spawner
 
   -- the table was written to the terminal
@@ -101,7 +103,7 @@ module _ (told : Told) {D K L J : Type 0} (state : D → DiskState) (peer : K �
 
   -- a standby ran, by what the opener would hand out, with terminal, clock, spawner and gate untouched
   pub record RanBy (journal address : List ℕ) (before after : Lent D) (status : Status) : Type 0 where
-    pub stands_by : StandsBy told.opener told.disk told.listener told.link state listener link before.sources.journal_at listener_at before.sources.opener.faults after.sources.opener.faults journal address status
+    pub stands_by : StandsBy told.opener told.disk told.listener told.link state listener link told.link_begun before.sources.journal_at listener_at before.sources.opener.faults after.sources.opener.faults journal address status
     pub untouched : IsUntouched before after
     pub gate : after.sources.stops ≡ before.sources.stops
 

@@ -52,7 +52,7 @@ fn load_link(
     requires seats { AreNew (arc_value fabric) 0 seats.items }
     requires one { length seats.items ≡ 1 }
     requires room { (written.items ≡ []) × (2 ^ 21 ≤ vec_capacity written) }
-    ensures { link_state result ≡ unread number }
+    ensures { link_state result ≡ unread number (arc_value fabric) }
 {
     LoadLink::new(number, fabric, seats.remove(0), written)
 }

@@ -15,6 +15,7 @@ pub mod Reporting
 pub mod Ends
 pub mod Consulted
 pub mod SessionSteps
+pub mod Prompt
 pub mod Answering
 pub mod Telling
 pub mod Playing

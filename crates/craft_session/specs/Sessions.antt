@@ -1,5 +1,5 @@
 -- How a session stands over its link, and how it ends.
-use Rattle.std.specs.Prelude.{◌≡◌, ◌≢◌, ◌⊎◌, ℕ, Bool, false, List, [], ◌∷◌, ◌++◌}
+use Rattle.std.specs.Prelude.{◌≡◌, ◌≢◌, ◌⊎◌, ◌≤◌, ◌<◌, ℕ, Bool, false, List, [], ◌∷◌, ◌++◌}
 use base.Stored.{Gv}
 use Rattle.dxc_causes.specs.Causes.{Rose}
 use Rattle.dxc_outside.specs.declared.send.Sent.{Sent}
@@ -204,6 +204,21 @@ module _ (l : Language Request Moment) where
     pub users_saw : SawUsers users.opening users.seen users_before
     pub attending : Attending
     pub session : IsSession told clock_told k j c d (record { opening = old.opening; users = users.opening; place = old.place; before = before; users_before = users_before }) (record { seen = new.seen; users = then_users.seen; attending = attending }) end
+
+  -- The read of this number began where the session had served all that was read before, and written every byte for it.
+  pub record ReadServed (begun : LinkState → Type 0) (told clock_told : Type 0) (k : LinkState) (c : List Moment) (b : Beginning) (number : ℕ) : Type 0 where
+    pub link : LinkState
+    pub begun_at : begun link
+    pub number_is : link.reads ≡ number
+    pub clock : List Moment
+    pub now : Now
+    pub served : Served told clock_told k link c clock b now
+
+  -- Each read that was counted began so, whatever histories the seats had seen at the call: nothing that is to be written waits for what comes next.
+  abbrev pub IsPrompt : (begun : LinkState → Type 0) (told clock_told : Type 0) (k j : LinkState) (c : List Moment) (old : SeatAt) (users : UserSeatAt) → Type 0
+  IsPrompt begun told clock_told k j c old users =
+      (b : Beginning) → IsAt b old users → Saw b.opening old.seen b.before → SawUsers b.users users.seen b.users_before
+      → (number : ℕ) → k.reads ≤ number → number < j.reads → ReadServed begun told clock_told k c b number
 
 -- calls that only wrote
 pub record Writes (told : Type 0) (k j : LinkState) : Type 0 where

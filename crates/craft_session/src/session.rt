@@ -10,7 +10,7 @@ ghost use Rattle.craft_session.specs.Gated.{AreEntered};
 ghost use Rattle.craft_session.specs.Meanings.{language};
 ghost use Rattle.craft_session.specs.Desks.{now, input_of, ConsultedIs, IsAnswered};
 ghost use Rattle.craft_session.specs.Seats.{IsSameSeat, IsSameUserSeat};
-ghost use Rattle.craft_session.specs.Sessions.{Beginning, IsAt, Writes, Stands, Goes, IsServed};
+ghost use Rattle.craft_session.specs.Sessions.{Beginning, IsAt, Writes, Stands, Goes, IsPrompt, IsServed};
 ghost use Rattle.craft_session.specs.Walks.{nobody};
 ghost use Rattle.user_admin.specs.Turns.{AreNumbered as AreUsersNumbered};
 ghost use Rattle.xc_core.specs.Turns.{AreNumbered, SawNoneAstray};
@@ -218,6 +218,7 @@ pub fn serve_session<K: Link, C: Clock, G: Gate, D: Disk + Drop, U: Disk + Drop,
     ensures users_numbers { AreUsersNumbered place.new.users.places place.new.users.seen }
     ensures astray { SawNoneAstray D.told place.new.seat.seen }
     ensures session { IsServed (language place.old.shelf) K.told C.told (K.state link.old) (K.state link.new) (C.coming clock.old) (C.coming clock.new) place.old.seat place.new.seat place.old.users place.new.users result }
+    ensures prompt { IsPrompt (language place.old.shelf) K.begun K.told C.told (K.state link.old) (K.state link.new) (C.coming clock.old) place.old.seat place.old.users }
     ensures end { (result ≡ SessionEnd.End) ↔ IsTrue (K.state link.new).ended }
     ensures all_read { K.told → result ≡ SessionEnd.End → (K.state link.new).left ≡ [] }
     ensures read_fault { result ≡ SessionEnd.ReadFault → Rose (K.state link.old).read_faults (K.state link.new).read_faults }
@@ -254,6 +255,7 @@ fn serve<K: Link, C: Clock, G: Gate, D: Disk + Drop, U: Disk + Drop, R: Wait>(
     ensures seat { IsSameSeat desk.old.seat desk.new.seat }
     ensures users { IsSameUserSeat desk.old.users.seat desk.new.users.seat }
     ensures session { IsServed (language (arc_value desk.old.shelf)) K.told C.told (K.state link.old) (K.state link.new) (C.coming clock.old) (C.coming clock.new) desk.old.seat desk.new.seat desk.old.users.seat desk.new.users.seat result }
+    ensures prompt { IsPrompt (language (arc_value desk.old.shelf)) K.begun K.told C.told (K.state link.old) (K.state link.new) (C.coming clock.old) desk.old.seat desk.old.users.seat }
     ensures end { (result ≡ SessionEnd.End) ↔ IsTrue (K.state link.new).ended }
     ensures all_read { K.told → result ≡ SessionEnd.End → (K.state link.new).left ≡ [] }
     ensures read_fault { result ≡ SessionEnd.ReadFault → Rose (K.state link.old).read_faults (K.state link.new).read_faults }

@@ -2,7 +2,7 @@ ghost use Rattle.std.specs.Prelude.{◌≡◌, ◌≢◌, ◌⊎◌, ◌↔◌, 
 ghost use Rattle.dxc_causes.specs.Causes.{HasCause, Rose, Counted};
 ghost use Rattle.dxc_outside.specs.Links.{LinkState, IsSoundLink};
 ghost use Rattle.standby_link.specs.Readings.{size};
-ghost use Rattle.standby_link.specs.Serves.{Goes, Ran, Served, IsSpentBy, Unbegun, SendsHave, IsUnfinished, IsOfItem, IsOfTurn, OnlyWrites};
+ghost use Rattle.standby_link.specs.Serves.{Goes, Ran, Served, IsPrompt, IsSpentBy, Unbegun, SendsHave, IsUnfinished, IsOfItem, IsOfTurn, OnlyWrites};
 
 use crate::end::StandbyEnd;
 use crate::in_hand::{InHand, judge, size_of_item};
@@ -17,6 +17,7 @@ const READS: u64 = 1 << 32;
 /// as the link ends, by a fault, by bytes that are no item, or after 2^32 reads. It takes no memory.
 pub fn serve_standby<K: Link, D: Disk>(link: &mut K, disk: &mut D) -> StandbyEnd
     ensures served { Unbegun D.told (K.state link.old) (K.state link.new) (D.state disk.old) (D.state disk.new) result ⊎ Served K.told D.told (D.state disk.old).room ((D.state disk.old).faults + (D.state disk.old).margin) (K.state link.old) (K.state link.new) (D.state disk.new) result }
+    ensures prompt { IsPrompt K.begun K.told (K.state link.old) (K.state link.new) }
     ensures not_empty { D.told → (D.state disk.old).reads_as ≢ [] → (result ≡ StandbyEnd.NotEmpty) ⊎ (result ≡ StandbyEnd.DiskFault) }
     ensures empty { D.told → result ≡ StandbyEnd.NotEmpty → (D.state disk.old).reads_as ≢ [] }
     ensures end { (K.state link.old).ended ≡ false → ((result ≡ StandbyEnd.End) ↔ IsTrue (K.state link.new).ended) }
@@ -39,6 +40,7 @@ pub fn serve_standby<K: Link, D: Disk>(link: &mut K, disk: &mut D) -> StandbyEnd
 fn serve<K: Link, D: Disk>(link: &mut K, disk: &mut D) -> StandbyEnd
     requires { D.told → (D.state disk.old).reads_as ≡ [] }
     ensures served { (room sum : ℕ) → IsSpentBy 1 room sum (D.state disk.old) → Served K.told D.told room sum (K.state link.old) (K.state link.new) (D.state disk.new) result }
+    ensures prompt { IsPrompt K.begun K.told (K.state link.old) (K.state link.new) }
     ensures end { (result ≡ StandbyEnd.End) ↔ IsTrue (K.state link.new).ended }
     ensures read_fault { HasCause (K.state link.old).read_faults (K.state link.new).read_faults (result ≡ StandbyEnd.ReadFault) }
     ensures no_read_fault { result ≢ StandbyEnd.ReadFault → (K.state link.new).read_faults ≡ (K.state link.old).read_faults }
@@ -81,6 +83,7 @@ fn turn<K: Link, D: Disk>(
     ensures unfinished { IfOk result (λ left. IsUnfinished inbox.new left) }
     ensures ends { IfErr result IsOfTurn }
     ensures end { (result ≡ Err StandbyEnd.End) ↔ IsTrue (K.state link.new).ended }
+    ensures begun { K.begun (K.state link.old) }
     ensures reads { Counted (K.state link.old).reads (K.state link.new).reads 1 }
     ensures read_fault { HasCause (K.state link.old).read_faults (K.state link.new).read_faults (result ≡ Err StandbyEnd.ReadFault) }
     ensures no_read_fault { result ≢ Err StandbyEnd.ReadFault → (K.state link.new).read_faults ≡ (K.state link.old).read_faults }

@@ -1,8 +1,8 @@
 use Rattle.craft_jobs.proofs.StandingBy.{no_disk_fault}
 use Rattle.craft_jobs.proofs.standby.stand_by.Goals as goal
 
-pub returns : goal.returns
-returns g c =
+pub returns-clause-ran : goal.returns-clause-ran
+returns-clause-ran g c =
     let e = c.serve_standby.ensures in
     record {
       ends = e.served;

@@ -8,7 +8,7 @@ use Rattle.craft_session.specs.Desks.{now}
 use Rattle.craft_session.specs.Gated.{AreEntered}
 use Rattle.craft_session.specs.Meanings.{language}
 use Rattle.craft_session.specs.Seats.{IsSameSeat, IsSameUserSeat}
-use Rattle.craft_session.specs.Sessions.{Beginning, IsAt, Stands}
+use Rattle.craft_session.specs.Sessions.{Beginning, IsAt, IsPrompt, Stands}
 use Rattle.craft_session.proofs.session.serve.Given as goal
 
 abbrev pub invariant-loop : goal.invariant-loop
@@ -20,6 +20,7 @@ invariant-loop g l =
       seat : IsSameSeat l.fn.desk.seat l.desk.seat;
       users : IsSameUserSeat l.fn.desk.users.seat l.desk.users.seat;
       stands : (b : Beginning) → IsAt b l.fn.desk.seat l.fn.desk.users.seat → Saw b.opening l.fn.desk.seat.seen b.before → SawUsers b.users l.fn.desk.users.seat.seen b.users_before → Stands (language (arc_value l.fn.desk.shelf)) g.K.Link.told g.C.Clock.told (state l.fn.link) (state l.link) (coming l.fn.clock) (coming l.clock) b (now l.desk) false More l.desk.reader [];
+      prompt : IsPrompt (language (arc_value l.fn.desk.shelf)) g.K.Link.begun g.K.Link.told g.C.Clock.told (state l.fn.link) (state l.link) (coming l.fn.clock) l.fn.desk.seat l.fn.desk.users.seat;
       gate : g.G.Gate.stops l.gate ≡ g.G.Gate.stops l.fn.gate;
       counted : Counted (state l.fn.link).reads (state l.link).reads l.counter;
       faults : (state l.link).read_faults ≡ (state l.fn.link).read_faults;
