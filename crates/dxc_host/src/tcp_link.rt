@@ -1,4 +1,5 @@
 ghost use Rattle.std.specs.Prelude.{[], false, ◌≡◌, IfOk};
+ghost use base.Stored.{gnil};
 
 use crate::changes::Changes;
 use crate::outbox::Outbox;
@@ -75,7 +76,10 @@ impl Link for TcpLink {
       read_faults = t.read_faults;
       write_faults = t.write_faults;
       sound = false;
+      lasting = gnil;
     } };
+
+    ghost begun = { λ _. Unit {0} };
 
     fn read(&mut self, into: &mut [u8]) -> Got {
         self.reads = self.reads.saturating_add(1);

@@ -1,4 +1,5 @@
 ghost use Rattle.std.specs.Prelude.{[], false, ◌≡◌, IfOk};
+ghost use base.Stored.{gnil};
 
 use crate::HostGate;
 use crate::changes::Changes;
@@ -91,7 +92,10 @@ impl<R: Read, W: Write, T: SystemClock> Link for TermLink<R, W, T> {
       read_faults = t.read_faults;
       write_faults = t.write_faults;
       sound = false;
+      lasting = gnil;
     } };
+
+    ghost begun = { λ _. Unit {0} };
 
     fn read(&mut self, into: &mut [u8]) -> Got {
         self.reads = self.reads.saturating_add(1);

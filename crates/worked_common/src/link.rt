@@ -40,6 +40,8 @@ impl Link for RowLink {
 
     ghost state = { λ l. link_state l.held };
 
+    ghost begun = { λ _. Unit {0} };
+
     fn read(&mut self, into: &mut [u8]) -> Got {
         self.held.read(into)
     }

@@ -1,4 +1,5 @@
 ghost use Rattle.std.specs.Prelude.{[], false};
+ghost use base.Stored.{gnil};
 
 use crate::cue::Script;
 use dxc_outside::{Got, Link, Put};
@@ -45,7 +46,10 @@ impl Link for CueLink {
       read_faults = c.read_faults;
       write_faults = c.write_faults;
       sound = false;
+      lasting = gnil;
     } };
+
+    ghost begun = { λ _. Unit {0} };
 
     fn read(&mut self, into: &mut [u8]) -> Got {
         self.reads = self.reads.saturating_add(1);
