@@ -1,3 +1,4 @@
+pub mod Calling
 pub mod Crossing
 pub mod Serves
 pub mod Starting

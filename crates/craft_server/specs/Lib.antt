@@ -1,4 +1,5 @@
 pub mod Askings
+pub mod Callers
 pub mod Statuses
 pub mod Loads
 pub mod Serving

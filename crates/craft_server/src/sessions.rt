@@ -1,3 +1,5 @@
+ghost use Rattle.craft_server.specs.Callers.{RanSessions, standing};
+
 use crate::links::serve_links;
 use craft_session::Place;
 use dxc_disk::Disk;
@@ -16,7 +18,9 @@ pub struct SessionJob<D: Disk, U: Disk, L, C, G> {
 impl<D: Disk + Drop, U: Disk + Drop, L: Listener + Drop, C: Clock + Drop, G: Gate + Drop> Task
     for SessionJob<D, U, L, C, G> {
     /// Serves callers until the listener ends or fails.
-    fn run<R: Wait>(self, rt: &R) {
+    fn run<R: Wait>(self, rt: &R)
+        ensures { RanSessions D.told C.told L.Link.told L.Link.state L.Link.begun G.stops G.asked L.told L.state self.listener (standing self.place (C.coming self.clock) self.gate) }
+    {
         let SessionJob {
             mut place,
             mut listener,
