@@ -3,8 +3,11 @@ use Rattle.std.proofs.Common.{◌≡◌, ◌∙◌, ℕ, List, Option, Result, O
 use Rattle.std.specs.Prelude.{MatchResult}
 use Rattle.dxc_disk.specs.Disks.{DiskState}
 use Rattle.dxc_outside.specs.Links.{LinkState}
+use Rattle.shelf_file.specs.Contents.{Contents}
 use Rattle.standby_link.specs.declared.mirror_disk.MirrorDisk.{MirrorDisk}
-use Rattle.xc_core.specs.States.{opening_of}
+use Rattle.user_admin.specs.Histories.{Opening as UsersOpening}
+use Rattle.user_admin.specs.States.{opening_of as users_opening}
+use Rattle.xc_core.specs.States.{Opening, opening_of}
 use Rattle.craft_element.specs.declared.opening.Controller.{Controller}
 use Rattle.craft_element.specs.declared.opening.Element.{Element}
 use Rattle.craft_words.specs.declared.status.Status.{Status}
@@ -25,16 +28,17 @@ module _ {D K : Type 0} (told link_told : Type 0) (state : D → DiskState) (lin
   mirrored names workers before after f (Err e) not = inr (inr (f, not))
 
   -- what was served on what was started
-  pub serves : (names : Named) (workers : ℕ) (before after : Sources D) (untouched P : Type 0) (status : Status) (x : Element (MirrorDisk D K) D) → IsOpenedOn told link_told state link opener_told names workers before x → P → Mirrors told link_told state link opener_told names before after untouched (λ f o u. P) status
+  pub serves : (names : Named) (workers : ℕ) (before after : Sources D) (untouched : Type 0) (P : Contents → Opening → UsersOpening → Type 0) (status : Status) (x : Element (MirrorDisk D K) D) (opened : IsOpenedOn told link_told state link opener_told names workers before x)
+      → P opened.0.0.shelf (opening_of (mirror_state state) x.controller.state) (users_opening state x.users) → Mirrors told link_told state link opener_told names before after untouched (λ f o u. P f.shelf o u.opening) status
   serves names workers before after untouched P status x opened ran =
       let h = opened.0 in
       inr (h.0, opening_of (mirror_state state) x.controller.state, begun told (mirror_state state) h.0.mirror h.0.shelf workers x.controller h.1, users_began told state opener_told names before h.0.shelf x.users opened.1, ran)
 
   -- by the names of a line, and what came of it
-  pub mirrors_for : (names other : Named) → names ≡ other → (before after : Sources D) (untouched still P Q : Type 0) (status : Status) → (untouched → still) → (P → Q)
-      → Mirrors told link_told state link opener_told names before after untouched (λ f o u. P) status → Mirrors told link_told state link opener_told other before after still (λ f o u. Q) status
+  pub mirrors_for : (names other : Named) → names ≡ other → (before after : Sources D) (untouched still : Type 0) (P Q : Contents → Opening → UsersOpening → Type 0) (status : Status) → (untouched → still) → ((s : Contents) (o : Opening) (p : UsersOpening) → P s o p → Q s o p)
+      → Mirrors told link_told state link opener_told names before after untouched (λ f o u. P f.shelf o u.opening) status → Mirrors told link_told state link opener_told other before after still (λ f o u. Q f.shelf o u.opening) status
   mirrors_for names other same before after untouched still P Q status keep on mirrors =
-      subst (λ (n : Named). Mirrors told link_told state link opener_told n before after still (λ f o u. Q) status) same (elim mirrors [
+      subst (λ (n : Named). Mirrors told link_told state link opener_told n before after still (λ f o u. Q f.shelf o u.opening) status) same (elim mirrors [
         | inl not ↦ inl (not.0, keep not.1)
-        | inr ran ↦ inr (ran.0, ran.1, ran.2, ran.3, on ran.4)
+        | inr ran ↦ inr (ran.0, ran.1, ran.2, ran.3, on ran.0.shelf ran.1 ran.3.opening ran.4)
       ])

@@ -10,6 +10,7 @@ use Rattle.journal_core.specs.declared.fault.JournalWhy.TheVariants as why
 use Rattle.shelf_file.specs.Contents.{Contents}
 use Rattle.user_admin.specs.declared.fault.UserOpenFault.{UserOpenFault}
 use Rattle.user_admin.specs.declared.fault.UserOpenFault.TheVariants as users_fault
+use Rattle.user_admin.specs.Histories.{Opening as UsersOpening}
 use Rattle.xc_core.specs.declared.fault.OpenFault.{OpenFault}
 use Rattle.xc_core.specs.declared.fault.OpenFault.TheVariants as fault
 use Rattle.xc_core.specs.States.{Opening}
@@ -106,9 +107,9 @@ opens_words opener_told told state names before after untouched done status othe
 ]
 
 -- and by these with a peer
-pub mirrors_words : {D K : Type 0} (told link_told : Type 0) (state : D → DiskState) (link : K → LinkState) (opener_told : Type 0) (names : Named) (before after : Sources D) (untouched P : Type 0) (status : Status) → (P → status ≡ BadWords → ⊥)
-    → Mirrors told link_told state link opener_told names before after untouched (λ f o u. P) status → status ≡ BadWords → ⊥
+pub mirrors_words : {D K : Type 0} (told link_told : Type 0) (state : D → DiskState) (link : K → LinkState) (opener_told : Type 0) (names : Named) (before after : Sources D) (untouched : Type 0) (P : Contents → Opening → UsersOpening → Type 0) (status : Status) → ((s : Contents) (o : Opening) (p : UsersOpening) → P s o p → status ≡ BadWords → ⊥)
+    → Mirrors told link_told state link opener_told names before after untouched (λ f o u. P f.shelf o u.opening) status → status ≡ BadWords → ⊥
 mirrors_words told link_told state link opener_told names before after untouched P status other mirrors is = elim mirrors [
   | inl not ↦ not_mirrored_ends told link_told state link opener_told names before after status not.0 (subst IsOfNoOpening (sym is) tt)
-  | inr ran ↦ other ran.4 is
+  | inr ran ↦ other ran.0.shelf ran.1 ran.3.opening ran.4 is
 ]

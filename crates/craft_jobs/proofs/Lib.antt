@@ -1,5 +1,6 @@
 pub mod Counting
 pub mod Faulting
+pub mod Framing
 pub mod Handing
 pub mod Jobs
 pub mod StandingBy

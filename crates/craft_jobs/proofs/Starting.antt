@@ -1,11 +1,21 @@
 -- Starts, one after another.
-use Rattle.std.proofs.Common.{◌≡◌, ◌+◌, ◌<◌, ◌∙◌, ℕ, arith, refl, subst}
+use Rattle.std.proofs.Common.{◌≡◌, ◌+◌, ◌<◌, ◌∙◌, ℕ, List, [], ◌∷◌, ◌++◌, ap, arith, refl, subst}
 use Rattle.dxc_causes.specs.Causes.{Counted}
+use Rattle.dxc_outside.specs.Jobs.{AnyJob, any_job, any_jobs}
 use Rattle.dxc_outside.specs.declared.spawner.Started.{Started}
 use Rattle.dxc_outside.specs.declared.spawner.Started.TheVariants.{Running, Failed}
 use Rattle.dxc_outside.specs.Threads.{SpawnerState, IsStart, IsWait}
 use Rattle.craft_jobs.specs.Starts.{AreStarts}
 use Rattle.craft_jobs.proofs.Counting.{rose_more}
+
+-- none was started yet
+pub none_yet : (first : SpawnerState) → AreStarts 0 first first Running
+none_yet first = record {
+  running = λ _. (omega arith, refl);
+  no_more = omega arith;
+  later = omega arith;
+  failed = λ bad. cc;
+}
 
 -- one more job was started
 pub one_more : (n : ℕ) (first old new : SpawnerState) (s : Started) → s ≡ Running → AreStarts n first old Running → IsStart old new s → AreStarts (n + 1) first new Running
@@ -70,3 +80,8 @@ waited_for n first old new s starts wait =
         last = wait.last_failed ∙ f.last;
       };
     }
+
+-- one job behind others
+pub any_more : {J : Type 0} (jobs : List J) (job : J) → any_jobs (jobs ++ job ∷ []) ≡ any_jobs jobs ++ any_job job ∷ []
+any_more [] job = refl
+any_more (j ∷ js) job = ap (λ (l : List AnyJob). any_job j ∷ l) (any_more js job)

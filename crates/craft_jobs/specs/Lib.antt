@@ -1,4 +1,5 @@
 pub mod Counts
+pub mod Framed
 pub mod Handed
 pub mod Missing
 pub mod Standbys

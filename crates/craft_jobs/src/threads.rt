@@ -1,4 +1,5 @@
-ghost use Rattle.std.specs.Prelude.{◌≡◌, ◌+◌, vec_len, true};
+ghost use Rattle.std.specs.Prelude.{◌≡◌, ◌+◌, ◌++◌, vec_len, true};
+ghost use Rattle.dxc_outside.specs.Jobs.{any_jobs};
 ghost use Rattle.craft_jobs.specs.Starts.{AreStarts};
 
 use dxc_outside::{Spawner, Started, Task};
@@ -10,7 +11,8 @@ fn start_each<J: Task + Send + Drop + 'static, P: Spawner, R: Wait>(
     jobs: Vec<J>,
     rt: &R,
 ) -> Started
-    ensures { AreStarts (vec_len jobs) (P.state spawner.old) (P.state spawner.new) result }
+    ensures starts { AreStarts (vec_len jobs) (P.state spawner.old) (P.state spawner.new) result }
+    ensures handed { result ≡ Started.Running → P.handed spawner.old spawner.new (any_jobs jobs.items) }
 {
     for job in jobs {
         if let Started::Failed = spawner.start(job, rt) {
@@ -27,7 +29,8 @@ fn start_all<J: Task + Send + Drop + 'static, K: Task + Send + Drop + 'static, P
     sessions: Vec<K>,
     rt: &R,
 ) -> Started
-    ensures { AreStarts (vec_len workers + vec_len sessions) (P.state spawner.old) (P.state spawner.new) result }
+    ensures starts { AreStarts (vec_len workers + vec_len sessions) (P.state spawner.old) (P.state spawner.new) result }
+    ensures handed { result ≡ Started.Running → P.handed spawner.old spawner.new (any_jobs workers.items ++ any_jobs sessions.items) }
 {
     match start_each(spawner, workers, rt) {
         Started::Running => start_each(spawner, sessions, rt),
@@ -45,6 +48,8 @@ pub fn run_all<
 >(spawner: &mut P, workers: Vec<J>, sessions: Vec<K>, rt: &R) -> Started
     ensures starts { AreStarts (vec_len workers + vec_len sessions) (P.state spawner.old) (P.state spawner.new) result }
     ensures waited { (P.state spawner.new).waited ≡ true }
+    // Where all run, the spawner was handed these jobs, in this order and no other.
+    ensures handed { result ≡ Started.Running → P.handed spawner.old spawner.new (any_jobs workers.items ++ any_jobs sessions.items) }
 {
     let started = start_all(spawner, workers, sessions, rt);
     spawner.wait_all(rt);

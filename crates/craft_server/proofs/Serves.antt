@@ -1,14 +1,19 @@
 -- What became of the jobs of a controller that is served.
-use Rattle.std.proofs.Common.{◌≡◌, ◌≢◌, ◌≤◌, ◌∙◌, ℕ, arith, true, inl, inr, refl, sym}
+use Rattle.std.proofs.Common.{◌≡◌, ◌≢◌, ◌+◌, ◌≤◌, ◌∙◌, ℕ, arith, true, inl, inr, refl, subst, sym}
 use Rattle.dxc_causes.specs.Causes.{Rose}
 use Rattle.dxc_outside.specs.declared.spawner.Started.{Started}
 use Rattle.dxc_outside.specs.declared.spawner.Started.TheVariants.{Running, Failed}
 use Rattle.dxc_outside.specs.Threads.{SpawnerState}
+use Rattle.shelf_file.specs.Contents.{Contents}
+use Rattle.user_admin.specs.Histories.{Opening as UsersOpening}
+use Rattle.xc_core.specs.States.{Opening}
 use Rattle.craft_jobs.specs.Starts.{AreStarts}
 use Rattle.craft_jobs.proofs.Counting.{rose_behind}
 use Rattle.craft_words.specs.declared.status.Status.{Status}
 use Rattle.craft_words.specs.declared.status.Status.TheVariants.{Done, CannotOpen, NoThread, NoMemory}
-use Rattle.craft_server.specs.Serving.{IsServing}
+use Rattle.craft_element.specs.Openings.{Sources}
+use Rattle.craft_server.specs.Runs.{Lent, RanServe}
+use Rattle.craft_server.specs.Serving.{HandedJobs, IsServing, JobsTold, ServedSite, SiteAt}
 
 module _ (jobs faults later : ℕ) (old new : SpawnerState) where
   -- all were started
@@ -61,3 +66,22 @@ serving_behind jobs faults mid later old new status more s = record {
   not_started = s.not_started;
   only = s.only;
 }
+
+module _ (D U : Type 0) {N L C G : Type 0} (told : JobsTold N L C G) where
+  -- and by the shelf that was found
+  pub served_on : (site : SiteAt) {J : Type 0} (before after : Sources J) (mid : ℕ) (old new : SpawnerState) (s t : Contents) (o : Opening) (p : UsersOpening) (status : Status) → after.stops ≡ before.stops → before.opener.faults ≤ mid → t ≡ s
+      → IsServing (site.workers + 16) mid after.opener.faults old new status → (status ≡ Done → HandedJobs D U told site t o p) → ServedSite D U told site before after old new s o p status
+  served_on site before after mid old new s t o p status unstopped later same serving jobs = record {
+    gate = unstopped;
+    serving = serving_behind (site.workers + 16) before.opener.faults mid after.opener.faults old new status later serving;
+    jobs = λ done. subst (λ (r : Contents). HandedJobs D U told site r o p) same (jobs done);
+  }
+
+  -- with terminal and clock as they were, at the site that a line names
+  pub ran_serve : (site other : SiteAt) → site ≡ other → (before after : Lent U) → after.terminal ≡ before.terminal → after.clock ≡ before.clock → (s : Contents) (o : Opening) (p : UsersOpening) (status : Status)
+      → ServedSite D U told site before.sources after.sources before.spawner after.spawner s o p status → RanServe D told other before after s o p status
+  ran_serve site other same before after terminal clock s o p status served = record {
+    served = subst (λ (x : SiteAt). ServedSite D U told x before.sources after.sources before.spawner after.spawner s o p status) same served;
+    terminal = terminal;
+    clock = clock;
+  }

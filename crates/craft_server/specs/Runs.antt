@@ -1,11 +1,12 @@
 -- What the program does, by its words.
-use Rattle.std.specs.Prelude.{◌≡◌, ◌⊎◌, ◌+◌, ℕ, List, Option, Some, None}
+use Rattle.std.specs.Prelude.{◌≡◌, ◌⊎◌, ℕ, List, Option, Some, None}
 use Rattle.dxc_disk.specs.Disks.{DiskState}
 use Rattle.dxc_outside.specs.declared.clock.Moment.{Moment}
 use Rattle.dxc_outside.specs.Callers.{ListenerState}
 use Rattle.dxc_outside.specs.Links.{LinkState}
 use Rattle.dxc_outside.specs.Threads.{SpawnerState}
 use Rattle.shelf_file.specs.Contents.{Contents}
+use Rattle.standby_link.specs.declared.mirror_disk.MirrorDisk.{MirrorDisk}
 use Rattle.user_admin.specs.Histories.{Opening as UsersOpening}
 use Rattle.xc_core.specs.States.{Opening}
 use Rattle.craft_words.specs.declared.line.Line.{Line}
@@ -18,7 +19,7 @@ use Rattle.craft_server.specs.Loads.{IsLoad}
 use Rattle.craft_element.specs.Openings.{Began, Found, Named, Opens, Sources, named}
 use Rattle.craft_element.specs.Peers.{Mirrors}
 use Rattle.craft_server.specs.Scripts.{RanSession}
-use Rattle.craft_server.specs.Serving.{IsServing, named_in}
+use Rattle.craft_server.specs.Serving.{JobsTold, ServedSite, SiteAt, named_in, site_at}
 use Rattle.craft_jobs.specs.Standbys.{StandsBy}
 
 -- whether opener, disk, terminal, clock, peer, listener and the listener's links tell what they hold, and where reads of terminal and links began
@@ -65,25 +66,6 @@ module _ (told : Told) {D : Type 0} (state : D → DiskState) where
     pub spawner : after.spawner ≡ before.spawner
     pub gate : after.sources.stops ≡ before.sources.stops
 
-  -- sessions and frame workers were started, with terminal and clock untouched; the gate is asked no more once the controller is opened
-  pub record RanServe (workers : ℕ) (before after : Lent D) (status : Status) : Type 0 where
-    pub serving : IsServing (workers + 16) before.sources.opener.faults after.sources.opener.faults before.spawner after.spawner status
-    pub terminal : after.terminal ≡ before.terminal
-    pub clock : after.clock ≡ before.clock
-    pub gate : after.sources.stops ≡ before.sources.stops
-
-  -- what a line's mode did on what was opened
-  abbrev pub Ran : (l : Line) (before after : Lent D) (status : Status) → (f : Found told.opener (named_in l) before.sources) → Opening → Began told.opener told.disk state (named_in l) before.sources f.shelf → Type 0
-  Ran (Script shelf journal) before after status f o u = RanScript before after f.shelf o u.opening f.disk u.found.disk status
-  Ran (Check shelf journal) before after status f o u = RanCheck before after f.shelf o status
-  Ran (Serve shelf journal address lines workers peer) before after status f o u = RanServe workers before after status
-  Ran (Standby journal address) before after status f o u = ⊥
-  Ran (Load number) before after status f o u = ⊥
-
-  -- what its names stand for was opened, or why not, and the mode ran on it
-  abbrev pub OpensFor : Line → (before after : Lent D) → Status → Type 0
-  OpensFor l before after status = Opens told.opener told.disk state (named_in l) before.sources after.sources (IsUntouched before after) (Ran l before after status) status
-
   -- the load was run, with opener, clock and spawner untouched
   pub record RanLoad (number : ℕ) (before after : Lent D) (status : Status) : Type 0 where
     pub load : IsLoad number told.terminal before.terminal after.terminal before.sources.stops after.sources.stops status
@@ -92,14 +74,33 @@ module _ (told : Told) {D : Type 0} (state : D → DiskState) where
     pub clock : after.clock ≡ before.clock
     pub spawner : after.spawner ≡ before.spawner
 
+-- sessions at a state on a disk of type E, and frame workers, were started, with terminal and clock untouched
+pub record RanServe (E : Type 0) {N L C G : Type 0} (jobs : JobsTold N L C G) {D : Type 0} (site : SiteAt) (before after : Lent D) (s : Contents) (o : Opening) (p : UsersOpening) (status : Status) : Type 0 where
+  pub served : ServedSite E D jobs site before.sources after.sources before.spawner after.spawner s o p status
+  pub terminal : after.terminal ≡ before.terminal
+  pub clock : after.clock ≡ before.clock
+
+module _ (told : Told) {N L C G : Type 0} (jobs : JobsTold N L C G) {D : Type 0} (state : D → DiskState) where
+  -- what a line's mode did on what was opened
+  abbrev pub Ran : (l : Line) (before after : Lent D) (status : Status) → (f : Found told.opener (named_in l) before.sources) → Opening → Began told.opener told.disk state (named_in l) before.sources f.shelf → Type 0
+  Ran (Script shelf journal) before after status f o u = RanScript told state before after f.shelf o u.opening f.disk u.found.disk status
+  Ran (Check shelf journal) before after status f o u = RanCheck told state before after f.shelf o status
+  Ran (Serve shelf journal address lines workers peer) before after status f o u = RanServe D jobs (site_at address lines workers) before after f.shelf o u.opening status
+  Ran (Standby journal address) before after status f o u = ⊥
+  Ran (Load number) before after status f o u = ⊥
+
+  -- what its names stand for was opened, or why not, and the mode ran on it
+  abbrev pub OpensFor : Line → (before after : Lent D) → Status → Type 0
+  OpensFor l before after status = Opens told.opener told.disk state (named_in l) before.sources after.sources (IsUntouched before after) (Ran l before after status) status
+
 -- the words are no line, or memory was wanting to read them
 abbrev pub NoLine : List (List ℕ) → Status → Type 0
 NoLine words status = ((status ≡ BadWords) × ((l : Line) → IsLine words l → ⊥)) ⊎ (status ≡ NoMemory)
 
-module _ (told : Told) {D K L J : Type 0} (state : D → DiskState) (peer : K → LinkState) (listener : L → ListenerState J) (link : J → LinkState) (listener_at : List ℕ → Option L) where
+module _ (told : Told) {N L C G : Type 0} (jobs : JobsTold N L C G) {D K J : Type 0} (state : D → DiskState) (peer : K → LinkState) (listener : L → ListenerState J) (link : J → LinkState) (listener_at : List ℕ → Option L) where
   -- what the names stand for was opened and mirrored, or why not, and sessions and frame workers were started on it
-  abbrev pub MirrorsFor : (names : Named) (workers : ℕ) (before after : Lent D) → Status → Type 0
-  MirrorsFor names workers before after status = Mirrors told.disk told.peer state peer told.opener names before.sources after.sources (IsUntouched before after) (λ f o u. RanServe told state workers before after status) status
+  abbrev pub MirrorsFor : (names : Named) → SiteAt → (before after : Lent D) → Status → Type 0
+  MirrorsFor names site before after status = Mirrors told.disk told.peer state peer told.opener names before.sources after.sources (IsUntouched before after) (λ f o u. RanServe (MirrorDisk D K) jobs site before after f.shelf o u.opening status) status
 
   -- a standby ran, by what the opener would hand out, with terminal, clock, spawner and gate untouched
   pub record RanBy (journal address : List ℕ) (before after : Lent D) (status : Status) : Type 0 where
@@ -110,10 +111,10 @@ module _ (told : Told) {D K L J : Type 0} (state : D → DiskState) (peer : K �
   -- what a line did
   abbrev pub IsRunOf : Line → (before after : Lent D) → Status → Type 0
   IsRunOf (Load number) before after status = RanLoad told state number before after status
-  IsRunOf (Script shelf journal) before after status = OpensFor told state (Script shelf journal) before after status
-  IsRunOf (Check shelf journal) before after status = OpensFor told state (Check shelf journal) before after status
-  IsRunOf (Serve shelf journal address lines workers None) before after status = OpensFor told state (Serve shelf journal address lines workers None) before after status
-  IsRunOf (Serve shelf journal address lines workers (Some name)) before after status = MirrorsFor (named shelf journal) workers before after status
+  IsRunOf (Script shelf journal) before after status = OpensFor told jobs state (Script shelf journal) before after status
+  IsRunOf (Check shelf journal) before after status = OpensFor told jobs state (Check shelf journal) before after status
+  IsRunOf (Serve shelf journal address lines workers None) before after status = OpensFor told jobs state (Serve shelf journal address lines workers None) before after status
+  IsRunOf (Serve shelf journal address lines workers (Some name)) before after status = MirrorsFor (named shelf journal) (site_at address lines workers) before after status
   IsRunOf (Standby journal address) before after status = RanBy journal address before after status
 
   -- what the program did, by its words

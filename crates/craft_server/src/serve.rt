@@ -2,8 +2,11 @@
 ghost use Rattle.std.specs.Prelude.{◌≡◌, ◌↔◌, ◌≤◌, IsTrue, ◌+◌, ◌++◌, ℕ, length, vec_len, None, IsSome};
 ghost use Rattle.std.specs.Arc.{arc_value};
 ghost use Rattle.dxc_outside.specs.Asked.{AskedFor};
+ghost use Rattle.dxc_outside.specs.Jobs.{any_jobs};
+ghost use Rattle.standby_link.specs.declared.mirror_disk.MirrorDisk.{MirrorDisk};
 ghost use Rattle.fabric_words.specs.New.{AreNew};
 ghost use Rattle.user_admin.specs.Openings.{Begins as UsersBegin};
+ghost use Rattle.user_admin.specs.States.{opening_of as users_opening};
 ghost use Rattle.xc_core.specs.Openings.{Begins};
 ghost use Rattle.xc_core.specs.States.{opening_of};
 ghost use Rattle.craft_session.specs.Places.{IsAtOpening};
@@ -11,7 +14,7 @@ ghost use Rattle.craft_jobs.specs.Missing.{IsOfNoOpening};
 ghost use Rattle.craft_element.specs.Openings.{Opens, files_asked, named, sources};
 ghost use Rattle.craft_element.specs.Peers.{Mirrors};
 ghost use Rattle.craft_server.specs.Askings.{line_asked, site_asked};
-ghost use Rattle.craft_server.specs.Serving.{IsServe, IsServing, named_in, peer_of, workers_in};
+ghost use Rattle.craft_server.specs.Serving.{HandedJobs, IsServe, IsServing, ServedSite, jobs_told, named_in, peer_of, site_at, site_in};
 
 use crate::jobs::session_jobs;
 use crate::mirrored::serve_mirrored;
@@ -47,7 +50,8 @@ fn run_jobs<
 ) -> Status
 where
     L::Link: Send + 'static,
-    ensures { (faults : ℕ) → (later : ℕ) → IsServing (vec_len workers + vec_len sessions) faults later (P.state spawner.old) (P.state spawner.new) result }
+    ensures serving { (faults : ℕ) → (later : ℕ) → IsServing (vec_len workers + vec_len sessions) faults later (P.state spawner.old) (P.state spawner.new) result }
+    ensures handed { result ≡ Status.Done → P.handed spawner.old spawner.new (any_jobs workers.items ++ any_jobs sessions.items) }
 {
     match run_all(spawner, workers, sessions, rt) {
         Started::Running => Status::Done,
@@ -93,6 +97,7 @@ where
     requires users_begin { UsersBegin U.told U.state users }
     requires opening { IsAtOpening (opening_of D.state state) (arc_value shelf.now) (arc_value fabric.now) }
     ensures serving { IsServing (site.entry.workers + 16) (O.state opener.old).faults (O.state opener.new).faults (P.state spawner.old) (P.state spawner.new) result }
+    ensures jobs { result ≡ Status.Done → HandedJobs D U (jobs_told O.Clock O.Gate O.lines_for O.listener_for (P.handed spawner.old spawner.new)) (site_at site.entry.address.now site.entry.lines.now site.entry.workers) (arc_value shelf.now) (opening_of D.state state) (users_opening U.state users) }
     ensures asked { AskedFor (O.asked opener.old opener.new) (site_asked site.entry.lines.now site.entry.address.now site.entry.workers) (IsOfNoOpening result) }
 {
     let Ok(places) = open_places(alloc, shelf, fabric, state, users, SESSIONS) else {
@@ -122,7 +127,7 @@ fn serve_alone<O: Opener, G: Gate, P: Spawner, R: Wait>(
 where
     <O::Listener as Listener>::Link: Send + 'static,
     requires { (1 ≤ site.workers) × (site.workers ≤ 8) }
-    ensures opens { Opens O.told O.Journal.told O.Journal.state (named names.entry.shelf.now names.entry.journal.now) (sources (O.state opener.old) (O.journal_at opener.old) (G.stops gate.old)) (sources (O.state opener.new) (O.journal_at opener.new) (G.stops gate.new)) (P.state spawner.new ≡ P.state spawner.old) (λ f o u. (G.stops gate.new ≡ G.stops gate.old) × IsServing (site.entry.workers + 16) (O.state opener.old).faults (O.state opener.new).faults (P.state spawner.old) (P.state spawner.new) result) result }
+    ensures opens { Opens O.told O.Journal.told O.Journal.state (named names.entry.shelf.now names.entry.journal.now) (sources (O.state opener.old) (O.journal_at opener.old) (G.stops gate.old)) (sources (O.state opener.new) (O.journal_at opener.new) (G.stops gate.new)) (P.state spawner.new ≡ P.state spawner.old) (λ f o u. ServedSite O.Journal O.Journal (jobs_told O.Clock O.Gate O.lines_for O.listener_for (P.handed spawner.old spawner.new)) (site_at site.entry.address.now site.entry.lines.now site.entry.workers) (sources (O.state opener.old) (O.journal_at opener.old) (G.stops gate.old)) (sources (O.state opener.new) (O.journal_at opener.new) (G.stops gate.new)) (P.state spawner.old) (P.state spawner.new) f.shelf o u.opening result) result }
     ensures asked { AskedFor (O.asked opener.old opener.new) (files_asked (named names.entry.shelf.now names.entry.journal.now) ++ site_asked site.entry.lines.now site.entry.address.now site.entry.workers) (IsOfNoOpening result) }
 {
     let Element { controller, users } = match open(alloc, opener, names, site.workers, gate) {
@@ -156,8 +161,8 @@ pub fn serve_all<O: Opener, G: Gate, P: Spawner, R: Wait>(
 where
     <O::Listener as Listener>::Link: Send + 'static,
     requires { IsServe line.now }
-    ensures alone { peer_of line.now ≡ None → Opens O.told O.Journal.told O.Journal.state (named_in line.now) (sources (O.state opener.old) (O.journal_at opener.old) (G.stops gate.old)) (sources (O.state opener.new) (O.journal_at opener.new) (G.stops gate.new)) (P.state spawner.new ≡ P.state spawner.old) (λ f o u. (G.stops gate.new ≡ G.stops gate.old) × IsServing (workers_in line.now + 16) (O.state opener.old).faults (O.state opener.new).faults (P.state spawner.old) (P.state spawner.new) result) result }
-    ensures mirrored { IsSome (peer_of line.now) → Mirrors O.Journal.told O.Peer.told O.Journal.state O.Peer.state O.told (named_in line.now) (sources (O.state opener.old) (O.journal_at opener.old) (G.stops gate.old)) (sources (O.state opener.new) (O.journal_at opener.new) (G.stops gate.new)) (P.state spawner.new ≡ P.state spawner.old) (λ f o u. (G.stops gate.new ≡ G.stops gate.old) × IsServing (workers_in line.now + 16) (O.state opener.old).faults (O.state opener.new).faults (P.state spawner.old) (P.state spawner.new) result) result }
+    ensures alone { peer_of line.now ≡ None → Opens O.told O.Journal.told O.Journal.state (named_in line.now) (sources (O.state opener.old) (O.journal_at opener.old) (G.stops gate.old)) (sources (O.state opener.new) (O.journal_at opener.new) (G.stops gate.new)) (P.state spawner.new ≡ P.state spawner.old) (λ f o u. ServedSite O.Journal O.Journal (jobs_told O.Clock O.Gate O.lines_for O.listener_for (P.handed spawner.old spawner.new)) (site_in line.now) (sources (O.state opener.old) (O.journal_at opener.old) (G.stops gate.old)) (sources (O.state opener.new) (O.journal_at opener.new) (G.stops gate.new)) (P.state spawner.old) (P.state spawner.new) f.shelf o u.opening result) result }
+    ensures mirrored { IsSome (peer_of line.now) → Mirrors O.Journal.told O.Peer.told O.Journal.state O.Peer.state O.told (named_in line.now) (sources (O.state opener.old) (O.journal_at opener.old) (G.stops gate.old)) (sources (O.state opener.new) (O.journal_at opener.new) (G.stops gate.new)) (P.state spawner.new ≡ P.state spawner.old) (λ f o u. ServedSite (MirrorDisk O.Journal O.Peer) O.Journal (jobs_told O.Clock O.Gate O.lines_for O.listener_for (P.handed spawner.old spawner.new)) (site_in line.now) (sources (O.state opener.old) (O.journal_at opener.old) (G.stops gate.old)) (sources (O.state opener.new) (O.journal_at opener.new) (G.stops gate.new)) (P.state spawner.old) (P.state spawner.new) f.shelf o u.opening result) result }
     ensures asked { AskedFor (O.asked opener.old opener.new) (line_asked line.now) (IsOfNoOpening result) }
 {
     let Line::Serve {
@@ -198,8 +203,8 @@ pub(crate) fn serve_line<O: Opener, G: Gate, P: Spawner, R: Wait>(
 ) -> Status
 where
     <O::Listener as Listener>::Link: Send + 'static,
-    ensures alone { IsServe line.now → peer_of line.now ≡ None → Opens O.told O.Journal.told O.Journal.state (named_in line.now) (sources (O.state opener.old) (O.journal_at opener.old) (G.stops gate.old)) (sources (O.state opener.new) (O.journal_at opener.new) (G.stops gate.new)) (P.state spawner.new ≡ P.state spawner.old) (λ f o u. (G.stops gate.new ≡ G.stops gate.old) × IsServing (workers_in line.now + 16) (O.state opener.old).faults (O.state opener.new).faults (P.state spawner.old) (P.state spawner.new) result) result }
-    ensures mirrored { IsServe line.now → IsSome (peer_of line.now) → Mirrors O.Journal.told O.Peer.told O.Journal.state O.Peer.state O.told (named_in line.now) (sources (O.state opener.old) (O.journal_at opener.old) (G.stops gate.old)) (sources (O.state opener.new) (O.journal_at opener.new) (G.stops gate.new)) (P.state spawner.new ≡ P.state spawner.old) (λ f o u. (G.stops gate.new ≡ G.stops gate.old) × IsServing (workers_in line.now + 16) (O.state opener.old).faults (O.state opener.new).faults (P.state spawner.old) (P.state spawner.new) result) result }
+    ensures alone { IsServe line.now → peer_of line.now ≡ None → Opens O.told O.Journal.told O.Journal.state (named_in line.now) (sources (O.state opener.old) (O.journal_at opener.old) (G.stops gate.old)) (sources (O.state opener.new) (O.journal_at opener.new) (G.stops gate.new)) (P.state spawner.new ≡ P.state spawner.old) (λ f o u. ServedSite O.Journal O.Journal (jobs_told O.Clock O.Gate O.lines_for O.listener_for (P.handed spawner.old spawner.new)) (site_in line.now) (sources (O.state opener.old) (O.journal_at opener.old) (G.stops gate.old)) (sources (O.state opener.new) (O.journal_at opener.new) (G.stops gate.new)) (P.state spawner.old) (P.state spawner.new) f.shelf o u.opening result) result }
+    ensures mirrored { IsServe line.now → IsSome (peer_of line.now) → Mirrors O.Journal.told O.Peer.told O.Journal.state O.Peer.state O.told (named_in line.now) (sources (O.state opener.old) (O.journal_at opener.old) (G.stops gate.old)) (sources (O.state opener.new) (O.journal_at opener.new) (G.stops gate.new)) (P.state spawner.new ≡ P.state spawner.old) (λ f o u. ServedSite (MirrorDisk O.Journal O.Peer) O.Journal (jobs_told O.Clock O.Gate O.lines_for O.listener_for (P.handed spawner.old spawner.new)) (site_in line.now) (sources (O.state opener.old) (O.journal_at opener.old) (G.stops gate.old)) (sources (O.state opener.new) (O.journal_at opener.new) (G.stops gate.new)) (P.state spawner.old) (P.state spawner.new) f.shelf o u.opening result) result }
     ensures asked { IsServe line.now → AskedFor (O.asked opener.old opener.new) (line_asked line.now) (IsOfNoOpening result) }
 {
     if is_serve(line) {

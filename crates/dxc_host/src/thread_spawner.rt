@@ -41,8 +41,14 @@ impl<T: Threads + Wait + Copy + Send + Drop + 'static> Spawner for ThreadSpawner
 
     ghost state = { λ s. record { starts = s.starts; waited = s.waited; faults = s.faults; last_failed = s.last_failed } };
 
+    ghost handed = { λ _ _ _. Unit {0} };
+
+    ghost unhanded = { λ _. tt };
+
+    ghost handed_on = { λ _ _ _ _ _ _ _. tt };
+
     /// The place for the thread's handle is taken before the thread is started, so that no job is lost for want of it.
-    fn way(&mut self) -> Way<T> {
+    fn way<J>(&mut self, _job: &J) -> Way<T> {
         if self.running.reserve(1).is_err() {
             self.faults = self.faults.saturating_add(1);
             self.last_failed = true;

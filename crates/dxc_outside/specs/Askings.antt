@@ -1,4 +1,4 @@
--- Askings of a gate in memory, by their number.
+-- What fakes were asked or handed, by its number.
 use Rattle.std.specs.Prelude.{ℕ, ◌+◌, List, ◌++◌, length}
 use Rattle.std.proofs.Common.{subst, sym, arith, length-append}
 use Rattle.dxc_causes.specs.Causes.{Counted}
@@ -12,6 +12,6 @@ counted_sum old between new first then one two = record {
   no_more = omega (arith, one.no_more, two.no_more);
 }
 
-pub counted_on : {A : Type 0} (old between new : ℕ) (before after : List A) → Counted old between (length before) → Counted between new (length after) → Counted old new (length (before ++ after))
+pub counted_on {ℓ} : {A : Type ℓ} (old between new : ℕ) (before after : List A) → Counted old between (length before) → Counted between new (length after) → Counted old new (length (before ++ after))
 counted_on old between new before after one two =
     subst (λ n. Counted old new n) (sym (length-append before after)) (counted_sum old between new (length before) (length after) one two)

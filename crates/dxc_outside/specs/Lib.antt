@@ -6,6 +6,7 @@ pub mod Files
 pub mod Frames
 pub mod Holdings
 pub mod Items
+pub mod Jobs
 pub mod Links
 pub mod Listeners
 pub mod Moments

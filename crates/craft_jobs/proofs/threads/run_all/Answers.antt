@@ -1,5 +1,13 @@
+use Rattle.std.proofs.Common.{List, [], ◌++◌, append-nil, subst}
+use Rattle.dxc_outside.specs.Jobs.{AnyJob, any_jobs}
 use Rattle.craft_jobs.proofs.Starting.{waited_for}
 use Rattle.craft_jobs.proofs.threads.run_all.Goals as goal
 
 pub returns-clause-starts : goal.returns-clause-starts
-returns-clause-starts g c = waited_for _ _ _ _ _ c.start_all-started.ensures c.wait_all.ensures
+returns-clause-starts g c = waited_for _ _ _ _ _ c.start_all-started.ensures.starts c.wait_all.ensures.waited
+
+pub returns-clause-handed : goal.returns-clause-handed
+returns-clause-handed g c = λ running.
+    let jobs = any_jobs c.args.workers.items ++ any_jobs c.args.sessions.items in
+    subst (λ (l : List AnyJob). g.P.Spawner.handed c.args.spawner.now c.wait_all.new.self l) (append-nil jobs)
+    (g.P.Spawner.handed_on c.args.spawner.now c.start_all-started.new.spawner c.wait_all.new.self jobs [] (c.start_all-started.ensures.handed running) c.wait_all.ensures.handed)

@@ -1,9 +1,13 @@
-use Rattle.std.proofs.Common.{◌≡◌, ◌+◌, inl, refl}
+use Rattle.std.proofs.Common.{◌≡◌, inl, refl}
+use Rattle.shelf_file.specs.Contents.{Contents}
+use Rattle.standby_link.specs.declared.mirror_disk.MirrorDisk.{MirrorDisk}
+use Rattle.user_admin.specs.Histories.{Opening as UsersOpening}
+use Rattle.xc_core.specs.States.{Opening}
 use Rattle.craft_element.specs.Openings.{named, sources}
 use Rattle.craft_element.specs.Peers.{mirror_asked, mirror_state}
-use Rattle.craft_server.specs.Serving.{IsServing}
+use Rattle.craft_server.specs.Serving.{ServedSite, jobs_told, site_at}
 use Rattle.craft_element.proofs.Mirroring.{serves}
-use Rattle.craft_server.proofs.Serves.{serving_behind}
+use Rattle.craft_server.proofs.Serves.{served_on}
 use Rattle.craft_server.proofs.Starting.{opened_at}
 use Rattle.dxc_outside.proofs.Asking.{all_made, asked_behind, asked_within}
 use Rattle.craft_element.proofs.Wording.{not_mirrored_ends}
@@ -34,8 +38,13 @@ returns-clause-mirrors g c =
     let after = sources (g.O.Opener.state c.serve_on.new.opener) (g.O.Opener.journal_at c.serve_on.new.opener) (g.G.Gate.stops c.open_mirrored.new.gate) in
     let p = g.P.Spawner.state c.args.spawner.now in
     let q = g.P.Spawner.state c.serve_on.new.spawner in
-    let jobs = serving_behind _ _ _ _ p q c.serve_on.result c.in-Ok.ensures.later c.serve_on.ensures.serving in
-    serves g.O.Journal.Disk.told g.O.Peer.Link.told g.O.Journal.Disk.state g.O.Peer.Link.state g.O.Opener.told (named c.args.names.shelf.now c.args.names.journal.now) c.args.site.workers before after (q ≡ p) ((after.stops ≡ before.stops) × IsServing (c.args.site.workers + 16) before.opener.faults after.opener.faults p q c.serve_on.result) c.serve_on.result c.in-Ok.element c.in-Ok.ensures.opened (c.in-Ok.ensures.unstopped, jobs)
+    let mirror : Type 0 = MirrorDisk g.row.O-Journal.Denot g.row.O-Peer.Denot in
+    let site = site_at c.args.site.address.now c.args.site.lines.now c.args.site.workers in
+    let jobs = jobs_told g.row.O-Clock.Denot g.row.O-Gate.Denot g.O.Opener.lines_for g.O.Opener.listener_for (g.P.Spawner.handed c.args.spawner.now c.serve_on.new.spawner) in
+    let h = c.in-Ok.ensures.opened.0 in
+    let Served : Contents → Opening → UsersOpening → Type 0 = λ s o u. ServedSite mirror g.row.O-Journal.Denot jobs site before after p q s o u c.serve_on.result in
+    serves g.O.Journal.Disk.told g.O.Peer.Link.told g.O.Journal.Disk.state g.O.Peer.Link.state g.O.Opener.told (named c.args.names.shelf.now c.args.names.journal.now) c.args.site.workers before after (q ≡ p) Served c.serve_on.result c.in-Ok.element c.in-Ok.ensures.opened
+    (served_on mirror g.row.O-Journal.Denot jobs site before after _ p q h.0.shelf _ _ _ c.serve_on.result c.in-Ok.ensures.unstopped c.in-Ok.ensures.later h.1.shelf c.serve_on.ensures.serving c.serve_on.ensures.jobs)
 
 pub returns-in-Err-clause-asked : goal.returns-in-Err-clause-asked
 returns-in-Err-clause-asked g c =

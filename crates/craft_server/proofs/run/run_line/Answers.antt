@@ -3,23 +3,24 @@ use Rattle.std.specs.Prelude.{IsSome}
 use Rattle.dxc_outside.specs.Links.{LinkState}
 use Rattle.dxc_outside.specs.Openings.{OpenerState}
 use Rattle.shelf_file.specs.Contents.{Contents}
+use Rattle.standby_link.specs.declared.mirror_disk.MirrorDisk.{MirrorDisk}
 use Rattle.user_admin.specs.Histories.{Opening as UsersOpening}
 use Rattle.xc_core.specs.States.{Opening}
 use Rattle.craft_words.specs.declared.line.Line.{Line}
-use Rattle.craft_words.specs.declared.status.Status.TheVariants.{BadWords}
 use Rattle.craft_words.specs.Lines.{IsInRange}
 use Rattle.craft_element.specs.Openings.{named, sources}
 use Rattle.craft_element.specs.Listings.{IsCheck}
 use Rattle.craft_server.specs.Runs.{IsRunOf, IsUntouched, RanCheck, RanScript, RanServe, lent, told_by}
 use Rattle.craft_server.specs.Scripts.{RanSession}
 use Rattle.craft_jobs.specs.Standbys.{StandsBy}
-use Rattle.craft_server.specs.Serving.{IsServe, IsServing, named_in, peer_of, workers_in}
+use Rattle.craft_server.specs.Serving.{IsServe, ServedSite, jobs_told, named_in, peer_of, site_at, site_in}
 use Rattle.craft_server.proofs.Loading.{load_words}
 use Rattle.craft_element.proofs.Mirroring.{mirrors_for}
 use Rattle.craft_element.proofs.Starting.{opens_for}
 use Rattle.craft_element.proofs.Wording.{mirrors_words, opens_words, sent_words}
 use Rattle.craft_jobs.proofs.Wording.{stands_words}
 use Rattle.craft_server.proofs.Mirroring.{serves_for}
+use Rattle.craft_server.proofs.Serves.{ran_serve}
 use Rattle.craft_server.proofs.Wording.{end_words, serve_words, serving_words}
 use Rattle.dxc_outside.specs.Asked.{Asking, AskedFor, journal_named, listener_named}
 use Rattle.dxc_outside.proofs.Asking.{asked_all}
@@ -31,6 +32,7 @@ use Rattle.craft_server.proofs.run.run_line.Goals as goal
 pub returns-in-Script-clause-run : goal.returns-in-Script-clause-run
 returns-in-Script-clause-run g c = λ fit.
     let told = told_by g.O.Opener.told g.O.Journal.Disk.told g.K.Link.told g.C.Clock.told g.O.Peer.Link.told g.O.Listener.Listener.told g.O.Listener.Link.Link.told g.K.Link.begun g.O.Listener.Link.Link.begun in
+    let jobs = jobs_told g.row.O-Clock.Denot g.row.O-Gate.Denot g.O.Opener.lines_for g.O.Opener.listener_for (g.P.Spawner.handed c.args.spawner.now c.args.spawner.now) in
     let state = g.O.Journal.Disk.state in
     let p = g.P.Spawner.state c.args.spawner.now in
     let before = lent (sources (g.O.Opener.state c.args.opener.now) (g.O.Opener.journal_at c.args.opener.now) (g.G.Gate.stops c.args.gate.now)) (g.K.Link.state c.args.terminal.now) (g.C.Clock.coming c.args.clock.now) p in
@@ -40,11 +42,12 @@ returns-in-Script-clause-run g c = λ fit.
     let Q : Contents → g.row.O-Journal.Denot → Opening → g.row.O-Journal.Denot → UsersOpening → Type 0 = λ s d o e u. RanScript told state before after s o u d e status in
     let ran = opens_for told.disk state told.opener _ (named c.in-Script.shelf c.in-Script.journal) c.names_of-names.ensures before.sources after.sources ((after.terminal ≡ before.terminal) × (after.clock ≡ before.clock)) (IsUntouched before after) P Q status
     (λ u. record { terminal = u.0; clock = u.1; spawner = refl }) (λ s d o e u one. record { session = one; spawner = refl }) c.run_script.ensures.opens in
-    subst (λ (l : Line). IsRunOf told state g.O.Peer.Link.state g.O.Listener.Listener.state g.O.Listener.Link.Link.state (g.O.Opener.listener_at c.args.opener.now) l before after status) (sym c.in-Script.is) ran
+    subst (λ (l : Line). IsRunOf told jobs state g.O.Peer.Link.state g.O.Listener.Listener.state g.O.Listener.Link.Link.state (g.O.Opener.listener_at c.args.opener.now) l before after status) (sym c.in-Script.is) ran
 
 pub returns-in-Check-clause-run : goal.returns-in-Check-clause-run
 returns-in-Check-clause-run g c = λ fit.
     let told = told_by g.O.Opener.told g.O.Journal.Disk.told g.K.Link.told g.C.Clock.told g.O.Peer.Link.told g.O.Listener.Listener.told g.O.Listener.Link.Link.told g.K.Link.begun g.O.Listener.Link.Link.begun in
+    let jobs = jobs_told g.row.O-Clock.Denot g.row.O-Gate.Denot g.O.Opener.lines_for g.O.Opener.listener_for (g.P.Spawner.handed c.args.spawner.now c.args.spawner.now) in
     let state = g.O.Journal.Disk.state in
     let p = g.P.Spawner.state c.args.spawner.now in
     let moments = g.C.Clock.coming c.args.clock.now in
@@ -55,11 +58,12 @@ returns-in-Check-clause-run g c = λ fit.
     let Q : Contents → g.row.O-Journal.Denot → Opening → g.row.O-Journal.Denot → UsersOpening → Type 0 = λ s d o e u. RanCheck told state before after s o status in
     let ran = opens_for told.disk state told.opener _ (named c.in-Check.shelf c.in-Check.journal) c.names_of-names-in-Check.ensures before.sources after.sources (after.terminal ≡ before.terminal) (IsUntouched before after) P Q status
     (λ u. record { terminal = u; clock = refl; spawner = refl }) (λ s d o e u one. record { check = one.1; clock = refl; spawner = refl; gate = one.0 }) c.run_check.ensures.opens in
-    subst (λ (l : Line). IsRunOf told state g.O.Peer.Link.state g.O.Listener.Listener.state g.O.Listener.Link.Link.state (g.O.Opener.listener_at c.args.opener.now) l before after status) (sym c.in-Check.is) ran
+    subst (λ (l : Line). IsRunOf told jobs state g.O.Peer.Link.state g.O.Listener.Listener.state g.O.Listener.Link.Link.state (g.O.Opener.listener_at c.args.opener.now) l before after status) (sym c.in-Check.is) ran
 
 pub returns-in-Serve-clause-run : goal.returns-in-Serve-clause-run
 returns-in-Serve-clause-run g c = λ fit.
     let told = told_by g.O.Opener.told g.O.Journal.Disk.told g.K.Link.told g.C.Clock.told g.O.Peer.Link.told g.O.Listener.Listener.told g.O.Listener.Link.Link.told g.K.Link.begun g.O.Listener.Link.Link.begun in
+    let jobs = jobs_told g.row.O-Clock.Denot g.row.O-Gate.Denot g.O.Opener.lines_for g.O.Opener.listener_for (g.P.Spawner.handed c.args.spawner.now c.serve_line.new.spawner) in
     let state = g.O.Journal.Disk.state in
     let peer_state = g.O.Peer.Link.state in
     let terminal = g.K.Link.state c.args.terminal.now in
@@ -68,21 +72,29 @@ returns-in-Serve-clause-run g c = λ fit.
     let after = lent (sources (g.O.Opener.state c.serve_line.new.opener) (g.O.Opener.journal_at c.serve_line.new.opener) (g.G.Gate.stops c.serve_line.new.gate)) terminal moments (g.P.Spawner.state c.serve_line.new.spawner) in
     let status = c.serve_line.result in
     let line = c.args.line.now in
-    let workers = c.in-Serve.workers in
     let names = named c.in-Serve.shelf c.in-Serve.journal in
-    let Serving : ℕ → Type 0 = λ n. (after.sources.stops ≡ before.sources.stops) × IsServing (n + 16) before.sources.opener.faults after.sources.opener.faults before.spawner after.spawner status in
-    let ran : Serving (workers_in line) → RanServe told state workers before after status = λ one. record { serving = (subst Serving (ap workers_in c.in-Serve.is) one).1; terminal = refl; clock = refl; gate = one.0 } in
+    let site = site_at c.in-Serve.address c.in-Serve.lines c.in-Serve.workers in
+    let here : site_in line ≡ site = ap site_in c.in-Serve.is in
+    let disk : Type 0 = g.row.O-Journal.Denot in
+    let mirror : Type 0 = MirrorDisk disk g.row.O-Peer.Denot in
     let keep : after.spawner ≡ before.spawner → IsUntouched before after = λ u. record { terminal = refl; clock = refl; spawner = u } in
-    let P : Contents → g.row.O-Journal.Denot → Opening → g.row.O-Journal.Denot → UsersOpening → Type 0 = λ s d o e u. Serving (workers_in line) in
-    let Q : Contents → g.row.O-Journal.Denot → Opening → g.row.O-Journal.Denot → UsersOpening → Type 0 = λ s d o e u. RanServe told state workers before after status in
-    subst (λ (l : Line). IsRunOf told state peer_state g.O.Listener.Listener.state g.O.Listener.Link.Link.state (g.O.Opener.listener_at c.args.opener.now) l before after status) (sym c.in-Serve.is)
-    (serves_for told state peer_state g.O.Listener.Listener.state g.O.Listener.Link.Link.state (g.O.Opener.listener_at c.args.opener.now) c.in-Serve.shelf c.in-Serve.journal c.in-Serve.address c.in-Serve.lines workers before after status c.in-Serve.peer
-    (λ none. opens_for told.disk state told.opener (named_in line) names (ap named_in c.in-Serve.is) before.sources after.sources (after.spawner ≡ before.spawner) (IsUntouched before after) P Q status keep (λ s d o e u one. ran one) (c.serve_line.ensures.alone (subst IsServe (sym c.in-Serve.is) (subst IsInRange c.in-Serve.is fit)) (ap peer_of c.in-Serve.is ∙ none)))
-    (λ some. mirrors_for told.disk told.peer state peer_state told.opener (named_in line) names (ap named_in c.in-Serve.is) before.sources after.sources (after.spawner ≡ before.spawner) (IsUntouched before after) (Serving (workers_in line)) (RanServe told state workers before after status) status keep ran (c.serve_line.ensures.mirrored (subst IsServe (sym c.in-Serve.is) (subst IsInRange c.in-Serve.is fit)) (subst IsSome (sym (ap peer_of c.in-Serve.is)) some))))
+    let P : Contents → disk → Opening → disk → UsersOpening → Type 0 = λ s d o e u. ServedSite disk disk jobs (site_in line) before.sources after.sources before.spawner after.spawner s o u status in
+    let Q : Contents → disk → Opening → disk → UsersOpening → Type 0 = λ s d o e u. RanServe disk jobs site before after s o u status in
+    let M : Contents → Opening → UsersOpening → Type 0 = λ s o u. ServedSite mirror disk jobs (site_in line) before.sources after.sources before.spawner after.spawner s o u status in
+    let W : Contents → Opening → UsersOpening → Type 0 = λ s o u. RanServe mirror jobs site before after s o u status in
+    subst (λ (l : Line). IsRunOf told jobs state peer_state g.O.Listener.Listener.state g.O.Listener.Link.Link.state (g.O.Opener.listener_at c.args.opener.now) l before after status) (sym c.in-Serve.is)
+    (serves_for told jobs state peer_state g.O.Listener.Listener.state g.O.Listener.Link.Link.state (g.O.Opener.listener_at c.args.opener.now) c.in-Serve.shelf c.in-Serve.journal c.in-Serve.address c.in-Serve.lines c.in-Serve.workers before after status c.in-Serve.peer
+    (λ none. opens_for told.disk state told.opener (named_in line) names (ap named_in c.in-Serve.is) before.sources after.sources (after.spawner ≡ before.spawner) (IsUntouched before after) P Q status keep
+    (λ s d o e u one. ran_serve disk disk jobs (site_in line) site here before after refl refl s o u status one)
+    (c.serve_line.ensures.alone (subst IsServe (sym c.in-Serve.is) (subst IsInRange c.in-Serve.is fit)) (ap peer_of c.in-Serve.is ∙ none)))
+    (λ some. mirrors_for told.disk told.peer state peer_state told.opener (named_in line) names (ap named_in c.in-Serve.is) before.sources after.sources (after.spawner ≡ before.spawner) (IsUntouched before after) M W status keep
+    (λ s o u one. ran_serve mirror disk jobs (site_in line) site here before after refl refl s o u status one)
+    (c.serve_line.ensures.mirrored (subst IsServe (sym c.in-Serve.is) (subst IsInRange c.in-Serve.is fit)) (subst IsSome (sym (ap peer_of c.in-Serve.is)) some))))
 
 pub returns-in-Standby-clause-run : goal.returns-in-Standby-clause-run
 returns-in-Standby-clause-run g c = λ fit.
     let told = told_by g.O.Opener.told g.O.Journal.Disk.told g.K.Link.told g.C.Clock.told g.O.Peer.Link.told g.O.Listener.Listener.told g.O.Listener.Link.Link.told g.K.Link.begun g.O.Listener.Link.Link.begun in
+    let jobs = jobs_told g.row.O-Clock.Denot g.row.O-Gate.Denot g.O.Opener.lines_for g.O.Opener.listener_for (g.P.Spawner.handed c.args.spawner.now c.args.spawner.now) in
     let state = g.O.Journal.Disk.state in
     let listener = g.O.Listener.Listener.state in
     let link = g.O.Listener.Link.Link.state in
@@ -93,7 +105,7 @@ returns-in-Standby-clause-run g c = λ fit.
     let listeners = g.O.Opener.listener_at c.args.opener.now in
     let by = λ (journal address : List ℕ). StandsBy told.opener told.disk told.listener told.link state listener link told.link_begun before.sources.journal_at listeners before.sources.opener.faults after.sources.opener.faults journal address status in
     let stands : by c.in-Standby.journal c.in-Standby.address = subst (λ (n : List ℕ). by n c.in-Standby.address) c.text.ensures (subst (λ (n : List ℕ). by c.text.result.now n) c.text-in-Standby.ensures c.run_standby.ensures.stands_by) in
-    subst (λ (l : Line). IsRunOf told state g.O.Peer.Link.state listener link listeners l before after status) (sym c.in-Standby.is) (record { stands_by = stands; untouched = record { terminal = refl; clock = refl; spawner = refl }; gate = refl })
+    subst (λ (l : Line). IsRunOf told jobs state g.O.Peer.Link.state listener link listeners l before after status) (sym c.in-Standby.is) (record { stands_by = stands; untouched = record { terminal = refl; clock = refl; spawner = refl }; gate = refl })
 
 pub returns-in-Script-clause-words : goal.returns-in-Script-clause-words
 returns-in-Script-clause-words g c = λ fit bad.
@@ -114,13 +126,16 @@ returns-in-Serve-clause-words g c = λ fit bad.
     let p = g.P.Spawner.state c.args.spawner.now in
     let q = g.P.Spawner.state c.serve_line.new.spawner in
     let line = c.args.line.now in
-    let jobs = workers_in line + 16 in
     let status = c.serve_line.result in
-    let Serving : Type 0 = (after.stops ≡ before.stops) × IsServing jobs before.opener.faults after.opener.faults p q status in
-    let other : Serving → status ≡ BadWords → ⊥ = λ ran. serving_words jobs before.opener.faults after.opener.faults p q status ran.1 in
+    let jobs = jobs_told g.row.O-Clock.Denot g.row.O-Gate.Denot g.O.Opener.lines_for g.O.Opener.listener_for (g.P.Spawner.handed c.args.spawner.now c.serve_line.new.spawner) in
+    let disk : Type 0 = g.row.O-Journal.Denot in
+    let mirror : Type 0 = MirrorDisk disk g.row.O-Peer.Denot in
+    let S : Contents → Opening → UsersOpening → Type 0 = λ s o u. ServedSite disk disk jobs (site_in line) before after p q s o u status in
+    let M : Contents → Opening → UsersOpening → Type 0 = λ s o u. ServedSite mirror disk jobs (site_in line) before after p q s o u status in
+    let other = serving_words ((site_in line).workers + 16) before.opener.faults after.opener.faults p q status in
     serve_words c.in-Serve.peer
-    (λ none. opens_words g.O.Opener.told g.O.Journal.Disk.told g.O.Journal.Disk.state (named_in line) before after (q ≡ p) (λ f o u. Serving) status (λ f o u. other) (c.serve_line.ensures.alone (subst IsServe (sym c.in-Serve.is) (subst IsInRange c.in-Serve.is fit)) (ap peer_of c.in-Serve.is ∙ none)) bad)
-    (λ some. mirrors_words g.O.Journal.Disk.told g.O.Peer.Link.told g.O.Journal.Disk.state g.O.Peer.Link.state g.O.Opener.told (named_in line) before after (q ≡ p) Serving status other (c.serve_line.ensures.mirrored (subst IsServe (sym c.in-Serve.is) (subst IsInRange c.in-Serve.is fit)) (subst IsSome (sym (ap peer_of c.in-Serve.is)) some)) bad)
+    (λ none. opens_words g.O.Opener.told g.O.Journal.Disk.told g.O.Journal.Disk.state (named_in line) before after (q ≡ p) (λ f o u. S f.shelf o u.opening) status (λ f o u ran. other ran.serving) (c.serve_line.ensures.alone (subst IsServe (sym c.in-Serve.is) (subst IsInRange c.in-Serve.is fit)) (ap peer_of c.in-Serve.is ∙ none)) bad)
+    (λ some. mirrors_words g.O.Journal.Disk.told g.O.Peer.Link.told g.O.Journal.Disk.state g.O.Peer.Link.state g.O.Opener.told (named_in line) before after (q ≡ p) M status (λ s o u ran. other ran.serving) (c.serve_line.ensures.mirrored (subst IsServe (sym c.in-Serve.is) (subst IsInRange c.in-Serve.is fit)) (subst IsSome (sym (ap peer_of c.in-Serve.is)) some)) bad)
 
 pub returns-in-Standby-clause-words : goal.returns-in-Standby-clause-words
 returns-in-Standby-clause-words g c = λ fit bad. stands_words _ _ _ _ _ _ _ _ _ _ _ _ _ _ _ c.run_standby.ensures.stands_by bad
@@ -128,11 +143,12 @@ returns-in-Standby-clause-words g c = λ fit bad. stands_words _ _ _ _ _ _ _ _ _
 pub returns-in-Load-clause-run : goal.returns-in-Load-clause-run
 returns-in-Load-clause-run g c = λ fit.
     let told = told_by g.O.Opener.told g.O.Journal.Disk.told g.K.Link.told g.C.Clock.told g.O.Peer.Link.told g.O.Listener.Listener.told g.O.Listener.Link.Link.told g.K.Link.begun g.O.Listener.Link.Link.begun in
+    let jobs = jobs_told g.row.O-Clock.Denot g.row.O-Gate.Denot g.O.Opener.lines_for g.O.Opener.listener_for (g.P.Spawner.handed c.args.spawner.now c.args.spawner.now) in
     let state = g.O.Journal.Disk.state in
     let at = λ (stops : ℕ) (terminal : LinkState). lent (sources (g.O.Opener.state c.args.opener.now) (g.O.Opener.journal_at c.args.opener.now) stops) terminal (g.C.Clock.coming c.args.clock.now) (g.P.Spawner.state c.args.spawner.now) in
     let before = at (g.G.Gate.stops c.args.gate.now) (g.K.Link.state c.args.terminal.now) in
     let after = at (g.G.Gate.stops c.run_load.new.gate) (g.K.Link.state c.run_load.new.terminal) in
-    subst (λ (l : Line). IsRunOf told state g.O.Peer.Link.state g.O.Listener.Listener.state g.O.Listener.Link.Link.state (g.O.Opener.listener_at c.args.opener.now) l before after c.run_load.result) (sym c.in-Load.is) (record { load = c.run_load.ensures; opener = refl; journal_at = refl; clock = refl; spawner = refl })
+    subst (λ (l : Line). IsRunOf told jobs state g.O.Peer.Link.state g.O.Listener.Listener.state g.O.Listener.Link.Link.state (g.O.Opener.listener_at c.args.opener.now) l before after c.run_load.result) (sym c.in-Load.is) (record { load = c.run_load.ensures; opener = refl; journal_at = refl; clock = refl; spawner = refl })
 
 pub returns-in-Load-clause-words : goal.returns-in-Load-clause-words
 returns-in-Load-clause-words g c = λ fit bad. load_words c.in-Load.number g.K.Link.told (g.K.Link.state c.args.terminal.now) (g.K.Link.state c.run_load.new.terminal) (g.G.Gate.stops c.args.gate.now) (g.G.Gate.stops c.run_load.new.gate) c.run_load.result c.run_load.ensures bad

@@ -1,10 +1,11 @@
-use Rattle.std.proofs.Common.{◌≡◌, ◌+◌, ◌∙◌, ◌++◌, ℕ, List, Option, Some, None, sym, ap, ap₂, subst}
+use Rattle.std.proofs.Common.{◌≡◌, ◌∙◌, ◌++◌, ℕ, List, Option, Some, None, sym, ap, ap₂, subst}
 use Rattle.std.specs.Prelude.{IsSome}
 use Rattle.shelf_file.specs.Contents.{Contents}
+use Rattle.standby_link.specs.declared.mirror_disk.MirrorDisk.{MirrorDisk}
 use Rattle.user_admin.specs.Histories.{Opening as UsersOpening}
 use Rattle.xc_core.specs.States.{Opening}
 use Rattle.craft_element.specs.Openings.{named, sources}
-use Rattle.craft_server.specs.Serving.{IsServing, named_in, peer_of, workers_in}
+use Rattle.craft_server.specs.Serving.{ServedSite, SiteAt, jobs_told, named_in, peer_of, site_at, site_in}
 use Rattle.craft_element.proofs.Mirroring.{mirrors_for}
 use Rattle.craft_element.proofs.Starting.{opens_for}
 use Rattle.dxc_outside.specs.Asked.{Asking, AskedFor}
@@ -22,10 +23,13 @@ returns-in-None-clause-alone g c = λ none.
     let after = sources (g.O.Opener.state c.serve_alone.new.opener) (g.O.Opener.journal_at c.serve_alone.new.opener) (g.G.Gate.stops c.serve_alone.new.gate) in
     let p = g.P.Spawner.state c.args.spawner.now in
     let q = g.P.Spawner.state c.serve_alone.new.spawner in
-    let Serving : ℕ → Type 0 = λ n. (after.stops ≡ before.stops) × IsServing (n + 16) before.opener.faults after.opener.faults p q c.serve_alone.result in
-    let P : Contents → g.row.O-Journal.Denot → Opening → g.row.O-Journal.Denot → UsersOpening → Type 0 = λ s d o e p2. Serving c.in-Serve.workers in
-    let Q : Contents → g.row.O-Journal.Denot → Opening → g.row.O-Journal.Denot → UsersOpening → Type 0 = λ s d o e p2. Serving (workers_in line) in
-    opens_for g.O.Journal.Disk.told g.O.Journal.Disk.state g.O.Opener.told _ _ same before after (q ≡ p) (q ≡ p) P Q c.serve_alone.result (λ u. u) (λ s d o e p2 ran. subst Serving (sym (ap workers_in c.in-Serve.is)) ran) c.serve_alone.ensures.opens
+    let jobs = jobs_told g.row.O-Clock.Denot g.row.O-Gate.Denot g.O.Opener.lines_for g.O.Opener.listener_for (g.P.Spawner.handed c.args.spawner.now c.serve_alone.new.spawner) in
+    let site = site_at c.text-3.result.now c.text-4.result.now c.in-Serve.workers in
+    let here : site ≡ site_in line = (λ i. site_at (c.text-3.ensures i) (c.text-4.ensures i) c.in-Serve.workers) ∙ sym (ap site_in c.in-Serve.is) in
+    let Served : SiteAt → Contents → Opening → UsersOpening → Type 0 = λ t s o u. ServedSite g.row.O-Journal.Denot g.row.O-Journal.Denot jobs t before after p q s o u c.serve_alone.result in
+    let P : Contents → g.row.O-Journal.Denot → Opening → g.row.O-Journal.Denot → UsersOpening → Type 0 = λ s d o e u. Served site s o u in
+    let Q : Contents → g.row.O-Journal.Denot → Opening → g.row.O-Journal.Denot → UsersOpening → Type 0 = λ s d o e u. Served (site_in line) s o u in
+    opens_for g.O.Journal.Disk.told g.O.Journal.Disk.state g.O.Opener.told _ _ same before after (q ≡ p) (q ≡ p) P Q c.serve_alone.result (λ u. u) (λ s d o e u ran. subst (λ (t : SiteAt). Served t s o u) here ran) c.serve_alone.ensures.opens
 
 pub returns-in-None-clause-mirrored : goal.returns-in-None-clause-mirrored
 returns-in-None-clause-mirrored g c = λ some. let no = subst IsSome (ap peer_of c.in-Serve.is ∙ c.in-None.is) some in cc
@@ -41,8 +45,11 @@ returns-in-Some-clause-mirrored g c = λ some.
     let after = sources (g.O.Opener.state c.serve_mirrored.new.opener) (g.O.Opener.journal_at c.serve_mirrored.new.opener) (g.G.Gate.stops c.serve_mirrored.new.gate) in
     let p = g.P.Spawner.state c.args.spawner.now in
     let q = g.P.Spawner.state c.serve_mirrored.new.spawner in
-    let Serving : ℕ → Type 0 = λ n. (after.stops ≡ before.stops) × IsServing (n + 16) before.opener.faults after.opener.faults p q c.serve_mirrored.result in
-    mirrors_for g.O.Journal.Disk.told g.O.Peer.Link.told g.O.Journal.Disk.state g.O.Peer.Link.state g.O.Opener.told _ _ same before after (q ≡ p) (q ≡ p) (Serving c.in-Serve.workers) (Serving (workers_in line)) c.serve_mirrored.result (λ u. u) (λ ran. subst Serving (sym (ap workers_in c.in-Serve.is)) ran) c.serve_mirrored.ensures.mirrors
+    let jobs = jobs_told g.row.O-Clock.Denot g.row.O-Gate.Denot g.O.Opener.lines_for g.O.Opener.listener_for (g.P.Spawner.handed c.args.spawner.now c.serve_mirrored.new.spawner) in
+    let site = site_at c.text-3.result.now c.text-4.result.now c.in-Serve.workers in
+    let here : site ≡ site_in line = (λ i. site_at (c.text-3.ensures i) (c.text-4.ensures i) c.in-Serve.workers) ∙ sym (ap site_in c.in-Serve.is) in
+    let Served : SiteAt → Contents → Opening → UsersOpening → Type 0 = λ t s o u. ServedSite (MirrorDisk g.row.O-Journal.Denot g.row.O-Peer.Denot) g.row.O-Journal.Denot jobs t before after p q s o u c.serve_mirrored.result in
+    mirrors_for g.O.Journal.Disk.told g.O.Peer.Link.told g.O.Journal.Disk.state g.O.Peer.Link.state g.O.Opener.told _ _ same before after (q ≡ p) (q ≡ p) (Served site) (Served (site_in line)) c.serve_mirrored.result (λ u. u) (λ s o u ran. subst (λ (t : SiteAt). Served t s o u) here ran) c.serve_mirrored.ensures.mirrors
 
 pub returns-in-None-clause-asked : goal.returns-in-None-clause-asked
 returns-in-None-clause-asked g c =

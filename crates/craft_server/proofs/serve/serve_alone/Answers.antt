@@ -1,6 +1,7 @@
 use Rattle.std.proofs.Common.{inl, inr, refl}
 use Rattle.xc_core.specs.States.{opening_of}
-use Rattle.craft_server.proofs.Serves.{serving_behind}
+use Rattle.craft_server.specs.Serving.{jobs_told, site_at}
+use Rattle.craft_server.proofs.Serves.{served_on}
 use Rattle.craft_element.proofs.Starting.{begun, users_began}
 use Rattle.craft_server.proofs.Starting.{opened_at}
 use Rattle.dxc_outside.proofs.Asking.{all_made, asked_behind, asked_within}
@@ -33,13 +34,20 @@ returns-clause-opens g c =
     let after = sources (g.O.Opener.state c.serve_on.new.opener) (g.O.Opener.journal_at c.serve_on.new.opener) (g.G.Gate.stops c.open.new.gate) in
     let p = g.P.Spawner.state c.args.spawner.now in
     let q = g.P.Spawner.state c.serve_on.new.spawner in
-    let jobs = serving_behind _ _ _ _ p q c.serve_on.result c.in-Ok.ensures.later c.serve_on.ensures.serving in
     let told = g.O.Journal.Disk.told in
     let state = g.O.Journal.Disk.state in
     let h = c.in-Ok.ensures.opened.0 in
     let x = c.in-Ok.element in
     let names = named c.args.names.shelf.now c.args.names.journal.now in
-    inr (h.0, opening_of state x.controller.state, begun told state h.0.disk h.0.shelf _ x.controller h.1, users_began told state g.O.Opener.told names before h.0.shelf x.users c.in-Ok.ensures.opened.1, (c.in-Ok.ensures.unstopped, jobs))
+    let site = site_at c.args.site.address.now c.args.site.lines.now c.args.site.workers in
+    let jobs = jobs_told g.row.O-Clock.Denot g.row.O-Gate.Denot g.O.Opener.lines_for g.O.Opener.listener_for (g.P.Spawner.handed c.args.spawner.now c.serve_on.new.spawner) in
+    inr (
+      h.0,
+      opening_of state x.controller.state,
+      begun told state h.0.disk h.0.shelf _ x.controller h.1,
+      users_began told state g.O.Opener.told names before h.0.shelf x.users c.in-Ok.ensures.opened.1,
+      served_on g.row.O-Journal.Denot g.row.O-Journal.Denot jobs site before after _ p q h.0.shelf _ _ _ c.serve_on.result c.in-Ok.ensures.unstopped c.in-Ok.ensures.later h.1.shelf c.serve_on.ensures.serving c.serve_on.ensures.jobs,
+    )
 
 pub returns-in-Err-clause-asked : goal.returns-in-Err-clause-asked
 returns-in-Err-clause-asked g c =

@@ -1,10 +1,18 @@
-use Rattle.std.proofs.Common.{◌+◌, ◌∙◌, [], ◌++◌, ℕ, ap, ap₂, Err, refl, subst, ◌≡◌, Bool, true}
+use Rattle.std.proofs.Common.{◌+◌, ◌∙◌, [], ◌++◌, ℕ, List, ap, ap₂, arith, Err, refl, subst, sym, ◌≡◌, Bool, true}
+use Rattle.std.specs.Arc.{arc_value}
 use Rattle.craft_words.specs.declared.status.Status.{Status}
 use Rattle.craft_words.specs.declared.status.Status.TheVariants.{NoMemory}
+use Rattle.fabric_words.specs.Seats.{FabricId}
+use Rattle.user_admin.specs.States.{opening_of as users_opening}
+use Rattle.xc_core.specs.States.{opening_of}
+use Rattle.craft_session.specs.Places.{ArePlaces}
+use Rattle.craft_session.specs.Seats.{PlaceAt}
+use Rattle.craft_jobs.specs.Handed.{AreJobsOf}
+use Rattle.craft_jobs.specs.Missing.{IsOfNoOpening}
 use Rattle.craft_jobs.proofs.Counting.{rose_behind}
 use Rattle.craft_server.specs.Serving.{IsServing}
 use Rattle.craft_server.proofs.Serves.{none_started}
-use Rattle.std.specs.Prelude.{IsOk}
+use Rattle.std.specs.Prelude.{IsOk, vec_len}
 use Rattle.dxc_outside.specs.Asked.{AskedFor, asked_each, lines_named, listener_named}
 use Rattle.dxc_outside.proofs.Asking.{all_made, asked_behind, asked_less, asked_part, asked_within}
 use Rattle.craft_jobs.proofs.Faulting.{made_ends}
@@ -30,7 +38,7 @@ returns-clause-serving g c =
     let faults = (g.O.Opener.state c.args.opener.now).faults in
     let later = (g.O.Opener.state c.session_jobs.new.opener).faults in
     let all = ap₂ (λ (a b : ℕ). a + b) c.in-Ok-frame_jobs.ensures.jobs (c.in-Ok-session_jobs.ensures.jobs ∙ c.in-Ok.ensures.each) in
-    subst (λ (n : ℕ). IsServing n faults later (g.P.Spawner.state c.args.spawner.now) (g.P.Spawner.state c.run_jobs.new.spawner) c.run_jobs.result) all (c.run_jobs.ensures faults later)
+    subst (λ (n : ℕ). IsServing n faults later (g.P.Spawner.state c.args.spawner.now) (g.P.Spawner.state c.run_jobs.new.spawner) c.run_jobs.result) all (c.run_jobs.ensures.serving faults later)
 
 pub returns-in_default-clause-asked : goal.returns-in_default-clause-asked
 returns-in_default-clause-asked g c = asked_part (g.O.Opener.asked c.args.opener.now c.args.opener.now) _ [] (site_asked c.args.site.lines.now c.args.site.address.now c.args.site.workers) (g.O.Opener.unasked c.args.opener.now) (λ ends. ends)
@@ -60,3 +68,29 @@ returns-clause-asked g c =
     let behind = subst (λ (n : ℕ). AskedFor (asked c.frame_jobs.new.opener c.session_jobs.new.opener) (asked_each (λ session. listener_named c.args.site.address.now) n) (◌≡◌ {A = Bool} true true)) c.in-Ok.ensures.each c.in-Ok-session_jobs.ensures.asked in
     asked_less (asked c.args.opener.now c.session_jobs.new.opener) _ (lines ++ listeners) (λ ends. refl)
     (asked_behind asked g.O.Opener.asked_on c.args.opener.now c.frame_jobs.new.opener c.session_jobs.new.opener lines listeners first behind)
+
+pub returns-in_default-clause-jobs : goal.returns-in_default-clause-jobs
+returns-in_default-clause-jobs g c = λ done. cc
+
+pub returns-in-Err-clause-jobs : goal.returns-in-Err-clause-jobs
+returns-in-Err-clause-jobs g c = λ done. absurd (made_ends _ _ _ c.frame_jobs.ensures.made c.in-Err.status c.in-Err.is (subst IsOfNoOpening (sym done) tt))
+
+pub returns-in-Err-session_jobs-clause-jobs : goal.returns-in-Err-session_jobs-clause-jobs
+returns-in-Err-session_jobs-clause-jobs g c = λ done. absurd (made_ends _ _ _ c.session_jobs.ensures.made c.in-Err-session_jobs.status c.in-Err-session_jobs.is (subst IsOfNoOpening (sym done) tt))
+
+pub returns-clause-jobs : goal.returns-clause-jobs
+returns-clause-jobs g c = λ done.
+    let workers = c.in-Ok-frame_jobs.jobs in
+    let sessions = c.in-Ok-session_jobs.jobs in
+    let o = opening_of g.D.Disk.state c.args.state in
+    let p = users_opening g.U.Disk.state c.args.users in
+    record {
+      workers = workers.items;
+      each = let ok = workers.ok.0 in let each = c.in-Ok-frame_jobs.ensures.jobs in omega (arith, ok, each);
+      seats = subst (λ (f : FabricId). AreJobsOf g.O.Opener.lines_for f c.args.site.lines.now 0 workers.items) (sym c.requires.opening.fabric) c.in-Ok-frame_jobs.ensures.workers;
+      sessions = sessions.items;
+      sixteen = let ok = sessions.ok.0 in let all : vec_len sessions ≡ 16 = c.in-Ok-session_jobs.ensures.jobs ∙ c.in-Ok.ensures.each in omega (arith, ok, all);
+      places = subst (λ (l : List PlaceAt). ArePlaces (arc_value c.args.shelf.now) o p 16 0 l) (sym c.in-Ok-session_jobs.ensures.places) c.in-Ok.ensures.places;
+      listeners = c.in-Ok-session_jobs.ensures.listeners;
+      handed = c.run_jobs.ensures.handed done;
+    }
