@@ -1,0 +1,2 @@
+"""Words that documents put in backticks and that are in no source, each with its reason."""
+ALLOWED = {}
