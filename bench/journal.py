@@ -236,6 +236,7 @@ def lead(element, area):
                 replayed(element, found, area.version)
             except plain.Denied as why:
                 raise Refused(number) from why
+        element.paths.log.clear()
         REPLAYS[key] = copy.deepcopy((element.equipped, element.connections, element.out, element.paths))
     element.equipped, element.connections, element.out, element.paths = copy.deepcopy(REPLAYS[key])
 

@@ -1,11 +1,12 @@
 """Names in backticks, files and links.
 
-A name is each word of a span in backticks. It is there where it stands in the code of the repository (comments left out), is part of a file's name, a
-word of the rows' files, of a crate's name or of an example that the document runs, or stands in tools/checks/words.py with its reason.
+A name is each word of a span in backticks, and each word with an underscore beside them. It is there where it stands in the code of the repository
+(comments left out), is part of a file's name, a word of the rows' files, of a crate's name or of an example that the document runs, or stands in
+tools/checks/words.py with its reason.
 
- - `a::b` has to stand in one crate: in `a` where that is one.
+ - `a::b` has to stand in one crate: in `a` where that is one, and in the module `a` where it is written small.
  - `laws::b` is a function of some crate's laws, and no other.
- - A TL1 command code stands whole in a source.
+ - A TL1 command code stands whole in a source, and isn't looked into.
  - A file's name, with a slash or a known ending, is one of the top, of a crate, or one that an example makes.
  - A link leads to a file, and to a heading of it.
 """
@@ -17,7 +18,7 @@ from checks.words import ALLOWED
 
 SPAN = re.compile(r"`([^`\n]+)`")
 WORD = re.compile(r"[A-Za-z_][A-Za-z0-9_]*")
-CODE = re.compile(r"\b[A-Z]{2,4}-[A-Z0-9]{2,4}(?:-[A-Z0-9]{2,4})?\b")
+SNAKE = re.compile(r"(?<![\w/.$#-])[a-z][a-z0-9]*(?:_[a-z0-9]+)+(?![\w/])")
 COMMAND = re.compile(r"(?<![A-Z0-9-])(?:ENT|ED|DLT|RTRV|ACT|CANC|ALW|INH|INIT|RMV|RST)-[A-Z0-9-]*[A-Z0-9]")
 PATH = re.compile(r"[A-Za-z_]\w*(?:::[A-Za-z_]\w*)+")
 ENDINGS = ("py", "sh", "md", "toml", "tl1", "out", "txt", "service", "c", "rt", "antt", "edit", "svg")
@@ -33,7 +34,7 @@ class Sources:
 
     def __init__(self):
         self.files = tracked()
-        self.by_crate, self.all, self.laws, self.text = {}, set(), set(), []
+        self.by_crate, self.by_module, self.all, self.laws, self.text = {}, {}, set(), set(), []
         for name in self.files:
             self.all |= set(WORD.findall(name))
             if not is_document(name) and not name.startswith("tools/checks/"):
@@ -56,6 +57,8 @@ class Sources:
         parts = name.split("/")
         if parts[0] == "crates":
             self.by_crate.setdefault(parts[1], set()).update(words, WORD.findall(name))
+            for module in [os.path.splitext(part)[0] for part in parts[2:]]:
+                self.by_module.setdefault((parts[1], module), set()).update(words, WORD.findall(name))
             if "laws" in name and kind == ".rt":
                 self.laws |= set(re.findall(r"\bfn (\w+)", text))
         self.all |= words
@@ -71,15 +74,25 @@ class Sources:
     def has_path(self, words):
         first, last = words[0], words[-1]
         if first in self.by_crate:
-            return all(word in self.by_crate[first] for word in words[1:])
+            return self.has_in(first, words[1:])
         if first == "laws":
             return last in self.laws
-        return any(all(word in crate for word in words) for crate in self.by_crate.values())
+        return any(self.has_in(crate, words) for crate in self.by_crate)
+
+    def has_in(self, crate, words):
+        """Whether the words are of the crate, the last in the module that the one before it names."""
+        module = words[-2] if len(words) > 1 else ""
+        held = self.by_module.get((crate, module), set()) if module.islower() else self.by_crate[crate]
+        return words[-1] in held and all(word in self.by_crate[crate] for word in words)
 
 
 def missing(span, sources, made):
     """The names of a span that are nowhere. `made` has the words of the document's own examples."""
     known = lambda word: word in sources.all or word in ALLOWED or word in made
+    for code in COMMAND.findall(span):
+        if code not in ALLOWED and not any(code in text for text in sources.text):
+            yield code
+    span = COMMAND.sub(" ", span)
     for path in PATH.findall(span):
         words = path.split("::")
         if words[0] not in ALLOWED and not sources.has_path(words):
@@ -87,28 +100,27 @@ def missing(span, sources, made):
     for file in FILE.findall(span):
         if file not in made and file not in ALLOWED and not sources.has_file(file):
             yield file
-    for code in COMMAND.findall(span):
-        if code not in ALLOWED and not any(code in text for text in sources.text):
-            yield code
     yield from (word for word in WORD.findall(span) if len(word) > 1 and not known(word))
 
 
-def in_document(name, sources):
-    text = read(name)
+def in_document(name, text, sources):
     examples = "".join(FENCE.findall(text))
     made = set(WORD.findall(examples)) | set(FILE.findall(examples))
-    plain = without_fences(text)
-    for span in SPAN.finditer(plain):
+    for span in SPAN.finditer(text := without_fences(text)):
         for word in dict.fromkeys(missing(span[1], sources, made)):
-            yield len(SPAN.findall(plain)), f"{name}:{line_of(plain, span.start())}: `{word}` is in no source, file, command or table of allowed words"
+            yield f"{name}:{line_of(text, span.start())}: `{word}` is in no source, file, command or table of allowed words"
+    for word in SNAKE.finditer(SPAN.sub(lambda span: " " * len(span[0]), text)):
+        if word[0] not in sources.all and word[0] not in ALLOWED and word[0] not in made:
+            yield f"{name}:{line_of(text, word.start())}: {word[0]} is in no source or file"
 
 
 def check(documents):
     """The names in backticks of these documents, of all where none is named."""
     sources, count, failed = Sources(), 0, []
     for name in documents or [file for file in sources.files if is_document(file)]:
-        count += len(SPAN.findall(without_fences(read(name))))
-        failed += [line for _, line in in_document(name, sources)]
+        text = read(name)
+        count += len(SPAN.findall(without_fences(text)))
+        failed += in_document(name, text, sources)
     return count, failed
 
 

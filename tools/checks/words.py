@@ -1,2 +1,63 @@
-"""Words that documents put in backticks and that are in no source, each with its reason."""
-ALLOWED = {}
+"""Words that documents put in backticks and that are in no source, each with its reason. Whoever adds one says why no source can have it."""
+
+KIT = "of Rattle's kit or its standard library, and nobody calls it here"
+PROVER = "what the prover calls a file, an option or a part of its work"
+HOST = "a command or a word of the host"
+SHAPE = "the form of a text, with marks in place of what it is filled with"
+DRAWN = "stands for any name of its kind"
+
+ALLOWED = {
+    "rattle": PROVER,
+    "logic": PROVER,
+    "dac8208d650f15bf": "the prover's version, as `rt version` prints it",
+    "plant": PROVER,
+    "tidy": PROVER,
+    "allow": PROVER,
+    "holes": PROVER,
+    "progress": PROVER,
+    "fix": PROVER,
+    "imports": PROVER,
+    "incremental": PROVER,
+    "out/incremental": PROVER,
+    "oantt": PROVER,
+    "rlib": PROVER,
+    "out/rlib": PROVER,
+    "unusable": PROVER,
+    "Proof.antt": PROVER,
+    "Proof": PROVER,
+    "Lts": PROVER,
+    "Tie": PROVER,
+    "hint": KIT,
+    "black_box": KIT,
+    "std": KIT,
+    "io": KIT,
+    "memchr2": KIT,
+    "get_mut": KIT,
+    "od": HOST,
+    "tx1": HOST,
+    "sha256sum": HOST,
+    "urandom": HOST,
+    "nc": HOST,
+    "gcc": HOST,
+    "strace": HOST,
+    "PWD": HOST,
+    "s/..": HOST,
+    "___": SHAPE,
+    "M__": SHAPE,
+    "A__": SHAPE,
+    "_REPT_DBCHG": SHAPE,
+    "LABEL": SHAPE,
+    "_at": SHAPE,
+    "_told": SHAPE,
+    "modulo": "a word of the script's arithmetic",
+    "tests": DRAWN,
+    "crate": DRAWN,
+    "CRATE": DRAWN,
+    "FN": DRAWN,
+    "DIR": DRAWN,
+    "bench/NAME": DRAWN,
+    "office.svg": "made by the command beside it",
+    "proofs/Tests.antt": "a name that the toolchain refuses, beside src/tests.rt",
+    "src/tests.rt": "a name that the toolchain refuses, beside proofs/Tests.antt",
+    "Tests": "a name that the toolchain refuses",
+}
