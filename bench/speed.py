@@ -17,10 +17,9 @@ import tempfile
 import time
 
 sys.dont_write_bytecode = True
+from program import PROGRAM
 from streams import LOG_IN, busy, chains, churn, direct, filled, full, headers, mixed, refused, retrievals
 
-TOP = os.path.dirname(os.path.dirname(os.path.abspath(__file__)))
-PROGRAM = os.path.join(TOP, "crates", "dxc", "out", "dxc")
 MEMORY = "/dev/shm"
 # SHA-256 of the salt "a" and the PID "bc"
 DIGEST = "ba7816bf8f01cfea414140de5dae2223b00361a396177a9cb410ff61f20015ad"
