@@ -14,9 +14,8 @@ import tempfile
 
 import journal
 from journal import File
+from program import PROGRAM
 
-TOP = os.path.dirname(os.path.dirname(os.path.abspath(__file__)))
-PROGRAM = os.path.join(TOP, "crates", "dxc", "out", "dxc")
 SHELF = """sid = "DXC1"
 modules = 3
 slots = 2
@@ -112,7 +111,6 @@ def tried(shelf, name, old, first):
 
 
 def main():
-    subprocess.run([os.path.join(TOP, "dxc"), "--version"], check=True, stdout=subprocess.DEVNULL)
     with tempfile.TemporaryDirectory() as folder:
         shelf, name = os.path.join(folder, "shelf.toml"), os.path.join(folder, "office.journal")
         with open(shelf, "w", encoding="utf-8") as file:

@@ -1,7 +1,7 @@
 #!/usr/bin/env python3
 """Kills the program at some moment of a session, again and again, and audits the journal that it leaves.
 
-usage: bench/kills.py [RUNS]     (300 where nothing is given)
+usage: bench/kills.py [RUNS [SEED]]     (300 runs, seed 1, where nothing is given)
 
 A run on a real file is killed by signal 9 after a random time. Each change that was acknowledged, by a response that ended, must be in the
 journal, and at most the one behind them besides: `dxc check` has the rows of a plain table after so many changes. A further session
@@ -14,8 +14,8 @@ import sys
 import tempfile
 import time
 
-TOP = os.path.dirname(os.path.dirname(os.path.abspath(__file__)))
-PROGRAM = os.path.join(TOP, "crates", "dxc", "out", "dxc")
+from program import PROGRAM, counted
+
 MODULES, SLOTS = 3, 4
 # More than a run comes to before it is killed, on most disks.
 CHANGES = 1_200
@@ -78,9 +78,8 @@ def killed_run(rng, shelf, journal, table, records):
 
 
 def main():
-    runs = int(sys.argv[1]) if len(sys.argv) > 1 else 300
-    subprocess.run([os.path.join(TOP, "dxc"), "--version"], check=True, stdout=subprocess.DEVNULL)
-    rng = random.Random(1)
+    runs, seed = counted(300)
+    rng = random.Random(seed)
     changes = in_hand = 0
     with tempfile.TemporaryDirectory() as folder:
         shelf = os.path.join(folder, "shelf.toml")

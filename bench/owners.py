@@ -1,7 +1,7 @@
 #!/usr/bin/env python3
 """Tries the program against the world around it: closed streams, a second program on its journal, files that can't be had.
 
-usage: bench/owners.py [MOMENTS]     (200 where nothing is given)
+usage: bench/owners.py [MOMENTS [SEED]]     (200 moments, seed 1, where nothing is given)
 
 Closed streams: with each choice of descriptors 0, 1 and 2 closed, `script` and `check` leave the journal as it was or longer by whole records.
 Owners: at each of MOMENTS random moments of a session a `check` and a second `script` on its journal end with status 6, and the session's
@@ -17,8 +17,8 @@ import sys
 import tempfile
 import time
 
-TOP = os.path.dirname(os.path.dirname(os.path.abspath(__file__)))
-PROGRAM = os.path.join(TOP, "crates", "dxc", "out", "dxc")
+from program import PROGRAM, counted
+
 NOBODY = 65534
 SHELF = """sid = "DXC1"
 modules = 4
@@ -87,9 +87,9 @@ def records_behind(count, changes):
     return count
 
 
-def owners(folder, shelf, moments):
+def owners(folder, shelf, moments, seed):
     journal = os.path.join(folder, "owned.journal")
-    rng = random.Random(1)
+    rng = random.Random(seed)
     kept = count = 0
     for _ in range(moments):
         session = subprocess.Popen([PROGRAM, "script", shelf, journal], stdin=subprocess.PIPE, stdout=subprocess.PIPE)
@@ -170,8 +170,7 @@ def full_disk(folder, shelf):
 
 
 def main():
-    moments = int(sys.argv[1]) if len(sys.argv) > 1 else 200
-    subprocess.run([os.path.join(TOP, "dxc"), "--version"], check=True, stdout=subprocess.DEVNULL)
+    moments, seed = counted(200)
     with tempfile.TemporaryDirectory() as folder:
         os.chmod(folder, 0o755)
         shelf = os.path.join(folder, "shelf.toml")
@@ -181,7 +180,7 @@ def main():
         print(f"full devices: {', '.join(full_devices(folder, shelf))}")
         print(f"files: {', '.join(no_files(folder, shelf))}")
         print(f"full disk: {full_disk(folder, shelf)}")
-        print(f"owners: {moments} moments, {owners(folder, shelf, moments)} acknowledged changes, all of them kept")
+        print(f"owners: {moments} moments, {owners(folder, shelf, moments, seed)} acknowledged changes, all of them kept")
 
 
 main()

@@ -18,8 +18,8 @@ import tempfile
 import threading
 import time
 
-TOP = os.path.dirname(os.path.dirname(os.path.abspath(__file__)))
-PROGRAM = os.path.join(TOP, "crates", "dxc", "out", "dxc")
+from program import PROGRAM
+
 DIGEST = "ba7816bf8f01cfea414140de5dae2223b00361a396177a9cb410ff61f20015ad"
 USER = f'[[user]]\nuid = "ANNA"\nclass = "S"\nsalt = "61"\ndigest = "{DIGEST}"\n'
 LOG_IN = b"ACT-USER::ANNA:1::bc;"
@@ -227,7 +227,6 @@ def times(units):
 
 def main():
     units = int(sys.argv[1]) if len(sys.argv) > 1 else 2000
-    expect(os.path.exists(PROGRAM), "no program is built; ./dxc --version builds it")
     callers_hold_nobody_up()
     for workers in (1, 3, 8):
         frames_arrive(workers)

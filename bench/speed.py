@@ -20,10 +20,9 @@ import tempfile
 import time
 
 sys.dont_write_bytecode = True
+from program import PROGRAM, TOP
 from streams import LOG_IN, busy, chains, churn, direct, filled, full, headers, mixed, refused, retrievals
 
-TOP = os.path.dirname(os.path.dirname(os.path.abspath(__file__)))
-PROGRAM = os.path.join(TOP, "crates", "dxc", "out", "dxc")
 CONVENTIONAL = os.path.join(TOP, "bench", "conventional.json")
 MEMORY = "/dev/shm"
 # SHA-256 of the salt "a" and the PID "bc"

@@ -2,6 +2,7 @@
 #![tactic(auto)]
 
 mod help;
+mod sources;
 mod streams;
 mod why;
 mod words;
