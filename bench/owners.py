@@ -4,8 +4,8 @@
 usage: bench/owners.py [MOMENTS [SEED]]     (200 moments, seed 1, where nothing is given)
 
 Closed streams: with each choice of descriptors 0, 1 and 2 closed, `script` and `check` leave the journal as it was or longer by whole records.
-Owners: at each of MOMENTS random moments of a session a `check` and a second `script` on its journal end with status 6, and the session's
-acknowledged changes are all in the journal at its end. Files: a journal that may not be written, in a folder that may not be, that is a
+Owners: at each of MOMENTS random moments of a session a `check` of its journal finds whole records, a second `script` on it ends with status 6,
+and the session's acknowledged changes are all in the journal at its end. Files: a journal that may not be written, in a folder that may not be, that is a
 folder or lies in none ends with status 6 and is left alone; a full device ends with status 9, and on a full disk a change is denied and nothing
 that was acknowledged is lost. What wants an administrator's rights is left out without them, and said so.
 """
@@ -100,9 +100,10 @@ def owners(folder, shelf, moments, seed):
         session.stdin.write((ENTRY + DELETION).encode() * 100)
         session.stdin.flush()
         time.sleep(rng.uniform(0, 0.02))
-        for words, commands in ((["check", shelf, journal], ""), (["script", shelf, journal], LOG_IN + ENTRY)):
-            second = run(words, commands)
-            expect((second.returncode, second.stdout, second.stderr) == (CANNOT_OPEN, "", FAULT), f"a second program ended with {second}")
+        expect(run(["check", shelf, journal]).returncode == 0, "a check beside a session failed")
+        second = run(["script", shelf, journal], LOG_IN + ENTRY)
+        wanted = (CANNOT_OPEN, "", f"{FAULT}dxc: {journal}: another program has it\n")
+        expect((second.returncode, second.stdout, second.stderr) == wanted, f"a second program ended with {second}")
         session.stdin.close()
         written = session.stdout.read().decode()
         expect(session.wait() == 0, "the session failed")
@@ -111,6 +112,10 @@ def owners(folder, shelf, moments, seed):
         kept, count = kept + acknowledged, records_behind(count, acknowledged)
         expect(records(shelf, journal) == count, f"{kept} changes were acknowledged, and the journal hasn't {count} records")
     return kept
+
+
+def is_refused(ended, name):
+    return ended.returncode == CANNOT_OPEN and ended.stderr.startswith(f"{FAULT}dxc: {name}: ")
 
 
 def as_nobody():
@@ -122,7 +127,7 @@ def no_files(folder, shelf):
     tried = ["a folder that isn't there", "a folder as a journal"]
     for journal in (os.path.join(folder, "absent", "a.journal"), folder):
         ended = run(["script", shelf, journal], LOG_IN)
-        expect((ended.returncode, ended.stderr) == (CANNOT_OPEN, FAULT), f"{journal} ended with {ended}")
+        expect(is_refused(ended, journal), f"{journal} ended with {ended}")
     if os.geteuid() == 0:
         journal = os.path.join(folder, "kept.journal")
         run(["script", shelf, journal], LOG_IN + ENTRY)
@@ -130,7 +135,7 @@ def no_files(folder, shelf):
         os.chmod(journal, 0o444)
         for name in (journal, os.path.join(folder, "new.journal")):
             ended = run(["script", shelf, name], LOG_IN, preexec_fn=as_nobody)
-            expect((ended.returncode, ended.stderr) == (CANNOT_OPEN, FAULT), f"{name} ended with {ended}")
+            expect(is_refused(ended, name), f"{name} ended with {ended}")
         expect(content(journal) == before, "a journal that may only be read was changed")
         tried += ["a journal that may only be read", "a folder that may only be read"]
     return tried

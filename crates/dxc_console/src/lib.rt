@@ -10,4 +10,4 @@ mod words;
 pub use help::help_asked;
 pub use streams::held_streams;
 pub use why::tell_status;
-pub use words::words_given;
+pub use words::{only_look, words_given};
