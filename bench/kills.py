@@ -19,6 +19,8 @@ from program import PROGRAM, counted
 MODULES, SLOTS = 3, 4
 # More than a run comes to before it is killed, on most disks.
 CHANGES = 1_200
+# The latest moment of a kill, in seconds behind a start.
+LATEST = 0.12
 SHELF = f"""sid = "DXC1"
 modules = {MODULES}
 slots = {SLOTS}
@@ -51,13 +53,13 @@ def listing(table, records):
     return "".join(f"{a},{b}:1WAY\n" for a, b in rows) + f"RECORDS {records}\n"
 
 
-def killed_run(rng, shelf, journal, table, records):
+def killed_run(rng, latest, shelf, journal, table, records):
     """Table and number of records that the journal has after a run that was killed."""
     made = list(commands(rng, table, CHANGES))
     child = subprocess.Popen([PROGRAM, "script", shelf, journal], stdin=subprocess.PIPE, stdout=subprocess.PIPE)
     child.stdin.write(("ACT-USER::ANNA:1::bc;" + "".join(text for text, _ in made)).encode())
     child.stdin.flush()
-    time.sleep(rng.uniform(0, 0.12))
+    time.sleep(rng.uniform(0, latest))
     child.kill()
     written = child.stdout.read().decode()
     child.wait()
@@ -77,6 +79,13 @@ def killed_run(rng, shelf, journal, table, records):
     sys.exit(f"after {acknowledged} acknowledged changes check wrote\n{checked.stdout}")
 
 
+def start_of(shelf, journal):
+    """How long a start takes here, in seconds."""
+    began = time.monotonic()
+    subprocess.run([PROGRAM, "script", shelf, journal], input=b"", check=True)
+    return time.monotonic() - began
+
+
 def main():
     runs, seed = counted(300)
     rng = random.Random(seed)
@@ -85,12 +94,13 @@ def main():
         shelf = os.path.join(folder, "shelf.toml")
         with open(shelf, "w") as file:
             file.write(SHELF)
+        latest = start_of(shelf, os.path.join(folder, "first.journal")) + LATEST
         journal, table, records = None, frozenset(), 0
         for run in range(runs):
             # A journal of its own for every ten runs: new ones are killed, too.
             if run % 10 == 0:
                 journal, table, records = os.path.join(folder, f"{run}.journal"), frozenset(), 0
-            table, records, acknowledged, more = killed_run(rng, shelf, journal, table, records)
+            table, records, acknowledged, more = killed_run(rng, latest, shelf, journal, table, records)
             changes += acknowledged
             in_hand += more
     print(f"{runs} runs killed: {changes} acknowledged changes, all of them kept; {in_hand} times the one in hand besides")

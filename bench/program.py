@@ -4,13 +4,13 @@ import subprocess
 import sys
 
 TOP = os.path.dirname(os.path.dirname(os.path.abspath(__file__)))
-LAUNCHER = os.environ.get("DXC_PROGRAM") or os.path.join(TOP, "dxc")
+LAUNCHER = os.path.abspath(os.environ.get("DXC_PROGRAM") or os.path.join(TOP, "dxc"))
 
 
 def made_ready():
     """The program's path. Where there is none, the launcher has said why."""
-    if "DXC_PROGRAM" in os.environ:
-        return os.path.abspath(LAUNCHER)
+    if os.environ.get("DXC_PROGRAM"):
+        return LAUNCHER
     ran = subprocess.run([LAUNCHER, "--program"], stdin=subprocess.DEVNULL, stdout=subprocess.PIPE, text=True, check=False)
     return ran.stdout.strip() if ran.returncode == 0 else sys.exit(ran.returncode)
 
