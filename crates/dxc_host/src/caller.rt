@@ -50,13 +50,12 @@ impl Caller {
 }
 
 impl Read for Caller {
-    /// Where no byte came in time, one who waits at the same entrance is told so if it has no seat for him.
+    /// Where no byte came in time, one who waits at the same entrance is told that all places are taken, if they are.
     fn read(&mut self, into: &mut [u8]) -> io::Result<usize> {
         let read = self.stream.read(into);
-        if let (Err(error), Some(seat)) = (&read, &self.seat)
-            && error.kind() == ErrorKind::WouldBlock
-        {
-            seat.turn_away();
+        match (&read, &self.seat) {
+            (Err(error), Some(seat)) if error.kind() == ErrorKind::WouldBlock => seat.turn_away(),
+            _ => {}
         }
         read
     }

@@ -29,6 +29,48 @@ enum Bytes {
     Copy(FileCopy),
 }
 
+impl Bytes {
+    fn length(&mut self) -> Result<u64, DiskFault> {
+        match self {
+            Bytes::File(file) => file.length(),
+            Bytes::Copy(copy) => Ok(copy.length()),
+        }
+    }
+
+    #[inline(always)]
+    fn read(&mut self, at: u64, into: &mut [u8]) -> Result<(), DiskFault> {
+        match self {
+            Bytes::File(file) => file.read(at, into),
+            Bytes::Copy(copy) => copy.read(at, into),
+        }
+    }
+
+    // A file that is too short for a journal is to be empty, or what a broken making leaves: no other becomes one.
+    fn is_of_journal(&mut self) -> Result<bool, DiskFault> {
+        let length = self.length()?;
+        if length == 0 || LONGEST_BEGUN < length {
+            return Ok(true);
+        }
+        let mut first = [0];
+        self.read(0, &mut first)?;
+        Ok(first[0] == SEALED || first[0] == UNSEALED)
+    }
+
+    fn write_at(&mut self, at: u64, from: &[u8]) -> Result<(), DiskFault> {
+        match self {
+            Bytes::File(file) => file.write_at(at, from),
+            Bytes::Copy(copy) => copy.write_at(at, from),
+        }
+    }
+
+    fn sync(&mut self) -> Result<(), DiskFault> {
+        match self {
+            Bytes::File(file) => file.sync(),
+            Bytes::Copy(_) => Ok(()),
+        }
+    }
+}
+
 impl HostDisk {
     /// The file of that path, of which the disk is the one owner. It is made where it isn't there.
     pub(crate) fn open<R: Files<File = File>>(
@@ -38,8 +80,7 @@ impl HostDisk {
     ) -> io::Result<HostDisk>
         ensures { IfOk result (λ disk. disk.faults ≡ 0) }
     {
-        let file = FileDisk::open(alloc, files, path)?;
-        HostDisk::of_journal(Bytes::File(file))
+        HostDisk::of_journal(Bytes::File(FileDisk::open(alloc, files, path)?))
     }
 
     /// A copy of the file of that path. What is done to the disk changes no file.
@@ -50,27 +91,20 @@ impl HostDisk {
     ) -> io::Result<HostDisk>
         ensures { IfOk result (λ disk. disk.faults ≡ 0) }
     {
-        let copy = FileCopy::open(alloc, files, path)?;
-        HostDisk::of_journal(Bytes::Copy(copy))
+        HostDisk::of_journal(Bytes::Copy(FileCopy::open(alloc, files, path)?))
     }
 
-    // A file that is too short for a journal is to be empty, or what a broken making leaves: no other becomes one.
-    fn of_journal(bytes: Bytes) -> io::Result<HostDisk>
+    fn of_journal(mut bytes: Bytes) -> io::Result<HostDisk>
         ensures { IfOk result (λ disk. disk.faults ≡ 0) }
     {
-        let mut disk = HostDisk { bytes, faults: 0 };
-        let mut first = [SEALED];
-        let Ok(length) = disk.length() else {
-            return Err(io::Error::other("its length can't be read"));
-        };
-        if length > 0 && disk.read(0, &mut first).is_err() {
-            return Err(io::Error::other("it can't be read"));
+        match bytes.is_of_journal() {
+            Ok(true) => Ok(HostDisk { bytes, faults: 0 }),
+            Ok(false) => {
+                let told = "it holds something else than a journal or the beginning of one";
+                Err(io::Error::new(ErrorKind::InvalidData, told))
+            }
+            Err(DiskFault) => Err(io::Error::other("it can't be read")),
         }
-        if length <= LONGEST_BEGUN && first != [SEALED] && first != [UNSEALED] {
-            let told = "it holds something else than a journal or the beginning of one";
-            return Err(io::Error::new(ErrorKind::InvalidData, told));
-        }
-        Ok(disk)
     }
 
     // Counts a fault where the call failed.
@@ -105,35 +139,23 @@ impl Disk for HostDisk {
     ghost counts_on = { λ d. no_room d.faults };
 
     fn length(&mut self) -> Result<u64, DiskFault> {
-        let length = match &mut self.bytes {
-            Bytes::File(file) => file.length(),
-            Bytes::Copy(copy) => Ok(copy.length()),
-        };
+        let length = self.bytes.length();
         self.counted(length)
     }
 
     #[inline(always)]
     fn read(&mut self, at: u64, into: &mut [u8]) -> Result<(), DiskFault> {
-        let read = match &mut self.bytes {
-            Bytes::File(file) => file.read(at, into),
-            Bytes::Copy(copy) => copy.read(at, into),
-        };
+        let read = self.bytes.read(at, into);
         self.counted(read)
     }
 
     fn write_at(&mut self, at: u64, from: &[u8]) -> Result<(), DiskFault> {
-        let written = match &mut self.bytes {
-            Bytes::File(file) => file.write_at(at, from),
-            Bytes::Copy(copy) => copy.write_at(at, from),
-        };
+        let written = self.bytes.write_at(at, from);
         self.counted(written)
     }
 
     fn sync(&mut self) -> Result<(), DiskFault> {
-        let synced = match &mut self.bytes {
-            Bytes::File(file) => file.sync(),
-            Bytes::Copy(_) => Ok(()),
-        };
+        let synced = self.bytes.sync();
         self.counted(synced)
     }
 }

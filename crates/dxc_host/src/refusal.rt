@@ -1,6 +1,7 @@
 use std::alloc::Global;
 use std::fmt::{self, Display, Formatter, Write};
 use std::io::{self, ErrorKind};
+use std::str;
 
 /// What couldn't be opened, and why: the name as it was asked for, and the system's own text. In a name a byte that no terminal prints is
 /// shown by its number.
