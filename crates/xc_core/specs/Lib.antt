@@ -16,3 +16,4 @@ pub mod Askings
 pub mod Openings
 pub mod Starts
 pub mod Adoptions
+pub mod Views
