@@ -17,3 +17,4 @@ pub mod Openings
 pub mod Starts
 pub mod Adoptions
 pub mod Views
+pub mod Moves
