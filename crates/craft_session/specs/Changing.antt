@@ -55,7 +55,7 @@ MendedIs o place h asked then_seen (mended.Denied q) = (p : Passed o place h (en
 MendedIs o place h asked then_seen mended.Stopped = (p : Passed o place h (entry place Restart outcome.Cut) then_seen) × IsDueFor asked (h ++ p.passed)
 MendedIs o place h asked then_seen mended.Waits = PassedBy o place h then_seen
 
--- what came of a restart that was asked for: it takes up no change of an operation that was denied
+-- what came of a restart that was asked for, which takes up a change only where a stop came
 abbrev pub WarmRestartIs : Opening → ℕ → List Entry → List Gv → Changed → Type 0
 WarmRestartIs o place h then_seen Done = (c : Option TableChange) × (p : Passed o place h (entry place Restart (outcome.Restarted c)) then_seen) × IsOfStop c (h ++ p.passed)
 WarmRestartIs o place h then_seen (Denied q) = Passed o place h (entry place Restart (outcome.Failed q)) then_seen

@@ -73,7 +73,7 @@ refused q = Denied q
 abbrev pub IsDueFor : Op → List Entry → Type 0
 IsDueFor asked h = (asked ≡ Restart) ⊎ IsRestartDue h
 
--- a restart takes up a change only where a stop came, and no restart since: never the one of an operation that was denied
+-- a restart takes up a change only where a stop came, and no restart since
 abbrev pub IsOfStop : Option Change → List Entry → Type 0
 IsOfStop None h = Unit {0}
 IsOfStop (Some c) h = IsStopped h

@@ -25,7 +25,7 @@ use dxc_model::{Cause, Change, Op, Outcome};
 use dxc_outside::Gate;
 use fabric_words::Fabric;
 
-// Settles the Provisioner and halts it, where it isn't halted: what an operation that was denied left in doubt isn't taken up.
+// Settles the Provisioner and halts it, where it isn't halted: what a failed call left in doubt isn't taken up then.
 fn make_halted<D: Disk>(p: &mut Provisioner<D>) -> Result<(), DiskFault>
     requires home { (b : Past) × (IsHome D.told D.state b p.old ⊎ IsHalted D.told D.state b p.old) }
     ensures ground { ground_of p.new ≡ ground_of p.old }
@@ -108,7 +108,7 @@ pub fn end<D: Disk + Drop>(state: &mut State<D>, driver: Box<Driver<D>>) -> Opti
     requires restart { (o : Opening) × (own : ℕ) × (h : List Entry) × (asked : Op) × (o.first.changes ≡ 0) × StandsFor D.told D.state o state.old h × HasRestart D.told D.state o own asked h driver.value.p driver.value.rolling }
     requires done { rest_of driver.value.rolling ≡ [] }
     ensures restarted { (o : Opening) → (own : ℕ) → (h : List Entry) → (asked : Op) → StandsFor D.told D.state o state.old h → HasRestart D.told D.state o own asked h driver.value.p driver.value.rolling → StandsFor D.told D.state o state.new (h ++ entry own Restart (Restarted result) ∷ []) }
-    // A change of an operation that was denied isn't taken up.
+    // Where no stop came since the last restart no change is taken up.
     ensures of_stop { TakesUpOfStop D.Disk state.old driver.value result }
     ensures origin { state.new.origin ≡ state.old.origin }
 {
