@@ -1,14 +1,12 @@
 #!/usr/bin/env python3
 """Runs each example of documents as it stands, and compares what it writes with what the document says.
 
-usage: bench/operating.py [--program PROGRAM] [DOCUMENT..]     (README.md and docs/OPERATING.md where nothing is given)
+usage: bench/operating.py [DOCUMENT..]     (README.md and docs/OPERATING.md where nothing is given)
 
 An example is a block marked `sh` and the block marked `text` behind it; a block without one must only succeed. All of a document run in
-bash, in order, in one new folder with links to the checkout's launcher, examples and tools. Dates and times of headers, carriage returns,
-and blank lines beyond one are left out of the comparison. The first call of the launcher builds the program, which isn't timed; with --program
-that program stands in the launcher's place, and nothing is built.
+bash, in order, in one new folder with links to the checkout's launcher, or the program that DXC_PROGRAM names, to its examples and its tools.
+Dates and times of headers, carriage returns, and blank lines beyond one are left out of the comparison.
 """
-import argparse
 import os
 import re
 import subprocess
@@ -20,7 +18,8 @@ BLOCK = re.compile(r"^```(sh|text)\n(.*?)^```$", re.MULTILINE | re.DOTALL)
 MOMENT = re.compile(r"\b\d\d-\d\d-\d\d \d\d:\d\d:\d\d\b")
 SECONDS = 60
 DOCUMENTS = ("README.md", os.path.join("docs", "OPERATING.md"))
-LAUNCHER, LINKED = os.path.join(TOP, "dxc"), ("examples", "tools")
+LAUNCHER = os.path.abspath(os.environ.get("DXC_PROGRAM") or os.path.join(TOP, "dxc"))
+LINKED = {"dxc": LAUNCHER, "examples": os.path.join(TOP, "examples"), "tools": os.path.join(TOP, "tools")}
 
 
 def examples(text):
@@ -37,16 +36,15 @@ def masked(text):
     return re.sub(r"\n{3,}", "\n\n", MOMENT.sub("YY-MM-DD HH:MM:SS", text.replace("\r", ""))).strip("\n")
 
 
-def run(document, program):
+def run(document):
     """How many examples of the document there are, and how many failed."""
     with open(document, encoding="utf-8") as file:
         text = file.read()
     failed = count = 0
     with tempfile.TemporaryDirectory() as folder:
         world = dict(os.environ, DXC=TOP, PATH=folder + os.pathsep + os.environ["PATH"], LC_ALL="C")
-        os.symlink(program, os.path.join(folder, "dxc"))
-        for name in LINKED:
-            os.symlink(os.path.join(TOP, name), os.path.join(folder, name))
+        for name, place in LINKED.items():
+            os.symlink(place, os.path.join(folder, name))
         for commands, wanted in examples(text):
             ran = subprocess.run(
                 ["bash", "-c", commands], cwd=folder, env=world, stdin=subprocess.DEVNULL, stdout=subprocess.PIPE, stderr=subprocess.STDOUT, timeout=SECONDS, check=False
@@ -60,13 +58,9 @@ def run(document, program):
 
 
 def main():
-    parser = argparse.ArgumentParser(usage=__doc__.split("usage: ")[1].split("\n\n")[0])
-    parser.add_argument("--program", default=LAUNCHER)
-    parser.add_argument("documents", nargs="*", default=[os.path.join(TOP, name) for name in DOCUMENTS])
-    chosen = parser.parse_args()
-    program, documents = os.path.abspath(chosen.program), chosen.documents
-    subprocess.run([program, "--version"], check=True, stdout=subprocess.DEVNULL)
-    ran = [run(document, program) for document in documents]
+    documents = sys.argv[1:] or [os.path.join(TOP, name) for name in DOCUMENTS]
+    subprocess.run([LAUNCHER, "--version"], check=True, stdout=subprocess.DEVNULL)
+    ran = [run(document) for document in documents]
     for document, (count, failed) in zip(documents, ran):
         print(f"{os.path.relpath(document)}: {count} examples, {failed} failed")
     sys.exit(any(failed for _, failed in ran))
