@@ -7,6 +7,7 @@ usage: bench/journals.py                writes that file
 
 What comes of a row is reckoned by the plain element (bench/plain.py) over a plain journal (bench/journal.py).
 """
+import functools
 import itertools
 import random
 
@@ -99,8 +100,13 @@ class Row:
         return self
 
 
+@functools.lru_cache(maxsize=16)
 def old_lines(content):
-    """Zeros between the areas aren't spelled."""
+    """The lines of a journal's bytes. Zeros between the areas aren't spelled."""
+    return tuple(lines_of_areas(content))
+
+
+def lines_of_areas(content):
     first, second = content[: AREAS[1]], content[AREAS[1] :]
     kept = first.rstrip(b"\0")
     kept = first if len(kept) + 200 > len(first) else kept

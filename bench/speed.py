@@ -1,13 +1,12 @@
 #!/usr/bin/env python3
 """Instructions of a unit, by valgrind's callgrind, beside those of a conventional program of the same functions, which proves nothing.
 
-usage: bench/speed.py [--most RATIO] [--program PROGRAM] [FIGURE..]
-       (all figures where none is named; status 1 above the ratio, or where the output differs)
+usage: bench/speed.py [--most RATIO] [FIGURE..]     (all figures where none is named; status 1 above the ratio, or where the output differs)
 
 A stream (bench/streams.py) is run with few and with many units; their difference is the cost of a unit without the start, and repeats to
 the digit. Shelf and journal lie in memory. The conventional program isn't here: its figures, of its full functions, were measured once on
 these very streams, and stand in bench/conventional.json with the digest of what it wrote, dates and times masked; DIFFERS: ours writes
-something else. Figures there without a digest are of its cost alone. The program is the one that `./dxc` built, where no other is named.
+something else. Figures there without a digest are of its cost alone. The program is the one that `./dxc` built, or that DXC_PROGRAM names.
 """
 import argparse
 import hashlib
@@ -61,8 +60,7 @@ CHECKPOINT = ((64, 96), 144, 6_144)
 class Room:
     """A folder in memory with a shelf file, and journals that are new for each run."""
 
-    def __init__(self, program, folder):
-        self.program = program
+    def __init__(self, folder):
         self.shelf, self.journal = os.path.join(folder, "shelf.toml"), os.path.join(folder, "journal")
         self.written = os.path.join(folder, "written")
 
@@ -74,7 +72,7 @@ class Room:
         for name in (self.journal, self.journal + ".users"):
             if os.path.exists(name):
                 os.unlink(name)
-        return [self.program, "script", self.shelf, self.journal]
+        return [PROGRAM, "script", self.shelf, self.journal]
 
 
 def collected(words, text=""):
@@ -164,7 +162,7 @@ def others(room, sheet, wanted):
         least, most = (checkpoint(room, shape, rows) for rows in (few, many))
         sheet.line(None, "checkpnt", f"a row of a checkpoint, {by(shape)}", (most - least) / (many - few))
     if wanted("load"):
-        count, _ = collected([room.program, "load", "0"])
+        count, _ = collected([PROGRAM, "load", "0"])
         sheet.line("loads", "load", "all of load 0", count)
     for shape in FULL if wanted("memory") else ():
         sheet.line("memory", "memory", f"resident, a full {by(shape)}", resident(room, shape), key=by(shape), unit="KiB")
@@ -177,13 +175,12 @@ def by(shape):
 def main():
     parser = argparse.ArgumentParser(usage=__doc__.split("usage: ")[1].split("\n\n")[0])
     parser.add_argument("--most", type=float)
-    parser.add_argument("--program", default=PROGRAM)
     parser.add_argument("figures", nargs="*")
     chosen = parser.parse_args()
     wanted = lambda name: not chosen.figures or name in chosen.figures
     sheet = Sheet(chosen.most)
     with tempfile.TemporaryDirectory(dir=MEMORY if os.path.isdir(MEMORY) else None) as folder:
-        room = Room(os.path.abspath(chosen.program), folder)
+        room = Room(folder)
         for figures in (streams, starts, others):
             figures(room, sheet, wanted)
     sys.exit(1 if sheet.failed else 0)

@@ -9,6 +9,7 @@ tools/checks/words.py with its reason.
  - A TL1 command code stands whole in a source, and isn't looked into.
  - A file's name, with a slash or a known ending, is one of the top, of a crate, or one that an example makes.
  - A link leads to a file, and to a heading of it.
+ - A command of the manual page (`.Cm`) is a word of `craft_words`.
 """
 import os
 import re
@@ -24,6 +25,7 @@ PATH = re.compile(r"[A-Za-z_]\w*(?:::[A-Za-z_]\w*)+")
 ENDINGS = ("py", "sh", "md", "toml", "tl1", "out", "txt", "service", "c", "rt", "antt", "edit", "svg")
 FILE = re.compile(r"(?<![\w/.$-])(?:\.?[\w-]+/)+[\w.-]*|(?<![\w/.$-])[\w-]+\.(?:" + "|".join(ENDINGS) + r")\b")
 OURS = re.compile(r"(?<![\w./$])(?:bench|tools|docs|dist|examples|man)/[\w./-]*\w")
+COMMAND_OF_MAN = re.compile(r"^\.(?:It )?Cm (\w+)", re.MULTILINE)
 LINK = re.compile(r"\]\(([^)\s]+)\)")
 COMMENTS = {".rt": re.compile(r"//.*"), ".antt": re.compile(r"(?:^|(?<=\s))--.*", re.MULTILINE), ".py": re.compile(r"#.*"), ".sh": re.compile(r"#.*")}
 PLACES = ("src", "specs", "proofs", "data", "must-fail", "further-edits")
@@ -37,7 +39,7 @@ class Sources:
         self.by_crate, self.by_module, self.all, self.laws, self.text = {}, {}, set(), set(), []
         for name in self.files:
             self.all |= set(WORD.findall(name))
-            if not is_document(name) and not name.startswith("tools/checks/"):
+            if not is_document(name) and not name.startswith(("tools/checks/", "man/")):
                 self.take(name)
         self.folders = {os.path.dirname(name) for name in self.files}
         self.folders |= {os.path.dirname(name) for name in self.folders}
@@ -140,14 +142,22 @@ def lead_nowhere(name, text):
             yield f"{name}:{line_of(text, link.start())}: the link {link[1]} leads nowhere"
 
 
+def unknown_commands(name, text, sources):
+    """The commands of a manual page that the program hasn't."""
+    for command in COMMAND_OF_MAN.finditer(text) if name.startswith("man/") else ():
+        if command[1] not in sources.by_crate["craft_words"]:
+            yield f"{name}:{line_of(text, command.start())}: the program has no command {command[1]}"
+
+
 def check_files(_):
-    """The scripts, documents and examples that any text of the repository names, and the links of documents."""
+    """The scripts, documents and examples that any text of the repository names, the links of documents, and the manual page's commands."""
     sources, count, failed = Sources(), 0, []
     for name in sources.files:
         try:
             text = read(name)
         except UnicodeDecodeError:
             continue
+        failed += unknown_commands(name, text, sources)
         if is_document(name):
             count += len(LINK.findall(text))
             failed += lead_nowhere(name, text)

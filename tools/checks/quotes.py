@@ -4,6 +4,7 @@ Without names all clauses are quoted; `record` in place of FUNCTION's names a re
 """
 import os
 import re
+import textwrap
 
 from checks import TOP, is_document, line_of, read, tracked
 
@@ -32,9 +33,9 @@ def parted(lines):
 
 
 def record(text, name):
-    """The comment in front of a definition, and the definition up to the blank line behind it."""
-    found = re.search(rf"(?:^--.*\n)*^(?:unfoldable |abbrev |pub )*(?:record |data )?(?:pub )?(?:record |data )?{name} :.*?(?=^$|\Z)", text, re.MULTILINE | re.DOTALL)
-    return found[0] if found else None
+    """The comment in front of a definition, and the definition up to the blank line after it, without their indentation."""
+    found = re.search(rf"(?:^ *--.*\n)*^( *)(?:(?:abbrev|unfoldable|pub|record|data) )*{name} [^=\n]*:(?:.*\n)+?(?=^ *$|\Z)", text, re.MULTILINE)
+    return textwrap.dedent(found[0]) if found else None
 
 
 def quoted(kind, file, name, wanted):
