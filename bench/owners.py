@@ -5,13 +5,15 @@ usage: bench/owners.py [MOMENTS [SEED]]     (200 moments, seed 1, where nothing 
 
 Closed streams: with each choice of descriptors 0, 1 and 2 closed, `script` and `check` leave the journal as it was or longer by whole records.
 Owners: at each of MOMENTS random moments of a session a `check` of its journal finds whole records, a second `script` on it ends with status 6,
-and the session's acknowledged changes are all in the journal at its end. Files: a journal that may not be written, in a folder that may not be, that is a
+and the session's acknowledged changes are all in the journal at its end. Modes: with a umask that hides nothing from readers a journal and
+its users' journal are made for their owner alone, and files that were there keep their modes. Files: a journal that may not be written, in a folder that may not be, that is a
 folder or lies in none ends with status 6 and is left alone; a full device ends with status 9, and on a full disk a change is denied and nothing
 that was acknowledged is lost. What wants an administrator's rights is left out without them, and said so.
 """
 import itertools
 import os
 import random
+import stat
 import subprocess
 import sys
 import tempfile
@@ -33,6 +35,7 @@ LOG_IN = "ACT-USER::ANNA:1::bc;"
 ENTRY = "ENT-CRS-T0::DS0-1-1,DS0-2-1:1;"
 DELETION = "DLT-CRS-T0::DS0-1-1,DS0-2-1:1;"
 CANNOT_OPEN = 6
+OWNER_ALONE = 0o600
 # A record's bytes, and how many records an area of the journal holds.
 RECORD, MOST = 64, 32_767
 FAULT = "dxc: cannot open\n"
@@ -118,6 +121,27 @@ def is_refused(ended, name):
     return ended.returncode == CANNOT_OPEN and ended.stderr.startswith(f"{FAULT}dxc: {name}: ")
 
 
+def permissions(name):
+    return stat.S_IMODE(os.stat(name).st_mode)
+
+
+def modes(folder, shelf):
+    journal = os.path.join(folder, "own.journal")
+    names = (journal, journal + ".users")
+    before = os.umask(0o022)
+    try:
+        expect(run(["script", shelf, journal], LOG_IN).returncode == 0, "no journal was made")
+    finally:
+        os.umask(before)
+    for name in names:
+        expect(permissions(name) == OWNER_ALONE, f"{name} was made with mode {permissions(name):o}")
+        os.chmod(name, 0o640)
+    expect(run(["script", shelf, journal], LOG_IN).returncode == 0, "the journal wasn't taken up")
+    for name in names:
+        expect(permissions(name) == 0o640, f"{name} was given mode {permissions(name):o}")
+    return f"{len(names)} files made with {OWNER_ALONE:o}"
+
+
 def as_nobody():
     os.setgid(NOBODY)
     os.setuid(NOBODY)
@@ -183,6 +207,7 @@ def main():
             file.write(SHELF)
         print(f"closed streams: {closed_streams(folder, shelf)} choices, the journal kept")
         print(f"full devices: {', '.join(full_devices(folder, shelf))}")
+        print(f"modes: {modes(folder, shelf)}")
         print(f"files: {', '.join(no_files(folder, shelf))}")
         print(f"full disk: {full_disk(folder, shelf)}")
         print(f"owners: {moments} moments, {owners(folder, shelf, moments, seed)} acknowledged changes, all of them kept")

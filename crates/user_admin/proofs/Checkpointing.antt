@@ -128,6 +128,12 @@ pub turn_ready : {T E : Type 0} (result : Result T E) (before after : Book) → 
 turn_ready (Ok v) before after few book = subst IsReady (sym book) (ready_turned before (draft_of before.spare) few)
 turn_ready (Err e) before after few book = tt
 
+-- a turn to a draft that names the modules of the header before, or one that failed
+pub turn_equipped : {T E : Type 0} (result : Result T E) (before after : Book) (equipped : ℕ) → before.head.equipped ≡ equipped → (draft_of before.spare).equipped ≡ equipped → OnOk result (after ≡ turned before (draft_of before.spare))
+    → OnErr result (after ≡ record before { spare = after.spare }) → after.head.equipped ≡ equipped
+turn_equipped (Ok v) before after equipped old drafted ok err = ap (λ (x : Book). x.head.equipped) ok ∙ drafted
+turn_equipped (Err e) before after equipped old drafted ok err = ap (λ (x : Book). x.head.equipped) err ∙ old
+
 -- both hold where it is Ok
 pub both_ok : {T E : Type 0} (P Q : Type 0) (result : Result T E) → OnOk result P → Q → OnOk result (P × Q)
 both_ok P Q (Ok v) p q = (p, q)

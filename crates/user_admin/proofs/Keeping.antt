@@ -141,3 +141,7 @@ module _ (told : Type 0) (first old new : DiskState) (at before after : Book) (s
 pub append_shape : {T E : Type 0} (result : Result T E) (before after : Book) → OnOk result (after ≡ record before { count = before.count + 1; reach = after.reach }) → OnErr result (after ≡ record before { to_mend = after.to_mend; reach = after.reach }) → after.shape ≡ before.shape
 append_shape (Ok v) before after ok err = ap (λ (x : Book). x.shape) ok
 append_shape (Err e) before after ok err = ap (λ (x : Book). x.shape) err
+
+pub append_equipped : {T E : Type 0} (result : Result T E) (before after : Book) → OnOk result (after ≡ record before { count = before.count + 1; reach = after.reach }) → OnErr result (after ≡ record before { to_mend = after.to_mend; reach = after.reach }) → after.head.equipped ≡ before.head.equipped
+append_equipped (Ok v) before after ok err = ap (λ (x : Book). x.head.equipped) ok
+append_equipped (Err e) before after ok err = ap (λ (x : Book). x.head.equipped) err

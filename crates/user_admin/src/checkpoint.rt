@@ -93,6 +93,8 @@ pub(crate) fn write_checkpoint<D: Disk>(
     ensures home { (doubt : Option Change) → IsAtHome D.told (D.state journal.old.0) journal.old.1 described.now users.now doubt → IsAtHome D.told (D.state journal.new.0) journal.new.1 described.now users.now doubt }
     ensures ready { OnOk result (IsReady journal.new.1) }
     ensures shape { journal.new.1.shape ≡ journal.old.1.shape }
+    // The new header names the modules that the old one named.
+    ensures equipped { journal.new.1.head.equipped ≡ journal.old.1.head.equipped }
     ensures book { IsWhole journal.new.1 }
     ensures whole { journal.old.1.to_mend ≡ false → journal.new.1.to_mend ≡ false }
     ensures any_moment { D.told → (doubt : Option Change) → IsAtHome D.told (D.state journal.old.0) journal.old.1 described.now users.now doubt → LeavesOnly (D.state journal.old.0) (D.state journal.new.0) (IsOldOrDoubted journal.old.1.shape described.now users.now doubt) }

@@ -31,6 +31,7 @@ fn make_ready<D: Disk>(
     ensures home { (doubt : Option Change) → IsAtHome D.told (D.state journal.old.0) journal.old.1 described.now users.now doubt → IsAtHome D.told (D.state journal.new.0) journal.new.1 described.now users.now doubt }
     ensures ready { OnOk result (IsReady journal.new.1 × (journal.new.1.to_mend ≡ false)) }
     ensures shape { journal.new.1.shape ≡ journal.old.1.shape }
+    ensures equipped { journal.new.1.head.equipped ≡ journal.old.1.head.equipped }
     ensures book { IsWhole journal.new.1 }
     ensures any_moment { D.told → (doubt : Option Change) → IsAtHome D.told (D.state journal.old.0) journal.old.1 described.now users.now doubt → LeavesOnly (D.state journal.old.0) (D.state journal.new.0) (IsOldOrDoubted journal.old.1.shape described.now users.now doubt) }
     ensures still { IsReady journal.old.1 × (journal.old.1.to_mend ≡ false) → journal.new ≡ journal.old }
@@ -67,6 +68,7 @@ pub(crate) fn keep<D: Disk>(
     ensures failed { OnErr result ((doubt : Option Change) → IsAtHome D.told (D.state journal.old.0) journal.old.1 described.now users.now doubt
         → IsAtHome D.told (D.state journal.new.0) journal.new.1 described.now users.now doubt ⊎ IsAtHome D.told (D.state journal.new.0) journal.new.1 described.now users.now (Some change.now)) }
     ensures shape { journal.new.1.shape ≡ journal.old.1.shape }
+    ensures equipped { journal.new.1.head.equipped ≡ journal.old.1.head.equipped }
     ensures book { IsWhole journal.new.1 }
     // A crash at any moment leaves the users as they were, with the change in doubt or not, or with this one.
     ensures any_moment { D.told → (doubt : Option Change) → IsAtHome D.told (D.state journal.old.0) journal.old.1 described.now users.now doubt → LeavesOnly (D.state journal.old.0) (D.state journal.new.0) (IsOldOrOneMore journal.old.1.shape described.now users.now doubt change.now) }

@@ -158,6 +158,8 @@ impl<D: Disk> UserState<D> {
         requires stands { (o : Opening) × (h : List Entry) × StandsFor D.told D.state o self.old h }
         ensures changed { (o : Opening) → (h : List Entry) → (place : ℕ) → StandsFor D.told D.state o self.old h → ChangedIs D.told D.state o h place op.now self.new result }
         ensures origin { self.new.origin ≡ self.old.origin }
+        // The journal's header names the modules that it named.
+        ensures equipped { self.new.journal.1.head.equipped ≡ self.old.journal.1.head.equipped }
         // What the users deny makes no call on the disk, nor does what the gate stops.
         ensures denied_still { asked_at result ≡ [] → self.new.journal ≡ self.old.journal }
         ensures stopped_still { result ≡ UserDone.Stopped → self.new.journal ≡ self.old.journal }

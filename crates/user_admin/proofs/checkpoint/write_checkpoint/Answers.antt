@@ -8,7 +8,7 @@ use Rattle.user_admin.specs.Checkpoints.{rows as rows_of}
 use Rattle.user_admin.specs.Files.{FoldsTo, IsOldOrDoubted}
 use Rattle.user_admin.specs.Journals.{IsAtHome}
 use Rattle.user_admin.proofs.Keeping.{left_on}
-use Rattle.user_admin.proofs.Checkpointing.{draft_home, draft_left, rows_fold, turn_home, turn_left, turn_ready, undrafted_home}
+use Rattle.user_admin.proofs.Checkpointing.{draft_home, draft_left, rows_fold, turn_equipped, turn_home, turn_left, turn_ready, undrafted_home}
 use Rattle.user_admin.proofs.checkpoint.write_checkpoint.Given as given
 use Rattle.user_admin.proofs.checkpoint.write_checkpoint.Goals as goal
 use Rattle.user_admin.proofs.checkpoint.write_checkpoint.Goals.{After-add_all, After-turn}
@@ -95,3 +95,19 @@ returns-clause-ready g c =
     let few = c.in-Ok-add_all.ensures.few in
     let number : (draft_of c.add_all.new.journal.1.spare).rows ≡ length (rows_of c.args.described.now c.args.users.now) = ap (λ (x : Book). (draft_of x.spare).rows) c.in-Ok-add_all.ensures.ok in
     turn_ready c.turn.result c.add_all.new.journal.1 c.turn.new.self.1 (omega (arith, few, number)) c.turn.ensures.ok
+
+pub returns-in-Err-clause-equipped : goal.returns-in-Err-clause-equipped
+returns-in-Err-clause-equipped g c = ap (λ (x : Book). x.head.equipped) c.in-Err.ensures.err
+
+pub returns-in-Err-add_all-clause-equipped : goal.returns-in-Err-add_all-clause-equipped
+returns-in-Err-add_all-clause-equipped g c = ap (λ (x : Book). x.head.equipped) c.in-Err-add_all.ensures.err ∙ ap (λ (x : Book). x.head.equipped) c.in-Ok.ensures.ok
+
+-- the draft names the modules of the header before
+pub returns-clause-equipped : goal.returns-clause-equipped
+returns-clause-equipped g c =
+    let begun = c.in-Ok.ensures.ok in
+    let added = c.in-Ok-add_all.ensures.ok in
+    turn_equipped c.turn.result c.add_all.new.journal.1 c.turn.new.self.1 c.args.journal.now.1.head.equipped
+    (ap (λ (x : Book). x.head.equipped) added ∙ ap (λ (x : Book). x.head.equipped) begun)
+    (ap (λ (x : Book). (draft_of x.spare).equipped) added ∙ (ap (λ (x : Book). (draft_of x.spare).equipped) begun ∙ c.equipped.ensures))
+    c.turn.ensures.ok c.turn.ensures.err

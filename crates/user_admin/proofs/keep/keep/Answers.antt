@@ -6,7 +6,7 @@ use Rattle.journal_core.specs.declared.book.Book.{Book}
 use Rattle.journal_core.proofs.KeepSteps.{only_on}
 use Rattle.user_admin.specs.Files.{IsOldOrOneMore}
 use Rattle.user_admin.specs.Records.{has_long_salt}
-use Rattle.user_admin.proofs.Keeping.{append_called, append_failed, append_kept, append_shape, more_left}
+use Rattle.user_admin.proofs.Keeping.{append_called, append_equipped, append_failed, append_kept, append_shape, more_left}
 use Rattle.user_admin.proofs.Checkpointing.{row_sealed}
 use Rattle.user_admin.proofs.keep.keep.Goals as goal
 
@@ -45,6 +45,9 @@ returns-clause-failed g c =
 
 pub returns-clause-shape : goal.returns-clause-shape
 returns-clause-shape g c = append_shape c.append.result c.make_ready.new.journal.1 c.append.new.self.1 c.append.ensures.ok c.append.ensures.err ∙ c.make_ready.ensures.shape
+
+pub returns-clause-equipped : goal.returns-clause-equipped
+returns-clause-equipped g c = append_equipped c.append.result c.make_ready.new.journal.1 c.append.new.self.1 c.append.ensures.ok c.append.ensures.err ∙ c.make_ready.ensures.equipped
 
 pub returns-clause-any_moment : goal.returns-clause-any_moment
 returns-clause-any_moment g c = λ told doubt home.

@@ -1,4 +1,4 @@
-use Rattle.std.proofs.Common.{◌≡◌, true, false, sym, ap, subst}
+use Rattle.std.proofs.Common.{◌≡◌, ◌∙◌, true, false, sym, ap, subst}
 use Rattle.journal_core.specs.declared.book.Book.{Book}
 use Rattle.journal_core.specs.Books.{IsReady}
 use Rattle.user_admin.proofs.Keeping.{left_on, may_called, mend_home}
@@ -57,3 +57,12 @@ pub returns-clause-still : goal.returns-clause-still
 returns-clause-still g c = λ ready.
     let same = (c.mend.ensures.none ready.1).1 in
     absurd (let e : true ≡ false = c.if-not-due.ensures.1 (subst (λ (j : g.row.D.Denot × Book). IsReady j.1) (sym same) ready.0) in cc)
+
+pub returns-in-Err-clause-equipped : goal.returns-in-Err-clause-equipped
+returns-in-Err-clause-equipped g c = ap (λ (x : Book). x.head.equipped) c.in-Err.ensures.err
+
+pub returns-then-not-due-clause-equipped : goal.returns-then-not-due-clause-equipped
+returns-then-not-due-clause-equipped g c = ap (λ (x : Book). x.head.equipped) c.in-Ok.ensures.ok
+
+pub returns-clause-equipped : goal.returns-clause-equipped
+returns-clause-equipped g c = c.write_checkpoint.ensures.equipped ∙ ap (λ (x : Book). x.head.equipped) c.in-Ok.ensures.ok
