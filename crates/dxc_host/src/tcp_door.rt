@@ -65,6 +65,16 @@ impl<T: SystemClock + Drop> TcpDoor<T> {
         TcpLink::new(self.alloc, stream, Some(seat), self.changes.shared()?)
     }
 
+    // The next caller, however long that takes.
+    fn next<R: Wait>(&self, rt: &R) -> io::Result<TcpLink> {
+        for _ in rt.forever() {
+            if let Some(link) = self.answer()? {
+                return Ok(link);
+            }
+        }
+        unreachable!()
+    }
+
     fn rest(&self) {
         thread::sleep(&self.system, Duration::from_millis(REST_MILLIS));
     }
@@ -88,16 +98,12 @@ impl<T: SystemClock + Drop> Listener for TcpDoor<T> {
     ghost state = { λ d. record { coming = []; ended = false; faults = d.faults; sound = false } };
 
     fn accept<R: Wait>(&mut self, rt: &R) -> Came<TcpLink> {
-        for _ in rt.forever() {
-            match self.answer() {
-                Ok(Some(link)) => return Came::Link(link),
-                Ok(None) => {}
-                Err(_) => {
-                    self.faults = self.faults.saturating_add(1);
-                    return Came::Failed;
-                }
+        match self.next(rt) {
+            Ok(link) => Came::Link(link),
+            Err(_) => {
+                self.faults = self.faults.saturating_add(1);
+                Came::Failed
             }
         }
-        unreachable!()
     }
 }
