@@ -7,6 +7,10 @@ SHAPE = "the form of a text, with marks in place of what it is filled with"
 DRAWN = "stands for any name of its kind"
 
 ALLOWED = {
+    "xz": HOST,
+    "dmesg": HOST,
+    "smartctl": HOST,
+    "out": "a folder that builds make, and git ignores",
     "rattle": PROVER,
     "logic": PROVER,
     "dac8208d650f15bf": "the prover's version, as `rt version` prints it",
