@@ -130,8 +130,8 @@ module _ {U M : Type 0} (l : Language U M) (limit : Limit) (excused : Excuse) (s
         → RecallsFor (l.asks s.attending.user u) e.doubted e.table did
         → IsPlayed ts e
         → IsPlayed (answer p u m ∷ ts) (with_did did (doubted_after e.doubted (l.asks s.attending.user u) r)
-            (with_sessions p (answered u (record { moments = m ∷ []; bytes = l.response m u r })
-            (attending_after s.attending (length e.changes) (l.asks s.attending.user u)) s ∷ older) e))
+        (with_sessions p (answered u (record { moments = m ∷ []; bytes = l.response m u r })
+        (attending_after s.attending (length e.changes) (l.asks s.attending.user u)) s ∷ older) e))
     rests : (ts : List (Turn U M)) (e : Element U M) (p : ℕ) (s : Session U M) (older : List (Session U M))
         → e.sessions p ≡ s ∷ older → s.due ≡ false
         → IsPlayed ts e
@@ -142,7 +142,7 @@ module _ {U M : Type 0} (l : Language U M) (limit : Limit) (excused : Excuse) (s
         → AreReported l.report (notices e.changes cursor) ms bytes
         → IsPlayed ts e
         → IsPlayed (look p ms ∷ ts)
-            (with_sessions p (reported (length e.changes) (record { moments = ms; bytes = bytes }) s ∷ older) e)
+        (with_sessions p (reported (length e.changes) (record { moments = ms; bytes = bytes }) s ∷ older) e)
     mends : (ts : List (Turn U M)) (e : Element U M) (did : Option Change)
         → Recalls e.doubted e.table did
         → IsPlayed ts e

@@ -105,7 +105,7 @@ ArePlayedTogether = (l : Language Request Moment) (excused : Cause → Bool) (o 
     → ((p : ℕ) → p < places → Lives l p o.first.fold.table past h (sessions p))
     → ((p : ℕ) → places ≤ p → sessions p ≡ [])
     → ComesTo l (LimitBehind o.first) (λ q. IsTrue (excused q))
-        (element o.first.fold.table past (λ p. [])) (element o.first.fold.table h sessions)
+    (element o.first.fold.table past (λ p. [])) (element o.first.fold.table h sessions)
 
 -- The plain element is one where nothing has an excuse: the order of turns determines all that it writes.
 abbrev pub IsOneElement : Type 0

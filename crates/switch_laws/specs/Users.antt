@@ -44,7 +44,7 @@ module _ {U M : Type 0} (l : Language U M) (sid : List ℕ) (excused : Type 0) (
         → HearsOf sid excused e.users (l.wants s.user u) (l.heard u) next
         → AreHeard e
         → AreHeard (with_hearings p (with_happening (unit u) (user_after s.user (l.asks s.user u)) s ∷ older)
-            (record e { users = next }))
+        (record e { users = next }))
     nothing_comes : (e : Office U) (p : ℕ) (s : Hearing U) (older : List (Hearing U))
         → e.sessions p ≡ s ∷ older
         → AreHeard e
@@ -72,4 +72,4 @@ AreHeardTogether = (l : Language Request Moment) (excused : Bool) (o : Opening) 
     → ((p : ℕ) → p < places → Listens l p o h (sessions p))
     → ((p : ℕ) → places ≤ p → sessions p ≡ [])
     → AreHeard l o.shelf.sid (IsTrue excused) (record { users = o.users; sessions = λ p. [] })
-        (record { users = users_after o h; sessions = sessions })
+    (record { users = users_after o h; sessions = sessions })
