@@ -19,13 +19,13 @@ use Rattle.user_admin.specs.States.{opening_of as users_opening}
 use Rattle.xc_core.specs.declared.fault.OpenFault.{OpenFault}
 use Rattle.xc_core.specs.declared.fault.OpenFault.TheVariants as fault_of
 use Rattle.xc_core.specs.declared.state.State.{State}
-use Rattle.xc_core.specs.Openings.{Begins, IsOpening, disk_home, disk_of}
+use Rattle.xc_core.specs.Openings.{Begins, Fails, IsDiskFault, IsOpening, IsStopFault, disk_home, disk_of}
 use Rattle.xc_core.specs.States.{Opening, opening_of}
 use Rattle.xc_recovery.proofs.LastWorks.{comes_shape}
 use Rattle.craft_element.specs.declared.opening.Controller.{Controller}
 use Rattle.craft_words.specs.declared.status.Status.{Status}
-use Rattle.craft_words.specs.declared.status.Status.TheVariants.{CannotOpen, Disk, NoMemory}
-use Rattle.craft_element.specs.Statuses.{status_of_users_fault, status_of_users_why}
+use Rattle.craft_words.specs.declared.status.Status.TheVariants.{CannotOpen, Disk, NoMemory, Stopped}
+use Rattle.craft_element.specs.Statuses.{status_of_fault, status_of_users_fault, status_of_users_why, status_of_why}
 use Rattle.craft_jobs.proofs.Counting.{rose_behind}
 use Rattle.craft_element.specs.Openings.{AreUsersNotStarted, AreUsersStarted, Began, Found, HasController, HasOpening, HasUsers, IsStarted, IsTaken, Named, NoController, NoUsers, NotStarted, Opens, Sources, users_name}
 
@@ -39,6 +39,30 @@ disk_error (users_fault.Journal f) was = why_disk f.why was
 disk_error (users_fault.BadRecord i d) was = cc
 disk_error (users_fault.Disk d) was = tt
 disk_error users_fault.NoMemory was = cc
+
+-- the journal's disk stood against it
+why_journal : (w : JournalWhy) → status_of_why w ≡ Disk → w ≡ why_of.Disk
+why_journal (why_of.BadHeader bytes) was = cc
+why_journal why_of.Disk was = refl
+
+disk_failed_by : {D : Type 0} (f : OpenFault D) → status_of_fault f ≡ Disk → IsDiskFault f
+disk_failed_by (fault_of.Journal f) was = why_journal f.why was
+disk_failed_by (fault_of.BadRecord i d) was = cc
+disk_failed_by (fault_of.Disk d) was = tt
+disk_failed_by (fault_of.NoMemory d) was = cc
+disk_failed_by (fault_of.Stopped d) was = cc
+
+-- no status of a journal that couldn't be opened is that of a stop
+why_unstopped : (w : JournalWhy) → status_of_why w ≡ Stopped → ⊥
+why_unstopped (why_of.BadHeader bytes) was = cc
+why_unstopped why_of.Disk was = cc
+
+stopped_by : {D : Type 0} (f : OpenFault D) → status_of_fault f ≡ Stopped → IsStopFault f
+stopped_by (fault_of.Journal f) was = absurd (why_unstopped f.why was)
+stopped_by (fault_of.BadRecord i d) was = cc
+stopped_by (fault_of.Disk d) was = cc
+stopped_by (fault_of.NoMemory d) was = cc
+stopped_by (fault_of.Stopped d) was = tt
 
 -- the name of a users' journal isn't that of the journal beside it
 users_apart : (n : List ℕ) → users_name n ≢ n
@@ -78,6 +102,17 @@ module _ {D : Type 0} (disk_told : Type 0) (state : D → DiskState) where
   -- memory was wanting
   pub no_memory : (disk : D) (s : Contents) (stops later : ℕ) → NotStarted disk_told state disk s stops later NoMemory
   no_memory disk s stops later = record { fault = fault_of.NoMemory disk; is = refl; why = λ _. tt; disk_failed = λ is. cc; stopped = λ is. cc }
+
+  -- an opening of the core that failed, on a shelf that was lent
+  pub not_opened : (disk : D) (s lent : Contents) (stops later : ℕ) (fault : OpenFault D) (status : Status) → lent ≡ s → status ≡ status_of_fault fault → (disk_told → Fails state (state disk) lent.shape fault)
+      → (IsSound opening_room (state disk) → IsDiskFault fault → ⊥) → (IsStopFault fault → Rose stops later) → NotStarted disk_told state disk s stops later status
+  not_opened disk s lent stops later fault status lent_is is why sound stopped = record {
+    fault = fault;
+    is = is;
+    why = λ told. subst (λ (y : Contents). Fails state (state disk) y.shape fault) lent_is (why told);
+    disk_failed = λ was on. sound on (disk_failed_by fault (sym is ∙ was));
+    stopped = λ was. stopped (stopped_by fault (sym is ∙ was));
+  }
 
   -- started or not, on what was found
   pub opened : (opener_told : Type 0) (names : Named) (workers : ℕ) (before after : Sources D) (f : Found opener_told names before) (r : Result (Controller D) Status)

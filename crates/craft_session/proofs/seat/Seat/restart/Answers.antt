@@ -5,6 +5,7 @@ use Rattle.dxc_model.specs.declared.entry.Entry.{Entry}
 use Rattle.xc_core.specs.declared.state.State.{State}
 use Rattle.xc_core.specs.Seeing.{Saw}
 use Rattle.xc_core.specs.States.{opening_of}
+use Rattle.craft_session.specs.Changing.{WarmRestartIs}
 use Rattle.craft_session.specs.Gated.{Entered}
 use Rattle.craft_session.specs.Seats.{SeatAt, seat_at}
 use Rattle.craft_session.proofs.Seating.{restarted_ended, saw_there, seated_on}
@@ -24,3 +25,8 @@ pub returns-clause-entered : goal.returns-clause-entered
 returns-clause-entered g c =
     let eq = ap (λ (t : Gate (State g.row.D.Denot)). seat_at g.D.Disk.state c.self.inside.pass t) c.deref-turns.ensures ∙ c.self.view_is in
     subst (λ (s : SeatAt). (h : List Entry) → Saw s.opening s.seen h → Entered s.opening s.place (g.G.Gate.asked c.args.gate.now c.warm_restart-restarted.new.gate) false false h c.warm_restart-restarted.new.pass.seen) eq c.warm_restart-restarted.ensures.entered
+
+pub returns-clause-restarted : goal.returns-clause-restarted
+returns-clause-restarted g c =
+    let eq = ap (λ (t : Gate (State g.row.D.Denot)). seat_at g.D.Disk.state c.self.inside.pass t) c.deref-turns.ensures ∙ c.self.view_is in
+    subst (λ (s : SeatAt). (h : List Entry) → Saw s.opening s.seen h → WarmRestartIs s.opening s.place h c.warm_restart-restarted.new.pass.seen c.warm_restart-restarted.result) eq c.warm_restart-restarted.ensures.restarted
