@@ -1,22 +1,22 @@
 #!/usr/bin/env python3
 """Audits each file that a crash may leave of a run of five commands, and of a run that moves a journal of version 1 over.
 
-usage: bench/crashes.py
+usage: bench/crashes.py [EVERY [SEED]]     (each file where nothing is given, else one of so many, drawn by the seed)
 
 The writes and syncs on the run's journal are those of the plain journal (bench/journal.py), which the file is compared with. A crash leaves what was
 synced; of the writes behind that nothing, all, or each one's range filled with one byte; and of the write in hand any front of it besides. `dxc check`
 must tell the commands that were acknowledged before that moment, or one more; and a further command on that file must go on from there.
 """
 import os
+import random
 import subprocess
 import sys
 import tempfile
 
 import journal
 from journal import File
+from program import PROGRAM, counted
 
-TOP = os.path.dirname(os.path.dirname(os.path.abspath(__file__)))
-PROGRAM = os.path.join(TOP, "crates", "dxc", "out", "dxc")
 SHELF = """sid = "DXC1"
 modules = 3
 slots = 2
@@ -90,8 +90,8 @@ def calls_of(old, entries):
     return file
 
 
-def tried(shelf, name, old, first):
-    """Tries a run that makes the entries behind the first so many; how many files there were, and in how many the one in hand stood."""
+def tried(shelf, name, old, first, is_drawn):
+    """Tries a run that makes the entries behind the first so many; how many files were audited, and in how many the one in hand stood."""
     with open(name, "wb") as file:
         file.write(old)
     run("script", shelf, name, sent(ENTRIES[first:]))
@@ -105,20 +105,21 @@ def tried(shelf, name, old, first):
         if number % 50 and 10 < number < len(made.calls) - 20:
             continue
         done = first + sum(end <= number for end in ends[1:])
-        for image in images(old, made.calls, number):
+        for image in filter(is_drawn, images(old, made.calls, number)):
             more += audit(shelf, name, image, done) - done
             count += 1
     return count, more
 
 
 def main():
-    subprocess.run([os.path.join(TOP, "dxc"), "--version"], check=True, stdout=subprocess.DEVNULL)
+    every, seed = counted(1)
+    rng = random.Random(seed)
     with tempfile.TemporaryDirectory() as folder:
         shelf, name = os.path.join(folder, "shelf.toml"), os.path.join(folder, "office.journal")
         with open(shelf, "w", encoding="utf-8") as file:
             file.write(SHELF)
         for what, old, first in (("a new journal", b"", 0), ("one of version 1", old_journal(), 4)):
-            count, more = tried(shelf, name, old, first)
+            count, more = tried(shelf, name, old, first, lambda _: rng.randrange(every) == 0)
             print(f"{what}: {count} files of a crash: each stands for the acknowledged commands, {more} of them for the one in hand besides")
 
 

@@ -21,9 +21,8 @@ import tempfile
 import time
 
 import plain
+from program import PROGRAM, TOP, counted
 
-TOP = os.path.dirname(os.path.dirname(os.path.abspath(__file__)))
-PROGRAM = os.path.join(TOP, "crates", "dxc", "out", "dxc")
 DIGEST = bytes.fromhex("ba7816bf8f01cfea414140de5dae2223b00361a396177a9cb410ff61f20015ad")
 MODULES, SLOTS, SESSIONS, LIFE, ONE_OF = 4, 3, 4, 4000, 60
 RANKS = {"ANNA": "S", "BEN": "P", "CARA": "R"}
@@ -354,10 +353,8 @@ class Run:
 
 
 def main():
-    most = int(sys.argv[1]) if len(sys.argv) > 1 else 1_000_000
-    random.seed(int(sys.argv[2]) if len(sys.argv) > 2 else 1)
-    if not os.path.exists(PROGRAM):
-        sys.exit("bench/fuzz.py: no program is built; ./dxc --version builds it")
+    most, seed = counted(1_000_000)
+    random.seed(seed)
     with tempfile.TemporaryDirectory() as folder:
         run = Run(folder)
         try:

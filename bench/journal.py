@@ -116,13 +116,11 @@ def area_at(content, start, modules, slots):
     version, generation, *shape, bits = struct.unpack(">BBHHQ", head[8:22])
     if version not in SIZE or generation > 2 or shape != [modules, slots] or bits >> modules:
         return None
-    records, size = [], SIZE[version]
-    while len(records) < MOST[version]:
-        at = start + 32 + size * len(records)
-        found = bytes(content[at : at + size])
-        if len(found) < size or found[0] != SEALED:
-            break
-        records.append(found)
+    size, first = SIZE[version], start + 32
+    seals = bytes(content[first : first + size * MOST[version] : size])
+    sealed = len(seals) - len(seals.lstrip(bytes([SEALED])))
+    ends = first + size * min(sealed, (len(content) - first) // size)
+    records = [bytes(content[at : at + size]) for at in range(first, ends, size)]
     return Area(start, version, generation, {module + 1 for module in range(modules) if bits >> module & 1}, records)
 
 
@@ -236,6 +234,7 @@ def lead(element, area):
                 replayed(element, found, area.version)
             except plain.Denied as why:
                 raise Refused(number) from why
+        element.paths.log.clear()
         REPLAYS[key] = copy.deepcopy((element.equipped, element.connections, element.out, element.paths))
     element.equipped, element.connections, element.out, element.paths = copy.deepcopy(REPLAYS[key])
 

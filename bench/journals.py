@@ -1,22 +1,23 @@
 #!/usr/bin/env python3
 """Writes crates/worked_rows/data/journals.txt: rows of journals that are old, torn, changed or left behind by a crash, and what comes of them.
 
-usage: bench/journals.py            writes that file
-       bench/journals.py --check    ends with an error where that file is another one
+usage: bench/journals.py                writes that file
+       bench/journals.py --check        ends with an error where that file is another one
+       bench/journals.py --to FOLDER    writes it there
 
 What comes of a row is reckoned by the plain element (bench/plain.py) over a plain journal (bench/journal.py).
 """
+import functools
 import itertools
-import os
-import sys
+import random
 
+import generated
 import journal
 from journal import AREAS, File, header, record
-from paths import COLUMN, DIRECT, ROW
+from paths import COLUMN, DIRECT, ROW, Paths
 from plain import Conn
 
-TOP = os.path.dirname(os.path.dirname(os.path.abspath(__file__)))
-ROWS = os.path.join(TOP, "crates", "worked_rows", "data", "journals.txt")
+ROWS = "crates/worked_rows/data/journals.txt"
 HEAD = """# Worked rows of journals, over fakes in memory. `bench/journals.py` writes them; `faults.txt` tells what a line says, and these say more.
 #
 #   shape M N      a shelf file of so many modules and slots, 2 and 1 where nothing is said
@@ -99,8 +100,13 @@ class Row:
         return self
 
 
+@functools.lru_cache(maxsize=16)
 def old_lines(content):
-    """Zeros between the areas aren't spelled."""
+    """The lines of a journal's bytes. Zeros between the areas aren't spelled."""
+    return tuple(lines_of_areas(content))
+
+
+def lines_of_areas(content):
     first, second = content[: AREAS[1]], content[AREAS[1] :]
     kept = first.rstrip(b"\0")
     kept = first if len(kept) + 200 > len(first) else kept
@@ -272,6 +278,39 @@ def choices_while_out():
     two = [(1, 2, 1), (4, 0, 2)]
     for choice in [(2, COLUMN, 1), (2, ROW, 1), (0, DIRECT, 0), (0, ROW, 2), (3, DIRECT, 0)]:
         yield Row(f"a given choice while a middle is out: {choice}", 3, 2, begun(two, choice)).check()
+
+
+# Shapes of which each choice of a leg is tried.
+SMALL = ((2, 1), (3, 1), (2, 2), (3, 2), (4, 2), (2, 3), (3, 3))
+
+
+def every_choice():
+    """Random legs on their planned middles, and then one more by each choice that a record may spell, valid or not."""
+    for modules, slots in SMALL:
+        records, free = legs_at_random(modules, slots)
+        middles = range(slots + 1)
+        chains = [(middle, kind, other) for kind in (ROW, COLUMN) for middle in middles for other in middles]
+        for choice in [(middle, DIRECT, 0) for middle in middles] + chains:
+            old = area(2, 0, [*records, entry(free, choices=(choice,), modules=modules, slots=slots)], modules, slots)
+            yield Row(f"each choice, {modules} by {slots}: {choice}", modules, slots, old).check()
+
+
+def legs_at_random(modules, slots):
+    """Records of entries by choices that needn't be the lowest, and a leg that finds no middle free at both ends, where there are two."""
+    dice = random.Random(modules * 10 + slots)
+    ports = [(module, slot) for module in range(1, modules + 1) for slot in range(1, slots + 1)]
+    while True:
+        outputs = dice.sample(ports, len(ports))
+        legs = [leg for leg in zip(dice.sample(ports, len(ports)), outputs) if leg[0] != leg[1]]
+        paths, choices = Paths(slots), []
+        for leg in legs[:-1]:
+            middles = [middle for middle in range(slots) if paths.is_free(0, leg, middle) and paths.is_free(1, leg, middle)]
+            choices.append((dice.choice(middles), DIRECT, 0) if middles else paths.choice(leg))
+            paths.join(leg, choices[-1])
+        if legs and (slots == 1 or paths.choice(legs[-1])[1] != DIRECT):
+            break
+    records = [entry(leg, choices=(choice,), modules=modules, slots=slots) for leg, choice in zip(legs, choices)]
+    return records, legs[-1]
 
 
 def versions():
@@ -467,17 +506,12 @@ def eight_blocks():
 
 
 def rows():
-    return itertools.chain(labels(), middles(), chains(), given_choices(), choices_while_out(), versions(), full_journals(), torn(), crashes(), faults())
+    return itertools.chain(labels(), middles(), chains(), given_choices(), choices_while_out(), every_choice(), versions(), full_journals(), torn(), crashes(), faults())
 
 
-def main():
-    text = "\n".join([HEAD, *(row.text() for row in rows()), *eight_blocks(), *largest(), ""])
-    if sys.argv[1:] == ["--check"]:
-        with open(ROWS, encoding="ascii") as file:
-            sys.exit(file.read() != text)
-    with open(ROWS, "w", encoding="ascii") as file:
-        file.write(text)
+def texts():
+    return {ROWS: "\n".join([HEAD, *(row.text() for row in rows()), *eight_blocks(), *largest(), ""])}
 
 
 if __name__ == "__main__":
-    main()
+    generated.main(texts, __doc__)

@@ -1,7 +1,7 @@
 #!/usr/bin/env python3
 """Kills the program at some moment of a session, again and again, and audits the journal that it leaves.
 
-usage: bench/kills.py [RUNS]     (300 where nothing is given)
+usage: bench/kills.py [RUNS [SEED]]     (300 runs, seed 1, where nothing is given)
 
 A run on a real file is killed by signal 9 after a random time. Each change that was acknowledged, by a response that ended, must be in the
 journal, and at most the one behind them besides: `dxc check` has the rows of a plain table after so many changes. A further session
@@ -14,11 +14,13 @@ import sys
 import tempfile
 import time
 
-TOP = os.path.dirname(os.path.dirname(os.path.abspath(__file__)))
-PROGRAM = os.path.join(TOP, "crates", "dxc", "out", "dxc")
+from program import PROGRAM, counted
+
 MODULES, SLOTS = 3, 4
 # More than a run comes to before it is killed, on most disks.
 CHANGES = 1_200
+# The latest moment of a kill, in seconds behind a start.
+LATEST = 0.12
 SHELF = f"""sid = "DXC1"
 modules = {MODULES}
 slots = {SLOTS}
@@ -51,13 +53,13 @@ def listing(table, records):
     return "".join(f"{a},{b}:1WAY\n" for a, b in rows) + f"RECORDS {records}\n"
 
 
-def killed_run(rng, shelf, journal, table, records):
+def killed_run(rng, latest, shelf, journal, table, records):
     """Table and number of records that the journal has after a run that was killed."""
     made = list(commands(rng, table, CHANGES))
     child = subprocess.Popen([PROGRAM, "script", shelf, journal], stdin=subprocess.PIPE, stdout=subprocess.PIPE)
     child.stdin.write(("ACT-USER::ANNA:1::bc;" + "".join(text for text, _ in made)).encode())
     child.stdin.flush()
-    time.sleep(rng.uniform(0, 0.12))
+    time.sleep(rng.uniform(0, latest))
     child.kill()
     written = child.stdout.read().decode()
     child.wait()
@@ -77,21 +79,28 @@ def killed_run(rng, shelf, journal, table, records):
     sys.exit(f"after {acknowledged} acknowledged changes check wrote\n{checked.stdout}")
 
 
+def start_of(shelf, journal):
+    """How long a start takes here, in seconds."""
+    began = time.monotonic()
+    subprocess.run([PROGRAM, "script", shelf, journal], input=b"", check=True)
+    return time.monotonic() - began
+
+
 def main():
-    runs = int(sys.argv[1]) if len(sys.argv) > 1 else 300
-    subprocess.run([os.path.join(TOP, "dxc"), "--version"], check=True, stdout=subprocess.DEVNULL)
-    rng = random.Random(1)
+    runs, seed = counted(300)
+    rng = random.Random(seed)
     changes = in_hand = 0
     with tempfile.TemporaryDirectory() as folder:
         shelf = os.path.join(folder, "shelf.toml")
         with open(shelf, "w") as file:
             file.write(SHELF)
+        latest = start_of(shelf, os.path.join(folder, "first.journal")) + LATEST
         journal, table, records = None, frozenset(), 0
         for run in range(runs):
             # A journal of its own for every ten runs: new ones are killed, too.
             if run % 10 == 0:
                 journal, table, records = os.path.join(folder, f"{run}.journal"), frozenset(), 0
-            table, records, acknowledged, more = killed_run(rng, shelf, journal, table, records)
+            table, records, acknowledged, more = killed_run(rng, latest, shelf, journal, table, records)
             changes += acknowledged
             in_hand += more
     print(f"{runs} runs killed: {changes} acknowledged changes, all of them kept; {in_hand} times the one in hand besides")

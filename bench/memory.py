@@ -15,8 +15,8 @@ import sys
 import tempfile
 import time
 
-TOP = os.path.dirname(os.path.dirname(os.path.abspath(__file__)))
-PROGRAM = os.path.join(TOP, "crates", "dxc", "out", "dxc")
+from program import PROGRAM, TOP
+
 SHELF = os.path.join(TOP, "examples", "shelf.toml")
 COMMANDS = "ACT-USER::ANNA:1::bc;ENT-CRS-T0::DS0-2-1,DS0-1-1:2;RTRV-CRS-T0:::3;"
 KEPT = ["DS0-1-1,DS0-2-1:1WAY"]
@@ -99,7 +99,6 @@ def refused_in_turn(folder, library, mode):
 
 
 def main():
-    expect(os.path.exists(PROGRAM), "no program is built; ./dxc --version builds it")
     with tempfile.TemporaryDirectory() as folder:
         library = os.path.join(folder, "refusing.so")
         source = os.path.join(TOP, "bench", "refusing.c")

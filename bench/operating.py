@@ -4,8 +4,8 @@
 usage: bench/operating.py [DOCUMENT..]     (README.md and docs/OPERATING.md where nothing is given)
 
 An example is a block marked `sh` and the block marked `text` behind it; a block without one must only succeed. All of a document run in
-bash, in order, in one new folder with links to the checkout's launcher, examples and tools. Dates and times of headers, carriage returns,
-and blank lines beyond one are left out of the comparison. The first call of the launcher builds the program, which isn't timed.
+bash, in order, in one new folder with links to the checkout's launcher, or the program that DXC_PROGRAM names, to its examples and its tools.
+Dates and times of headers, carriage returns, and blank lines beyond one are left out of the comparison.
 """
 import os
 import re
@@ -13,12 +13,13 @@ import subprocess
 import sys
 import tempfile
 
-TOP = os.path.dirname(os.path.dirname(os.path.abspath(__file__)))
+from program import LAUNCHER, TOP
+
 BLOCK = re.compile(r"^```(sh|text)\n(.*?)^```$", re.MULTILINE | re.DOTALL)
 MOMENT = re.compile(r"\b\d\d-\d\d-\d\d \d\d:\d\d:\d\d\b")
 SECONDS = 60
 DOCUMENTS = ("README.md", os.path.join("docs", "OPERATING.md"))
-LINKED = ("dxc", "examples", "tools")
+LINKED = {"dxc": LAUNCHER, "examples": os.path.join(TOP, "examples"), "tools": os.path.join(TOP, "tools")}
 
 
 def examples(text):
@@ -35,30 +36,36 @@ def masked(text):
     return re.sub(r"\n{3,}", "\n\n", MOMENT.sub("YY-MM-DD HH:MM:SS", text.replace("\r", ""))).strip("\n")
 
 
+def ended(commands, folder, world):
+    """The status of the commands, and what they wrote; they are given up after a time."""
+    how = {"cwd": folder, "env": world, "stdin": subprocess.DEVNULL, "stdout": subprocess.PIPE, "stderr": subprocess.STDOUT}
+    try:
+        ran = subprocess.run(["bash", "-c", commands], timeout=SECONDS, check=False, **how)
+    except subprocess.TimeoutExpired as late:
+        return f"none after {SECONDS} s", masked((late.stdout or b"").decode())
+    return ran.returncode, masked(ran.stdout.decode())
+
+
 def run(document):
     """How many examples of the document there are, and how many failed."""
     with open(document, encoding="utf-8") as file:
         text = file.read()
-    world = dict(os.environ, DXC=TOP, PATH=TOP + os.pathsep + os.environ["PATH"], LC_ALL="C")
     failed = count = 0
     with tempfile.TemporaryDirectory() as folder:
-        for name in LINKED:
-            os.symlink(os.path.join(TOP, name), os.path.join(folder, name))
+        world = dict(os.environ, DXC=TOP, PATH=folder + os.pathsep + os.environ["PATH"], LC_ALL="C")
+        for name, place in LINKED.items():
+            os.symlink(place, os.path.join(folder, name))
         for commands, wanted in examples(text):
-            ran = subprocess.run(
-                ["bash", "-c", commands], cwd=folder, env=world, stdin=subprocess.DEVNULL, stdout=subprocess.PIPE, stderr=subprocess.STDOUT, timeout=SECONDS, check=False
-            )
-            written = masked(ran.stdout.decode())
+            status, written = ended(commands, folder, world)
             count += 1
-            if written != masked(wanted) if wanted is not None else ran.returncode != 0:
+            if written != masked(wanted) if wanted is not None else status != 0:
                 failed += 1
-                print(f"--- commands\n{commands}--- wanted\n{wanted}--- written\n{written}\n--- status {ran.returncode}")
+                print(f"--- commands\n{commands}--- wanted\n{wanted}--- written\n{written}\n--- status {status}")
     return count, failed
 
 
 def main():
     documents = sys.argv[1:] or [os.path.join(TOP, name) for name in DOCUMENTS]
-    subprocess.run([os.path.join(TOP, "dxc"), "--version"], check=True, stdout=subprocess.DEVNULL)
     ran = [run(document) for document in documents]
     for document, (count, failed) in zip(documents, ran):
         print(f"{os.path.relpath(document)}: {count} examples, {failed} failed")

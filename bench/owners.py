@@ -1,24 +1,26 @@
 #!/usr/bin/env python3
 """Tries the program against the world around it: closed streams, a second program on its journal, files that can't be had.
 
-usage: bench/owners.py [MOMENTS]     (200 where nothing is given)
+usage: bench/owners.py [MOMENTS [SEED]]     (200 moments, seed 1, where nothing is given)
 
 Closed streams: with each choice of descriptors 0, 1 and 2 closed, `script` and `check` leave the journal as it was or longer by whole records.
-Owners: at each of MOMENTS random moments of a session a `check` and a second `script` on its journal end with status 6, and the session's
-acknowledged changes are all in the journal at its end. Files: a journal that may not be written, in a folder that may not be, that is a
+Owners: at each of MOMENTS random moments of a session a `check` of its journal finds whole records, a second `script` on it ends with status 6,
+and the session's acknowledged changes are all in the journal at its end. Modes: with a umask that hides nothing from readers a journal and
+its users' journal are made for their owner alone, and files that were there keep their modes. Files: a journal that may not be written, in a folder that may not be, that is a
 folder or lies in none ends with status 6 and is left alone; a full device ends with status 9, and on a full disk a change is denied and nothing
 that was acknowledged is lost. What wants an administrator's rights is left out without them, and said so.
 """
 import itertools
 import os
 import random
+import stat
 import subprocess
 import sys
 import tempfile
 import time
 
-TOP = os.path.dirname(os.path.dirname(os.path.abspath(__file__)))
-PROGRAM = os.path.join(TOP, "crates", "dxc", "out", "dxc")
+from program import PROGRAM, counted
+
 NOBODY = 65534
 SHELF = """sid = "DXC1"
 modules = 4
@@ -33,6 +35,7 @@ LOG_IN = "ACT-USER::ANNA:1::bc;"
 ENTRY = "ENT-CRS-T0::DS0-1-1,DS0-2-1:1;"
 DELETION = "DLT-CRS-T0::DS0-1-1,DS0-2-1:1;"
 CANNOT_OPEN = 6
+OWNER_ALONE = 0o600
 # A record's bytes, and how many records an area of the journal holds.
 RECORD, MOST = 64, 32_767
 FAULT = "dxc: cannot open\n"
@@ -87,9 +90,9 @@ def records_behind(count, changes):
     return count
 
 
-def owners(folder, shelf, moments):
+def owners(folder, shelf, moments, seed):
     journal = os.path.join(folder, "owned.journal")
-    rng = random.Random(1)
+    rng = random.Random(seed)
     kept = count = 0
     for _ in range(moments):
         session = subprocess.Popen([PROGRAM, "script", shelf, journal], stdin=subprocess.PIPE, stdout=subprocess.PIPE)
@@ -100,9 +103,10 @@ def owners(folder, shelf, moments):
         session.stdin.write((ENTRY + DELETION).encode() * 100)
         session.stdin.flush()
         time.sleep(rng.uniform(0, 0.02))
-        for words, commands in ((["check", shelf, journal], ""), (["script", shelf, journal], LOG_IN + ENTRY)):
-            second = run(words, commands)
-            expect((second.returncode, second.stdout, second.stderr) == (CANNOT_OPEN, "", FAULT), f"a second program ended with {second}")
+        expect(run(["check", shelf, journal]).returncode == 0, "a check beside a session failed")
+        second = run(["script", shelf, journal], LOG_IN + ENTRY)
+        wanted = (CANNOT_OPEN, "", f"{FAULT}dxc: {journal}: another program has it\n")
+        expect((second.returncode, second.stdout, second.stderr) == wanted, f"a second program ended with {second}")
         session.stdin.close()
         written = session.stdout.read().decode()
         expect(session.wait() == 0, "the session failed")
@@ -111,6 +115,31 @@ def owners(folder, shelf, moments):
         kept, count = kept + acknowledged, records_behind(count, acknowledged)
         expect(records(shelf, journal) == count, f"{kept} changes were acknowledged, and the journal hasn't {count} records")
     return kept
+
+
+def is_refused(ended, name):
+    return ended.returncode == CANNOT_OPEN and ended.stderr.startswith(f"{FAULT}dxc: {name}: ")
+
+
+def permissions(name):
+    return stat.S_IMODE(os.stat(name).st_mode)
+
+
+def modes(folder, shelf):
+    journal = os.path.join(folder, "own.journal")
+    names = (journal, journal + ".users")
+    before = os.umask(0o022)
+    try:
+        expect(run(["script", shelf, journal], LOG_IN).returncode == 0, "no journal was made")
+    finally:
+        os.umask(before)
+    for name in names:
+        expect(permissions(name) == OWNER_ALONE, f"{name} was made with mode {permissions(name):o}")
+        os.chmod(name, 0o640)
+    expect(run(["script", shelf, journal], LOG_IN).returncode == 0, "the journal wasn't taken up")
+    for name in names:
+        expect(permissions(name) == 0o640, f"{name} was given mode {permissions(name):o}")
+    return f"{len(names)} files made with {OWNER_ALONE:o}"
 
 
 def as_nobody():
@@ -122,7 +151,7 @@ def no_files(folder, shelf):
     tried = ["a folder that isn't there", "a folder as a journal"]
     for journal in (os.path.join(folder, "absent", "a.journal"), folder):
         ended = run(["script", shelf, journal], LOG_IN)
-        expect((ended.returncode, ended.stderr) == (CANNOT_OPEN, FAULT), f"{journal} ended with {ended}")
+        expect(is_refused(ended, journal), f"{journal} ended with {ended}")
     if os.geteuid() == 0:
         journal = os.path.join(folder, "kept.journal")
         run(["script", shelf, journal], LOG_IN + ENTRY)
@@ -130,7 +159,7 @@ def no_files(folder, shelf):
         os.chmod(journal, 0o444)
         for name in (journal, os.path.join(folder, "new.journal")):
             ended = run(["script", shelf, name], LOG_IN, preexec_fn=as_nobody)
-            expect((ended.returncode, ended.stderr) == (CANNOT_OPEN, FAULT), f"{name} ended with {ended}")
+            expect(is_refused(ended, name), f"{name} ended with {ended}")
         expect(content(journal) == before, "a journal that may only be read was changed")
         tried += ["a journal that may only be read", "a folder that may only be read"]
     return tried
@@ -170,8 +199,7 @@ def full_disk(folder, shelf):
 
 
 def main():
-    moments = int(sys.argv[1]) if len(sys.argv) > 1 else 200
-    subprocess.run([os.path.join(TOP, "dxc"), "--version"], check=True, stdout=subprocess.DEVNULL)
+    moments, seed = counted(200)
     with tempfile.TemporaryDirectory() as folder:
         os.chmod(folder, 0o755)
         shelf = os.path.join(folder, "shelf.toml")
@@ -179,9 +207,10 @@ def main():
             file.write(SHELF)
         print(f"closed streams: {closed_streams(folder, shelf)} choices, the journal kept")
         print(f"full devices: {', '.join(full_devices(folder, shelf))}")
+        print(f"modes: {modes(folder, shelf)}")
         print(f"files: {', '.join(no_files(folder, shelf))}")
         print(f"full disk: {full_disk(folder, shelf)}")
-        print(f"owners: {moments} moments, {owners(folder, shelf, moments)} acknowledged changes, all of them kept")
+        print(f"owners: {moments} moments, {owners(folder, shelf, moments, seed)} acknowledged changes, all of them kept")
 
 
 main()

@@ -1,7 +1,7 @@
 #!/usr/bin/env python3
 """Compares what tools/picture reads out of a journal with what `dxc check` says of it, over journals of random commands.
 
-usage: bench/picture.py [ROUNDS]     (20 where nothing is given)
+usage: bench/picture.py [ROUNDS [SEED]]     (20 rounds, seed 1, where nothing is given)
 
 Middles go out of service and come back meanwhile. The picture's own rule of chains must find each new leg's middle free, and give the
 connections that the program lists.
@@ -12,8 +12,8 @@ import subprocess
 import sys
 import tempfile
 
-TOP = os.path.dirname(os.path.dirname(os.path.abspath(__file__)))
-PROGRAM = os.path.join(TOP, "crates", "dxc", "out", "dxc")
+from program import PROGRAM, TOP, counted
+
 PICTURE = os.path.join(TOP, "tools", "picture")
 DIGEST = "ba7816bf8f01cfea414140de5dae2223b00361a396177a9cb410ff61f20015ad"
 
@@ -45,7 +45,8 @@ def payload():
 
 
 def main():
-    rounds = int(sys.argv[1]) if len(sys.argv) > 1 else 20
+    rounds, seed = counted(20)
+    random.seed(seed)
     records = 0
     for number in range(rounds):
         modules, slots = random.choice(((2, 1), (3, 2), (4, 4), (8, 6), (64, 96)))

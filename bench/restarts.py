@@ -1,19 +1,17 @@
 #!/usr/bin/env python3
 """Writes rows of crates/worked_restarts: an entry that needs three moves, and a middle that goes out of service and comes back, are stopped at each
-of their gate places, and restarts come behind; and random walks (bench/walk.py).
+of their gate places, and restarts come after; and the longest chains and random walks (bench/walk.py).
 
-usage: bench/restarts.py            writes crates/worked_restarts/data/stops.txt and points.txt
-       bench/restarts.py --check    ends with an error where one of these files is another one
+usage: bench/restarts.py                writes crates/worked_restarts/data/stops.txt and points.txt
+       bench/restarts.py --check        ends with an error where one of these files is another one
+       bench/restarts.py --to FOLDER    writes them there
 
 What the registers hold after each of the entry's writes is reckoned from the words before it and the writes, which are worked out by hand.
 """
-import os
-import sys
-
+import generated
 from walk import walks
 
-TOP = os.path.dirname(os.path.dirname(os.path.abspath(__file__)))
-DATA = os.path.join(TOP, "crates", "worked_restarts", "data")
+DATA = "crates/worked_restarts/data"
 
 MODULES, MIDDLES, SLOTS = 3, 3, 2
 WORDS = "0 1 0 1 0 0 1 2 0 3 2 0 0 1 3 0 0 0 0 769 514 257 1026 0"
@@ -268,22 +266,9 @@ def texts():
         for rows in (restarts(), adoptions(), second_stops(), stops_of_deletions(), changes(), middles(), faults(), seals(), walks())
         for name, lines in rows
     ]
-    head = "# Stops at each place of an entry that needs three moves and of a middle that goes out and comes back, and restarts; and random walks. `bench/restarts.py` writes them.\n\n"
-    return {"points.txt": "\n".join(points), "stops.txt": head + "\n".join(rows)}
+    head = "# Stops at each place of an entry that needs three moves and of a middle that goes out and comes back, and restarts; the longest chains; and random walks. `bench/restarts.py` writes them.\n\n"
+    return {f"{DATA}/points.txt": "\n".join(points), f"{DATA}/stops.txt": head + "\n".join(rows)}
 
 
-def main():
-    if sys.argv[1:] not in ([], ["--check"]):
-        sys.exit(__doc__)
-    for name, text in texts().items():
-        path = os.path.join(DATA, name)
-        if not sys.argv[1:]:
-            with open(path, "w", encoding="utf-8") as file:
-                file.write(text)
-            continue
-        with open(path, encoding="utf-8") as file:
-            if file.read() != text:
-                sys.exit(f"{path} isn't what this program writes")
-
-
-main()
+if __name__ == "__main__":
+    generated.main(texts, __doc__)

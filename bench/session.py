@@ -17,8 +17,8 @@ import sys
 import tempfile
 import time
 
-TOP = os.path.dirname(os.path.dirname(os.path.abspath(__file__)))
-PROGRAM = os.path.join(TOP, "crates", "dxc", "out", "dxc")
+from program import PROGRAM
+
 MEMORY = "/dev/shm"
 MOST_CHANGES = 60_000
 CHANGES_ON_DISK = 2_000
@@ -124,7 +124,6 @@ def instructions(shelf, stream, journal, text):
 
 def main():
     units = int(sys.argv[1]) if len(sys.argv) > 1 else 100_000
-    subprocess.run([os.path.join(TOP, "dxc"), "--version"], check=True, stdout=subprocess.DEVNULL)
     with tempfile.TemporaryDirectory() as folder, tempfile.TemporaryDirectory(dir=MEMORY) as fast:
         shelf, stream = os.path.join(folder, "shelf.toml"), os.path.join(folder, "stream.tl1")
         with open(shelf, "w") as file:

@@ -1,7 +1,7 @@
 #!/usr/bin/env python3
 """Kills a primary at some moment of its work, again and again, and audits the journal that its standby has.
 
-usage: bench/standby.py [RUNS]     (100 where nothing is given; DXC names another program than that of this checkout)
+usage: bench/standby.py [RUNS [SEED]]     (100 runs, seed 1, where nothing is given)
 
 A standby and a server that has it as its peer run on the loopback. A caller sends changes one behind the other, and the server is killed by
 signal 9 at a random moment: while it joins, or while changes come. Each change that was acknowledged, by a response that ended,
@@ -21,9 +21,8 @@ import threading
 import time
 
 from kills import SHELF, commands, listing
+from program import PROGRAM, counted
 
-TOP = os.path.dirname(os.path.dirname(os.path.abspath(__file__)))
-PROGRAM = os.environ.get("DXC", os.path.join(TOP, "crates", "dxc", "out", "dxc"))
 # More than a run comes to before it is killed, on most disks.
 CHANGES = 600
 WAIT = 20
@@ -269,7 +268,7 @@ def entered_once(folder):
 
 
 def refuses(words, sent, status, text):
-    """The program ends with this status and text; where something is sent, behind a call at its address that sends it."""
+    """The program ends with this status, and what it says begins with this text; where something is sent, behind a call at its address that sends it."""
     program = start(*words)
     if sent is not None:
         port = int(words[2].rsplit(":", 1)[1])
@@ -278,15 +277,15 @@ def refuses(words, sent, status, text):
         with socket.create_connection(("127.0.0.1", port), timeout=WAIT) as caller:
             caller.sendall(sent)
             program.wait(WAIT)
-    if program.wait(WAIT) != status or (told := program.stderr.read()) != text:
+    if program.wait(WAIT) != status or not (told := program.stderr.read()).startswith(text):
         sys.exit(f"{words} ended with status {program.returncode}: {told!r}")
 
 
 def main():
-    runs = int(sys.argv[1]) if len(sys.argv) > 1 else 100
+    runs, seed = counted(100)
     joined = kept = changes = alone = 0
     for number in range(runs):
-        rng = random.Random(number)
+        rng = random.Random(1_000_003 * seed + number)
         with tempfile.TemporaryDirectory() as folder:
             with open(os.path.join(folder, "shelf.toml"), "w") as shelf:
                 shelf.write(SHELF)

@@ -163,6 +163,7 @@ def run(rounds, units, seed):
 
 def main():
     rounds, units, seed = (int(given) for given in (sys.argv[1:] + ["10", "30", "1"][len(sys.argv) - 1 :])[:3])
+    print(f"seed {seed}", flush=True)
     try:
         callers = run(rounds, units, seed)
         texts = callers[0].texts

@@ -1,12 +1,18 @@
+#!/usr/bin/env python3
 """The users that commands keep, as docs/FORMATS.md describes them and their journal; writes the rows of crates/worked_disks.
 
-    python3 bench/users.py >crates/worked_disks/data/users.txt
+usage: bench/users.py                writes crates/worked_disks/data/users.txt
+       bench/users.py --check        ends with an error where that file is another one
+       bench/users.py --to FOLDER    writes it there
 """
+import contextlib
 import hashlib
+import io
 import string
 from dataclasses import dataclass, replace
 from types import SimpleNamespace
 
+import generated
 import journal
 
 SID = b"DXC1"
@@ -276,7 +282,7 @@ def crashed():
     show(kept, [("list",), ("login", "ANNA", "k2"), ("login", "CARA", "long")])
 
 
-if __name__ == "__main__":
+def rows():
     print("# Users that commands keep, as bench/users.py reckons them.")
     print("#")
     print("#   file HEX       the journal's bytes for the rows behind it; none: a new one")
@@ -289,3 +295,14 @@ if __name__ == "__main__":
     worked()
     torn_and_changed()
     crashed()
+
+
+def texts():
+    written = io.StringIO()
+    with contextlib.redirect_stdout(written):
+        rows()
+    return {"crates/worked_disks/data/users.txt": written.getvalue()}
+
+
+if __name__ == "__main__":
+    generated.main(texts, __doc__)

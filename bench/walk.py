@@ -1,11 +1,15 @@
-"""Random walks of entries and deletions, with a middle that goes out of service and comes back, as rows of crates/worked_restarts: what each step is
-answered, how often the gate is asked, each frame meanwhile, and every register word behind it, by the plain paths (bench/paths.py)."""
+"""Rows of crates/worked_restarts by the plain paths (bench/paths.py): random walks of entries and deletions, with a middle that goes out of service and
+comes back, and the longest chains. Of each step: what it is answered, how often the gate is asked, each frame meanwhile, and every register word after it."""
 import random
 
+from journal import element_of, header, record
 from paths import DIRECT, ROW, Paths
+from plain import Conn
 
-# Modules, slots, and how many walks of how many steps. Letters of frames begin anew behind port 26, and a row has fewer than 100 sessions.
-WALKS = ((3, 2, 4, 60), (6, 4, 9, 90))
+# Modules, slots, and how many walks of how many steps. Letters of frames begin anew after port 26, and a row has fewer than 100 sessions.
+WALKS = ((3, 2, 4, 60), (6, 4, 9, 90), (2, 1, 1, 30), (3, 1, 1, 40), (2, 2, 1, 60), (2, 3, 1, 60), (3, 3, 1, 60), (4, 2, 1, 60))
+# Shapes with two slots, of which the longest chain takes all modules but one: 3 (r - 1) / 2 moves, rounded down.
+LONGEST = (2, 3, 8, 32, 64)
 NO_MIDDLE = "use no-middle"
 
 
@@ -22,7 +26,7 @@ class Walk:
         self.legs, self.paths, self.switches, self.numbers = {}, Paths(slots), 0, {}
 
     def frame(self):
-        letters = (chr(ord("a") + self.ports.index(self.legs[port])) if port in self.legs else "." for port in self.ports)
+        letters = (chr(ord("a") + self.ports.index(self.legs[port]) % 26) if port in self.legs else "." for port in self.ports)
         return "".join(letters)
 
     def words(self):
@@ -104,13 +108,69 @@ class Walk:
         self.legs[leg[1]] = leg[0]
         return unit, "compld 2", 5 * moves + 3
 
-    def session(self):
+    def session(self, step=None):
+        """A session that sends one unit: a random one, or what this step sends."""
         before = self.frame()
-        unit, answer, writes = self.step()
+        unit, answer, writes = step() if step else self.step()
         asked = "asked 0 0 0" if writes is None else f"asked 1 {writes} 1"
         behind = self.frame()
         frames = before if behind == before else f"{before} {behind}"
         return ["session", "login ANNA 1", f"send {unit};", answer, asked, f"frames {frames}", f"last {behind}", f"words {self.words()}"]
+
+
+class Crossing:
+    """Legs on middles 0 and 1 over modules of two slots, and a leg whose two chains have as many legs as there are modules but one. No module is of
+    both chains."""
+
+    def __init__(self, modules):
+        self.modules, self.legs = modules, []
+        self.inputs, self.outputs = [0] * modules, [0] * modules
+        rows, columns = iter(range(modules)), iter(range(modules))
+        row = first = next(rows)
+        for at in range(modules - 1):
+            row, column = (row, next(columns)) if at % 2 == 0 else (next(rows), column)
+            self.legs.append((self.leg(row, column), 1 - at % 2))
+        column = last = next(columns)
+        for at in range(modules - 1):
+            row, column = (next(rows), column) if at % 2 == 0 else (row, next(columns))
+            self.legs.append((self.leg(row, column), at % 2))
+        self.new = self.leg(first, last)
+
+    def leg(self, row, column):
+        """A leg between free ports of an input and an output module; outputs are shifted by two modules, so that no leg joins a port to itself."""
+        source = (row + 1, 1 + self.inputs[row])
+        output = ((column + 2) % self.modules + 1, 2 - self.outputs[column])
+        self.inputs[row] += 1
+        self.outputs[column] += 1
+        assert source != output
+        return source, output
+
+
+class Longest(Walk):
+    """A controller that starts on a journal of these legs, and then joins the one that has the longest chains."""
+
+    def __init__(self, modules):
+        super().__init__(modules, 2, None)
+        self.crossing = Crossing(modules)
+        for leg, middle in self.crossing.legs:
+            self.paths.put(leg, middle)
+            self.legs[leg[1]] = leg[0]
+        # A start joins the legs in order of their outputs.
+        self.switched(sorted(self.paths.middles, key=lambda leg: leg[1]))
+
+    def journal(self):
+        element = element_of(self.modules, self.slots)
+        records = (record(element, "ENT-CRS-T0", Conn(leg, 0), [(middle, DIRECT, 0)]) for leg, middle in self.crossing.legs)
+        return (header(2, 0, element) + b"".join(records) + b"\0").hex()
+
+    def join(self):
+        unit, answer, writes = self.entry(self.crossing.new)
+        assert writes == 5 * (3 * (self.modules - 1) // 2) + 3
+        return unit, answer, writes
+
+    def row(self):
+        lines = [f"shelf {self.modules} {self.slots}", f"old {self.journal()}", *self.session(self.join)]
+        return f"the longest chain of {self.modules} modules", lines
 
 
 def walks():
@@ -120,3 +180,5 @@ def walks():
             walk = Walk(modules, slots, random.Random(seed))
             lines = [line for _ in range(steps) for line in walk.session()]
             yield f"a walk of {steps} steps, {modules} by {slots}, {seed}", [f"shelf {modules} {slots}", *lines]
+    for modules in LONGEST:
+        yield Longest(modules).row()

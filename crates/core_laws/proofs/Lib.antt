@@ -1,4 +1,3 @@
-pub mod Moves
 pub mod Openings
 pub mod Succeeding
 pub mod Mirrored

@@ -47,8 +47,8 @@ module _ (disk : MemDisk) (s : Contents) (stops later : ℕ) (status : Status) (
       by_why j.why (n.is ∙ ap of_fault is) (λ bytes bad. (fails bytes bad).0 is_new)
   by_fault (fault.BadRecord i d) is = absurd ((subst (λ (x : OpenFault MemDisk). Fails mem_state (mem_state disk) s.shape x) is (n.why tt)).0 is_new)
   by_fault (fault.Disk d) is = absurd (no_disk_fault (n.is ∙ ap of_fault is))
-  by_fault fault.NoMemory is = inl (n.is ∙ ap of_fault is)
-  by_fault fault.Stopped is = let stopped = n.is ∙ ap of_fault is in inr (stopped, n.stopped stopped)
+  by_fault (fault.NoMemory d) is = inl (n.is ∙ ap of_fault is)
+  by_fault (fault.Stopped d) is = let stopped = n.is ∙ ap of_fault is in inr (stopped, n.stopped stopped)
 
   -- on a new disk in memory that has the room the controller starts, unless memory is wanting or the gate stops
   pub not_loaded : NotLoaded stops later status

@@ -77,7 +77,7 @@ module _ {D : Type 0} (disk_told : Type 0) (state : D → DiskState) where
 
   -- memory was wanting
   pub no_memory : (disk : D) (s : Contents) (stops later : ℕ) → NotStarted disk_told state disk s stops later NoMemory
-  no_memory disk s stops later = record { fault = fault_of.NoMemory; is = refl; why = λ _. tt; disk_failed = λ is. cc; stopped = λ is. cc }
+  no_memory disk s stops later = record { fault = fault_of.NoMemory disk; is = refl; why = λ _. tt; disk_failed = λ is. cc; stopped = λ is. cc }
 
   -- started or not, on what was found
   pub opened : (opener_told : Type 0) (names : Named) (workers : ℕ) (before after : Sources D) (f : Found opener_told names before) (r : Result (Controller D) Status)

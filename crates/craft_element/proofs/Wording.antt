@@ -30,8 +30,8 @@ fault_ends : {D : Type 0} (f : OpenFault D) → IsOfNoOpening (status_of_fault f
 fault_ends (fault.Journal f) is = why_ends f.why is
 fault_ends (fault.BadRecord i d) is = is
 fault_ends (fault.Disk d) is = is
-fault_ends fault.NoMemory is = is
-fault_ends fault.Stopped is = is
+fault_ends (fault.NoMemory d) is = is
+fault_ends (fault.Stopped d) is = is
 
 users_why_ends : (w : JournalWhy) → IsOfNoOpening (status_of_users_why w) → ⊥
 users_why_ends (why.BadHeader bytes) is = is

@@ -18,8 +18,8 @@ abbrev pub status_of_fault : {D : Type 0} → OpenFault D → Status
 status_of_fault (fault.Journal f) = status_of_why f.why
 status_of_fault (fault.BadRecord i d) = BadJournal (Record i)
 status_of_fault (fault.Disk d) = Disk
-status_of_fault fault.NoMemory = NoMemory
-status_of_fault fault.Stopped = Stopped
+status_of_fault (fault.NoMemory d) = NoMemory
+status_of_fault (fault.Stopped d) = Stopped
 
 abbrev pub status_of_users_why : JournalWhy → Status
 status_of_users_why (why.BadHeader bytes) = BadJournal (UsersHeader bytes)

@@ -151,8 +151,8 @@ fn not_started<D: Disk + Drop>(fault: OpenFault<D>) -> Status
         },
         OpenFault::BadRecord(number, _) => Status::BadJournal(JournalBad::Record(number)),
         OpenFault::Disk(_) => Status::Disk,
-        OpenFault::NoMemory => Status::NoMemory,
-        OpenFault::Stopped => Status::Stopped,
+        OpenFault::NoMemory(_) => Status::NoMemory,
+        OpenFault::Stopped(_) => Status::Stopped,
     }
 }
 

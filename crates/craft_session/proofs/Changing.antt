@@ -22,7 +22,7 @@ use Rattle.xc_core.specs.declared.turns.Took.TheVariants as took
 use Rattle.xc_core.specs.States.{Opening}
 use Rattle.xc_core.specs.declared.restarts.Restarting.{Restarting}
 use Rattle.xc_core.specs.declared.restarts.Restarting.TheVariants as restarting
-use Rattle.xc_core.specs.Seeing.{HasRestart, HasTaken, IsDueFor, Saw, Turned, TurnedBack, entry, refused}
+use Rattle.xc_core.specs.Seeing.{HasRestart, HasTaken, IsDueFor, IsOfStop, Saw, Turned, TurnedBack, entry, refused}
 use Rattle.xc_core.specs.Turns.{CutIs, DoneIs, RestartCutIs, RestartIs, RestartedIs, TookIs}
 use Rattle.craft_session.specs.declared.change.Changed.{Changed}
 use Rattle.craft_session.specs.declared.change.Changed.TheVariants.{Done, Denied, Stopped}
@@ -181,7 +181,7 @@ module _ (o : Opening) (own : ℕ) (h : List Entry) where
   turned_back_passed seen t = record { passed = t.later; unused = others_unused own t.later t.others; saw = t.saw }
 
   pub mended_on_turns : (asked : Op) (seen then_seen : List Gv) (b : PassedBy o own h seen) (how : Mended) → MendedIs o own (h ++ b.passed) asked then_seen how → MendedIs o own h asked then_seen how
-  mended_on_turns asked seen then_seen b mended.Ready x = (x.0, passed_on _ seen then_seen b x.1, subst (λ (l : List Entry). IsDueFor asked l) (append_assoc h b.passed x.1.passed) x.2)
+  mended_on_turns asked seen then_seen b mended.Ready x = (x.0, passed_on _ seen then_seen b x.1, subst (λ (l : List Entry). IsDueFor asked l) (append_assoc h b.passed x.1.passed) x.2, subst (λ (l : List Entry). IsOfStop x.0 l) (append_assoc h b.passed x.1.passed) x.3)
   mended_on_turns asked seen then_seen b (mended.Denied q) x = (passed_on _ seen then_seen b x.0, x.1, subst (λ (l : List Entry). IsDueFor asked l) (append_assoc h b.passed x.0.passed) x.2)
   mended_on_turns asked seen then_seen b mended.Stopped x = (passed_on _ seen then_seen b x.0, subst (λ (l : List Entry). IsDueFor asked l) (append_assoc h b.passed x.0.passed) x.1)
   mended_on_turns asked seen then_seen b mended.Waits x = record {
@@ -191,7 +191,7 @@ module _ (o : Opening) (own : ℕ) (h : List Entry) where
   }
 
   pub mended_ready : (asked : Op) (seen : List Gv) → RestartedIs o own h asked seen → MendedIs o own h asked seen mended.Ready
-  mended_ready asked seen x = (x.0, turned_passed (entry own Restart (Restarted x.0)) seen x.1, x.2)
+  mended_ready asked seen x = (x.0, turned_passed (entry own Restart (Restarted x.0)) seen x.1, x.2, x.3)
 
   pub mended_cut : (asked : Op) (seen : List Gv) → RestartCutIs o own h asked seen → MendedIs o own h asked seen mended.Stopped
   mended_cut asked seen x = (turned_passed (entry own Restart Cut) seen x.0, x.1)
@@ -219,7 +219,7 @@ module _ (o : Opening) (own : ℕ) (h : List Entry) where
     on = mended_on_turns Restart seen then_seen b how x
 
     pub warm_done : how ≡ mended.Ready → WarmRestartIs o own h then_seen Done
-    warm_done is = let y = subst (λ (z : Mended). MendedIs o own h Restart then_seen z) is on in (y.0, y.1)
+    warm_done is = let y = subst (λ (z : Mended). MendedIs o own h Restart then_seen z) is on in (y.0, y.1, y.3)
 
     pub warm_denied : (q : Cause) → how ≡ mended.Denied q → WarmRestartIs o own h then_seen (Denied q)
     warm_denied q is = (subst (λ (z : Mended). MendedIs o own h Restart then_seen z) is on).0

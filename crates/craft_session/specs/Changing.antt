@@ -10,7 +10,7 @@ use Rattle.dxc_model.specs.declared.entry.Entry.{Entry}
 use Rattle.dxc_model.specs.Steps.{IsFault}
 use Rattle.dxc_model.specs.Histories.{IsRestartDue, IsStopped}
 use Rattle.xc_core.specs.States.{Opening}
-use Rattle.xc_core.specs.Seeing.{IsDueFor, Saw, entry, refused}
+use Rattle.xc_core.specs.Seeing.{IsDueFor, IsOfStop, Saw, entry, refused}
 use Rattle.craft_session.specs.declared.change.Changed.{Changed}
 use Rattle.craft_session.specs.declared.change.Changed.TheVariants.{Done, Denied, Stopped}
 use Rattle.craft_session.specs.declared.mend.Mended.{Mended}
@@ -50,13 +50,13 @@ ChangedIs o place h op then_seen Stopped =
 
 -- what came of turns in which a restart was to be made for what was asked
 abbrev pub MendedIs : Opening → ℕ → List Entry → Op → List Gv → Mended → Type 0
-MendedIs o place h asked then_seen mended.Ready = (c : Option TableChange) × (p : Passed o place h (entry place Restart (outcome.Restarted c)) then_seen) × IsDueFor asked (h ++ p.passed)
+MendedIs o place h asked then_seen mended.Ready = (c : Option TableChange) × (p : Passed o place h (entry place Restart (outcome.Restarted c)) then_seen) × IsDueFor asked (h ++ p.passed) × IsOfStop c (h ++ p.passed)
 MendedIs o place h asked then_seen (mended.Denied q) = (p : Passed o place h (entry place asked (outcome.Failed q)) then_seen) × IsFault q × IsDueFor asked (h ++ p.passed)
 MendedIs o place h asked then_seen mended.Stopped = (p : Passed o place h (entry place Restart outcome.Cut) then_seen) × IsDueFor asked (h ++ p.passed)
 MendedIs o place h asked then_seen mended.Waits = PassedBy o place h then_seen
 
--- what came of a restart that was asked for
+-- what came of a restart that was asked for, which takes up a change only where a stop came
 abbrev pub WarmRestartIs : Opening → ℕ → List Entry → List Gv → Changed → Type 0
-WarmRestartIs o place h then_seen Done = (c : Option TableChange) × Passed o place h (entry place Restart (outcome.Restarted c)) then_seen
+WarmRestartIs o place h then_seen Done = (c : Option TableChange) × (p : Passed o place h (entry place Restart (outcome.Restarted c)) then_seen) × IsOfStop c (h ++ p.passed)
 WarmRestartIs o place h then_seen (Denied q) = Passed o place h (entry place Restart (outcome.Failed q)) then_seen
 WarmRestartIs o place h then_seen Stopped = Passed o place h (entry place Restart outcome.Cut) then_seen

@@ -20,3 +20,5 @@ pub mod Plain
 pub mod PlainUsers
 pub mod Scripts
 pub mod Places
+pub mod Lending
+pub mod Served

@@ -24,7 +24,7 @@ use dxc_outside::{Gate, GatePlace, Pass1};
 use fabric_words::Fabric;
 use roll_engine::{Advance, Rolling};
 use std::sync::Wait;
-use turnstile::{Pass, Turnstile};
+use turnstile::{Pass, Rest, Turnstile};
 use xc_core::turns::{self, Took};
 use xc_core::{Driver, Provisioner, State, drive};
 
@@ -60,10 +60,11 @@ pub fn roll<D: Disk, G: Gate, R: Wait>(
     ensures later { G.stops gate.old ≤ G.stops gate.new }
     ensures asked { RollAsked (G.asked gate.old gate.new) (length (rest_of rolling.old)) result }
 {
+    let mut rest = Rest::new();
     for _ in rt.forever() {
         match drive(p, fabric, rolling, gate) {
             Advance::Done => return gate.pass(GatePlace::Finish),
-            Advance::InFrame(_) => {}
+            Advance::InFrame(frame) => rest.again(frame, rt),
             Advance::Stopped => return Pass1::Stop,
         }
     }
@@ -130,6 +131,7 @@ pub fn change<D: Disk + Drop, G: Gate, R: Wait>(
     ensures asked { ChangeAsked (G.asked gate.old gate.new) result }
     ensures entered { (h : List Entry) → Saw (opening_of D.state turns.now.first) pass.old.seen h → Entered (opening_of D.state turns.now.first) pass.old.number (G.asked gate.old gate.new) false false h pass.new.seen }
 {
+    let mut rest = Rest::new();
     for _ in rt.forever() {
         match turns::take(pass, turns, op, gate, rt) {
             Took::Rolling(driver) => {
@@ -142,7 +144,7 @@ pub fn change<D: Disk + Drop, G: Gate, R: Wait>(
                 Mended::Denied(cause) => return Changed::Denied(cause),
                 Mended::Stopped => return Changed::Stopped,
             },
-            Took::Waits => {}
+            Took::Waits => rest.again(0, rt),
         }
     }
     unreachable!()

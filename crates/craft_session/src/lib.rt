@@ -7,6 +7,7 @@ mod attending;
 mod change;
 mod desk;
 mod end;
+mod lent;
 mod meaning;
 mod mend;
 mod place;
@@ -18,5 +19,6 @@ mod session;
 mod users;
 
 pub use end::SessionEnd;
+pub use lent::Lent;
 pub use place::Place;
 pub use session::serve_session;

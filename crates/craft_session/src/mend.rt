@@ -18,7 +18,7 @@ use dxc_model::{Cause, Op};
 use dxc_outside::{Gate, Pass1};
 use fabric_words::Fabric;
 use std::sync::Wait;
-use turnstile::{Pass, Turnstile};
+use turnstile::{Pass, Rest, Turnstile};
 use xc_core::restarts::{Restarting, cut_restart, end_restart, restart};
 use xc_core::{Driver, State};
 
@@ -122,12 +122,13 @@ pub fn warm_restart<D: Disk + Drop, G: Gate, R: Wait>(
     ensures asked { WarmAsked (G.asked gate.old gate.new) result }
     ensures entered { (h : List Entry) → Saw (opening_of D.state turns.now.first) pass.old.seen h → Entered (opening_of D.state turns.now.first) pass.old.number (G.asked gate.old gate.new) false false h pass.new.seen }
 {
+    let mut rest = Rest::new();
     for _ in rt.forever() {
         match mend(pass, turns, fabric, &Op::Restart, gate, rt) {
             Mended::Ready => return Changed::Done,
             Mended::Denied(cause) => return Changed::Denied(cause),
             Mended::Stopped => return Changed::Stopped,
-            Mended::Waits => {}
+            Mended::Waits => rest.again(0, rt),
         }
     }
     unreachable!()

@@ -117,7 +117,7 @@ impl<D: Disk + Drop> Seat<D> {
         turns::mark(&mut self.pass, &self.turns, rt)
     }
 
-    /// Makes a restart. It waits until the Provisioner is home, and for frames in the way.
+    /// Makes a restart. It waits in the line of those who change something, and for frames in the way.
     pub fn restart<G: Gate, R: Wait>(&mut self, gate: &mut G, rt: &R) -> Changed
         ensures same { IsSameSeat self.old self.new }
         ensures restarted { (h : List Entry) → Saw self.old.opening self.old.seen h → WarmRestartIs self.old.opening self.old.place h self.new.seen result }
@@ -127,10 +127,14 @@ impl<D: Disk + Drop> Seat<D> {
         ensures asked { WarmAsked (G.asked gate.old gate.new) result }
         ensures entered { (h : List Entry) → Saw self.old.opening self.old.seen h → Entered self.old.opening self.old.place (G.asked gate.old gate.new) false false h self.new.seen }
     {
-        warm_restart(&mut self.pass, &self.turns, &self.fabric, gate, rt)
+        let turns: &Turnstile<State<D>> = &self.turns;
+        turns.stand_in_line(rt);
+        let restarted = warm_restart(&mut self.pass, turns, &self.fabric, gate, rt);
+        turns.leave_line();
+        restarted
     }
 
-    /// Makes a change of the table, and of the registers before it. It waits until the Provisioner is home, and for frames in the way.
+    /// Makes a change of the table, and of the registers before it. It waits in the line of those who change something, and for frames in the way.
     pub fn change<G: Gate, R: Wait>(&mut self, op: &Op, gate: &mut G, rt: &R) -> Changed
         requires apt { IsApt self.old.opening.first.fold.table.shape op.now }
         ensures same { IsSameSeat self.old self.new }
@@ -141,6 +145,10 @@ impl<D: Disk + Drop> Seat<D> {
         ensures asked { ChangeAsked (G.asked gate.old gate.new) result }
         ensures entered { (h : List Entry) → Saw self.old.opening self.old.seen h → Entered self.old.opening self.old.place (G.asked gate.old gate.new) false false h self.new.seen }
     {
-        change(&mut self.pass, &self.turns, &self.fabric, op, gate, rt)
+        let turns: &Turnstile<State<D>> = &self.turns;
+        turns.stand_in_line(rt);
+        let changed = change(&mut self.pass, turns, &self.fabric, op, gate, rt);
+        turns.leave_line();
+        changed
     }
 }

@@ -10,15 +10,15 @@ ghost use Rattle.craft_session.specs.Gated.{AreEntered};
 ghost use Rattle.craft_session.specs.Meanings.{language};
 ghost use Rattle.craft_session.specs.Desks.{now, input_of, ConsultedIs, IsAnswered};
 ghost use Rattle.craft_session.specs.Seats.{IsSameSeat, IsSameUserSeat};
+ghost use Rattle.craft_session.specs.Served.{Served};
 ghost use Rattle.craft_session.specs.Sessions.{Beginning, IsAt, Writes, Stands, Goes, IsPrompt, IsServed};
 ghost use Rattle.craft_session.specs.Walks.{nobody};
-ghost use Rattle.user_admin.specs.Turns.{AreNumbered as AreUsersNumbered};
-ghost use Rattle.xc_core.specs.Turns.{AreNumbered, SawNoneAstray};
 
 use crate::act::act;
 use crate::ask::Ask;
 use crate::desk::Desk;
 use crate::end::{Progress, SessionEnd};
+use crate::lent::Lent;
 use crate::meaning::consult;
 use crate::place::Place;
 use crate::reports::report;
@@ -211,26 +211,8 @@ pub fn serve_session<K: Link, C: Clock, G: Gate, D: Disk + Drop, U: Disk + Drop,
     gate: &mut G,
     rt: &R,
 ) -> SessionEnd
-    ensures shelf { place.new.shelf ≡ place.old.shelf }
-    ensures seat { IsSameSeat place.old.seat place.new.seat }
-    ensures users { IsSameUserSeat place.old.users place.new.users }
-    ensures numbers { AreNumbered place.new.seat.places place.new.seat.seen }
-    ensures users_numbers { AreUsersNumbered place.new.users.places place.new.users.seen }
-    ensures astray { SawNoneAstray D.told place.new.seat.seen }
-    ensures session { IsServed (language place.old.shelf) K.told C.told (K.state link.old) (K.state link.new) (C.coming clock.old) (C.coming clock.new) place.old.seat place.new.seat place.old.users place.new.users result }
-    ensures prompt { IsPrompt (language place.old.shelf) K.begun K.told C.told (K.state link.old) (K.state link.new) (C.coming clock.old) place.old.seat place.old.users }
-    ensures end { (result ≡ SessionEnd.End) ↔ IsTrue (K.state link.new).ended }
-    ensures all_read { K.told → result ≡ SessionEnd.End → (K.state link.new).left ≡ [] }
-    ensures read_fault { result ≡ SessionEnd.ReadFault → Rose (K.state link.old).read_faults (K.state link.new).read_faults }
-    ensures no_read_fault { result ≢ SessionEnd.ReadFault → (K.state link.new).read_faults ≡ (K.state link.old).read_faults }
-    ensures write_fault { result ≡ SessionEnd.WriteFault → Rose (K.state link.old).write_faults (K.state link.new).write_faults }
-    ensures no_write_fault { result ≢ SessionEnd.WriteFault → (K.state link.new).write_faults ≡ (K.state link.old).write_faults }
-    ensures stopped { result ≡ SessionEnd.Stopped → Rose (G.stops gate.old) (G.stops gate.new) }
-    ensures unstopped { result ≢ SessionEnd.Stopped → G.stops gate.new ≡ G.stops gate.old }
-    ensures later { G.stops gate.old ≤ G.stops gate.new }
-    ensures asked { AreEntered place.old.seat place.old.users (G.asked gate.old gate.new) place.new.seat.seen place.new.users.seen }
-    ensures spent { result ≡ SessionEnd.Spent → Counted (K.state link.old).reads (K.state link.new).reads (2 ^ 32) }
-    ensures few { (K.state link.new).reads ≤ (K.state link.old).reads + 2 ^ 32 }
+    ensures { Served ⟦<(K, C, G, D) as Lent>⟧
+        (place.old, link.old, clock.old, gate.old) (place.new, link.new, clock.new, gate.new) result }
 {
     place.desk.begin();
     let end = serve(&mut place.desk, &mut place.piece, link, clock, gate, rt);

@@ -2,10 +2,10 @@
 #![tactic(auto)]
 
 use craft_server::{Status, dxc_run};
-use dxc_console::{held_streams, help_asked, tell_status, words_given};
-use dxc_host::{HostClock, HostOpener, TermLink, ThreadSpawner};
+use dxc_console::{held_streams, help_asked, only_look, tell_status, words_given};
+use dxc_host::{HostClock, HostOpener, Refusal, TermLink, ThreadSpawner};
 use dxc_outside::Sent;
-use std::io::{self, IsTerminal};
+use std::io;
 use std::process::ExitCode;
 
 fn main(rt: HostRuntime) -> ExitCode {
@@ -13,19 +13,25 @@ fn main(rt: HostRuntime) -> ExitCode {
     // First of all, since each file that is opened takes the lowest number that is free.
     let held = held_streams(&rt, alloc);
     let mut words = Vec::new(alloc);
-    let status = if held.is_err() {
+    let mut opener = HostOpener::new(rt, Vec::new(alloc));
+    let mut no_stream = None;
+    let status = if let Err(error) = &held {
+        no_stream = Refusal::of(alloc, "/dev/null", error);
         Status::CannotOpen
     } else if words_given(&rt, &mut words).is_err() {
         Status::NoMemory
     } else if let Some(status) = help_asked(&rt, &words) {
         status
     } else {
+        if only_look(&words) {
+            opener.only_look();
+        }
         match TermLink::new(alloc, rt.reader(), io::writer(&rt), rt) {
             Ok((mut terminal, mut gate)) => {
                 let status = dxc_run(
                     alloc,
                     &words,
-                    &mut HostOpener::new(rt, Vec::new(alloc)),
+                    &mut opener,
                     &mut terminal,
                     &mut HostClock::new(),
                     &mut gate,
@@ -40,6 +46,7 @@ fn main(rt: HostRuntime) -> ExitCode {
             Err(_) => Status::NoMemory,
         }
     };
-    tell_status(&rt, status, &words, rt.stderr().is_terminal());
+    let refusal = no_stream.as_ref().or(opener.refusal());
+    tell_status(&rt, status, &words, refusal);
     ExitCode::from(status.number())
 }

@@ -1,3 +1,4 @@
+use crate::sources::SOURCES;
 use craft_words::Status;
 use dxc_outside::Name;
 
@@ -12,7 +13,7 @@ const HELP: &str = "dxc: the controller of a digital cross-connect
   dxc standby JOURNAL ADDRESS the copy: waits at the address for a serve that has it as PEER, and ends as that ends
   dxc load NUMBER             10,000 commands drawn from the number, on a journal in memory, and what they came to
   dxc --help                  this text
-  dxc --version               the version
+  dxc --version               the version, and SHA-256 of the sources that it was proved from
 
 JOURNAL is the name of the journal, which is made where there is none. Every change is in it before it is answered, and a
 start takes it up again; changes of users are in JOURNAL.users beside it. One program at a time has them. That of a standby is
@@ -51,25 +52,21 @@ Status: 0 done, 2 words not understood, 3 shelf file refused, 4 journal refused,
 13 standby journal not empty. On a terminal a second line on standard error tells more.
 ";
 
-const VERSION: &str = "dxc 0.1.0\n";
+// CHANGELOG.md tells what each version changed.
+const VERSION: &str = "1.0.0";
 
 /// Prints what the one word `--help` or `--version` asks for, and gives the status that the program then ends with. None: the words ask for neither.
 pub fn help_asked<R: Print>(rt: &R, words: &[Name]) -> Option<Status> {
-    let text = told_by_itself(words)?;
-    match print!(rt; "{text}") {
+    let [word] = words else {
+        return None;
+    };
+    let printed = match word.text() {
+        "--help" => print!(rt; "{HELP}"),
+        "--version" => print!(rt; "dxc {VERSION}\nsources {SOURCES}\n"),
+        _ => return None,
+    };
+    match printed {
         Ok(()) => Some(Status::Done),
         Err(_) => Some(Status::Link),
-    }
-}
-
-// The text that the words ask for.
-fn told_by_itself(words: &[Name]) -> Option<&'static str> {
-    match words {
-        [word] => match word.text() {
-            "--help" => Some(HELP),
-            "--version" => Some(VERSION),
-            _ => None,
-        },
-        _ => None,
     }
 }

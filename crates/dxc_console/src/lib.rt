@@ -2,6 +2,7 @@
 #![tactic(auto)]
 
 mod help;
+mod sources;
 mod streams;
 mod why;
 mod words;
@@ -9,4 +10,4 @@ mod words;
 pub use help::help_asked;
 pub use streams::held_streams;
 pub use why::tell_status;
-pub use words::words_given;
+pub use words::{only_look, words_given};

@@ -3,14 +3,20 @@ use dxc_outside::Name;
 use shelf_file::{ShelfFault, ShelfKey};
 use std::fmt::{self, Display, Formatter, Write};
 
-/// Tells of a status other than Done on standard error: by a line of its own, and where that is a terminal, by a second one on what the
-/// status holds. What can't be written there changes no status.
-pub fn tell_status<R: Eprint>(rt: &R, status: Status, words: &[Name], is_terminal: bool) {
-    let _ = eprint!(rt; "{}", fault_text(status));
-    if is_terminal {
-        let why = Why { status, words };
-        let _ = eprint!(rt; "{why}");
-    }
+/// Tells of a status other than Done on standard error: by a line of its own, and by a second one on what the status holds, of CannotOpen
+/// on what wasn't opened. What can't be written there changes no status.
+pub fn tell_status<R: Eprint, E: Display>(
+    rt: &R,
+    status: Status,
+    words: &[Name],
+    refusal: Option<&E>,
+) {
+    let why = Why {
+        status,
+        words,
+        refusal,
+    };
+    let _ = eprint!(rt; "{}{why}", fault_text(status));
 }
 
 // The line that tells of a status other than Done.
@@ -32,17 +38,19 @@ fn fault_text(status: Status) -> &'static str {
     }
 }
 
-// What the status holds, as a line for whoever reads a terminal. Nothing of a PID, a salt or a digest is in it.
+// What the status holds, as a line. Nothing of a PID, a salt or a digest is in it.
 #[derive(Drop)]
-struct Why<'a> {
+struct Why<'a, E> {
     status: Status,
     words: &'a [Name],
+    refusal: Option<&'a E>,
 }
 
-impl Display for Why<'_> {
+impl<E: Display> Display for Why<'_, E> {
     fn fmt<W: Write>(&self, f: &mut Formatter<W>) -> fmt::Result {
         match self.status {
             Status::BadWords => write_word(f, self.words),
+            Status::CannotOpen => write_refusal(f, self.refusal),
             Status::BadShelf(fault) => write_shelf_fault(f, fault),
             Status::BadJournal(JournalBad::Header(bytes)) => write_header(f, "journal", &bytes),
             Status::BadJournal(JournalBad::Record(number)) => {
@@ -144,6 +152,14 @@ fn write_key<W: Write>(f: &mut Formatter<W>, key: ShelfKey, user: u16, what: &st
     match user {
         0 => writeln!(f, "dxc: key {} {what}", key_name(key)),
         _ => writeln!(f, "dxc: key {} of user {user} {what}", key_name(key)),
+    }
+}
+
+// Where nothing was refused it was a standby that can't be called.
+fn write_refusal<W: Write, E: Display>(f: &mut Formatter<W>, refusal: Option<&E>) -> fmt::Result {
+    match refusal {
+        Some(refusal) => writeln!(f, "dxc: {refusal}"),
+        None => writeln!(f, "dxc: 16 accepts in a row failed"),
     }
 }
 

@@ -1,12 +1,11 @@
 ghost use Rattle.std.specs.Prelude.{[], ◌≡◌, false, IfOk};
 
 use crate::held::Held;
-use dxc_outside::{Frame, Lines, Opened, Put};
-use std::alloc::Global;
-use std::fs::{File, OpenOptions};
+use dxc_outside::{Frame, Lines, Put};
+use std::alloc::{AllocError, Global};
+use std::fs::File;
 use std::io;
 use std::os::unix::fs::FileExt;
-use std::rt::Files;
 
 /// So many bytes have room on either way.
 const ROOM: usize = 1 << 16;
@@ -14,7 +13,7 @@ const ROOM: usize = 1 << 16;
 /// Lines over two files of the operating system. They tell nothing of their content. A read takes what the input gives at once, up to 64 KiB,
 /// and no frame may be longer. Frames that are written are held until the input is to be read again, or until they have no room; so who
 /// trickles frames into the input sees what comes of each at once. Output is written at its place: a frame that failed is whole at the
-/// next try.
+/// next try. The output keeps what it held before until the first frame is to be read.
 #[derive(Drop)]
 pub struct FileLines {
     input: File,
@@ -26,48 +25,28 @@ pub struct FileLines {
 }
 
 impl FileLines {
-    ghost use Rattle.dxc_host.specs.declared.file_lines.FileLines.{FileLines};
-
-    /// Worker `w` of the name `L` reads `L.in` and writes `L.w.out`, which is made, or emptied where it is there.
-    pub fn open<R: Files<File = File>>(
-        alloc: Global,
-        files: &R,
-        name: &str,
-        worker: u16,
-    ) -> Opened<FileLines>
-        ensures fresh { (l : FileLines) → result ≡ Opened.Open l → (l.ended ≡ false) × (l.read_faults ≡ 0) × (l.write_faults ≡ 0) }
+    /// Lines from the one file into the other, which is to be open for writing.
+    pub(crate) fn new(alloc: Global, input: File, output: File) -> Result<FileLines, AllocError>
+        ensures ended { IfOk result (λ l. l.ended ≡ false) }
+        ensures read_faults { IfOk result (λ l. l.read_faults ≡ 0) }
+        ensures write_faults { IfOk result (λ l. l.write_faults ≡ 0) }
     {
-        let Ok(from) = format!(in alloc; "{name}.in") else {
-            return Opened::NoMemory;
-        };
-        let Ok(to) = format!(in alloc; "{name}.{worker}.out") else {
-            return Opened::NoMemory;
-        };
-        let (Ok(ahead), Ok(held)) = (Held::new(alloc, ROOM), Held::new(alloc, ROOM)) else {
-            return Opened::NoMemory;
-        };
-        match open_both(files, from.as_str(), to.as_str()) {
-            Ok((input, file)) => Opened::Open(FileLines {
-                input,
-                ahead,
-                output: Output { file, held, end: 0 },
-                ended: false,
-                read_faults: 0,
-                write_faults: 0,
-            }),
-            Err(_) => Opened::Failed,
-        }
+        let ahead = Held::new(alloc, ROOM)?;
+        let held = Held::new(alloc, ROOM)?;
+        Ok(FileLines {
+            input,
+            ahead,
+            output: Output {
+                file: output,
+                held,
+                end: 0,
+                is_begun: false,
+            },
+            ended: false,
+            read_faults: 0,
+            write_faults: 0,
+        })
     }
-}
-
-fn open_both<R: Files<File = File>>(files: &R, from: &str, to: &str) -> io::Result<(File, File)> {
-    let input = File::open(files, from)?;
-    let output = OpenOptions::new()
-        .write(true)
-        .create(true)
-        .truncate(true)
-        .open(files, to)?;
-    Ok((input, output))
 }
 
 // Reads on until so many bytes are ahead, or the file has no more; how many are ahead.
@@ -82,17 +61,32 @@ fn fetch(file: &mut File, ahead: &mut Held, count: usize) -> io::Result<usize>
     Ok(ahead.count())
 }
 
-/// The file of the output, the frames that it hasn't got yet, and the place behind those that it has.
+/// The file of the output, the frames that it hasn't got yet, and the place after those that it has.
 #[derive(Drop)]
 struct Output {
     file: File,
     held: Held,
     end: u64,
+    /// What it held before was dropped.
+    is_begun: bool,
 }
 
 impl Output {
-    // Holds a frame that may wait and has room. Another one is written, behind what is held.
+    // Drops what a file of a disk held before, once. Whoever opens lines may still fail to open what else it wants.
+    fn begin(&mut self) -> io::Result<()> {
+        if self.is_begun {
+            return Ok(());
+        }
+        if self.file.metadata()?.is_file() {
+            self.file.set_len(0)?;
+        }
+        self.is_begun = true;
+        Ok(())
+    }
+
+    // Holds a frame that may wait and has room. Another one is written, after what is held.
     fn write(&mut self, frame: &[u8], may_wait: bool) -> io::Result<()> {
+        self.begin()?;
         if may_wait && self.held.put(frame) {
             return Ok(());
         }
@@ -118,6 +112,8 @@ impl Lines for FileLines {
 
     fn read_frame(&mut self, into: &mut [u8]) -> Frame {
         self.ended = false;
+        // Where that fails, so does the first write.
+        let _ = self.output.begin();
         match fetch(&mut self.input, &mut self.ahead, into.len()) {
             Ok(0) => {
                 self.ended = true;

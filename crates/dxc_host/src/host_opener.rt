@@ -3,28 +3,37 @@ ghost use Rattle.dxc_causes.specs.Causes.{HasCause};
 ghost use Rattle.dxc_outside.specs.Openings.{IsClosed, most_shelf_bytes};
 
 use crate::changes::Changes;
-use crate::{FileLines, HostClock, HostGate, TcpDoor, TcpLink};
-use dxc_disk::FileDisk;
+use crate::entrance::Entrance;
+use crate::lines_files::{open_input, open_output};
+use crate::{FileLines, HostClock, HostDisk, HostGate, Refusal, TcpDoor, TcpLink};
 use dxc_outside::{Opened, Opener, most_shelf_bytes};
 use std::alloc::{AllocError, Global};
 use std::fs::File;
 use std::io::{self, ErrorKind, Read};
-use std::net::{Net, TcpListener, TcpStream};
+use std::net::{Net, TcpListener, TcpStream, ToSocketAddrs};
 use std::rt::{Clock as SystemClock, Files};
+use std::time::Duration;
+
+/// How long a peer's machine has to answer a call.
+const CALL_SECONDS: u64 = 5;
 
 /// Opens files of the operating system by their paths, and TCP listeners and connections by their addresses. It tells nothing of what they hold.
 #[derive(Drop)]
 pub struct HostOpener<T> {
     system: T,
-    bound: Vec<(String, TcpListener)>,
+    bound: Vec<(String, Entrance)>,
     /// What its listeners and its gates share, from the first listener on.
     changes: Option<Changes>,
     faults: u64,
+    /// Journals are copied, and no byte of a file is changed.
+    only_looks: bool,
+    /// What couldn't be opened last.
+    refusal: Option<Refusal>,
 }
 
 impl<T: Drop> HostOpener<T> {
-    /// The listeners that it binds are kept behind what `bound` holds.
-    pub fn new(system: T, bound: Vec<(String, TcpListener)>) -> HostOpener<T>
+    /// The listeners that it binds are kept after what `bound` holds.
+    pub fn new(system: T, bound: Vec<(String, Entrance)>) -> HostOpener<T>
         ensures { result.faults ≡ 0 }
     {
         HostOpener {
@@ -32,11 +41,25 @@ impl<T: Drop> HostOpener<T> {
             bound,
             changes: None,
             faults: 0,
+            only_looks: false,
+            refusal: None,
         }
     }
 
-    // The answer for an error: memory was wanting, or else a fault, which is counted.
-    fn not_opened<X>(&mut self, error: &io::Error) -> Opened<X>
+    /// From here on a journal that it opens is a copy of the file, which isn't locked, made or changed.
+    pub fn only_look(&mut self)
+        ensures { self.new.faults ≡ self.old.faults }
+    {
+        self.only_looks = true;
+    }
+
+    /// What couldn't be opened last, and why; None where all could be, or where memory to hold that was wanting.
+    pub fn refusal(&self) -> Option<&Refusal> {
+        self.refusal.as_ref()
+    }
+
+    // The answer for an error in opening what has that name: memory was wanting, or else a fault, which is counted.
+    fn not_opened<X>(&mut self, alloc: Global, name: &str, error: &io::Error) -> Opened<X>
         ensures closed { IsClosed result }
         ensures cause { HasCause self.old.faults self.new.faults (result ≡ Opened.Failed) }
     {
@@ -44,6 +67,7 @@ impl<T: Drop> HostOpener<T> {
             return Opened::NoMemory;
         }
         self.faults = self.faults.saturating_add(1);
+        self.refusal = Refusal::of(alloc, name, error);
         Opened::Failed
     }
 }
@@ -64,20 +88,20 @@ fn append_file<T: Files<File = File>>(files: &T, path: &str, into: &mut Vec<u8>)
     Ok(())
 }
 
-// A listener at the address: a handle of the one that was bound there before, or else a new one.
+// The entrance at the address: the one that was bound there before, or else a new one.
 fn bind<T: Net<Listener = TcpListener, Stream = TcpStream>>(
     alloc: Global,
     net: &T,
-    bound: &mut Vec<(String, TcpListener)>,
+    bound: &mut Vec<(String, Entrance)>,
     address: &str,
-) -> io::Result<TcpListener> {
-    if let Some((_, listener)) = bound.iter().find(|(held, _)| held.as_str() == address) {
-        return listener.try_clone();
+) -> io::Result<Entrance> {
+    if let Some((_, entrance)) = bound.iter().find(|(held, _)| held.as_str() == address) {
+        return Ok(entrance.shared()?);
     }
-    let listener = TcpListener::bind(net, address)?;
-    let held = listener.try_clone()?;
+    let entrance = Entrance::new(alloc, TcpListener::bind(net, address)?)?;
+    let held = entrance.shared()?;
     bound.push((address.to_string(alloc)?, held))?;
-    Ok(listener)
+    Ok(entrance)
 }
 
 // The count, for one more holder.
@@ -91,14 +115,20 @@ fn share(alloc: Global, changes: &mut Option<Changes>) -> Result<Changes, AllocE
     Ok(shared)
 }
 
-// A link to whoever listens at the address. No gate is asked for what it is sent.
+// A link to whoever listens at the address, which is tried in each form that its name has. No gate is asked for what it is sent.
 fn call<T: Net<Listener = TcpListener, Stream = TcpStream>>(
     alloc: Global,
     net: &T,
     address: &str,
 ) -> io::Result<TcpLink> {
-    let stream = TcpStream::connect(net, address)?;
-    TcpLink::new(alloc, stream, Changes::new(alloc)?)
+    let mut last = io::Error::new(ErrorKind::InvalidInput, "the name has no address");
+    for at in address.to_socket_addrs(net)? {
+        match TcpStream::connect_timeout(net, &at, Duration::from_secs(CALL_SECONDS)) {
+            Ok(stream) => return TcpLink::new(alloc, stream, None, Changes::new(alloc)?),
+            Err(error) => last = error,
+        }
+    }
+    Err(last)
 }
 
 impl<
@@ -112,7 +142,7 @@ impl<
 > Opener for HostOpener<T> {
     ghost use Rattle.std.specs.Prelude.{None};
 
-    type Journal = FileDisk;
+    type Journal = HostDisk;
 
     type Lines = FileLines;
 
@@ -142,30 +172,46 @@ impl<
 
     ghost listener_for = { λ _ _. Unit {0} };
 
-    fn shelf(&mut self, _alloc: Global, name: &str, into: &mut Vec<u8>) -> Opened<()> {
+    fn shelf(&mut self, alloc: Global, name: &str, into: &mut Vec<u8>) -> Opened<()> {
         match append_file(&self.system, name, into) {
             Ok(()) => Opened::Open(()),
-            Err(error) => self.not_opened(&error),
+            Err(error) => self.not_opened(alloc, name, &error),
         }
     }
 
-    /// A file that isn't there is made. A journal has one owner: another that is opened while the first is held is a fault.
-    fn journal(&mut self, alloc: Global, name: &str) -> Opened<FileDisk> {
-        match FileDisk::open(alloc, &self.system, name) {
+    /// A file that isn't there is made. A journal has one owner: another that is opened while the first is held is a fault. Who only looks
+    /// gets a copy.
+    fn journal(&mut self, alloc: Global, name: &str) -> Opened<HostDisk> {
+        let opened = if self.only_looks {
+            HostDisk::copy(alloc, &self.system, name)
+        } else {
+            HostDisk::open(alloc, &self.system, name)
+        };
+        match opened {
             Ok(disk) => Opened::Open(disk),
-            Err(error) => self.not_opened(&error),
+            Err(error) => self.not_opened(alloc, name, &error),
         }
     }
 
-    /// Worker `w` of the name `L` reads `L.in` and writes `L.w.out`.
+    /// Worker `w` of the name `L` reads `L.in` and writes `L.w.out`, which is made where it isn't there.
     fn lines(&mut self, alloc: Global, name: &str, worker: u16) -> Opened<FileLines> {
-        match FileLines::open(alloc, &self.system, name, worker) {
-            Opened::Open(lines) => Opened::Open(lines),
-            Opened::NoMemory => Opened::NoMemory,
-            Opened::Failed => {
-                self.faults = self.faults.saturating_add(1);
-                Opened::Failed
-            }
+        let (Ok(from), Ok(to)) = (
+            format!(in alloc; "{name}.in"),
+            format!(in alloc; "{name}.{worker}.out"),
+        ) else {
+            return Opened::NoMemory;
+        };
+        let input = match open_input(&self.system, from.as_str()) {
+            Ok(file) => file,
+            Err(error) => return self.not_opened(alloc, from.as_str(), &error),
+        };
+        let output = match open_output(&self.system, to.as_str()) {
+            Ok(file) => file,
+            Err(error) => return self.not_opened(alloc, to.as_str(), &error),
+        };
+        match FileLines::new(alloc, input, output) {
+            Ok(lines) => Opened::Open(lines),
+            Err(_) => Opened::NoMemory,
         }
     }
 
@@ -174,15 +220,15 @@ impl<
             return Opened::NoMemory;
         };
         match bind(alloc, &self.system, &mut self.bound, address) {
-            Ok(listener) => Opened::Open(TcpDoor::new(alloc, listener, self.system, changes)),
-            Err(error) => self.not_opened(&error),
+            Ok(entrance) => Opened::Open(TcpDoor::new(alloc, entrance, self.system, changes)),
+            Err(error) => self.not_opened(alloc, address, &error),
         }
     }
 
     fn peer(&mut self, alloc: Global, address: &str) -> Opened<TcpLink> {
         match call(alloc, &self.system, address) {
             Ok(link) => Opened::Open(link),
-            Err(error) => self.not_opened(&error),
+            Err(error) => self.not_opened(alloc, address, &error),
         }
     }
 

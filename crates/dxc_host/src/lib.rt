@@ -2,14 +2,21 @@
 //! traits of `dxc_outside`. They tell nothing of what they hold, and a call fails only where its count rose.
 #![tactic(auto)]
 
+mod caller;
 mod changes;
+mod entrance;
+mod file_copy;
 mod file_lines;
 mod held;
 mod host_clock;
+mod host_disk;
 mod host_gate;
 mod host_opener;
+mod keepalive;
+mod lines_files;
 mod outbox;
 mod patient;
+mod refusal;
 mod shown;
 mod tcp_door;
 mod tcp_link;
@@ -19,8 +26,10 @@ mod utc;
 
 pub use file_lines::FileLines;
 pub use host_clock::HostClock;
+pub use host_disk::HostDisk;
 pub use host_gate::HostGate;
 pub use host_opener::HostOpener;
+pub use refusal::Refusal;
 pub use tcp_door::TcpDoor;
 pub use tcp_link::TcpLink;
 pub use term_link::TermLink;

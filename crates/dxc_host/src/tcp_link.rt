@@ -1,25 +1,20 @@
 ghost use Rattle.std.specs.Prelude.{[], false, ◌≡◌, IfOk};
 ghost use base.Stored.{gnil};
 
+use crate::caller::Caller;
 use crate::changes::Changes;
+use crate::entrance::Seat;
 use crate::outbox::Outbox;
 use dxc_outside::{Got, Link, Put};
 use std::alloc::Global;
 use std::io::{self, ErrorKind, Read};
 use std::net::TcpStream;
-use std::time::Duration;
-
-/// How long a read waits for bytes before it answers Quiet.
-const QUIET_MILLIS: u64 = 200;
-
-/// How long a write waits for a caller that takes nothing before it fails.
-const WRITE_SECONDS: u64 = 10;
 
 /// A link over a TCP stream. It tells nothing of its content. From the first read on what is written is collected. It goes out
-/// before each read, where it has no room, with what is written behind a change that a gate let to a journal, and where the link is
+/// before each read, where it has no room, with what is written after a change that a gate let to a journal, and where the link is
 /// dropped.
 pub struct TcpLink {
-    stream: TcpStream,
+    caller: Caller,
     outbox: Outbox,
     ended: bool,
     reads: u64,
@@ -28,19 +23,22 @@ pub struct TcpLink {
 }
 
 impl TcpLink {
-    /// A link over the stream, whose calls time out from now on. What is written isn't delayed by the host.
-    pub(crate) fn new(alloc: Global, stream: TcpStream, changes: Changes) -> io::Result<TcpLink>
+    /// A link over the stream, whose calls time out from now on, with the seat of one that came in.
+    pub(crate) fn new(
+        alloc: Global,
+        stream: TcpStream,
+        seat: Option<Seat>,
+        changes: Changes,
+    ) -> io::Result<TcpLink>
         ensures ended { IfOk result (λ t. t.ended ≡ false) }
         ensures reads { IfOk result (λ t. t.reads ≡ 0) }
         ensures read_faults { IfOk result (λ t. t.read_faults ≡ 0) }
         ensures write_faults { IfOk result (λ t. t.write_faults ≡ 0) }
     {
-        stream.set_read_timeout(Some(Duration::from_millis(QUIET_MILLIS)))?;
-        stream.set_write_timeout(Some(Duration::from_secs(WRITE_SECONDS)))?;
-        stream.set_nodelay(true)?;
+        let caller = Caller::new(stream, seat)?;
         let outbox = Outbox::new(alloc, changes)?;
         Ok(TcpLink {
-            stream,
+            caller,
             outbox,
             ended: false,
             reads: 0,
@@ -54,14 +52,14 @@ impl Drop for TcpLink {
     // Nobody is left who could be told of a fault.
     fn drop(self) {
         let TcpLink {
-            mut stream,
+            mut caller,
             mut outbox,
             ended: _,
             reads: _,
             read_faults: _,
             write_faults: _,
         } = self;
-        let _ = outbox.empty(&mut stream);
+        let _ = outbox.empty(&mut caller);
     }
 }
 
@@ -84,18 +82,18 @@ impl Link for TcpLink {
     fn read(&mut self, into: &mut [u8]) -> Got {
         self.reads = self.reads.saturating_add(1);
         self.ended = false;
-        if !self.outbox.empty(&mut self.stream) {
+        if !self.outbox.empty(&mut self.caller) {
             self.read_faults = self.read_faults.saturating_add(1);
             return Got::Failed;
         }
-        match self.stream.read(into) {
+        match self.caller.read(into) {
             Ok(0) => {
                 self.ended = true;
                 Got::End
             }
             Ok(count) => Got::Bytes(count),
             Err(error) => match error.kind() {
-                ErrorKind::Interrupted | ErrorKind::WouldBlock | ErrorKind::TimedOut => Got::Quiet,
+                ErrorKind::Interrupted | ErrorKind::WouldBlock => Got::Quiet,
                 _ => {
                     self.read_faults = self.read_faults.saturating_add(1);
                     Got::Failed
@@ -106,7 +104,7 @@ impl Link for TcpLink {
 
     fn write(&mut self, from: &[u8]) -> Put {
         let may_wait = self.reads > 0;
-        match self.outbox.write(&mut self.stream, from, may_wait) {
+        match self.outbox.write(&mut self.caller, from, may_wait) {
             Some(count) => Put::Took(count),
             None => {
                 self.write_faults = self.write_faults.saturating_add(1);

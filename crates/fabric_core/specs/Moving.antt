@@ -5,6 +5,9 @@ use Rattle.dxc_num.specs.declared.port.Port.{Port}
 use Rattle.dxc_num.specs.declared.port.Leg.{Leg}
 use Rattle.dxc_num.specs.declared.port.Middle.{Middle}
 use Rattle.dxc_num.specs.declared.port.Route.{Route}
+use Rattle.dxc_num.specs.declared.register.RegWrite.{RegWrite}
+use Rattle.dxc_num.specs.declared.register.WriteKind.{WriteKind}
+use Rattle.dxc_num.specs.declared.register.WriteKind.TheVariants as kind
 use Rattle.fabric_core.specs.declared.size.Size.{Size}
 use Rattle.fabric_core.specs.declared.registers.Registers.{Registers}
 use Rattle.fabric_core.specs.declared.phase.Phase.{Phase}
@@ -31,6 +34,10 @@ with_mid d l k q r = record { ins = r.ins; mids = slice_set r.mids (mid_cell d k
 abbrev pub with_out : Port → ℕ → Registers → Registers
 with_out y o r = record { ins = r.ins; mids = r.mids; outs = slice_set r.outs y.0 o }
 
+-- one write more, on the path of the leg over the middle
+abbrev pub written_on : WriteKind → Leg → Middle → Mover → List RegWrite
+written_on t l k m = m.written ++ record { kind = t; leg = l; middle = k } ∷ []
+
 -- the leg is established, as this route of its output
 pub record IsEstablished (m : Mover) (l : Leg) (w : Route) : Type 0 where
   pub here : leg_at m l.output ≡ Some w
@@ -53,10 +60,10 @@ pub record CanSetIn (d : Dimensions) (m : Mover) (l : Leg) (k : Middle) : Type 0
   pub may_go : ((w : Route) × IsEstablished m l w) ⊎ IsNew m l
 
 abbrev pub in_set : Dimensions → Leg → Middle → Mover → Mover
-in_set d l k m = record { registers = with_in d l k (slot_of d l.input + 1) m.registers; legs = m.legs; phase = InSet l k; log = m.log; looks = m.looks }
+in_set d l k m = record { registers = with_in d l k (slot_of d l.input + 1) m.registers; legs = m.legs; phase = InSet l k; written = written_on kind.SetIn l k m; log = m.log; looks = m.looks }
 
 abbrev pub mid_set : Dimensions → Leg → Middle → Mover → Mover
-mid_set d l k m = record { registers = with_mid d l k (module_of d l.input + 1) m.registers; legs = m.legs; phase = MidSet l k; log = m.log; looks = m.looks }
+mid_set d l k m = record { registers = with_mid d l k (module_of d l.input + 1) m.registers; legs = m.legs; phase = MidSet l k; written = written_on kind.SetMid l k m; log = m.log; looks = m.looks }
 
 -- there are switch numbers left
 abbrev pub HasSwitch : Mover → Type 0
@@ -78,6 +85,7 @@ switched l k m = record {
   registers = with_out l.output (out_of (length m.log + 1) k) m.registers;
   legs = slice_set m.legs l.output.0 (Some (over l k));
   phase = after_switch l (leg_at m l.output);
+  written = written_on kind.SwitchOut l k m;
   log = m.log ++ l ∷ [];
   looks = looks_after (leg_at m l.output) m.looks;
 }
@@ -86,10 +94,10 @@ abbrev pub CanClearOut : Mover → Leg → Route → Type 0
 CanClearOut m l w = (m.phase ≡ Rest) × IsEstablished m l w
 
 abbrev pub out_cleared : Leg → Middle → Mover → Mover
-out_cleared l k m = record { registers = with_out l.output 0 m.registers; legs = slice_set m.legs l.output.0 None; phase = Old l k; log = m.log; looks = no_looks m.looks }
+out_cleared l k m = record { registers = with_out l.output 0 m.registers; legs = slice_set m.legs l.output.0 None; phase = Old l k; written = written_on kind.ClearOut l k m; log = m.log; looks = no_looks m.looks }
 
 abbrev pub looked : ℕ → ℕ → Mover → Mover
-looked w f m = record { registers = m.registers; legs = m.legs; phase = m.phase; log = m.log; looks = slice_set m.looks w (looks_of m w ++ f ∷ []) }
+looked w f m = record { registers = m.registers; legs = m.legs; phase = m.phase; written = m.written; log = m.log; looks = slice_set m.looks w (looks_of m w ++ f ∷ []) }
 
 abbrev pub AllPassed : Size → Mover → Type 0
 AllPassed z m = (w : ℕ) → w < z.workers → Passed (looks_of m w)
@@ -99,10 +107,10 @@ abbrev pub CanClearMid : Size → Mover → Leg → Middle → Type 0
 CanClearMid z m l k = (m.phase ≡ MidSet l k) ⊎ ((m.phase ≡ Old l k) × AllPassed z m)
 
 abbrev pub mid_cleared : Dimensions → Leg → Middle → Mover → Mover
-mid_cleared d l k m = record { registers = with_mid d l k 0 m.registers; legs = m.legs; phase = Freed l k; log = m.log; looks = m.looks }
+mid_cleared d l k m = record { registers = with_mid d l k 0 m.registers; legs = m.legs; phase = Freed l k; written = written_on kind.ClearMid l k m; log = m.log; looks = m.looks }
 
 abbrev pub CanClearIn : Mover → Leg → Middle → Type 0
 CanClearIn m l k = (m.phase ≡ InSet l k) ⊎ (m.phase ≡ Freed l k)
 
 abbrev pub in_cleared : Dimensions → Leg → Middle → Mover → Mover
-in_cleared d l k m = record { registers = with_in d l k 0 m.registers; legs = m.legs; phase = Rest; log = m.log; looks = m.looks }
+in_cleared d l k m = record { registers = with_in d l k 0 m.registers; legs = m.legs; phase = Rest; written = written_on kind.ClearIn l k m; log = m.log; looks = m.looks }

@@ -34,7 +34,7 @@ abbrev pub new_registers : Dimensions → Registers
 new_registers d = record { ins = replicate (in_count d) 0; mids = replicate (mid_count d) 0; outs = replicate (ports d) 0 }
 
 abbrev pub new_mover : Size → Mover
-new_mover z = record { registers = new_registers z.shape; legs = replicate (ports z.shape) None; phase = Rest; log = []; looks = replicate z.workers [] }
+new_mover z = record { registers = new_registers z.shape; legs = replicate (ports z.shape) None; phase = Rest; written = []; log = []; looks = replicate z.workers [] }
 
 abbrev pub new_worker : ℕ → Worker
 new_worker w = record { number = w; frame = 0; hold = Empty; notes = [] }

@@ -1,4 +1,4 @@
-ghost use Rattle.std.specs.Prelude.{◌≡◌, ◌++◌, ◌∷◌, ◌<◌, List, [], length, map, replicate, slice_index_or, slice_set, MatchResult, IfOk};
+ghost use Rattle.std.specs.Prelude.{◌≡◌, ◌++◌, ◌∷◌, ◌<◌, List, [], length, map, replicate, slice_index_or, slice_set, take, MatchResult, IfOk};
 
 use dxc_causes::NoMemory;
 use std::alloc::Global;
@@ -71,6 +71,13 @@ impl<T: Drop> Row<T> {
         ensures { self.new ≡ slice_set self.old place item }
     {
         self.items[place] = item;
+    }
+
+    /// Keeps so many items, and removes those after them.
+    pub fn truncate(&mut self, len: usize)
+        ensures { self.new ≡ take len self.old }
+    {
+        self.items.truncate(len);
     }
 
     /// Removes all items.

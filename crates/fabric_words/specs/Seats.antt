@@ -39,7 +39,7 @@ pub record WorkerAt : Type 0 where
   pub worker : Worker
 
 abbrev pub no_mover : Mover
-no_mover = record { registers = record { ins = []; mids = []; outs = [] }; legs = []; phase = Rest; log = []; looks = [] }
+no_mover = record { registers = record { ins = []; mids = []; outs = [] }; legs = []; phase = Rest; written = []; log = []; looks = [] }
 
 -- what a token knows
 abbrev pub mover_in : View → Mover

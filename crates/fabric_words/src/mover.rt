@@ -1,6 +1,6 @@
-ghost use Rattle.std.specs.Prelude.{◌≡◌, ◌<◌, [], length};
+ghost use Rattle.std.specs.Prelude.{◌≡◌, ◌<◌, ◌↔◌, [], length, IsTrue};
 ghost use Rattle.fabric_core.specs.declared.event.CoreEvent.TheVariants.{SetIn, SetMid, SwitchOut, ClearOut, ClearMid, ClearIn};
-ghost use Rattle.fabric_core.specs.Passing.{has_passed};
+ghost use Rattle.fabric_core.specs.Passing.{Passed};
 ghost use Rattle.fabric_core.specs.State.{IsSize, new_mover, looks_of};
 ghost use Rattle.fabric_core.specs.Moving.{looked};
 ghost use Rattle.fabric_core.specs.Steps.{Moves};
@@ -13,6 +13,7 @@ use crate::fabric::Fabric;
 use crate::layout::Layout;
 use crate::looks::Looks;
 use crate::path::{forget_after, middle_of};
+use crate::permit::Permit;
 use crate::plays::{ClearsIn, ClearsMid, ClearsOut, LooksAt, Reads, SetsIn, SetsMid, Switches};
 use crate::stand::Stand;
 use crate::table::{Aim, Token};
@@ -24,7 +25,7 @@ use std::marker::Model;
 /// looks at each worker have told.
 #[derive(Drop)]
 pub struct MoverSeat {
-    token: Token,
+    pub(crate) token: Token,
     layout: Layout,
     phase: Stand,
     // The input module and the output module of the leg that the phase names.
@@ -83,19 +84,21 @@ impl MoverSeat {
     #[inline(always)]
     pub fn passed(&self, worker: u16) -> bool
         requires { worker < self.now.fabric.size.workers }
-        ensures { result ≡ has_passed (looks_of self.now.mover worker) }
+        ensures { IsTrue result ↔ Passed (looks_of self.now.mover worker) }
     {
         self.seen.passed(worker)
     }
 
     /// Begins a path for a leg over a middle: its IN word.
     #[inline(always)]
-    pub fn set_in(&mut self, fabric: &Fabric, leg: Leg, middle: Middle)
+    pub fn set_in(&mut self, fabric: &Fabric, leg: Leg, middle: Middle, permit: &Permit)
         requires own { self.old.fabric ≡ fabric.now }
+        requires permitted { permit.now ≡ self.old.mover.written }
         requires allowed { MayMove self.old.fabric.size self.old.mover (SetIn leg middle) }
         ensures fabric { self.new.fabric ≡ self.old.fabric }
         ensures event { Moves self.old.fabric.size self.old.mover (SetIn leg middle) self.new.mover }
     {
+        let _ = permit;
         let row = self.layout.module_of(leg.input);
         let column = self.layout.module_of(leg.output);
         let slot = self.layout.slot_of(leg.input) as u64;
@@ -110,12 +113,14 @@ impl MoverSeat {
 
     /// Sets the MID word of the path that was begun.
     #[inline(always)]
-    pub fn set_mid(&mut self, fabric: &Fabric)
+    pub fn set_mid(&mut self, fabric: &Fabric, permit: &Permit)
         requires own { self.old.fabric ≡ fabric.now }
+        requires permitted { permit.now ≡ self.old.mover.written }
         requires allowed { MayMove self.old.fabric.size self.old.mover SetMid }
         ensures fabric { self.new.fabric ≡ self.old.fabric }
         ensures event { Moves self.old.fabric.size self.old.mover SetMid self.new.mover }
     {
+        let _ = permit;
         let (_, to) = self.phase.path();
         let word = self.layout.of_mid(to, self.column);
         let value = self.row as u64 + 1;
@@ -126,12 +131,14 @@ impl MoverSeat {
 
     /// Turns OUT to the path: the leg is joined, or moved. Its number is one more than `switches()`.
     #[inline(always)]
-    pub fn switch_out(&mut self, fabric: &Fabric)
+    pub fn switch_out(&mut self, fabric: &Fabric, permit: &Permit)
         requires own { self.old.fabric ≡ fabric.now }
+        requires permitted { permit.now ≡ self.old.mover.written }
         requires allowed { MayMove self.old.fabric.size self.old.mover SwitchOut }
         ensures fabric { self.new.fabric ≡ self.old.fabric }
         ensures event { Moves self.old.fabric.size self.old.mover SwitchOut self.new.mover }
     {
+        let _ = permit;
         let (leg, to) = self.phase.path();
         let word = self.layout.of_out(leg.output);
         let number = self.switches + 1;
@@ -145,12 +152,14 @@ impl MoverSeat {
 
     /// Clears OUT of an established leg: it is parted.
     #[inline(always)]
-    pub fn clear_out(&mut self, fabric: &Fabric, leg: Leg)
+    pub fn clear_out(&mut self, fabric: &Fabric, leg: Leg, permit: &Permit)
         requires own { self.old.fabric ≡ fabric.now }
+        requires permitted { permit.now ≡ self.old.mover.written }
         requires allowed { MayMove self.old.fabric.size self.old.mover (ClearOut leg) }
         ensures fabric { self.new.fabric ≡ self.old.fabric }
         ensures event { Moves self.old.fabric.size self.old.mover (ClearOut leg) self.new.mover }
     {
+        let _ = permit;
         let row = self.layout.module_of(leg.input);
         let column = self.layout.module_of(leg.output);
         let word = self.layout.of_out(leg.output);
@@ -179,12 +188,14 @@ impl MoverSeat {
 
     /// Clears the MID word of the path that was left, once all workers have passed, or of one that is half built.
     #[inline(always)]
-    pub fn clear_mid(&mut self, fabric: &Fabric)
+    pub fn clear_mid(&mut self, fabric: &Fabric, permit: &Permit)
         requires own { self.old.fabric ≡ fabric.now }
+        requires permitted { permit.now ≡ self.old.mover.written }
         requires allowed { MayMove self.old.fabric.size self.old.mover ClearMid }
         ensures fabric { self.new.fabric ≡ self.old.fabric }
         ensures event { Moves self.old.fabric.size self.old.mover ClearMid self.new.mover }
     {
+        let _ = permit;
         let (_, old) = self.phase.path();
         let word = self.layout.of_mid(old, self.column);
         let shared = &fabric.board.shared;
@@ -194,12 +205,14 @@ impl MoverSeat {
 
     /// Clears the IN word of a path whose MID word is none.
     #[inline(always)]
-    pub fn clear_in(&mut self, fabric: &Fabric)
+    pub fn clear_in(&mut self, fabric: &Fabric, permit: &Permit)
         requires own { self.old.fabric ≡ fabric.now }
+        requires permitted { permit.now ≡ self.old.mover.written }
         requires allowed { MayMove self.old.fabric.size self.old.mover ClearIn }
         ensures fabric { self.new.fabric ≡ self.old.fabric }
         ensures event { Moves self.old.fabric.size self.old.mover ClearIn self.new.mover }
     {
+        let _ = permit;
         let (_, old) = self.phase.path();
         let word = self.layout.of_in(self.row, old);
         let shared = &fabric.board.shared;

@@ -1,3 +1,4 @@
 pub mod Frames
 pub mod Rows
 pub mod Lines
+pub mod Laws

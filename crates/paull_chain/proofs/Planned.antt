@@ -1,5 +1,6 @@
 -- A plan is a valid work.
-use Rattle.std.proofs.Common.{◌≡◌, ◌≢◌, ℕ, ◌<◌, ◌≤◌, length, List, [], ◌∷◌, sym, refl, subst, ⊎_elim, arith, length-set, Some}
+use Rattle.std.specs.Prelude.{IfSome, MatchOption}
+use Rattle.std.proofs.Common.{◌≡◌, ◌≢◌, ℕ, ◌<◌, ◌≤◌, length, List, [], ◌∷◌, sym, refl, subst, ⊎_elim, arith, length-set, Option, Some, None}
 use Rattle.dxc_num.specs.declared.port.Leg.{Leg}
 use Rattle.dxc_num.specs.Dimensions.{Dimensions, IsInside, route}
 use Rattle.roll_plan.specs.declared.op.Move.{Move}
@@ -10,7 +11,7 @@ use Rattle.paull_matrix.specs.Colourings.{CanPlace, Colouring, Holds, IsEmpty, w
 use Rattle.paull_matrix.proofs.Legs.{held_before}
 use Rattle.paull_chain.specs.Works.{moved, after, IsValidWork}
 use Rattle.paull_chain.specs.Paull.{CanJoin}
-use Rattle.paull_chain.specs.Choices.{JoinsBy, Plans}
+use Rattle.paull_chain.specs.Choices.{Expands, IsJoinable, IsValidChoice, JoinsBy, Plans}
 
 pub after_shape : (ms : List Move) (c : Colouring) → (after ms c).shape ≡ c.shape
 after_shape [] c = refl
@@ -47,3 +48,8 @@ joins_valid c l h (Shift ms) i e j = absurd j
 
 pub plan_valid : (c : Colouring) (l : Leg) (op : LegOp) → IsInside c.shape l → IsEmpty c c.shape.slots → Plans c l op → IsValidWork c (op ∷ [])
 plan_valid c l op i e p = joins_valid c l p.0 op i e p.2
+
+-- a choice that is expanded makes a valid work
+pub expanded_valid : (c : Colouring) (l : Leg) (h : Choice) (r : Option LegOp) → IsJoinable c l → MatchOption r (¬ IsValidChoice c l h.middle.0 h.chain) (Expands c l h) → IfSome r (λ op. IsValidWork c (op ∷ []))
+expanded_valid c l h None joinable is = tt
+expanded_valid c l h (Some op) joinable is = joins_valid c l h op joinable.0 joinable.2 is.1

@@ -1,9 +1,10 @@
 //! The join that a given choice makes.
-ghost use Rattle.std.specs.Prelude.{◌≡◌, ◌<◌, ◌≤◌, ◌↔◌, IsTrue, IsBitSet, MatchOption};
+ghost use Rattle.std.specs.Prelude.{◌≡◌, ◌<◌, ◌≤◌, ◌↔◌, ◌∷◌, [], IfSome, IsTrue, IsBitSet, MatchOption};
 ghost use Rattle.dxc_num.specs.Dimensions.{IsInside};
 ghost use Rattle.roll_plan.specs.declared.op.Chain.TheVariants.{Direct};
 ghost use Rattle.paull_matrix.specs.Colourings.{IsFree, module_on};
 ghost use Rattle.paull_chain.specs.Choices.{choice_on, Expands, IsJoinable, IsPair, IsValidChoice};
+ghost use Rattle.paull_chain.specs.Works.{IsValidWork};
 
 use crate::exchange::join_after;
 use crate::plan::free_beside;
@@ -72,11 +73,12 @@ fn expand_chain(matrix: &Matrix, leg: Leg, side: Side, a: Middle, b: Middle) -> 
     Some(join_after(leg, side, legs.as_slice(), a, b, spare))
 }
 
-/// The join of a new leg by this choice. None exactly where the choice isn't valid.
+/// The join of a new leg by this choice, a valid work. None exactly where the choice isn't valid.
 pub fn expand(matrix: &Matrix, leg: Leg, choice: Choice) -> Option<LegOp>
     requires { IsJoinable matrix.now leg }
-    ensures { MatchOption result (¬ IsValidChoice matrix.now leg choice.middle.0 choice.chain)
+    ensures expands { MatchOption result (¬ IsValidChoice matrix.now leg choice.middle.0 choice.chain)
         (Expands matrix.now leg choice) }
+    ensures valid { IfSome result (λ op. IsValidWork matrix.now (op ∷ [])) }
 {
     match choice.chain {
         Chain::Direct => expand_direct(matrix, leg, choice.middle),

@@ -4,11 +4,11 @@ use mathlib.Core.Logic.{dite}
 use native.Mathlib.Decide.{ℕ_discrete}
 use Rattle.fabric_core.specs.declared.size.Size.{Size}
 use Rattle.fabric_core.specs.declared.mover.Mover.{Mover}
-use Rattle.fabric_core.specs.Passing.{first_from, first_seen, gone, has_passed, next_first}
+use Rattle.fabric_core.specs.Passing.{first_from, first_seen, gone, has_passed, next_first, Passed}
 use Rattle.fabric_core.specs.State.{looks_of}
 use Rattle.fabric_core.specs.Moving.{AllPassed, looked}
 use Rattle.fabric_core.proofs.Passing as passing
-use Rattle.fabric_core.proofs.Passing.{passed_test, test_passed}
+use Rattle.fabric_core.proofs.Passing.{passed_test}
 use Rattle.roll_engine.specs.Writes.{Looks}
 use Rattle.roll_engine.specs.Answers.{IsSeen}
 
@@ -20,7 +20,7 @@ pub one_look : (z : Size) (m m' : Mover) (w f : ℕ) → w < z.workers → m' �
 one_look z m m' w f low e = ((w, f) ∷ [], (low, sym e))
 
 abbrev pub with_looks : List (List ℕ) → Mover → Mover
-with_looks ls m = record { registers = m.registers; legs = m.legs; phase = m.phase; log = m.log; looks = ls }
+with_looks ls m = record { registers = m.registers; legs = m.legs; phase = m.phase; written = m.written; log = m.log; looks = ls }
 
 -- looks change nothing but what was looked at
 pub looks_only : (z : Size) (fs : List (ℕ × ℕ)) (m a : Mover) → Looks z fs m a → a ≡ with_looks a.looks m
@@ -34,13 +34,13 @@ looks_length z (f ∷ fs) m a (low, h) = looks_length z fs (looked f.0 f.1 m) a 
 
 -- the workers below n have passed
 abbrev pub HavePassed : ℕ → Mover → Type 0
-HavePassed n m = (w : ℕ) → w < n → has_passed (looks_of m w) ≡ true
+HavePassed n m = (w : ℕ) → w < n → Passed (looks_of m w)
 
-pub passed_more : (n : ℕ) (m m' : Mover) → HavePassed n m → ((u : ℕ) → u ≢ n → looks_of m' u ≡ looks_of m u) → has_passed (looks_of m' n) ≡ true → HavePassed (n + 1) m'
-passed_more n m m' h same now w low = dite (ℕ_discrete w n) (λ e. ap (λ (i : ℕ). has_passed (looks_of m' i)) e ∙ now) (λ other. ap has_passed (same w other) ∙ h w (omega arith))
+pub passed_more : (n : ℕ) (m m' : Mover) → HavePassed n m → ((u : ℕ) → u ≢ n → looks_of m' u ≡ looks_of m u) → Passed (looks_of m' n) → HavePassed (n + 1) m'
+passed_more n m m' h same now w low = dite (ℕ_discrete w n) (λ e. subst (λ (i : ℕ). Passed (looks_of m' i)) (sym e) now) (λ other. subst Passed (sym (same w other)) (h w (omega arith)))
 
 pub all_passed : (z : Size) (n : ℕ) (m : Mover) → n ≡ z.workers → HavePassed n m → AllPassed z m
-all_passed z n m e h w low = passed_test (looks_of m w) (h w (omega arith))
+all_passed z n m e h w low = h w (omega arith)
 
 -- a look after which the worker hasn't passed
 not_gone : (g f : ℕ) (p : Bool) → gone g p f ≡ false → (f % 2 ≡ 1) × (f ≡ next_first g f)
@@ -55,8 +55,13 @@ not_gone g f false h = dite (ℕ_discrete (f % 2) 0)
           (λ other. let was : gone g false f ≡ true = rw (ne_eqb (f % 2) 0 odd, ne_eqb g 0 some_first, ne_eqb f g other) in absurd (true≢false (sym was ∙ h)))),
     ))
 
-pub seen_look : (z : Size) (m m' : Mover) (w f : ℕ) → w < z.workers → length m.looks ≡ z.workers → m' ≡ looked w f m → has_passed (looks_of m' w) ≡ false → IsSeen z m m' f
-seen_look z m m' w f low full e h =
+never_true : (b : Bool) → (b ≡ true → ⊥) → b ≡ false
+never_true true none = absurd (none refl)
+never_true false none = refl
+
+pub seen_look : (z : Size) (m m' : Mover) (w f : ℕ) → w < z.workers → length m.looks ≡ z.workers → m' ≡ looked w f m → (Passed (looks_of m' w) → ⊥) → IsSeen z m m' f
+seen_look z m m' w f low full e still =
+    let h : has_passed (looks_of m' w) ≡ false = never_true (has_passed (looks_of m' w)) (λ is. still (passed_test (looks_of m' w) is)) in
     let is : looks_of m' w ≡ looks_of m w ++ f ∷ [] = ap (λ (p : Mover). looks_of p w) e ∙ get_or-set_same m.looks w (looks_of m w ++ f ∷ []) [] (omega arith) in
     let more = passing.passed_more 0 false (looks_of m w) f in
     let first = passing.first_more 0 (looks_of m w) f in
@@ -67,7 +72,7 @@ seen_look z m m' w f low full e h =
       before = m;
       looks = refl;
       look = e;
-      not_passed = λ passed. absurd (true≢false (sym (test_passed (looks_of m' w) passed) ∙ h));
+      not_passed = still;
       odd = k.0;
       first = k.1 ∙ (sym first ∙ sym (ap first_seen is));
     }

@@ -1,5 +1,5 @@
 -- Runs of writes, one behind the other, and what holds at every part that a run passes.
-use Rattle.std.proofs.Common.{◌≡◌, ◌≢◌, ℕ, zero, suc, ◌+◌, ◌<◌, List, [], ◌∷◌, ◌++◌, length, get_or, set, take, drop, sym, refl, ap, ap₂, ◌∙◌, subst, arith, Some, None, get_or-set_same, append_assoc}
+use Rattle.std.proofs.Common.{◌≡◌, ◌≢◌, ℕ, zero, suc, ◌+◌, ◌<◌, List, [], ◌∷◌, ◌++◌, length, get_or, set, take, drop, sym, refl, ap, ap₂, ◌∙◌, subst, arith, Some, None, get_or-set_same, append_assoc, append-nil}
 use mathlib.Core.Logic.{dite}
 use Rattle.dxc_num.specs.declared.port.Leg.{Leg}
 use Rattle.dxc_num.specs.declared.port.Middle.{Middle}
@@ -7,11 +7,11 @@ use Rattle.dxc_num.specs.declared.port.Port.{Port}
 use Rattle.dxc_num.specs.declared.register.RegWrite.{RegWrite}
 use Rattle.dxc_num.specs.declared.register.WriteKind.{WriteKind}
 use Rattle.dxc_num.specs.declared.register.WriteKind.TheVariants as kind
-use Rattle.dxc_num.specs.Dimensions.{module_of, ports}
+use Rattle.dxc_num.specs.Dimensions.{Dimensions, module_of, ports}
 use Rattle.roll_plan.specs.declared.op.Move.{Move}
 use Rattle.roll_plan.specs.declared.op.LegOp.{LegOp}
 use Rattle.roll_plan.specs.declared.op.LegOp.TheVariants.{Join, Part, Shift}
-use Rattle.roll_plan.specs.Works.{move_writes, moves_writes, join_writes, op_writes, ops_writes, switches_in}
+use Rattle.roll_plan.specs.Works.{write, move_writes, moves_writes, join_writes, op_writes, ops_writes, switches_in}
 use Rattle.paull_matrix.specs.Colourings.{Colouring}
 use Rattle.fabric_core.specs.declared.size.Size.{Size}
 use Rattle.fabric_core.specs.declared.mover.Mover.{Mover}
@@ -25,8 +25,9 @@ use Rattle.fabric_core.proofs.Cells.{port_discrete}
 use Rattle.roll_engine.specs.Writes.{Looks, event_of_kind, made_of_kind, Makes, Runs}
 use Rattle.roll_engine.specs.Courses.{Course, course_of, course_after, gone, at_rest}
 use Rattle.roll_engine.specs.Stages.{IsMidway}
-use Rattle.roll_engine.specs.Staying.{AreKept, AreNotParted, Stays, IsAlwaysEstablished, IsAlwaysSpared, IsAlwaysMidway, IsSwitchCounted}
-use Rattle.roll_engine.proofs.Looking.{looks_join}
+use Rattle.roll_engine.specs.Staying.{AreKept, AreNotParted, Stays, IsAlwaysEstablished, IsAlwaysSpared, IsAlwaysMidway, IsNoted, IsSwitchCounted}
+use Rattle.roll_engine.specs.Answers.{Advances}
+use Rattle.roll_engine.proofs.Looking.{looks_join, looks_only}
 use Rattle.roll_engine.proofs.Stepping.{course_looks, course_made, ruled_looks, ruled_made, log_looks, log_made}
 
 pub runs_look : (z : Size) (ws : List RegWrite) (fs : List (ℕ × ℕ)) (m a b : Mover) → Runs z ws m a → Looks z fs a b → Runs z ws m b
@@ -41,6 +42,31 @@ pub runs_join : (z : Size) (us vs : List RegWrite) (m a b : Mover) → Runs z us
 runs_join z [] [] m a b (fs, h) (gs, k) = (fs ++ gs, looks_join z fs gs m a b h k)
 runs_join z [] (v ∷ vs) m a b (fs, h) (gs, c, d, k, made, rest) = (fs ++ gs, c, d, looks_join z fs gs m a c h k, made, rest)
 runs_join z (u ∷ us) vs m a b (fs, c, d, h, made, rest) k = (fs, c, d, h, made, runs_join z us vs d a b rest k)
+
+-- each write is noted
+written_looks : (z : Size) (fs : List (ℕ × ℕ)) (m a : Mover) → Looks z fs m a → a.written ≡ m.written
+written_looks z fs m a h = ap (λ (x : Mover). x.written) (looks_only z fs m a h)
+
+written_kind : (t : WriteKind) (d : Dimensions) (l : Leg) (k : Middle) (m : Mover) → (made_of_kind t d l k m).written ≡ m.written ++ write t l k ∷ []
+written_kind kind.SetIn d l k m = refl
+written_kind kind.SetMid d l k m = refl
+written_kind kind.SwitchOut d l k m = refl
+written_kind kind.ClearOut d l k m = refl
+written_kind kind.ClearMid d l k m = refl
+written_kind kind.ClearIn d l k m = refl
+
+written_made : (z : Size) (w : RegWrite) (m m' : Mover) → Makes z w m m' → m'.written ≡ m.written ++ w ∷ []
+written_made z w m m' h = ap (λ (x : Mover). x.written) h.1 ∙ written_kind w.kind z.shape w.leg w.middle m
+
+pub written_runs : (z : Size) (ws : List RegWrite) (m b : Mover) → Runs z ws m b → b.written ≡ m.written ++ ws
+written_runs z [] m b (fs, h) = written_looks z fs m b h ∙ sym (append-nil m.written)
+written_runs z (w ∷ ws) m b (fs, a, c, h, one, rest) = written_runs z ws c b rest
+    ∙ (ap (λ (xs : List RegWrite). xs ++ ws) (written_made z w a c one ∙ ap (λ (xs : List RegWrite). xs ++ w ∷ []) (written_looks z fs m a h)) ∙ append_assoc m.written (w ∷ []) ws)
+
+-- what was written, and then what is left
+pub written_on : (z : Size) (before left : List RegWrite) (m b : Mover) → Advances z before left m b → b.written ++ left ≡ m.written ++ before
+written_on z before left m b h = ap (λ (xs : List RegWrite). xs ++ left) (written_runs z h.writes m b h.runs)
+    ∙ (append_assoc m.written h.writes left ∙ ap (λ (xs : List RegWrite). m.written ++ xs) (sym h.split))
 
 -- the last of two lists with one item more
 last_same : (xs : List Leg) (a b : Leg) → xs ++ a ∷ [] ≡ xs ++ b ∷ [] → a ≡ b
@@ -137,6 +163,9 @@ pub always_midway : IsAlwaysMidway
 always_midway z c ws us vs t m b m' h e p = midway_on z c ws p.done (p.left ++ vs) t m b h p.before (e ∙ (ap (λ (xs : List RegWrite). xs ++ vs) p.split ∙ append_assoc p.done p.left vs))
 
 -- each switch makes the log one longer
+pub noted : IsNoted
+noted z ws m m' h = written_runs z ws m m' h
+
 pub switch_counted : IsSwitchCounted
 switch_counted z [] m b (fs, h) = let s = log_looks z fs m b h in omega arith
 switch_counted z (w ∷ ws) m b (fs, a, c, h, made, rest) = let e = switch_counted z ws c b rest in let n = log_made z w a c made in let s = log_looks z fs m a h in omega arith

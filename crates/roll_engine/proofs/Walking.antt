@@ -19,6 +19,8 @@ use Rattle.roll_engine.specs.Writes.{Looks, Makes}
 use Rattle.roll_engine.specs.Courses.{IsOld, IsReady}
 use Rattle.roll_engine.specs.Answers.{AnswerIs, GoesOn, IsSeen, asked_at}
 use Rattle.roll_engine.specs.Walks.{IsHalted, Walks}
+use Rattle.dxc_causes.specs.Stops.{RoseOnlyFor}
+use Rattle.dxc_causes.proofs.Stops.{has_risen, stands_still}
 use Rattle.roll_engine.proofs.Looking.{seen_looks}
 use Rattle.roll_engine.proofs.Stepping.{ready_looks, ready_made}
 use Rattle.roll_engine.proofs.Asking.{asked_behind, asked_more, asked_nothing, asked_stopped}
@@ -69,21 +71,17 @@ module _ {G : Type 0} (stops : G → ℕ) (asks : G → G → List GatePlace →
     goes_on = goes_none z r m;
     ready = ready;
     halted = tt;
-    stopped = λ e. absurd (not_stopped e);
-    unstopped = λ _. refl;
-    later = omega arith;
+    stopped = stands_still _ _ _ refl not_stopped;
     asked = subst (asks g g) (sym (asked_nothing (rest_of r))) (unasked g);
   }
 
   pub walks_on : ((old between new : G) (before after : List GatePlace) → asks old between before → asks between new after → asks old new (before ++ after)) → (old mid new : RollingAt) (m a b : Mover) (g h g' : G) (answer : Advance)
       → Walks stops asks z old mid m a g h Done → Walks stops asks z mid new a b h g' answer → Walks stops asks z old new m b g g' answer
-  walks_on on old mid new m a b g h g' answer one two = let same : stops h ≡ stops g = one.unstopped not_stopped in record {
+  walks_on on old mid new m a b g h g' answer one two = let same : stops h ≡ stops g = one.stopped.only not_stopped in record {
     goes_on = goes_join z old mid new m a b one.goes_on two.goes_on;
     ready = two.ready;
     halted = halted_on z old mid new m a b answer one.goes_on two.halted;
-    stopped = λ e. subst (λ (n : ℕ). Rose n (stops g')) same (two.stopped e);
-    unstopped = λ other. two.unstopped other ∙ same;
-    later = subst (λ (n : ℕ). n ≤ stops g') same two.later;
+    stopped = subst (λ (n : ℕ). RoseOnlyFor n (stops g') (answer ≡ Stopped)) same two.stopped;
     asked = subst (asks g g') (asked_behind (rest_of old) (rest_of mid) (rest_of new) one.goes_on.advances.writes two.goes_on.advances.writes answer one.goes_on.advances.split two.goes_on.advances.split)
         (on g h g' (asked_at (rest_of old) (rest_of mid) Done) (asked_at (rest_of mid) (rest_of new) answer) one.asked two.asked);
   }
@@ -108,9 +106,7 @@ module _ {G : Type 0} (stops : G → ℕ) (asks : G → G → List GatePlace →
       goes_on = goes_made z r r w fs m m a m' (goes_none z r m) at looks makes;
       ready = ready_made z w (rest_of (next r)) a m' makes (ready_looks z (w ∷ rest_of (next r)) fs m a looks (ready_next z r w m at ready));
       halted = tt;
-      stopped = λ e. absurd (not_stopped e);
-      unstopped = λ _. same;
-      later = omega arith;
+      stopped = stands_still _ _ _ same not_stopped;
       asked = subst (asks g g') asked_one told;
     }
 
@@ -119,9 +115,7 @@ module _ {G : Type 0} (stops : G → ℕ) (asks : G → G → List GatePlace →
       goes_on = goes_look z r r looks.0 m m m' (goes_none z r m) looks.1;
       ready = ready_looks z (rest_of r) looks.0 m m' looks.1 ready;
       halted = in_frame z r r w m m m' f (goes_none z r m) at ready h;
-      stopped = λ e. absurd (frame_goes f e);
-      unstopped = λ _. same;
-      later = omega arith;
+      stopped = stands_still _ _ _ same (frame_goes f);
       asked = subst (asks g g') (sym (asked_nothing (rest_of r))) told;
     }
 
@@ -130,9 +124,7 @@ module _ {G : Type 0} (stops : G → ℕ) (asks : G → G → List GatePlace →
       goes_on = goes_look z r r fs m m m' (goes_none z r m) looks;
       ready = ready_looks z (rest_of r) fs m m' looks ready;
       halted = some_left r w at;
-      stopped = λ _. rose;
-      unstopped = λ other. absurd (other refl);
-      later = later;
+      stopped = has_risen _ _ _ later rose refl;
       asked = subst (asks g g') (ap (λ (places : List GatePlace). places ++ Register ∷ []) (sym (asked_nothing (rest_of r))) ∙ asked_stopped (rest_of r) (rest_of r)) told;
     }
 

@@ -78,6 +78,10 @@ abbrev pub IsDoneAtRest : Type 0
 IsDoneAtRest = (z : Size) (c : Colouring) (ops : List LegOp) (t : ℕ) (m : Mover) → IsProperColouring c → AreValidOps c ops → IsMidway z c (ops_writes ops) t m
     → drop t (ops_writes ops) ≡ [] → IsAtRestOn z (after_ops ops c) m
 
+-- a run's writes, and no other, are the mover's next ones
+abbrev pub IsNoted : Type 0
+IsNoted = (z : Size) (ws : List RegWrite) (m m' : Mover) → Runs z ws m m' → m'.written ≡ m.written ++ ws
+
 -- a run makes a switch for each write of OUT to a middle
 abbrev pub IsSwitchCounted : Type 0
 IsSwitchCounted = (z : Size) (ws : List RegWrite) (m m' : Mover) → Runs z ws m m' → length m'.log ≡ length m.log + switches_in ws

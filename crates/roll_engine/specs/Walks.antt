@@ -1,6 +1,6 @@
 -- What a call says that makes the next writes of the work in hand.
-use Rattle.std.specs.Prelude.{◌≡◌, ◌≢◌, ◌≤◌, ℕ, List, []}
-use Rattle.dxc_causes.specs.Causes.{Rose}
+use Rattle.std.specs.Prelude.{◌≡◌, ◌≢◌, ℕ, List, []}
+use Rattle.dxc_causes.specs.Stops.{RoseOnlyFor}
 use Rattle.dxc_num.specs.declared.register.RegWrite.{RegWrite}
 use Rattle.dxc_outside.specs.declared.gate.GatePlace.{GatePlace}
 use Rattle.fabric_core.specs.declared.size.Size.{Size}
@@ -22,7 +22,5 @@ pub record Walks {G : Type 0} (stops : G → ℕ) (asks : G → G → List GateP
   pub goes_on : GoesOn z old new m m'
   pub ready : IsReady z (rest_of new) m'
   pub halted : IsHalted z (rest_of old) (rest_of new) m m' a
-  pub stopped : a ≡ answer.Stopped → Rose (stops g) (stops g')
-  pub unstopped : a ≢ answer.Stopped → stops g' ≡ stops g
-  pub later : stops g ≤ stops g'
+  pub stopped : RoseOnlyFor (stops g) (stops g') (a ≡ answer.Stopped)
   pub asked : asks g g' (asked_at (rest_of old) (rest_of new) a)

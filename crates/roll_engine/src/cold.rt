@@ -1,6 +1,6 @@
 //! All legs of a matrix, joined one by one on a fabric on which first all others are parted.
-ghost use Rattle.std.specs.Prelude.{◌≡◌, ◌≢◌, ◌≤◌, ℕ};
-ghost use Rattle.dxc_causes.specs.Causes.{Rose};
+ghost use Rattle.std.specs.Prelude.{◌≡◌, ◌≢◌, ◌++◌, ℕ};
+ghost use Rattle.dxc_causes.specs.Stops.{RoseOnlyFor};
 ghost use Rattle.roll_engine.specs.Stages.{IsAtRestOn};
 ghost use Rattle.roll_engine.specs.Answers.{Advances, AnswerIs, asked_at};
 ghost use Rattle.roll_engine.specs.Cold.{IsCold, IsColdAt, left_of};
@@ -28,14 +28,14 @@ pub fn advance_cold<G: Gate>(
     ensures fabric { mover.new.fabric ≡ mover.old.fabric }
     ensures advances { Advances mover.old.fabric.size (left_of matrix.now mover.old.mover rolling.old) (left_of matrix.now mover.new.mover rolling.new) mover.old.mover mover.new.mover }
     ensures leading { IsColdLeading mover.old.fabric.size matrix.now rolling.new mover.new.mover }
+    ensures written { mover.new.mover.written ++ left_of matrix.now mover.new.mover rolling.new
+        ≡ mover.old.mover.written ++ left_of matrix.now mover.old.mover rolling.old }
     ensures kept { IsCold rolling.old → IsCold rolling.new }
     ensures answer { AnswerIs mover.old.fabric.size (left_of matrix.now mover.old.mover rolling.old) (left_of matrix.now mover.new.mover rolling.new) mover.old.mover mover.new.mover result }
     ensures done { result ≡ Advance.Done → IsAtRestOn mover.old.fabric.size matrix.now mover.new.mover }
     ensures cold { IsColdAt mover.old.fabric.size matrix.now rolling.old mover.old.mover → IsColdAt mover.old.fabric.size matrix.now rolling.new mover.new.mover }
     ensures joins { IsColdAt mover.old.fabric.size matrix.now rolling.old mover.old.mover → (f : ℕ) → result ≢ Advance.InFrame f }
-    ensures stopped { result ≡ Advance.Stopped → Rose (G.stops gate.old) (G.stops gate.new) }
-    ensures unstopped { result ≢ Advance.Stopped → G.stops gate.new ≡ G.stops gate.old }
-    ensures later { G.stops gate.old ≤ G.stops gate.new }
+    ensures stopped { RoseOnlyFor (G.stops gate.old) (G.stops gate.new) (result ≡ Advance.Stopped) }
     ensures asked { G.asked gate.old gate.new (asked_at (left_of matrix.now mover.old.mover rolling.old) (left_of matrix.now mover.new.mover rolling.new) result) }
 {
     loop {

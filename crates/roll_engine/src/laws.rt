@@ -1,7 +1,7 @@
 //! What holds at every step of a run of writes.
 ghost use Rattle.roll_engine.specs.Cold.{IsColdBegun, IsColdDone, IsColdSpared};
 ghost use Rattle.roll_engine.specs.Leading.{IsLeadingBegun, IsLedByJoins, IsLedToRest, IsSwitchedByJoins};
-ghost use Rattle.roll_engine.specs.Staying.{IsAlwaysAllowed, IsAlwaysEstablished, IsAlwaysMidway, IsAlwaysSpared, IsBegunAtRest, IsDetermined, IsDoneAtRest, IsNewAtRest, IsReadyMidway, IsSwitchCounted};
+ghost use Rattle.roll_engine.specs.Staying.{IsAlwaysAllowed, IsAlwaysEstablished, IsAlwaysMidway, IsAlwaysSpared, IsBegunAtRest, IsDetermined, IsDoneAtRest, IsNewAtRest, IsNoted, IsReadyMidway, IsSwitchCounted};
 ghost use Rattle.roll_engine.specs.UnderWay.{IsBegun, IsDoneUnderWay, IsReadyUnderWay, IsTakenOn};
 
 /// Each leg that was established, and whose OUT word no write clears, is established at every step.
@@ -43,6 +43,11 @@ pub fn midway_ready()
 /// At its last stage the registers are those of the colouring after it.
 pub fn midway_done()
     ensures { IsDoneAtRest }
+{}
+
+/// A run makes its writes, in order, and no other.
+pub fn noted()
+    ensures { IsNoted }
 {}
 
 /// Each write of OUT to a middle makes one switch.

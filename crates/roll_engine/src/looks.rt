@@ -1,6 +1,6 @@
 //! Looks at the frames of the workers.
-ghost use Rattle.std.specs.Prelude.{◌≡◌, ◌≢◌, ◌<◌, true, ℕ, List, length, IfNone, IfSome};
-ghost use Rattle.fabric_core.specs.Passing.{has_passed};
+ghost use Rattle.std.specs.Prelude.{◌≡◌, ◌≢◌, ◌<◌, ℕ, List, length, IfNone, IfSome};
+ghost use Rattle.fabric_core.specs.Passing.{Passed};
 ghost use Rattle.fabric_core.specs.State.{looks_of};
 ghost use Rattle.fabric_core.specs.Moving.{AllPassed};
 ghost use Rattle.roll_engine.specs.Writes.{Looks};
@@ -16,7 +16,7 @@ fn look_one(fabric: &Fabric, mover: &mut MoverSeat, worker: u16) -> Option<u64>
     requires full { length mover.old.mover.looks ≡ fabric.now.size.workers }
     ensures own { mover.new.fabric ≡ fabric.now }
     ensures looks { (fs : List (ℕ × ℕ)) × Looks fabric.now.size fs mover.old.mover mover.new.mover }
-    ensures passed { IfNone result (has_passed (looks_of mover.new.mover worker) ≡ true) }
+    ensures passed { IfNone result (Passed (looks_of mover.new.mover worker)) }
     ensures others { (w : ℕ) → w ≢ worker → looks_of mover.new.mover w ≡ looks_of mover.old.mover w }
     ensures seen { IfSome result (IsSeen fabric.now.size mover.old.mover mover.new.mover) }
 {

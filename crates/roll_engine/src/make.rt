@@ -1,6 +1,6 @@
 //! One register write.
-ghost use Rattle.std.specs.Prelude.{◌≡◌, ◌≢◌, ◌≤◌, [], ◌∷◌, ℕ, List, IfNone, IfSome};
-ghost use Rattle.dxc_causes.specs.Causes.{Rose};
+ghost use Rattle.std.specs.Prelude.{◌≡◌, [], ◌∷◌, ℕ, List, IfNone, IfSome};
+ghost use Rattle.dxc_causes.specs.Stops.{RoseOnlyFor};
 ghost use Rattle.dxc_num.specs.declared.register.WriteKind.TheVariants.{ClearMid};
 ghost use Rattle.fabric_core.specs.State.{IsSize};
 ghost use Rattle.fabric_core.specs.Owned.{IsMoverRuled};
@@ -13,25 +13,26 @@ ghost use Rattle.roll_engine.specs.Writes.{Looks, Makes};
 use crate::answer::Step;
 use crate::looks::look_all;
 use dxc_num::{RegWrite, WriteKind};
-use dxc_outside::{Gate, GatePlace, Pass1};
-use fabric_words::{Fabric, MoverSeat, Phase};
+use dxc_outside::Gate;
+use fabric_words::{Fabric, MoverSeat, Permit, Phase};
 
 // Makes a write, which may be made.
 #[inline(always)]
-fn make(fabric: &Fabric, mover: &mut MoverSeat, write: RegWrite)
+fn make(fabric: &Fabric, mover: &mut MoverSeat, write: RegWrite, permit: &Permit)
     requires own { mover.old.fabric ≡ fabric.now }
+    requires permitted { permit.now ≡ mover.old.mover.written }
     requires can { CanMake mover.old.fabric.size.shape write mover.old.mover }
     requires passed { write.kind ≡ ClearMid → IsOld mover.old.mover.phase → AllPassed mover.old.fabric.size mover.old.mover }
     ensures own { mover.new.fabric ≡ fabric.now }
     ensures made { Makes mover.old.fabric.size write mover.old.mover mover.new.mover }
 {
     match write.kind {
-        WriteKind::SetIn => mover.set_in(fabric, write.leg, write.middle),
-        WriteKind::SetMid => mover.set_mid(fabric),
-        WriteKind::SwitchOut => mover.switch_out(fabric),
-        WriteKind::ClearOut => mover.clear_out(fabric, write.leg),
-        WriteKind::ClearMid => mover.clear_mid(fabric),
-        WriteKind::ClearIn => mover.clear_in(fabric),
+        WriteKind::SetIn => mover.set_in(fabric, write.leg, write.middle, permit),
+        WriteKind::SetMid => mover.set_mid(fabric, permit),
+        WriteKind::SwitchOut => mover.switch_out(fabric, permit),
+        WriteKind::ClearOut => mover.clear_out(fabric, write.leg, permit),
+        WriteKind::ClearMid => mover.clear_mid(fabric, permit),
+        WriteKind::ClearIn => mover.clear_in(fabric, permit),
     }
 }
 
@@ -64,18 +65,16 @@ pub(crate) fn step_on<G: Gate>(
     requires ready { IsReady mover.old.fabric.size (write ∷ []) mover.old.mover }
     ensures fabric { mover.new.fabric ≡ mover.old.fabric }
     ensures step { StepIs mover.old.fabric.size write mover.old.mover mover.new.mover result }
-    ensures stopped { result ≡ Step.Stopped → Rose (G.stops gate.old) (G.stops gate.new) }
-    ensures unstopped { result ≢ Step.Stopped → G.stops gate.new ≡ G.stops gate.old }
-    ensures later { G.stops gate.old ≤ G.stops gate.new }
+    ensures stopped { RoseOnlyFor (G.stops gate.old) (G.stops gate.new) (result ≡ Step.Stopped) }
     ensures asked { G.asked gate.old gate.new (asked_at_step result) }
 {
     if let Some(frame) = clear_way(fabric, mover, write.kind) {
         return Step::InFrame(frame);
     }
-    match gate.pass(GatePlace::Register) {
-        Pass1::Stop => Step::Stopped,
-        Pass1::Go => {
-            make(fabric, mover, write);
+    match mover.ask(gate) {
+        None => Step::Stopped,
+        Some(permit) => {
+            make(fabric, mover, write, &permit);
             Step::Made
         }
     }

@@ -1,6 +1,6 @@
 //! The writes of a work, as far as frames and the gate let them.
-ghost use Rattle.std.specs.Prelude.{◌≡◌, ◌≢◌, ◌+◌, ◌<◌, ◌≤◌, [], Some, slice_get};
-ghost use Rattle.dxc_causes.specs.Causes.{Rose};
+ghost use Rattle.std.specs.Prelude.{◌≡◌, ◌+◌, ◌++◌, ◌<◌, [], Some, slice_get};
+ghost use Rattle.dxc_causes.specs.Stops.{RoseOnlyFor};
 ghost use Rattle.roll_plan.specs.Works.{writes_of};
 ghost use Rattle.roll_plan.specs.Nexts.{Begins, BeginsMove, IsNext};
 ghost use Rattle.roll_engine.specs.Courses.{IsReady};
@@ -273,9 +273,9 @@ pub fn advance<G: Gate>(
     ensures goes_on { GoesOn mover.old.fabric.size rolling.old rolling.new mover.old.mover mover.new.mover }
     ensures ready { IsReady mover.old.fabric.size (rest_of rolling.new) mover.new.mover }
     ensures answer { AnswerIs mover.old.fabric.size (rest_of rolling.old) (rest_of rolling.new) mover.old.mover mover.new.mover result }
-    ensures stopped { result ≡ Advance.Stopped → Rose (G.stops gate.old) (G.stops gate.new) }
-    ensures unstopped { result ≢ Advance.Stopped → G.stops gate.new ≡ G.stops gate.old }
-    ensures later { G.stops gate.old ≤ G.stops gate.new }
+    ensures written { mover.new.mover.written ++ rest_of rolling.new
+        ≡ mover.old.mover.written ++ rest_of rolling.old }
+    ensures stopped { RoseOnlyFor (G.stops gate.old) (G.stops gate.new) (result ≡ Advance.Stopped) }
     ensures asked { G.asked gate.old gate.new (asked_at (rest_of rolling.old) (rest_of rolling.new) result) }
 {
     let mut made = rolling.step();

@@ -1,5 +1,5 @@
 ghost use Rattle.std.specs.Prelude.{◌≡◌, ◌+◌, ◌^◌, ◌≤◌, ◌<◌, length, None, MatchOption, IsSomeAnd};
-ghost use Rattle.dxc_disk.specs.Disks.{IsLength, IsRead, IsWrite, IsSync, Looks};
+ghost use Rattle.dxc_disk.specs.Disks.{IsLength, IsRead, IsWrite, IsSync, Looks, Spends};
 ghost use Rattle.standby_link.specs.Lines.{line_at};
 ghost use Rattle.standby_link.specs.Moves.{Both, mirrored, first_line, TellsWrite, TellsSync, StepsByWrite, StepsBySync, SendsFile, Joins, TookHaves, IsSmall, mirror_of};
 ghost use Rattle.standby_link.specs.Acts.{pieces};
@@ -28,10 +28,13 @@ impl<D: Disk, K: Link> MirrorDisk<D, K> {
     }
 
     /// Sends the disk's file and a sync to the standby, and waits for its Have. Where that comes the mirror is Joined, else it
-    /// is Lost for good; the disk serves in either case.
+    /// is Lost for good; the disk serves in either case. It makes one call on the disk and one for each piece, so a disk that was sound for
+    /// one more than its bytes stays sound for the rest.
     pub fn join(disk: D, link: K) -> MirrorDisk<D, K>
         ensures looks { D.told → Looks (D.state disk) (D.state result.disk) }
         ensures faults { (D.state disk).faults ≤ (D.state result.disk).faults }
+        ensures room { D.told → Spends (1 + length (D.state disk).reads_as)
+            (D.state disk) (D.state result.disk) }
         ensures line { IsSomeAnd result.line (λ l. Joins D.told K.told (D.state disk) (D.state result.disk) (K.state link) (line_at K.state l)) }
         ensures step { D.told → IsSmall 0 0 (D.state disk).reads_as → length (pieces 0 (D.state disk).reads_as) + 1 < 2 ^ 64
             → IsSomeAnd result.line (λ l. TookHaves D.told K.told (first_line (K.state link)) (mirrored (D.state result.disk) (line_at K.state l)) (joining (D.state disk).reads_as)) }
@@ -148,6 +151,8 @@ fn send_file<D: Disk, K: Link>(disk: &mut D, line: &mut Line<K>)
     requires first { line.old.number ≡ 0 }
     ensures looks { D.told → Looks (D.state disk.old) (D.state disk.new) }
     ensures faults { (D.state disk.old).faults ≤ (D.state disk.new).faults }
+    ensures room { D.told → Spends (1 + length (D.state disk.old).reads_as)
+        (D.state disk.old) (D.state disk.new) }
     ensures ear { line.new.ear ≡ line.old.ear }
     ensures sends { D.told → IsSmall 0 0 (D.state disk.old).reads_as → SendsFile K.told (D.state disk.old) (D.state disk.new) (K.state line.old.link) (line_at K.state line.new) }
 {

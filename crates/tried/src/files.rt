@@ -26,6 +26,30 @@ fn a_file_keeps_what_was_written(rt: HostRuntime) -> Result<(), Fail> {
 }
 
 #[test]
+fn who_only_looks_changes_no_file(rt: HostRuntime) -> Result<(), Fail> {
+    let alloc = rt.alloc();
+    let mut opener = HostOpener::new(rt, Vec::new(alloc));
+    opener.only_look();
+    let Opened::Open(mut disk) = opener.journal(alloc, "look_test.jnl") else {
+        return Err("not opened".into());
+    };
+    let mut two = [0; 2];
+    assert!(rt; write_and_sync(&mut disk, 0, b"abc") == Ok(()));
+    assert!(rt; disk.read(1, &mut two) == Ok(()) && two == *b"bc");
+    assert!(rt; disk.read(2, &mut two) == Err(DiskFault));
+    assert!(rt; fs::read(&rt, "look_test.jnl").is_err());
+    fs::write(&rt, "look_test.txt", b"a text")?;
+    assert!(rt; matches!(opener.journal(alloc, "look_test.txt"), Opened::Failed));
+    let refusal = opener.refusal().ok_or("nothing was refused")?;
+    let told = format!(in alloc; "{refusal}")?;
+    assert!(rt;
+        told.as_str()
+            == "look_test.txt: it holds something else than a journal or the beginning of one"
+    );
+    Ok(())
+}
+
+#[test]
 fn frames_go_from_file_to_file(rt: HostRuntime) -> Result<(), Fail> {
     let alloc = rt.alloc();
     fs::write(&rt, "lines_test.in", b"abcdefgh")?;

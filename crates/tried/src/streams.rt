@@ -2,6 +2,7 @@ use dxc_host::{HostOpener, TermLink};
 use dxc_outside::{
     Came, Clock, Gate, GatePlace, Got, Link, Listener, Opened, Opener, Pass1, Put, Sent,
 };
+use std::io::Read;
 use std::net::{TcpListener, TcpStream};
 use std::test::Fail;
 
@@ -89,7 +90,11 @@ fn callers_are_heard(rt: HostRuntime) -> Result<(), Fail> {
         return Err("nobody called".into());
     };
     let mut piece = [0u8; 2];
+    let mut late = TcpStream::connect(&rt, free)?;
     assert!(rt; link.read(&mut piece) == Got::Quiet);
+    let mut told = Vec::new(alloc);
+    late.read_to_end(&mut told)?;
+    assert!(rt; told.as_slice() == b"dxc: all places are taken, call again later\r\n".as_slice());
     assert!(rt; peer.write(b"ab") == Put::Took(2));
     assert!(rt; link.read(&mut piece) == Got::Bytes(2) && piece == *b"ab");
     assert!(rt; link.write(b"c") == Put::Took(1));

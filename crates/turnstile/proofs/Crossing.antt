@@ -12,6 +12,8 @@ use Rattle.std.specs.contracts.alloc.Global as Global
 use Rattle.std.specs.contracts.impls.GlobalAllocator.TheImpl as allocator
 use Rattle.atomic_table.proofs.owned.Table.TheSendSync as table
 use Rattle.turnstile.specs.contracts.board.Held as Held
+use Rattle.std.proofs.sync.atomic.AtomicU64.TheSendSync as word
+use Rattle.turnstile.specs.contracts.line.Line as Line
 use Rattle.turnstile.specs.contracts.Turnstile as Turnstile
 use Rattle.turnstile.specs.contracts.Turnstile.TheInside as Inside
 use Rattle.turnstile.specs.contracts.Turn as Turn
@@ -24,6 +26,12 @@ use Rattle.atomic_table.specs.contracts.owned.Table as Table
 use Rattle.atomic_table.specs.declared.shared.TableRule as Rule
 use Rattle.atomic_table.proofs.shared.Seat.TheSendSync as seat
 use Rattle.turnstile.specs.declared.sequential.Sequential as Sequential
+
+line_send : Send.IsSend (Line.the_field).row
+line_send = let h = word.the_send in search Send.sendable depth 20
+
+line_sync : Send.IsSync (Line.the_field).row
+line_sync = let h = word.the_sync in search Send.sendable depth 20
 
 module _ (S E : RattleType) (s : Send.IsSend S) where
   abbrev state : RattleType
@@ -58,10 +66,10 @@ module _ (S E : RattleType) (g : Sequential.Ghosts S.Denot E.Denot) (s : Send.Is
   table_sync = table.the_field_sync slot View.the_row opened (Turns.the_row S) Global.the_row kept allocator.ghosts (slot_send S E s) global.the_send global.the_sync heap.the_frees
 
   pub turnstile_send : Send.IsSend (Turnstile.the_row S E g)
-  turnstile_send = Send.view_send (Inside.the_row S E g) _ _ _ _ (Send.recorded_send (Inside.the_field S E g).row _ _ (Inside.the_type S E g).to_one (Send.struct_send (Declared.shape (Inside.the_type S E g)) (table_send, tt)))
+  turnstile_send = Send.view_send (Inside.the_row S E g) _ _ _ _ (Send.recorded_send (Inside.the_field S E g).row _ _ (Inside.the_type S E g).to_one (Send.struct_send (Declared.shape (Inside.the_type S E g)) (table_send, (line_send, (line_send, tt)))))
 
   pub turnstile_sync : Send.IsSync (Turnstile.the_row S E g)
-  turnstile_sync = Send.view_sync (Inside.the_row S E g) _ _ _ _ (Send.recorded_sync (Inside.the_field S E g).row _ _ (Inside.the_type S E g).to_one (Send.struct_sync (Declared.shape (Inside.the_type S E g)) (table_sync, tt)))
+  turnstile_sync = Send.view_sync (Inside.the_row S E g) _ _ _ _ (Send.recorded_sync (Inside.the_field S E g).row _ _ (Inside.the_type S E g).to_one (Send.struct_sync (Declared.shape (Inside.the_type S E g)) (table_sync, (line_sync, (line_sync, tt)))))
 
   pub turn_send : Send.IsSend (Turn.the_row S E g)
   turn_send = Send.view_send (InTurn.the_row S E g) _ _ _ _ (Send.recorded_send (InTurn.the_field S E g).row _ _ (InTurn.the_type S E g).to_one (Send.struct_send (Declared.shape (InTurn.the_type S E g)) (seat.the_send slot View.the_row (slot_send S E s), (state_send S E s, tt))))

@@ -7,6 +7,7 @@ use Rattle.dxc_outside.specs.declared.gate.GatePlace.{GatePlace}
 use Rattle.xc_core.specs.declared.fault.OpenFault.{OpenFault}
 use Rattle.xc_core.specs.declared.fault.OpenFault.TheVariants as fault
 use Rattle.xc_core.specs.Askings.{OpenAsked, asked_before}
+use Rattle.xc_core.specs.Openings.{IsStopFault}
 
 -- what isn't a fault of the disk was told before the gate was asked
 pub not_asked : (q : Cause) → q ≢ DiskFault → asked_before q ≡ []
@@ -14,9 +15,9 @@ not_asked DiskFault not = absurd (not refl)
 not_asked _ not = refl
 
 -- nor was it for a fault that isn't its stop
-pub none_asked : {D : Type 0} (state : D → DiskState) (asked : List GatePlace → Type 0) (e : OpenFault D) → e ≢ fault.Stopped → asked [] → OpenAsked state asked (Err e)
+pub none_asked : {D : Type 0} (state : D → DiskState) (asked : List GatePlace → Type 0) (e : OpenFault D) → (IsStopFault e → ⊥) → asked [] → OpenAsked state asked (Err e)
 none_asked state asked (fault.Journal j) not is = is
 none_asked state asked (fault.BadRecord i d) not is = is
 none_asked state asked (fault.Disk d) not is = is
-none_asked state asked fault.NoMemory not is = is
-none_asked state asked fault.Stopped not is = absurd (not refl)
+none_asked state asked (fault.NoMemory d) not is = is
+none_asked state asked (fault.Stopped d) not is = absurd (not tt)

@@ -26,9 +26,9 @@ use Rattle.xc_core.specs.Reckonings.{Past, ReckonsTo, changed}
 use Rattle.xc_core.specs.Provisioners.{Boxed, Rolls, ground_of, with_halt}
 use Rattle.xc_core.specs.Restarts.{IsHalted}
 use Rattle.xc_core.specs.Finishes.{Finishes}
-use Rattle.xc_core.specs.States.{Opening, IsHomeAfter, IsPaid, IsReadyOrHalted, IsUnsettled, SpendsOf, StandsFor, cost, fault_in, faults_in, most_room, room_in, rules_of, with_home}
+use Rattle.xc_core.specs.States.{DoubtsUnsettled, Opening, IsHomeAfter, IsPaid, IsReadyOrHalted, IsUnsettled, SpendsOf, StandsFor, cost, fault_in, faults_in, most_room, room_in, rules_of, with_home}
 use Rattle.xc_core.specs.Seeing.{HasTaken, IsOut, entry}
-use Rattle.xc_core.proofs.Entries.{AreReads, answered_not_cut, astray_more, brought, changes_one, changes_same, holder_append, lasted_reading, others_read, paid_counted, reads_changes, reads_faults, reads_room, room_more, same_faults, spends_at, turns_behind}
+use Rattle.xc_core.proofs.Entries.{AreReads, answered_not_cut, astray_more, brought, changes_one, changes_same, doubts_cut, holder_append, lasted_reading, others_read, paid_counted, reads_changes, reads_faults, reads_room, room_more, same_faults, spends_at, turns_behind}
 use Rattle.xc_core.proofs.Halting.{halted_rolls}
 use Rattle.xc_core.proofs.Pasts.{past_marked}
 use Rattle.xc_core.proofs.Reckoning.{changes_counted, reckons_more, reckoned_table}
@@ -109,7 +109,7 @@ module _ {D : Type 0} (told : Type 0) (state : D → DiskState) where
         subst (λ (j : D × Book). SpendsOf o (room_in (h ++ e ∷ [])) (state j.0)) (sym journal) (spends_at o (room_in h + most_room) (room_in (h ++ e ∷ [])) (state p.journal.0) (omega (arith, room, costs)) t.spends)
 
     -- it comes home with all that it has of the disk
-    pub in_now : (b : Past) (e : Entry) (q : Provisioner D) → ground_of q ≡ ground_of p → q.journal ≡ p.journal → fault_in e.outcome ≡ 0 → cost e.outcome ≡ most_room → IsReadyOrHalted told state b (h ++ e ∷ []) q → ((x : Op) → q.doubt ≡ Some x → IsUnsettled (h ++ e ∷ []) x)
+    pub in_now : (b : Past) (e : Entry) (q : Provisioner D) → ground_of q ≡ ground_of p → q.journal ≡ p.journal → fault_in e.outcome ≡ 0 → cost e.outcome ≡ most_room → IsReadyOrHalted told state b (h ++ e ∷ []) q → DoubtsUnsettled (h ++ e ∷ []) q
         → IsHomeAfter told state o b (h ++ e ∷ []) q
     in_now b e q ground journal none costs stage doubt = record { ground = ground ∙ t.ground; stage = stage; doubt = doubt; faults = faults_here e q journal none; spends = spends_here e q journal costs }
 
@@ -132,7 +132,7 @@ module _ {D : Type 0} (told : Type 0) (state : D → DiskState) where
           turns = turns_more None h e st.turns (waits_own e place same (subst BringsHome (sym cut) tt));
           paid = paid_now e q journal none costs counts;
           astray = astray_more told h e st.astray (λ k x. let y : Cut ≡ Failed JournalAstray = sym cut ∙ x in cc);
-          home = (home_now e place, subst (λ (x : Provisioner D). IsHomeAfter told state o t.now (h ++ e ∷ []) x) (sym is) (in_now t.now e q ground journal none costs (inr (halted, lasts_now (λ y. IsCut y ⊎ IsFailedRestart y) IsRestarted h e (inl cut))) doubt));
+          home = (home_now e place, subst (λ (x : Provisioner D). IsHomeAfter told state o t.now (h ++ e ∷ []) x) (sym is) (in_now t.now e q ground journal none costs (inr (halted, lasts_now (λ y. IsCut y ⊎ IsFailedRestart y) IsRestarted h e (inl cut))) (doubts_cut h e q cut doubt)));
         }
 
   module _ (o : Opening) (s : State D) (h : List Entry) (st : StandsFor told state o s h) (own : ℕ) (op : Op) (p : Provisioner D) (r : RollingAt) (t : HasTaken told state o own op h p r) where

@@ -14,12 +14,14 @@ use Rattle.dxc_model.specs.Steps.{IsLimit, made}
 use Rattle.dxc_model.specs.Histories.{Lasts, KeepsTurns, WaitsFor, IsCut, IsDoubtful, IsRestarted, IsSettling, changes_of, holder, holder_after}
 use Rattle.dxc_model.proofs.Growth.{changes_append}
 use Rattle.dxc_model.proofs.Lists.{each_more}
-use Rattle.dxc_model.proofs.Lasting.{lasts_before, lasts_more}
+use Rattle.dxc_model.proofs.Lasting.{lasts_before, lasts_more, lasts_now}
 use Rattle.roll_plan.specs.Works.{ops_writes, switches_in}
 use Rattle.turnstile.specs.Turning.{Each}
 use Rattle.xc_core.specs.Reckonings.{Past, limit_by}
 use Rattle.xc_core.specs.Begins.{IsOverLimit}
-use Rattle.xc_core.specs.States.{Opening, IsNeverAstray, IsPaid, SpendsOf, IsUnsettled, cost, fault_in, faults_in, room_in}
+use Rattle.xc_core.specs.declared.provisioner.Provisioner.{Provisioner}
+use Rattle.xc_core.specs.Provisioners.{StillDoubts}
+use Rattle.xc_core.specs.States.{DoubtsUnsettled, Opening, IsNeverAstray, IsPaid, SpendsOf, IsUnsettled, cost, fault_in, faults_in, room_in}
 use Rattle.xc_core.specs.Seeing.{entry}
 
 -- nothing but a change makes the list of changes longer
@@ -59,6 +61,27 @@ limit_no_fault q l = elim l [ inl is ↦ ap (λ (x : Cause). fault_in (Failed x)
 -- what was asked for is unsettled still behind an entry that doesn't settle it
 pub unsettled_more : (h : List Entry) (e : Entry) (op : Op) → (IsSettling e → ⊥) → IsUnsettled h op → IsUnsettled (h ++ e ∷ []) op
 unsettled_more h e op not was = lasts_more (λ x. IsDoubtful x × (x.op ≡ op)) IsSettling h e was not
+
+-- so is what a Provisioner has in doubt, halted or not
+pub doubts_more : {D : Type 0} (h : List Entry) (e : Entry) (p : Provisioner D) → (IsSettling e → ⊥) → DoubtsUnsettled h p → DoubtsUnsettled (h ++ e ∷ []) p
+doubts_more h e p not was = λ op here.
+    let w = was op here in
+    (unsettled_more h e op not w.0, λ halted. lasts_more IsCut IsRestarted h e (w.1 halted) (λ r. not (inr r)))
+
+-- where it is ready
+pub doubts_ready : {D : Type 0} (h : List Entry) (p : Provisioner D) → p.halted ≡ false → ((op : Op) → p.doubt ≡ Some op → IsUnsettled h op) → DoubtsUnsettled h p
+doubts_ready h p ready was = λ op here. (was op here, λ halted. absurd (let e : false ≡ true = sym ready ∙ halted in cc))
+
+-- and after a stop
+pub doubts_cut : {D : Type 0} (h : List Entry) (e : Entry) (p : Provisioner D) → IsCut e → ((op : Op) → p.doubt ≡ Some op → IsUnsettled (h ++ e ∷ []) op) → DoubtsUnsettled (h ++ e ∷ []) p
+doubts_cut h e p cut was = λ op here. (was op here, λ halted. lasts_now IsCut IsRestarted h e cut)
+
+-- what calls left in doubt was so before, and wasn't halted since
+pub doubts_left : {D : Type 0} (h : List Entry) (q p : Provisioner D) → StillDoubts q p → DoubtsUnsettled h q → DoubtsUnsettled h p
+doubts_left h q p still was = λ op here.
+    let s = still op here in
+    let w = was op s.0 in
+    (w.0, λ halted. w.1 (s.1 halted))
 
 pub denied_settles_not : (own : ℕ) (op : Op) (q : Cause) → IsSettling (entry own op (Denied q)) → ⊥
 denied_settles_not own op q s = elim s [ inl x ↦ (let y : Denied q ≡ Done x.0 = x.1 in cc) | inr x ↦ (let y = x.1 in cc) ]

@@ -28,3 +28,4 @@ pub mod Opened
 pub mod Unread
 pub mod Adoption
 pub mod Asked
+pub mod Moves

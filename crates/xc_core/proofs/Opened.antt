@@ -3,6 +3,7 @@ use Rattle.std.proofs.Common.{◌≡◌, ◌⊎◌, inl, ⊎_elim, ℕ, ◌-◌,
 use Rattle.std.specs.Prelude.{IfSome, replicate}
 use Rattle.std.proofs.lemmas.List.{length-replicate, length-take}
 use Rattle.dxc_num.specs.Dimensions.{Dimensions, IsInLimits, ports}
+use Rattle.dxc_causes.specs.Causes.{HasCause}
 use Rattle.dxc_disk.specs.Disks.{DiskState, IsDisk, IsSettled, Looks}
 use Rattle.dxc_disk.proofs.LookSteps.{looks_settled}
 use Rattle.dxc_model.specs.declared.op.Change.{Change}
@@ -23,6 +24,7 @@ use Rattle.journal_core.specs.Books.{IsKept, IsWhole, area, is_tried, listed}
 use Rattle.journal_core.specs.Opens.{Finds, Founds, IsOpened, IsRefused, OpensNew, OpensOld, made_head}
 use Rattle.journal_core.proofs.BookMends.{kept_stands}
 use Rattle.journal_core.proofs.HeaderSteps.{never}
+use Rattle.journal_core.proofs.KeepSteps.{none_only}
 use Rattle.journal_core.proofs.OpenSteps.{new_or_not}
 use Rattle.journal_core.proofs.StandSteps.{stands_once}
 use Rattle.paull_matrix.specs.Colourings.{Colouring, IsProperColouring, no_legs}
@@ -134,6 +136,16 @@ leaves_opened shelf a b c result disk old new looks = record {
   found = λ not. looked_on a b c (λ x. a.may_leave x ⊎ StandsAlike shelf.shape a.reads_as x) disk (old not).any_moment looks;
   made = λ n settled. looked_on a b c (IsFresh (header shelf.shape (made_head shelf.equipped))) disk ((new n).any_moment settled) looks;
 }
+
+-- where none was called
+pub none_opened : (shelf : Contents) (a : DiskState) → IsDisk a → LeavesOpened shelf a a
+none_opened shelf a disk = record {
+  found = λ not. none_only a (λ x. a.may_leave x ⊎ StandsAlike shelf.shape a.reads_as x) disk (λ x image. inl image);
+  made = λ n settled. none_only a (IsFresh (header shelf.shape (made_head shelf.equipped))) disk (λ x image. inl (subst IsNew (sym (settled x image)) n));
+}
+
+pub none_counted : (a : DiskState) → HasCause a.faults a.faults ⊥
+none_counted a = record { later = omega arith; cause = λ failed. absurd failed }
 
 -- table and matrix of a replay have one set of legs, and are of the journal's shape
 seated : (d : Dimensions) (e : Head) (records : List (List ℕ)) (t : Board) (c : Colouring) (ops : List LegOp) → ComesTo d e records t c ops → IsSeated d (folded t c ops 0)

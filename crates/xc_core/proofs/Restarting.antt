@@ -1,6 +1,6 @@
 -- A state whose Provisioner waited for a restart, or was asked for one, an entry later: a lemma for each outcome of a restart.
 use Rattle.std.specs.Prelude.{min}
-use Rattle.std.proofs.Common.{◌≡◌, ◌≢◌, ℕ, ◌+◌, ◌≤◌, ◌⊎◌, List, [], ◌∷◌, ◌++◌, Option, Some, None, refl, sym, ◌∙◌, ap, subst, inl, inr}
+use Rattle.std.proofs.Common.{◌≡◌, ◌≢◌, ℕ, ◌+◌, ◌≤◌, ◌⊎◌, true, List, [], ◌∷◌, ◌++◌, Option, Some, None, refl, sym, ◌∙◌, ap, subst, inl, inr}
 use Rattle.dxc_causes.specs.Causes.{Rose, last}
 use Rattle.dxc_disk.specs.Disks.{CountsOn, DiskState, Spends}
 use Rattle.dbchg_reports.specs.Recent.{recent_of, with_one}
@@ -26,13 +26,13 @@ use Rattle.xc_core.specs.declared.provisioner.Provisioner.{Provisioner}
 use Rattle.xc_core.specs.declared.state.Home.TheVariants.{In, Out}
 use Rattle.xc_core.specs.declared.state.State.{State}
 use Rattle.xc_core.specs.Reckonings.{Past, ReckonsTo}
-use Rattle.xc_core.specs.Provisioners.{Boxed, IsHome, ground_of}
+use Rattle.xc_core.specs.Provisioners.{Boxed, IsHome, StillDoubts, ground_of}
 use Rattle.xc_core.specs.Restarts.{IsHalted, Resumes, TakesUp}
 use Rattle.xc_core.specs.Endings.{Ends, reports_with}
-use Rattle.xc_core.specs.States.{Opening, HomeIs, IsReadyOrHalted, IsUnsettled, LimitBehind, StandsFor, faults_in, most_room, rules_of, with_home}
-use Rattle.xc_core.specs.Seeing.{HasRestart, IsDueFor, entry}
+use Rattle.xc_core.specs.States.{DoubtsUnsettled, Opening, HomeIs, IsReadyOrHalted, IsUnsettled, LimitBehind, StandsFor, faults_in, most_room, rules_of, with_home}
+use Rattle.xc_core.specs.Seeing.{HasRestart, IsDueFor, IsOfStop, entry}
 use Rattle.xc_core.proofs.Away.{comes_halted, home_now, in_now, out_moved, out_since, out_table, paid_now, read_since, waits_own}
-use Rattle.xc_core.proofs.Entries.{answered_not_restarted, answered_not_settling, astray_more, changes_one, changes_same, cut_settles_not, failed_settles_not, lasts_reading, one_fault, taken_settles_not, unsettled_more}
+use Rattle.xc_core.proofs.Entries.{AreReads, answered_not_restarted, answered_not_settling, astray_more, changes_one, changes_same, cut_settles_not, doubts_left, doubts_more, failed_settles_not, lasts_reading, one_fault, taken_settles_not, unsettled_more}
 use Rattle.xc_core.proofs.Halting.{resumes_halted}
 use Rattle.xc_core.proofs.Meeting.{meets_one}
 use Rattle.xc_core.proofs.Reckoning.{reckons_more}
@@ -41,6 +41,16 @@ use Rattle.xc_core.proofs.Standing.{IsIn, home_by, no_fault, out_of, stands_out,
 -- a change that a restart takes up is in doubt
 doubt_of : (t : Board) (h : List Entry) (op : Op) (c : Change) → Grants t op c → IsUnsettled h op → IsInDoubt t h c
 doubt_of t h op c granted l = record { before = l.before; entry = l.entry; behind = l.behind; whole = l.whole; has = (l.has.0, subst (λ (x : Op). Grants t x c) (sym l.has.1) granted); lasting = l.lasting }
+
+-- a change that a restart takes up is of an operation in doubt, which a stop came after
+of_stop : {D : Type 0} (h : List Entry) (b : Past) (p : Provisioner D) (lacking : Option Change) (g : Past) → p.halted ≡ true → TakesUp b p.doubt lacking g → DoubtsUnsettled h p → IsOfStop lacking h
+of_stop h b p None g halted taken doubts = tt
+of_stop h b p (Some c) g halted (op, here, granted, met, same) doubts = (doubts op here).1 halted
+
+-- and is so where others have only read since
+stopped_since : (lacking : Option Change) (h later : List Entry) → AreReads later → IsOfStop lacking h → IsOfStop lacking (h ++ later)
+stopped_since None h later reads was = tt
+stopped_since (Some c) h later reads was = lasts_reading IsCut IsRestarted answered_not_restarted h later reads was
 
 -- a restart is due still behind an entry that isn't one
 due_more : (asked : Op) (h : List Entry) (e : Entry) → (IsRestarted e → ⊥) → IsDueFor asked h → IsDueFor asked (h ++ e ∷ [])
@@ -61,7 +71,11 @@ module _ {D : Type 0} (told : Type 0) (state : D → DiskState) where
 
     -- p is what calls left of the Provisioner q, which was home
     module _ (q p : Provisioner D) (was : IsIn told state o h q) (ground : ground_of p ≡ ground_of q) (later : (state q.journal.0).faults ≤ (state p.journal.0).faults) (spent : Spends most_room (state q.journal.0) (state p.journal.0))
-        (kept : (x : Op) → p.doubt ≡ Some x → q.doubt ≡ Some x) (own : ℕ) where
+        (kept : StillDoubts q p) (own : ℕ) where
+      -- what is in doubt
+      left : DoubtsUnsettled h p
+      left = doubts_left h q p kept was.doubt
+
       -- the rest of the last record's work is found, and the turn ends with it
       pub restart_taken : StandsFor told state o (with_home Out s) (h ++ entry own Restart Taken ∷ [])
       restart_taken = stands_out told state o s h st q p was ground later spent Restart own (fits_by (rules_of o) h (entry own Restart Taken) (table_after o.first.fold.table h, (inl refl, refl)) (λ c granted. absurd granted.apt) tt)
@@ -72,7 +86,8 @@ module _ {D : Type 0} (told : Type 0) (state : D → DiskState) where
         lacking = lacking;
         behind = g;
         resumes = resumes;
-        doubt = λ x here. unsettled_more h (entry own Restart Taken) x (taken_settles_not own Restart) (was.doubt x (kept x here));
+        of_stop = of_stop (h ++ entry own Restart Taken ∷ []) st.now p lacking g resumes.halted resumes.taken (doubts_more h (entry own Restart Taken) p (taken_settles_not own Restart) left);
+        doubt = doubts_more h (entry own Restart Taken) p (taken_settles_not own Restart) left;
         due = due_more asked h (entry own Restart Taken) (λ x. let y : Taken ≡ Restarted x.0 = x.1 in cc) due;
       }
 
@@ -84,7 +99,7 @@ module _ {D : Type 0} (told : Type 0) (state : D → DiskState) where
             home_by told state o s h st q p was ground later spent counts e refl refl refl (fits_by (rules_of o) h e (table_after o.first.fold.table h, (inl refl, refl)) (λ c granted. absurd granted.apt) tt)
             (λ t x. let y : Cut ≡ Failed JournalAstray = x in cc) (no_fault told state o s h st q p was ground later spent e refl)
             (inr (halted, lasts_now (λ x. IsCut x ⊎ IsFailedRestart x) IsRestarted h e (inl refl)))
-            (λ x here. unsettled_more h e x (cut_settles_not own Restart) (was.doubt x (kept x here))) d same
+            (doubts_more h e p (cut_settles_not own Restart) left) d same
 
         -- it failed: the operation that asked for it is entered so
         module _ (asked : Op) (driven : IsDriven asked) (cause : Cause) (fault : IsFault cause) where
@@ -100,7 +115,7 @@ module _ {D : Type 0} (told : Type 0) (state : D → DiskState) where
               let e = entry own asked (Failed cause) in
               home_by told state o s h st q p was ground later spent counts e refl refl refl (fits_by (rules_of o) h e (table_after o.first.fold.table h, (inr (fault, driven), refl)) (limits_fault placed) tt)
               (λ t x. not_astray t (let y : Failed cause ≡ Failed JournalAstray = x in cc)) faults stage
-              (λ x here. unsettled_more h e x (failed_settles_not own asked cause) (was.doubt x (kept x here))) d same
+              (doubts_more h e p (failed_settles_not own asked cause) left) d same
 
           pub restart_failed : IsDueFor asked h → IsHalted told state st.now p → (told → cause ≢ JournalAstray) → min (o.faults + faults_in (h ++ entry own asked (Failed cause) ∷ [])) last ≤ (state p.journal.0).faults
               → (d : Boxed D) → d.value.p ≡ p → StandsFor told state o (with_home (In d) s) (h ++ entry own asked (Failed cause) ∷ [])
@@ -127,7 +142,11 @@ module _ {D : Type 0} (told : Type 0) (state : D → DiskState) where
         lacking = t.lacking;
         behind = t.behind;
         resumes = t.resumes;
-        doubt = λ op here. lasts_reading (λ x. IsDoubtful x × (x.op ≡ op)) IsSettling answered_not_settling h later reads (t.doubt op here);
+        of_stop = stopped_since t.lacking h later reads t.of_stop;
+        doubt = λ op here. let w = t.doubt op here in (
+          lasts_reading (λ x. IsDoubtful x × (x.op ≡ op)) IsSettling answered_not_settling h later reads w.0,
+          λ halted. lasts_reading IsCut IsRestarted answered_not_restarted h later reads (w.1 halted),
+        );
         due = elim t.due [ inl is ↦ inl is | inr due ↦ inr (lasts_reading (λ x. IsCut x ⊎ IsFailedRestart x) IsRestarted answered_not_restarted h later reads due) ];
       }
 
@@ -139,7 +158,8 @@ module _ {D : Type 0} (told : Type 0) (state : D → DiskState) where
     lacking = t.lacking;
     behind = t.behind;
     resumes = rolls t.out.now t.lacking t.behind t.resumes;
-    doubt = λ x here. t.doubt x (sym doubt ∙ here);
+    of_stop = t.of_stop;
+    doubt = λ x here. let w = t.doubt x (sym doubt ∙ here) in (w.0, λ halted. w.1 t.resumes.halted);
     due = t.due;
   }
 
@@ -166,7 +186,7 @@ module _ {D : Type 0} (told : Type 0) (state : D → DiskState) where
         fits (Some c) (op, here, granted, met, same) =
             let now : Grants (table_after o.first.fold.table h) op c = subst (λ (x : Board). Grants x op c) (out_table told state o s h st own Restart p t.out) granted in
             fits_by (rules_of o) h (entry own Restart (Restarted (Some c))) (effect (table_after o.first.fold.table h) c, (refl, own_verdict (table_after o.first.fold.table h) op c now, refl)) (λ d x. absurd x.apt)
-            (doubt_of (table_after o.first.fold.table h) h op c now (t.doubt op here))
+            (doubt_of (table_after o.first.fold.table h) h op c now (t.doubt op here).0)
 
         reports : (l : Option Change) → reports_with l s.reports ≡ recent_of (changes_of (h ++ entry own Restart (Restarted l) ∷ []))
         reports None = st.reports ∙ ap recent_of (sym (changes_same h (entry own Restart (Restarted None)) refl))
@@ -197,5 +217,5 @@ module _ {D : Type 0} (told : Type 0) (state : D → DiskState) where
     stands_restart_cut counts d same =
         let e = entry own Restart Cut in
         comes_halted told state o s h st own Restart p t.out e p refl refl refl (fits_by (rules_of o) h e (table_after o.first.fold.table h, (inl refl, refl)) (λ c granted. absurd granted.apt) tt) refl refl counts halted_out
-        (λ x here. unsettled_more h e x (cut_settles_not own Restart) (t.doubt x here))
+        (λ x here. unsettled_more h e x (cut_settles_not own Restart) (t.doubt x here).0)
         d same

@@ -15,7 +15,7 @@ use Rattle.xc_core.specs.declared.restarts.Restarting.TheVariants as restarting
 use Rattle.xc_core.specs.declared.state.Home.TheVariants.{In, Out}
 use Rattle.xc_core.specs.declared.state.State.{State}
 use Rattle.xc_core.specs.Reckonings.{Past}
-use Rattle.xc_core.specs.Provisioners.{Boxed, IsHome, ground_of}
+use Rattle.xc_core.specs.Provisioners.{Boxed, IsHome, StillDoubts, ground_of}
 use Rattle.xc_core.specs.Restarts.{IsHalted, Resumes}
 use Rattle.xc_core.specs.Seeing.{IsDueFor}
 use Rattle.xc_core.specs.States.{Opening, StandsFor, most_room, with_home}
@@ -54,7 +54,7 @@ module _ {D : Type 0} (told : Type 0) (state : D → DiskState) (counts : (d : D
   was = found_in told state o s h st d is
 
   -- m is what settling left of it
-  module _ (m : Provisioner D) (ground : ground_of m ≡ ground_of p) (kept : (x : Op) → m.doubt ≡ Some x → p.doubt ≡ Some x) (later : (state p.journal.0).faults ≤ (state m.journal.0).faults) (spent : Spends 3 (state p.journal.0) (state m.journal.0)) (own : ℕ) (asked : Op) (driven : IsDriven asked)
+  module _ (m : Provisioner D) (ground : ground_of m ≡ ground_of p) (kept : StillDoubts p m) (later : (state p.journal.0).faults ≤ (state m.journal.0).faults) (spent : Spends 3 (state p.journal.0) (state m.journal.0)) (own : ℕ) (asked : Op) (driven : IsDriven asked)
       (why : (p.halted ≡ true) ⊎ (asked ≡ Restart)) where
     -- the settling failed
     pub was_unsettled : (p.halted ≡ false) × ((b : Past) → IsHome told state b p → IsHome told state b m) → Rose (state p.journal.0).faults (state m.journal.0).faults → (e : Boxed D) → e.value.p ≡ m → RestartingIs told state o own h asked (with_home (In e) s) (restarting.Failed DiskFault)
@@ -91,8 +91,8 @@ module _ {D : Type 0} (told : Type 0) (state : D → DiskState) (counts : (d : D
         all_spent : Spends most_room (state p.journal.0) (state q.journal.0)
         all_spent = restart_room (state p.journal.0) (state m.journal.0) (state q.journal.0) spent recovered
 
-        all_kept : (x : Op) → q.doubt ≡ Some x → p.doubt ≡ Some x
-        all_kept x here = kept x (sym same_doubt ∙ here)
+        all_kept : StillDoubts p q
+        all_kept x here = let k = kept x (sym same_doubt ∙ here) in (k.0, λ halted. k.1 halted_now.halted)
 
         halted_then : IsHalted told state st.now q
         halted_then = still st.now halted_now (sym st.table)

@@ -1,15 +1,15 @@
 -- A journal that is mended.
-use Rattle.std.proofs.Common.{◌≡◌, ◌⊎◌, inl, inr, ⊎_elim, ℕ, false, List, Option, Some, None, refl, sym, ap, ◌∙◌}
+use Rattle.std.proofs.Common.{◌≡◌, ◌⊎◌, inl, inr, ⊎_elim, ℕ, Bool, true, false, List, Option, Some, None, refl, sym, ap, ◌∙◌, subst}
 use Rattle.std.specs.Prelude.{Result, Ok, Err}
 use Rattle.dxc_disk.specs.Disks.{DiskState, LeavesOnly}
 use Rattle.journal_core.specs.declared.book.Book.{Book}
-use Rattle.journal_core.specs.Books.{IsWhole, is_tried, next_head}
+use Rattle.journal_core.specs.Books.{IsReady, IsWhole, is_tried, next_head}
 use Rattle.journal_core.specs.Turns.{Mends}
 use Rattle.journal_core.proofs.HeaderSteps.{never}
 use Rattle.journal_core.proofs.KeepSteps.{only_weaker}
 use Rattle.dxc_model.specs.declared.op.Op.{Op}
 use Rattle.xc_core.specs.declared.provisioner.Provisioner.{Provisioner}
-use Rattle.xc_core.specs.Provisioners.{IsHome}
+use Rattle.xc_core.specs.Provisioners.{IsHome, IsUnmended}
 use Rattle.xc_core.specs.Reckonings.{Past}
 use Rattle.xc_core.specs.Journals.{IsOldOrDoubted}
 use Rattle.xc_core.proofs.Journalling.{doubts_on, home_on, may_called, tried_on}
@@ -44,7 +44,15 @@ doubted_from b old new kept file is = ⊎_elim (λ was. inl was) (λ more. inr (
 pub settled_left : (b : Past) (old new : Option Op) (a c : DiskState) → ((op : Op) → new ≡ Some op → old ≡ Some op) → LeavesOnly a c (IsOldOrDoubted b new) → LeavesOnly a c (IsOldOrDoubted b old)
 settled_left b old new a c kept only = only_weaker a c (IsOldOrDoubted b new) (IsOldOrDoubted b old) (λ file is. doubted_from b old new kept file is) only
 
--- it is the same, or there is none
-pub kept_or_none : (old new : Option Op) → ((op : Op) → new ≡ Some op → old ≡ Some op) → (new ≡ old) ⊎ (new ≡ None)
-kept_or_none old None kept = inr refl
-kept_or_none old (Some op) kept = inl (sym (kept op refl))
+-- what isn't unmarked is marked
+pub is_marked : (b : Bool) → (b ≡ false → ⊥) → b ≡ true
+is_marked true not = refl
+is_marked false not = absurd (not refl)
+
+-- a mend that failed after a plan, which left the Provisioner as it was
+pub unmended_as : {D : Type 0} (old mid new : Provisioner D) → mid ≡ old → IsUnmended mid new → IsUnmended old new
+unmended_as {D} old mid new same is = subst (λ (x : Provisioner D). IsUnmended x new) same is
+
+-- a journal that was ready is so after an append that failed
+pub ready_still : (before after : Book) (marked : Bool) (reach : ℕ) → after ≡ record before { to_mend = marked; reach = reach } → IsReady before → IsReady after
+ready_still before after marked reach is ready = subst IsReady (sym is) (record { below = ready.below; still = ready.still; version = ready.version })

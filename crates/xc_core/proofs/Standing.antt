@@ -30,9 +30,9 @@ use Rattle.xc_core.specs.Restarts.{IsHalted}
 use Rattle.xc_core.proofs.Halting.{halted_home}
 use Rattle.xc_core.proofs.Pasts.{past_marked}
 use Rattle.xc_core.specs.Begins.{IsOverLimit, IsWithin, MayDoubt}
-use Rattle.xc_core.specs.States.{Opening, IsHomeAfter, IsPaid, LimitBehind, SpendsOf, rules_of, IsUnsettled, HomeIs, StandsFor, cost, fault_in, faults_in, most_room, room_in, with_home}
+use Rattle.xc_core.specs.States.{DoubtsUnsettled, Opening, IsHomeAfter, IsPaid, LimitBehind, SpendsOf, rules_of, HomeIs, StandsFor, cost, fault_in, faults_in, most_room, room_in, with_home}
 use Rattle.xc_core.specs.Seeing.{HasTaken, IsOut, Rests, entry}
-use Rattle.xc_core.proofs.Entries.{answered_settles_not, astray_more, changes_same, cut_settles_not, denied_settles_not, failed_settles_not, held_still, limit_no_fault, limit_not_astray, one_fault, over_limit, paid_counted, paid_same, room_more, same_faults, spends_at, spends_one, unsettled_more, waits_reading}
+use Rattle.xc_core.proofs.Entries.{answered_settles_not, astray_more, changes_same, cut_settles_not, denied_settles_not, doubts_cut, doubts_more, doubts_ready, failed_settles_not, held_still, limit_no_fault, limit_not_astray, one_fault, over_limit, paid_counted, paid_same, room_more, same_faults, spends_at, spends_one, unsettled_more, waits_reading}
 use Rattle.xc_core.proofs.Granting.{granted_once}
 use Rattle.xc_core.proofs.Reckoning.{reckoned_table}
 
@@ -41,7 +41,7 @@ module _ {D : Type 0} (told : Type 0) (state : D → DiskState) where
   pub record IsIn (o : Opening) (h : List Entry) (p : Provisioner D) : Type 0 where
     pub ground : ground_of p ≡ o.site
     pub nobody : holder None h ≡ None
-    pub doubt : (op : Op) → p.doubt ≡ Some op → IsUnsettled h op
+    pub doubt : DoubtsUnsettled h p
     pub faults : min (o.faults + faults_in h) last ≤ (state p.journal.0).faults
     pub spends : SpendsOf o (room_in h) (state p.journal.0)
 
@@ -113,7 +113,7 @@ module _ {D : Type 0} (told : Type 0) (state : D → DiskState) where
           | inl a ↦ inl (a.0, λ stopped. a.1 (lasts_before IsCut IsRestarted h e stopped not_cut))
           | inr b ↦ inr (b.0, lasts_more (λ x. IsCut x ⊎ IsFailedRestart x) IsRestarted h e b.1 not_restarted)
         ];
-        doubt = λ op is. unsettled_more h e op not_settled (at.1.doubt op is);
+        doubt = doubts_more h e d.value.p not_settled at.1.doubt;
         faults = same_faults o.faults (state d.value.p.journal.0).faults (state d.value.p.journal.0).faults h e none at.1.faults (omega arith);
         spends = spends_at o (room_in h) (room_in (h ++ e ∷ [])) (state d.value.p.journal.0) (let room = room_more h e in omega (arith, room, free)) at.1.spends;
       },
@@ -133,7 +133,7 @@ module _ {D : Type 0} (told : Type 0) (state : D → DiskState) where
       no_fault e none = same_faults o.faults (state q.journal.0).faults (state p.journal.0).faults h e none was.faults later
 
       pub home_by : CountsOn (state p.journal.0) → (e : Entry) → made e.outcome ≡ None → taker e.outcome e ≡ None → cost e.outcome ≡ most_room → Fits (rules_of o) h e → (told → e.outcome ≢ Failed JournalAstray) → min (o.faults + faults_in (h ++ e ∷ [])) last ≤ (state p.journal.0).faults
-          → (IsHome told state st.now p × (IsStopped (h ++ e ∷ []) → ⊥)) ⊎ (IsHalted told state st.now p × IsRestartDue (h ++ e ∷ [])) → ((x : Op) → p.doubt ≡ Some x → IsUnsettled (h ++ e ∷ []) x)
+          → (IsHome told state st.now p × (IsStopped (h ++ e ∷ []) → ⊥)) ⊎ (IsHalted told state st.now p × IsRestartDue (h ++ e ∷ [])) → DoubtsUnsettled (h ++ e ∷ []) p
           → (d : Boxed D) → d.value.p ≡ p → StandsFor told state o (with_home (In d) s) (h ++ e ∷ [])
       home_by counts e none free costs fits not_astray faults stage doubt d is =
           let room = room_more h e in
@@ -169,7 +169,7 @@ module _ {D : Type 0} (told : Type 0) (state : D → DiskState) where
         home_same : (e : Entry) → made e.outcome ≡ None → taker e.outcome e ≡ None → cost e.outcome ≡ most_room → Fits (rules_of o) h e → e.outcome ≢ Failed JournalAstray → fault_in e.outcome ≡ 0 → (IsCut e → ⊥) → (IsSettling e → ⊥) → p ≡ q → (d : Boxed D) → d.value.p ≡ p → StandsFor told state o (with_home (In d) s) (h ++ e ∷ [])
         home_same e none free costs fits not_astray clean not_cut not_settled is = home_by q p ready.is_in ground later spent counts e none free costs fits (λ t. not_astray) (no_fault q p ready.is_in ground later spent e clean)
             (inl (subst (λ (x : Provisioner D). IsHome told state st.now x) (sym is) ready.home, λ stopped. ready.unstopped (lasts_before IsCut IsRestarted h e stopped not_cut)))
-            (λ x asked. unsettled_more h e x not_settled (ready.is_in.doubt x (sym (ap (λ (y : Provisioner D). y.doubt) is) ∙ asked)))
+            (subst (λ (x : Provisioner D). DoubtsUnsettled (h ++ e ∷ []) x) (sym is) (doubts_more h e q not_settled ready.is_in.doubt))
 
         -- the table denies it
         pub stands_denied : (c : Cause) → Refuses st.now.fold.table op c → p ≡ q → (d : Boxed D) → d.value.p ≡ p → StandsFor told state o (with_home (In d) s) (h ++ entry own op (Denied c) ∷ [])
@@ -190,7 +190,7 @@ module _ {D : Type 0} (told : Type 0) (state : D → DiskState) where
             (limit_not_astray c (over_limit st.now op c over)) (limit_no_fault c (over_limit st.now op c over)) (λ x. let y : Failed c ≡ Cut = x in cc) (failed_settles_not own op c) is
 
         -- the disk failed
-        pub stands_faulted : IsWithin st.now op → MayDoubt op q.doubt p.doubt → Rose (state q.journal.0).faults (state p.journal.0).faults → IsHome told state st.now p → (d : Boxed D) → d.value.p ≡ p → StandsFor told state o (with_home (In d) s) (h ++ entry own op (Failed DiskFault) ∷ [])
+        pub stands_faulted : IsWithin st.now op → MayDoubt op q p → Rose (state q.journal.0).faults (state p.journal.0).faults → IsHome told state st.now p → (d : Boxed D) → d.value.p ≡ p → StandsFor told state o (with_home (In d) s) (h ++ entry own op (Failed DiskFault) ∷ [])
         stands_faulted within may rose home =
             let e = entry own op (Failed DiskFault) in
             let granted = there (λ t. Grants t op within.0) within.1 in
@@ -199,13 +199,13 @@ module _ {D : Type 0} (told : Type 0) (state : D → DiskState) where
             (λ t x. let y : Failed DiskFault ≡ Failed JournalAstray = x in cc)
             (one_fault o.faults (state q.journal.0).faults (state p.journal.0).faults h e refl ready.is_in.faults rose)
             (inl (home, λ stopped. ready.unstopped (lasts_before IsCut IsRestarted h e stopped (λ x. let y : Failed DiskFault ≡ Cut = x in cc))))
-            (λ x asked. elim may [
-              | inl old ↦ unsettled_more h e x (failed_settles_not own op DiskFault) (ready.is_in.doubt x (sym old ∙ asked))
+            (doubts_ready (h ++ e ∷ []) p home.ready (λ x asked. elim may [
+              | inl old ↦ unsettled_more h e x (failed_settles_not own op DiskFault) (ready.is_in.doubt x (sym old.doubt ∙ asked)).0
               | inr other ↦ elim other [
-                | inl none ↦ absurd (let k : None ≡ Some x = sym none ∙ asked in cc)
-                | inr new ↦ lasts_now (λ y. IsDoubtful y × (y.op ≡ x)) IsSettling h e (inr refl, (let k : Some op ≡ Some x = sym new ∙ asked in cc))
+                | inl none ↦ absurd (let k : None ≡ Some x = sym none.1 ∙ asked in cc)
+                | inr new ↦ lasts_now (λ y. IsDoubtful y × (y.op ≡ x)) IsSettling h e (inr refl, (let k : Some op ≡ Some x = sym new.1 ∙ asked in cc))
               ]
-            ])
+            ]))
 
         -- a stop came before its record was in the journal
         pub stands_held : IsWithin st.now op → p ≡ with_halt true q → (d : Boxed D) → d.value.p ≡ p → StandsFor told state o (with_home (In d) s) (h ++ entry own op Cut ∷ [])
@@ -219,7 +219,7 @@ module _ {D : Type 0} (told : Type 0) (state : D → DiskState) where
               subst (λ (x : Provisioner D). IsHalted told state st.now x) (sym is) (marked_home st.now q ready.home),
               lasts_now (λ x. IsCut x ⊎ IsFailedRestart x) IsRestarted h e (inl refl),
             ))
-            (λ x asked. unsettled_more h e x (cut_settles_not own op) (ready.is_in.doubt x (sym (ap (λ (y : Provisioner D). y.doubt) is) ∙ asked)))
+            (doubts_cut h e p refl (λ x asked. unsettled_more h e x (cut_settles_not own op) (ready.is_in.doubt x (sym (ap (λ (y : Provisioner D). y.doubt) is) ∙ asked)).0))
 
       -- its work is planned, and the turn ends with it
       module _ (c : Change) (r : RollingAt) (meets : HasWork st.now c None) (rolls : Rolls told state st.now op c p r) where

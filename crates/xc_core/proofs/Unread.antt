@@ -1,5 +1,5 @@
 -- A journal that was opened and couldn't be read: what holds of either fault.
-use Rattle.std.specs.Prelude.{IfSome, IsErrOf, ◌≢◌}
+use Rattle.std.specs.Prelude.{IsErrOf}
 use Rattle.std.proofs.Common.{◌≡◌, ◌≤◌, ℕ, false, Result, Ok, Err, refl, subst}
 use Rattle.dxc_causes.specs.Causes.{HasCause, Rose}
 use Rattle.dxc_num.specs.Dimensions.{Dimensions}
@@ -15,8 +15,7 @@ use Rattle.roll_plan.specs.declared.work.Work.{Work}
 use Rattle.xc_recovery.specs.declared.fault.ReplayFault.{ReplayFault}
 use Rattle.xc_recovery.specs.declared.fault.ReplayFault.TheVariants.{BadRecord, Disk}
 use Rattle.xc_recovery.specs.Replays.{Replays}
-use Rattle.xc_core.specs.declared.fault.OpenFault.TheVariants as open_fault
-use Rattle.xc_core.specs.Openings.{Fails, HasBadRecord, IsDiskFault, disk_of_fault}
+use Rattle.xc_core.specs.Openings.{Fails, HasBadRecord, IsDiskFault, IsStopFault, disk_of_fault}
 use Rattle.xc_core.specs.Starts.{read_fault}
 use Rattle.xc_core.proofs.Opened.{bad_record}
 use Rattle.xc_core.proofs.Rooms.{fault_on}
@@ -33,11 +32,11 @@ unread_fails state d e head a b book t m left same looked disk whole mended stil
 unread_fails state d e head a b book t m left same looked disk whole mended still old new Disk bad = tt
 
 -- what holds of the disk holds of the one that is handed back
-pub unread_disk : {D : Type 0} (fault : ReplayFault) (d : D) (P : D → Type 0) → P d → IfSome (disk_of_fault (read_fault fault d)) P
+pub unread_disk : {D : Type 0} (fault : ReplayFault) (d : D) (P : D → Type 0) → P d → P (disk_of_fault (read_fault fault d))
 unread_disk (BadRecord i) d P is = is
 unread_disk Disk d P is = is
 
-pub unread_cause : {D : Type 0} (state : D → DiskState) (fault : ReplayFault) (d : D) (a b : ℕ) → a ≤ b → b ≤ (state d).faults → (IsErrOf (as_read fault) Disk → Rose b (state d).faults) → IfSome (disk_of_fault (read_fault fault d)) (λ x. HasCause a (state x).faults (IsDiskFault (read_fault fault d)))
+pub unread_cause : {D : Type 0} (state : D → DiskState) (fault : ReplayFault) (d : D) (a b : ℕ) → a ≤ b → b ≤ (state d).faults → (IsErrOf (as_read fault) Disk → Rose b (state d).faults) → HasCause a (state (disk_of_fault (read_fault fault d))).faults (IsDiskFault (read_fault fault d))
 unread_cause state (BadRecord i) d a b called looked rose = fault_on a b (state d).faults ⊥ called looked (λ none. absurd none)
 unread_cause state Disk d a b called looked rose = fault_on a b (state d).faults (Unit {0}) called looked (λ _. rose refl)
 
@@ -46,6 +45,6 @@ unread_sound (BadRecord i) d sound is = is
 unread_sound Disk d sound is = sound refl
 
 -- nor is it a stop
-pub unread_unstopped : {D : Type 0} (fault : ReplayFault) (d : D) → read_fault fault d ≢ open_fault.Stopped
-unread_unstopped (BadRecord i) d is = absurd cc
-unread_unstopped Disk d is = absurd cc
+pub unread_unstopped : {D : Type 0} (fault : ReplayFault) (d : D) → IsStopFault (read_fault fault d) → ⊥
+unread_unstopped (BadRecord i) d is = is
+unread_unstopped Disk d is = is

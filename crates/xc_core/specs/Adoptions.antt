@@ -1,5 +1,7 @@
 -- What a start on registers that another controller has written finds.
-use Rattle.std.specs.Prelude.{◌≡◌, ℕ, ◌+◌, ◌<◌, ◌≤◌, ◌^◌, List, length, drop, true, Option, Some, None}
+use Rattle.std.specs.Prelude.{◌≡◌, ℕ, ◌+◌, ◌<◌, ◌≤◌, ◌^◌, List, length, drop, true, Option, Some, None, IfSome}
+use Rattle.dxc_disk.specs.Disks.{DiskState}
+use Rattle.dxc_disk.specs.declared.disk.Disk.{Ghosts as DiskOf}
 use Rattle.fabric_core.specs.declared.size.Size.{Size}
 use Rattle.fabric_core.specs.declared.mover.Mover.{Mover}
 use Rattle.fabric_words.specs.Seats.{MoverAt}
@@ -15,8 +17,8 @@ use Rattle.xc_core.specs.declared.fault.OpenFault.{OpenFault}
 use Rattle.xc_core.specs.declared.state.Home.{Home}
 use Rattle.xc_core.specs.declared.state.Home.TheVariants.{In, Out}
 use Rattle.xc_core.specs.declared.state.State.{State}
-use Rattle.xc_core.specs.Openings.{IsDiskFault, Opens, disk_home, disk_of_fault}
-use Rattle.xc_core.specs.States.{Opening}
+use Rattle.xc_core.specs.Openings.{Begins, IsDiskFault, Opens, disk_home, disk_of_fault}
+use Rattle.xc_core.specs.States.{Opening, opening_of}
 
 -- the registers are at a stage of a last work that led to these legs, and with its rest so many switches will have been made
 pub record IsOnLast (z : Size) (m : Mover) (ops : List LegOp) (c : Colouring) (switches : ℕ) : Type 0 where
@@ -56,6 +58,14 @@ seat_home Out = None
 abbrev pub HasSeat : {D : Type 0} → MoverAt → State D → Type 0
 HasSeat seat s = seat_home s.home ≡ Some seat
 
+-- the state is that of this disk, on registers of this seat
+abbrev pub HasAdopted : {D : Type 0} → DiskOf D → Contents → MoverAt → D → State D → Type 0
+HasAdopted g shelf seat disk s = IsAdopting g.told (g.state disk).reads_as shelf seat (opening_of g.state s) × Begins g.told g.state s × HasSeat seat s
+
+-- the seat is handed back, to whose registers this disk is strange
+abbrev pub IsStrangeTo : {D : Type 0} → DiskOf D → Contents → MoverAt → D → MoverAt → Type 0
+IsStrangeTo g shelf seat disk m = (m ≡ seat) × IsStrange g.told (g.state disk).reads_as shelf seat
+
 abbrev pub IfState : {D : Type 0} → Adopted D → (State D → Type 0) → Type 0
 IfState (adopted.State s) P = P s
 IfState (adopted.Strange d m) P = Unit {0}
@@ -77,8 +87,12 @@ IsDiskOpen (adopted.State s) = ⊥
 IsDiskOpen (adopted.Strange d m) = ⊥
 IsDiskOpen (adopted.Open e) = IsDiskFault e
 
--- the disk, where it is handed back
+-- the disk that is left: the one that the state has at home, or that is handed back
 abbrev pub disk_adopted : {D : Type 0} → Adopted D → Option D
 disk_adopted (adopted.State s) = disk_home s.home
 disk_adopted (adopted.Strange d m) = Some d
-disk_adopted (adopted.Open e) = disk_of_fault e
+disk_adopted (adopted.Open e) = Some (disk_of_fault e)
+
+-- that disk has this property
+abbrev pub LeftBy : {D : Type 0} → (D → DiskState) → Adopted D → (DiskState → Type 0) → Type 0
+LeftBy state result P = IfSome (disk_adopted result) (λ d. P (state d))

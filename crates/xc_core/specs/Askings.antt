@@ -47,5 +47,5 @@ RestartAsked asked restarting.Waits = asked []
 -- at an opening: once before each write of each join, as far as it came
 abbrev pub OpenAsked : {D : Type 0} → (D → DiskState) → (List GatePlace → Type 0) → Result (State D) (OpenFault D) → Type 0
 OpenAsked state asked (Ok s) = asked (replicate (length (joins_of (opening_of state s).first.fold.colours)) Register)
-OpenAsked state asked (Err fault.Stopped) = (n : ℕ) × asked (replicate n Register)
+OpenAsked state asked (Err (fault.Stopped d)) = (n : ℕ) × asked (replicate n Register)
 OpenAsked state asked (Err _) = asked []

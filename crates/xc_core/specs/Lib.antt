@@ -16,3 +16,5 @@ pub mod Askings
 pub mod Openings
 pub mod Starts
 pub mod Adoptions
+pub mod Views
+pub mod Moves

@@ -20,7 +20,7 @@ use Rattle.xc_core.specs.declared.provisioner.Provisioner.{Provisioner}
 use Rattle.xc_core.specs.Reckonings.{HasWork, Past, ReckonsTo}
 use Rattle.xc_core.specs.Provisioners.{Rolls, ground_of}
 use Rattle.xc_core.specs.Restarts.{Resumes}
-use Rattle.xc_core.specs.States.{Opening, began, IsPaid, IsUnsettled, SpendsOf, faults_in, most_room, room_in, rules_of}
+use Rattle.xc_core.specs.States.{DoubtsUnsettled, Opening, began, IsPaid, SpendsOf, faults_in, most_room, room_in, rules_of}
 
 abbrev pub entry_coded : Coded Entry
 entry_coded = entry_row.the_row.coded
@@ -73,6 +73,11 @@ refused q = Denied q
 abbrev pub IsDueFor : Op → List Entry → Type 0
 IsDueFor asked h = (asked ≡ Restart) ⊎ IsRestartDue h
 
+-- a restart takes up a change only where a stop came, and no restart since
+abbrev pub IsOfStop : Option Change → List Entry → Type 0
+IsOfStop None h = Unit {0}
+IsOfStop (Some c) h = IsStopped h
+
 module _ {D : Type 0} (told : Type 0) (state : D → DiskState) where
   -- a place has the Provisioner out for this operation, and all that stands behind it is as when it was taken
   pub record IsOut (o : Opening) (own : ℕ) (op : Op) (h : List Entry) (p : Provisioner D) : Type 0 where
@@ -97,5 +102,6 @@ module _ {D : Type 0} (told : Type 0) (state : D → DiskState) where
     pub lacking : Option Change
     pub behind : Past
     pub resumes : Resumes told state out.now lacking behind p r
-    pub doubt : (op : Op) → p.doubt ≡ Some op → IsUnsettled h op
+    pub of_stop : IsOfStop lacking h
+    pub doubt : DoubtsUnsettled h p
     pub due : IsDueFor asked h

@@ -20,10 +20,10 @@ use Rattle.xc_core.specs.declared.start.Start.{Start}
 use Rattle.xc_core.specs.Openings.{disk_of_fault}
 use Rattle.xc_core.specs.Provisioners.{HasRoom}
 
--- the disk, where it is handed back
-abbrev pub disk_started : {D : Type 0} → Result (Start D) (OpenFault D) → Option D
-disk_started (Ok x) = Some x.p.journal.0
-disk_started (Err e) = disk_of_fault e
+-- the disk that is read, or handed back
+abbrev pub disk_left : {D : Type 0} → Result (Start D) (OpenFault D) → D
+disk_left (Ok x) = x.p.journal.0
+disk_left (Err e) = disk_of_fault e
 
 -- why a journal on this disk couldn't be read
 abbrev pub read_fault : {D : Type 0} → ReplayFault → D → OpenFault D

@@ -82,6 +82,10 @@ rules_of o = record { table = o.first.fold.table; limit = LimitBehind o.first }
 abbrev pub IsUnsettled : List Entry → Op → Type 0
 IsUnsettled h op = Lasts (λ e. IsDoubtful e × (e.op ≡ op)) IsSettling h
 
+-- an operation in doubt wasn't settled; and where the Provisioner is halted, a stop came, and no restart since
+abbrev pub DoubtsUnsettled : {D : Type 0} → List Entry → Provisioner D → Type 0
+DoubtsUnsettled h p = (op : Op) → p.doubt ≡ Some op → IsUnsettled h op × (p.halted ≡ true → IsStopped h)
+
 -- how many operations failed by a fault of the disk
 abbrev pub fault_in : Outcome → ℕ
 fault_in (Failed DiskFault) = 1
@@ -139,7 +143,7 @@ module _ {D : Type 0} (told : Type 0) (state : D → DiskState) where
   pub record IsHomeAfter (o : Opening) (b : Past) (h : List Entry) (p : Provisioner D) : Type 0 where
     pub ground : ground_of p ≡ o.site
     pub stage : IsReadyOrHalted b h p
-    pub doubt : (op : Op) → p.doubt ≡ Some op → IsUnsettled h op
+    pub doubt : DoubtsUnsettled h p
     -- each such failure was a fault that the disk counted
     pub faults : min (o.faults + faults_in h) last ≤ (state p.journal.0).faults
     pub spends : SpendsOf o (room_in h) (state p.journal.0)

@@ -4,6 +4,7 @@ use base.Stored.{Gv}
 use Rattle.turnstile.specs.Passing.{Gate, Token}
 use Rattle.turnstile.specs.Turning.{Each}
 use Rattle.dxc_disk.specs.Disks.{DiskState}
+use Rattle.dxc_disk.specs.declared.disk.Disk.{Ghosts as DiskOf}
 use Rattle.dbchg_reports.specs.Recent.{SinceIs, recent_of}
 use Rattle.dxc_model.specs.declared.conn.Conn.{Conn}
 use Rattle.dxc_model.specs.declared.op.Selection.{Selection}
@@ -17,6 +18,7 @@ use Rattle.dxc_model.specs.declared.entry.Entry.{Entry}
 use Rattle.dxc_model.specs.Tables.{rows}
 use Rattle.dxc_model.specs.Steps.{IsFault}
 use Rattle.dxc_model.specs.Histories.{IsRestartDue, IsStopped, changes_of, table_after}
+use Rattle.xc_core.specs.declared.provisioner.Driver.{Driver}
 use Rattle.xc_core.specs.declared.state.State.{State}
 use Rattle.xc_core.specs.declared.turns.Looked.{Looked}
 use Rattle.xc_core.specs.declared.turns.Took.{Took}
@@ -24,7 +26,7 @@ use Rattle.xc_core.specs.declared.turns.Took.TheVariants.{Rolling, Denied, Stopp
 use Rattle.xc_core.specs.declared.restarts.Restarting.{Restarting}
 use Rattle.xc_core.specs.declared.restarts.Restarting.TheVariants as restarting
 use Rattle.xc_core.specs.States.{IsLent, IsNeverAstray, Opening, StandsFor}
-use Rattle.xc_core.specs.Seeing.{HasRestart, HasTaken, IsDueFor, Turned, TurnedBack, codes, entry, refused}
+use Rattle.xc_core.specs.Seeing.{HasRestart, HasTaken, IsDueFor, IsOfStop, Turned, TurnedBack, codes, entry, refused}
 
 -- each entry that was seen carries the number of one of so many passes
 abbrev pub AreNumbered : ℕ → List Gv → Type 0
@@ -88,6 +90,10 @@ module _ {D : Type 0} (told : Type 0) (state : D → DiskState) where
   RestartIs o own h asked then_seen restarting.Stopped = (t : Turned o own h (entry own Restart Cut) then_seen) × IsDueFor asked (h ++ t.later)
   RestartIs o own h asked then_seen restarting.Waits = (t : TurnedBack o own h then_seen) × MayNotRestart asked (h ++ t.later)
 
+-- what a restart that was begun so takes up at its end
+abbrev pub TakesUpOfStop : {D : Type 0} → DiskOf D → State D → Driver D → Option Change → Type 0
+TakesUpOfStop g s d lacking = (o : Opening) (own : ℕ) (h : List Entry) (asked : Op) → StandsFor g.told g.state o s h → HasRestart g.told g.state o own asked h d.p d.rolling → IsOfStop lacking h
+
 -- the table took the change
 abbrev pub DoneIs : Opening → ℕ → List Entry → Op → List Gv → Type 0
 DoneIs o own h op then_seen = (c : Change) × (t : Turned o own h (entry own op (Done c)) then_seen) × (IsStopped (h ++ t.later) → ⊥)
@@ -98,7 +104,7 @@ CutIs o own h op then_seen = (t : Turned o own h (entry own op Cut) then_seen) �
 
 -- the restart ended, and the table took the change that was lacking, if one was
 abbrev pub RestartedIs : Opening → ℕ → List Entry → Op → List Gv → Type 0
-RestartedIs o own h asked then_seen = (lacking : Option Change) × (t : Turned o own h (entry own Restart (Restarted lacking)) then_seen) × IsDueFor asked (h ++ t.later)
+RestartedIs o own h asked then_seen = (lacking : Option Change) × (t : Turned o own h (entry own Restart (Restarted lacking)) then_seen) × IsDueFor asked (h ++ t.later) × IsOfStop lacking (h ++ t.later)
 
 -- or a stop cut it
 abbrev pub RestartCutIs : Opening → ℕ → List Entry → Op → List Gv → Type 0

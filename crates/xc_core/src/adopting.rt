@@ -1,15 +1,11 @@
 //! How a controller starts on registers that another one has written.
-ghost use Rattle.std.specs.Prelude.{◌≡◌, ◌≢◌, true, Bool, List, ℕ, IfSome};
-ghost use Rattle.dxc_causes.specs.Causes.{HasCause};
-ghost use Rattle.dxc_disk.specs.Disks.{IsSound, Leaves, LeavesOnly, Spends};
+ghost use Rattle.std.specs.Prelude.{◌≡◌, true};
+ghost use Rattle.dxc_disk.specs.Disks.{IsSound, Spends};
 ghost use Rattle.fabric_core.specs.State.{IsSize};
-ghost use Rattle.journal_core.specs.declared.head.Head.{Head};
-ghost use Rattle.journal_core.specs.Turns.{Passing};
 ghost use Rattle.paull_matrix.specs.Colourings.{Colouring};
 ghost use Rattle.xc_recovery.specs.Stages.{IsLastWork};
-ghost use Rattle.xc_core.specs.Openings.{Begins, Fails, LeavesOpened};
-ghost use Rattle.xc_core.specs.Adoptions.{HasSeat, IfOpen, IfState, IfStrange, IsAdopting, IsDiskOpen, IsStrange, SwitchesAre, disk_adopted};
-ghost use Rattle.xc_core.specs.States.{opening_of};
+ghost use Rattle.xc_core.specs.Openings.{CountsFor, Fails, IsStopFault, KeepsPassing, LeavesOpened};
+ghost use Rattle.xc_core.specs.Adoptions.{HasAdopted, IfOpen, IfState, IfStrange, IsDiskOpen, IsStrangeTo, LeftBy, SwitchesAre};
 
 use crate::fault::OpenFault;
 use crate::opening::Core;
@@ -91,15 +87,17 @@ impl Core {
     ) -> Adopted<D>
         requires own { mover.fabric ≡ fabric.now }
         requires shape { fabric.now.size.shape ≡ shelf.now.shape }
-        ensures state { IfState result (λ s. IsAdopting D.told (D.state disk).reads_as shelf.now mover (opening_of D.state s) × Begins D.told D.state s × HasSeat mover s) }
-        ensures strange { IfStrange result (λ m. (m ≡ mover) × IsStrange D.told (D.state disk).reads_as shelf.now mover) }
+        ensures state { IfState result (HasAdopted D.Disk shelf.now mover disk) }
+        ensures strange { IfStrange result (IsStrangeTo D.Disk shelf.now mover disk) }
         ensures fails { D.told → IfOpen result (Fails D.state (D.state disk) shelf.now.shape) }
-        ensures unstopped { IfOpen result (λ e. e ≢ OpenFault.Stopped) }
-        ensures any_moment { D.told → IfSome (disk_adopted result) (λ d. LeavesOpened shelf.now (D.state disk) (D.state d)) }
+        ensures unstopped { IfOpen result (λ e. IsStopFault e → ⊥) }
+        // Of whatever disk is left, where memory was wanting too.
+        ensures any_moment { D.told
+            → LeftBy D.state result (LeavesOpened shelf.now (D.state disk)) }
         // What was acknowledged stays: each image passes a test of header and records that all of them passed.
-        ensures passing { D.told → (test : Head → List (List ℕ) → Bool) → Leaves (D.state disk) (Passing shelf.now.shape test) → IfSome (disk_adopted result) (λ d. LeavesOnly (D.state disk) (D.state d) (Passing shelf.now.shape test)) }
-        ensures cause { IfSome (disk_adopted result) (λ d. HasCause (D.state disk).faults (D.state d).faults (IsDiskOpen result)) }
-        ensures room { IfSome (disk_adopted result) (λ d. Spends 131_081 (D.state disk) (D.state d)) }
+        ensures passing { D.told → LeftBy D.state result (KeepsPassing shelf.now (D.state disk)) }
+        ensures cause { LeftBy D.state result (CountsFor (IsDiskOpen result) (D.state disk)) }
+        ensures room { LeftBy D.state result (Spends 131_081 (D.state disk)) }
         ensures sound { IsSound 131_081 (D.state disk) → IsDiskOpen result → ⊥ }
     {
         let mut read = match read_journal(alloc, shelf, disk, mover) {
@@ -112,8 +110,9 @@ impl Core {
             return Adopted::Strange(disk, mover);
         };
         halt_at(&mut read.p, switches);
-        let Ok(housed) = house(alloc, read) else {
-            return Adopted::Open(OpenFault::NoMemory);
+        let housed = match house(alloc, read) {
+            Ok(housed) => housed,
+            Err(disk) => return Adopted::Open(OpenFault::NoMemory(disk)),
         };
         Adopted::State(begun(housed))
     }

@@ -1,22 +1,19 @@
 //! How a controller starts.
-ghost use Rattle.std.specs.Prelude.{◌≡◌, ◌≤◌, ℕ, Bool, List, length, replicate, IfErr, IfNone, IfOk, IfSome};
-ghost use Rattle.dxc_causes.specs.Causes.{HasCause, Rose};
-ghost use Rattle.dxc_disk.specs.Disks.{IsSound, Leaves, LeavesOnly, Spends};
+ghost use Rattle.std.specs.Prelude.{◌≡◌, ◌≤◌, ℕ, length, replicate, IfErr, IfOk};
+ghost use Rattle.dxc_causes.specs.Causes.{Rose};
+ghost use Rattle.dxc_disk.specs.Disks.{IsSound, Spends};
 ghost use Rattle.fabric_core.specs.State.{new_mover};
-ghost use Rattle.journal_core.specs.declared.head.Head.{Head};
-ghost use Rattle.journal_core.specs.Turns.{Passing};
 ghost use Rattle.paull_matrix.specs.Colourings.{IsProperColouring};
 ghost use Rattle.roll_plan.specs.Works.{switches_in};
 ghost use Rattle.roll_engine.specs.Stages.{IsAtRestOn};
 ghost use Rattle.roll_engine.specs.Cold.{joins_of};
 ghost use Rattle.dxc_outside.specs.declared.gate.GatePlace.TheVariants.{Register};
 ghost use Rattle.xc_core.specs.Askings.{OpenAsked};
-ghost use Rattle.xc_core.specs.Openings.{Begins, Fails, IsDiskErr, IsOpening, LeavesOpened, disk_of};
-ghost use Rattle.xc_core.specs.States.{opening_of};
+ghost use Rattle.xc_core.specs.Openings.{CountsFor, Fails, IsDiskErr, IsStopErr, KeepsPassing, Left, LeavesOpened, Opened};
 
 use crate::fault::OpenFault;
 use crate::provisioner::Provisioner;
-use crate::start::{begun, house, read_journal};
+use crate::start::{begun, house, read_journal, unhoused};
 use crate::state::State;
 use dxc_disk::Disk;
 use dxc_outside::{Gate, Pass1};
@@ -44,16 +41,17 @@ impl Core {
     ) -> Result<State<D>, OpenFault<D>>
         requires new { mover ≡ record { fabric = fabric.now; mover = new_mover fabric.now.size } }
         requires shape { fabric.now.size.shape ≡ shelf.now.shape }
-        ensures ok { IfOk result (λ s. IsOpening D.told (D.state disk).reads_as shelf.now fabric.now (opening_of D.state s) × Begins D.told D.state s) }
+        ensures ok { IfOk result (Opened D.Disk shelf.now fabric.now disk) }
         ensures fails { D.told → IfErr result (Fails D.state (D.state disk) shelf.now.shape) }
-        ensures any_moment { D.told → IfSome (disk_of result) (λ d. LeavesOpened shelf.now (D.state disk) (D.state d)) }
+        // Of whatever disk is left, where the gate stopped or memory was wanting too.
+        ensures any_moment { D.told → Left D.state result (LeavesOpened shelf.now (D.state disk)) }
         // What was acknowledged stays: each image passes a test of header and records that all of them passed.
-        ensures passing { D.told → (test : Head → List (List ℕ) → Bool) → Leaves (D.state disk) (Passing shelf.now.shape test) → IfSome (disk_of result) (λ d. LeavesOnly (D.state disk) (D.state d) (Passing shelf.now.shape test)) }
-        ensures cause { IfSome (disk_of result) (λ d. HasCause (D.state disk).faults (D.state d).faults (IsDiskErr result)) }
-        ensures room { IfSome (disk_of result) (λ d. Spends 131_081 (D.state disk) (D.state d)) }
+        ensures passing { D.told → Left D.state result (KeepsPassing shelf.now (D.state disk)) }
+        ensures cause { Left D.state result (CountsFor (IsDiskErr result) (D.state disk)) }
+        ensures room { Left D.state result (Spends 131_081 (D.state disk)) }
         ensures sound { IsSound 131_081 (D.state disk) → IsDiskErr result → ⊥ }
-        ensures stopped { IfErr result (λ e. e ≡ OpenFault.Stopped → Rose (G.stops gate.old) (G.stops gate.new)) }
-        ensures unstopped { IfOk result (λ s. G.stops gate.new ≡ G.stops gate.old) }
+        ensures stopped { IsStopErr result → Rose (G.stops gate.old) (G.stops gate.new) }
+        ensures unstopped { (IsStopErr result → ⊥) → G.stops gate.new ≡ G.stops gate.old }
         ensures later { G.stops gate.old ≤ G.stops gate.new }
         ensures asked { OpenAsked D.state (G.asked gate.old gate.new) result }
     {
@@ -61,11 +59,12 @@ impl Core {
             Ok(read) => read,
             Err(fault) => return Err(fault),
         };
-        let Ok(mut housed) = house(alloc, read) else {
-            return Err(OpenFault::NoMemory);
+        let mut housed = match house(alloc, read) {
+            Ok(housed) => housed,
+            Err(disk) => return Err(OpenFault::NoMemory(disk)),
         };
         match join_all(&mut housed.driver.p, fabric, gate) {
-            Pass1::Stop => return Err(OpenFault::Stopped),
+            Pass1::Stop => return Err(OpenFault::Stopped(unhoused(housed))),
             Pass1::Go => {}
         }
         Ok(begun(housed))

@@ -1,14 +1,12 @@
 //! The turns of a restart.
-ghost use Rattle.std.specs.Prelude.{◌≡◌, ◌≢◌, ◌≤◌, List, []};
+ghost use Rattle.std.specs.Prelude.{◌≡◌, ◌≢◌, ◌≤◌, []};
 ghost use Rattle.dxc_causes.specs.Causes.{Rose};
-ghost use Rattle.dxc_model.specs.declared.entry.Entry.{Entry};
-ghost use Rattle.dxc_model.specs.declared.op.Op.{Op};
 ghost use Rattle.dxc_model.specs.Steps.{IsDriven};
 ghost use Rattle.roll_engine.specs.Rollings.{rest_of};
 ghost use Rattle.xc_core.specs.Askings.{RestartAsked};
-ghost use Rattle.xc_core.specs.Seeing.{HasRestart, Saw};
 ghost use Rattle.xc_core.specs.States.{opening_of};
-ghost use Rattle.xc_core.specs.Turns.{HasPass, RestartCutIs, RestartIs, RestartedIs, SawNoneAstray};
+ghost use Rattle.xc_core.specs.Turns.{HasPass, SawNoneAstray};
+ghost use Rattle.xc_core.specs.Views.{After, CutsRestart, EndsRestart, HasSeen, OutToRestart, Restarts, Upon};
 
 use crate::provisioner::Driver;
 use crate::resuming;
@@ -47,9 +45,9 @@ pub fn restart<D: Disk + Drop, G: Gate, R: Wait>(
     requires pass { HasPass turns.now pass.old }
     requires fabric { (opening_of D.state turns.now.first).site.fabric ≡ fabric.now }
     requires asked { IsDriven asked.now }
-    requires seen { (h : List Entry) × Saw (opening_of D.state turns.now.first) pass.old.seen h }
+    requires seen { HasSeen D.Disk turns.now pass.old }
     ensures pass { HasPass turns.now pass.new × (pass.new.number ≡ pass.old.number) }
-    ensures restart { (h : List Entry) → Saw (opening_of D.state turns.now.first) pass.old.seen h → RestartIs D.told D.state (opening_of D.state turns.now.first) pass.old.number h asked.now pass.new.seen result }
+    ensures restart { After D.Disk turns.now pass.old (Restarts D.Disk asked.now pass.new result) }
     ensures astray { SawNoneAstray D.told pass.new.seen }
     ensures stopped { result ≡ Restarting.Stopped → Rose (G.stops gate.old) (G.stops gate.new) }
     ensures unstopped { result ≢ Restarting.Stopped → G.stops gate.new ≡ G.stops gate.old }
@@ -80,10 +78,10 @@ pub fn end_restart<D: Disk + Drop, R: Wait>(
     rt: &R,
 )
     requires pass { HasPass turns.now pass.old }
-    requires restart { (h : List Entry) × Saw (opening_of D.state turns.now.first) pass.old.seen h × HasRestart D.told D.state (opening_of D.state turns.now.first) pass.old.number asked.now h driver.value.p driver.value.rolling }
+    requires restart { Upon D.Disk turns.now pass.old (OutToRestart D.Disk asked.now driver.value) }
     requires done { rest_of driver.value.rolling ≡ [] }
     ensures pass { HasPass turns.now pass.new × (pass.new.number ≡ pass.old.number) }
-    ensures restarted { (h : List Entry) → Saw (opening_of D.state turns.now.first) pass.old.seen h → RestartedIs (opening_of D.state turns.now.first) pass.old.number h asked.now pass.new.seen }
+    ensures restarted { After D.Disk turns.now pass.old (EndsRestart asked.now pass.new) }
     ensures astray { SawNoneAstray D.told pass.new.seen }
 {
     let _ = asked;
@@ -104,9 +102,9 @@ pub fn cut_restart<D: Disk + Drop, R: Wait>(
     rt: &R,
 )
     requires pass { HasPass turns.now pass.old }
-    requires restart { (h : List Entry) × Saw (opening_of D.state turns.now.first) pass.old.seen h × HasRestart D.told D.state (opening_of D.state turns.now.first) pass.old.number asked.now h driver.value.p driver.value.rolling }
+    requires restart { Upon D.Disk turns.now pass.old (OutToRestart D.Disk asked.now driver.value) }
     ensures pass { HasPass turns.now pass.new × (pass.new.number ≡ pass.old.number) }
-    ensures cut { (h : List Entry) → Saw (opening_of D.state turns.now.first) pass.old.seen h → RestartCutIs (opening_of D.state turns.now.first) pass.old.number h asked.now pass.new.seen }
+    ensures cut { After D.Disk turns.now pass.old (CutsRestart asked.now pass.new) }
     ensures astray { SawNoneAstray D.told pass.new.seen }
 {
     let _ = asked;

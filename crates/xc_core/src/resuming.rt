@@ -9,12 +9,12 @@ ghost use Rattle.dxc_model.specs.declared.op.Op.TheVariants.{Restart};
 ghost use Rattle.dxc_model.specs.Steps.{IsDriven};
 ghost use Rattle.roll_engine.specs.Rollings.{RollingAt, rest_of};
 ghost use Rattle.xc_core.specs.Reckonings.{Past};
-ghost use Rattle.xc_core.specs.Provisioners.{IsHome, ground_of};
+ghost use Rattle.xc_core.specs.Provisioners.{HasNoDoubt, IsHome, StillDoubts, ground_of};
 ghost use Rattle.xc_core.specs.Restarts.{IsHalted};
 ghost use Rattle.xc_core.specs.Askings.{RestartAsked};
 ghost use Rattle.xc_core.specs.Seeing.{HasRestart, entry};
 ghost use Rattle.xc_core.specs.States.{Opening, StandsFor};
-ghost use Rattle.xc_core.specs.Turns.{RestartingIs, restart_entry_of as entry_for};
+ghost use Rattle.xc_core.specs.Turns.{RestartingIs, TakesUpOfStop, restart_entry_of as entry_for};
 
 use crate::provisioner::{Driver, Provisioner, halt, settle};
 use crate::recovery::{Recovered, end_recovery, recover};
@@ -25,13 +25,14 @@ use dxc_model::{Cause, Change, Op, Outcome};
 use dxc_outside::Gate;
 use fabric_words::Fabric;
 
-// Settles the Provisioner and halts it, where it isn't halted.
+// Settles the Provisioner and halts it, where it isn't halted: what a failed call left in doubt isn't taken up then.
 fn make_halted<D: Disk>(p: &mut Provisioner<D>) -> Result<(), DiskFault>
     requires home { (b : Past) × (IsHome D.told D.state b p.old ⊎ IsHalted D.told D.state b p.old) }
     ensures ground { ground_of p.new ≡ ground_of p.old }
     ensures halted { OnOk result ((b : Past) → IsHome D.told D.state b p.old ⊎ IsHalted D.told D.state b p.old → IsHalted D.told D.state b p.new) }
     ensures unsettled { OnErr result ((p.old.halted ≡ false) × ((b : Past) → IsHome D.told D.state b p.old → IsHome D.told D.state b p.new)) }
-    ensures doubt { (op : Op) → p.new.doubt ≡ Some op → p.old.doubt ≡ Some op }
+    ensures doubt { StillDoubts p.old p.new }
+    ensures settled { OnOk result (p.old.halted ≡ false → HasNoDoubt p.new) }
     ensures cause { HasCause (D.state p.old.journal.0).faults (D.state p.new.journal.0).faults (IsErr result) }
     ensures room { Spends 3 (D.state p.old.journal.0) (D.state p.new.journal.0) }
 {
@@ -107,6 +108,8 @@ pub fn end<D: Disk + Drop>(state: &mut State<D>, driver: Box<Driver<D>>) -> Opti
     requires restart { (o : Opening) × (own : ℕ) × (h : List Entry) × (asked : Op) × (o.first.changes ≡ 0) × StandsFor D.told D.state o state.old h × HasRestart D.told D.state o own asked h driver.value.p driver.value.rolling }
     requires done { rest_of driver.value.rolling ≡ [] }
     ensures restarted { (o : Opening) → (own : ℕ) → (h : List Entry) → (asked : Op) → StandsFor D.told D.state o state.old h → HasRestart D.told D.state o own asked h driver.value.p driver.value.rolling → StandsFor D.told D.state o state.new (h ++ entry own Restart (Restarted result) ∷ []) }
+    // Where no stop came since the last restart no change is taken up.
+    ensures of_stop { TakesUpOfStop D.Disk state.old driver.value result }
     ensures origin { state.new.origin ≡ state.old.origin }
 {
     let mut driver = driver;

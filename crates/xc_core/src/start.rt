@@ -1,16 +1,13 @@
 //! What a start of the controller reads of its journal.
-ghost use Rattle.std.specs.Prelude.{◌≡◌, ◌≢◌, Bool, List, ℕ, false, None, IfErr, IfOk, IfSome};
-ghost use Rattle.dxc_causes.specs.Causes.{HasCause};
-ghost use Rattle.dxc_disk.specs.Disks.{IsSound, Leaves, LeavesOnly, Spends};
-ghost use Rattle.journal_core.specs.declared.head.Head.{Head};
-ghost use Rattle.journal_core.specs.Turns.{Passing};
-ghost use Rattle.xc_core.specs.Openings.{Fails, IsDiskErr, LeavesOpened};
-ghost use Rattle.xc_core.specs.Starts.{IsBlank, IsHoused, IsStart, disk_started, read_fault};
+ghost use Rattle.std.specs.Prelude.{◌≡◌, false, None, IfErr, IfOk, MatchResult};
+ghost use Rattle.dxc_disk.specs.Disks.{IsSound, Spends};
+ghost use Rattle.xc_core.specs.Openings.{CountsFor, Fails, IsDiskErr, IsStopErr, KeepsPassing, LeavesOpened};
+ghost use Rattle.xc_core.specs.Starts.{IsBlank, IsHoused, IsStart, disk_left, read_fault};
 ghost use Rattle.xc_core.specs.declared.state.Home.TheVariants.{In};
 
 use crate::fault::OpenFault;
 use crate::origin::Origin;
-use crate::provisioner::{Driver, Provisioner};
+use crate::provisioner::{Driver, Provisioner, release};
 use crate::second::Second;
 use crate::state::{Home, State};
 use dbchg_reports::Reports;
@@ -119,15 +116,16 @@ pub(crate) fn read_journal<D: Disk + Drop>(
 ) -> Result<Start<D>, OpenFault<D>>
     ensures ok { IfOk result (IsStart D.told D.state shelf.now (D.state disk) mover) }
     ensures fails { D.told → IfErr result (Fails D.state (D.state disk) shelf.now.shape) }
-    ensures any_moment { D.told → IfSome (disk_started result) (λ d. LeavesOpened shelf.now (D.state disk) (D.state d)) }
-    ensures passing { D.told → (test : Head → List (List ℕ) → Bool) → Leaves (D.state disk) (Passing shelf.now.shape test) → IfSome (disk_started result) (λ d. LeavesOnly (D.state disk) (D.state d) (Passing shelf.now.shape test)) }
-    ensures cause { IfSome (disk_started result) (λ d. HasCause (D.state disk).faults (D.state d).faults (IsDiskErr result)) }
-    ensures room { IfSome (disk_started result) (λ d. Spends 131_081 (D.state disk) (D.state d)) }
+    ensures any_moment { D.told
+        → LeavesOpened shelf.now (D.state disk) (D.state (disk_left result)) }
+    ensures passing { D.told → KeepsPassing shelf.now (D.state disk) (D.state (disk_left result)) }
+    ensures cause { CountsFor (IsDiskErr result) (D.state disk) (D.state (disk_left result)) }
+    ensures room { Spends 131_081 (D.state disk) (D.state (disk_left result)) }
     ensures sound { IsSound 131_081 (D.state disk) → IsDiskErr result → ⊥ }
-    ensures unstopped { IfErr result (λ e. e ≢ OpenFault.Stopped) }
+    ensures unstopped { IsStopErr result → ⊥ }
 {
     let Ok(blank) = memory_for(alloc, shelf) else {
-        return Err(OpenFault::NoMemory);
+        return Err(OpenFault::NoMemory(disk));
     };
     let mut seated = Seated { blank, mover };
     let shape = shelf.shape();
@@ -161,9 +159,9 @@ pub(crate) struct Housed<D: Disk> {
     pub driver: Box<Driver<D>>,
 }
 
-/// NoMemory is the only error.
-pub(crate) fn house<D: Disk + Drop>(alloc: Global, read: Start<D>) -> Result<Housed<D>, NoMemory>
-    ensures { IfOk result (IsHoused read) }
+/// Where memory is wanting the disk comes back.
+pub(crate) fn house<D: Disk + Drop>(alloc: Global, read: Start<D>) -> Result<Housed<D>, D>
+    ensures { MatchResult result (IsHoused read) (λ d. d ≡ read.p.journal.0) }
 {
     let Start {
         table,
@@ -177,8 +175,27 @@ pub(crate) fn house<D: Disk + Drop>(alloc: Global, read: Start<D>) -> Result<Hou
         last,
     };
     let rolling = Rolling::cold();
-    let driver = Box::new(alloc, Driver { p, rolling })?;
-    Ok(Housed { beside, driver })
+    match Box::new(alloc, Driver { p, rolling }) {
+        Ok(driver) => Ok(Housed { beside, driver }),
+        Err(refused) => Err(disk_in(refused.value)),
+    }
+}
+
+/// The disk of what was read, where a controller doesn't start on it.
+pub(crate) fn unhoused<D: Disk + Drop>(housed: Housed<D>) -> D
+    ensures { result ≡ housed.driver.value.p.journal.0 }
+{
+    let Housed { beside: _, driver } = housed;
+    disk_in(Box::into_inner(driver))
+}
+
+// The disk of its journal.
+fn disk_in<D: Disk>(driver: Driver<D>) -> D
+    ensures { result ≡ driver.p.journal.0 }
+{
+    let Driver { p, rolling: _ } = driver;
+    let (disk, _) = release(p);
+    disk
 }
 
 /// The state that begins with it, which keeps it as its origin.

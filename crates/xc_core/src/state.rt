@@ -5,7 +5,7 @@ ghost use Rattle.dxc_model.specs.declared.op.Op.{Op};
 ghost use Rattle.roll_engine.specs.Rollings.{rest_of};
 ghost use Rattle.xc_core.specs.Reckonings.{Past};
 ghost use Rattle.xc_core.specs.Provisioners.{Rolls, ground_of};
-ghost use Rattle.xc_core.specs.Finishes.{Finishes};
+ghost use Rattle.xc_core.specs.Finishes.{Finishes, OnlyFinishes};
 ghost use Rattle.dbchg_reports.specs.Recent.{with_one};
 
 use crate::granted::granted;
@@ -87,6 +87,7 @@ pub fn finish<D: Disk>(state: &mut State<D>, p: &mut Provisioner<D>, rolling: &R
     requires counted { state.old.reports.newest ≡ p.old.changes }
     ensures ground { ground_of p.new ≡ ground_of p.old }
     ensures journal { p.new.journal ≡ p.old.journal }
+    ensures others { OnlyFinishes p.old p.new }
     ensures state { state.new ≡ record state.old { table = state.new.table; reports = with_one result state.old.reports } }
     ensures finishes { (b : Past) → (op : Op) → (c : Change) → Rolls D.told D.state b op c p.old rolling.now → b.fold.table ≡ state.old.table → Finishes D.told D.state b c rolling.now state.new.table p.new result }
 {

@@ -1,17 +1,13 @@
 //! The turns of a place: each enters, does one thing with the state, and leaves with the place's entry.
-ghost use Rattle.std.specs.Prelude.{◌≡◌, ◌≢◌, ◌≤◌, List, [], length, vec_capacity};
-ghost use Rattle.std.specs.List.{AllByRecursion};
+ghost use Rattle.std.specs.Prelude.{◌≡◌, ◌≢◌, ◌≤◌, [], length, vec_capacity};
 ghost use Rattle.dxc_causes.specs.Causes.{Rose};
 ghost use Rattle.dxc_num.specs.Dimensions.{ports};
-ghost use Rattle.dxc_model.specs.declared.entry.Entry.{Entry};
 ghost use Rattle.dxc_model.specs.Histories.{kept};
-ghost use Rattle.dxc_model.specs.Operations.{IsApt, op_of};
-ghost use Rattle.dxc_model.specs.Tables.{Board, IsOfShape, rows as rows_of};
+ghost use Rattle.dxc_model.specs.Operations.{IsApt};
 ghost use Rattle.roll_engine.specs.Rollings.{rest_of};
 ghost use Rattle.xc_core.specs.Askings.{asked_at_take};
-ghost use Rattle.xc_core.specs.Seeing.{HasTaken, Rests, Saw};
-ghost use Rattle.xc_core.specs.States.{opening_of};
-ghost use Rattle.xc_core.specs.Turns.{CutIs, DoneIs, HasPass, LookIs, MarkIs, RowsAre, SawNoneAstray, TookIs};
+ghost use Rattle.xc_core.specs.Turns.{HasPass, SawNoneAstray};
+ghost use Rattle.xc_core.specs.Views.{After, AreApt, AreRowsOf, AtRest, Brings, Cuts, HasSeen, Looks, Marks, OutFor, ShowsRows, Takes, Upon, shape_in};
 
 use crate::inside;
 use crate::provisioner::Driver;
@@ -46,10 +42,10 @@ pub fn take<D: Disk + Drop, G: Gate, R: Wait>(
     rt: &R,
 ) -> Took<D>
     requires pass { HasPass turns.now pass.old }
-    requires apt { IsApt (opening_of D.state turns.now.first).first.fold.table.shape op.now }
-    requires seen { (h : List Entry) × Saw (opening_of D.state turns.now.first) pass.old.seen h }
+    requires apt { IsApt (shape_in D.Disk turns.now) op.now }
+    requires seen { HasSeen D.Disk turns.now pass.old }
     ensures pass { HasPass turns.now pass.new × (pass.new.number ≡ pass.old.number) }
-    ensures took { (h : List Entry) → Saw (opening_of D.state turns.now.first) pass.old.seen h → TookIs D.told D.state (opening_of D.state turns.now.first) pass.old.number h op.now pass.new.seen result }
+    ensures took { After D.Disk turns.now pass.old (Takes D.Disk op.now pass.new result) }
     ensures astray { SawNoneAstray D.told pass.new.seen }
     ensures stopped { result ≡ Took.Stopped → Rose (G.stops gate.old) (G.stops gate.new) }
     ensures unstopped { result ≢ Took.Stopped → G.stops gate.new ≡ G.stops gate.old }
@@ -88,10 +84,10 @@ pub fn bring<D: Disk + Drop, R: Wait>(
     rt: &R,
 )
     requires pass { HasPass turns.now pass.old }
-    requires taken { (h : List Entry) × Saw (opening_of D.state turns.now.first) pass.old.seen h × HasTaken D.told D.state (opening_of D.state turns.now.first) pass.old.number op.now h driver.value.p driver.value.rolling }
+    requires taken { Upon D.Disk turns.now pass.old (OutFor D.Disk op.now driver.value) }
     requires done { rest_of driver.value.rolling ≡ [] }
     ensures pass { HasPass turns.now pass.new × (pass.new.number ≡ pass.old.number) }
-    ensures done { (h : List Entry) → Saw (opening_of D.state turns.now.first) pass.old.seen h → DoneIs (opening_of D.state turns.now.first) pass.old.number h op.now pass.new.seen }
+    ensures done { After D.Disk turns.now pass.old (Brings op.now pass.new) }
     ensures astray { SawNoneAstray D.told pass.new.seen }
 {
     let mut turn = turns.enter(pass, rt);
@@ -118,9 +114,9 @@ pub fn cut<D: Disk + Drop, R: Wait>(
     rt: &R,
 )
     requires pass { HasPass turns.now pass.old }
-    requires taken { (h : List Entry) × Saw (opening_of D.state turns.now.first) pass.old.seen h × HasTaken D.told D.state (opening_of D.state turns.now.first) pass.old.number op.now h driver.value.p driver.value.rolling }
+    requires taken { Upon D.Disk turns.now pass.old (OutFor D.Disk op.now driver.value) }
     ensures pass { HasPass turns.now pass.new × (pass.new.number ≡ pass.old.number) }
-    ensures cut { (h : List Entry) → Saw (opening_of D.state turns.now.first) pass.old.seen h → CutIs (opening_of D.state turns.now.first) pass.old.number h op.now pass.new.seen }
+    ensures cut { After D.Disk turns.now pass.old (Cuts op.now pass.new) }
     ensures astray { SawNoneAstray D.told pass.new.seen }
 {
     let mut turn = turns.enter(pass, rt);
@@ -147,12 +143,12 @@ pub fn rows<D: Disk + Drop, R: Wait>(
     rt: &R,
 )
     requires pass { HasPass turns.now pass.old }
-    requires seen { (h : List Entry) × Saw (opening_of D.state turns.now.first) pass.old.seen h × Rests pass.old.number h }
-    requires room { ports (opening_of D.state turns.now.first).first.fold.table.shape ≤ vec_capacity into.old }
+    requires seen { Upon D.Disk turns.now pass.old AtRest }
+    requires room { ports (shape_in D.Disk turns.now) ≤ vec_capacity into.old }
     ensures pass { HasPass turns.now pass.new × (pass.new.number ≡ pass.old.number) }
-    ensures rows { (h : List Entry) → Saw (opening_of D.state turns.now.first) pass.old.seen h → RowsAre (opening_of D.state turns.now.first) pass.old.number h selection pass.new.seen into.new.items }
+    ensures rows { After D.Disk turns.now pass.old (ShowsRows selection pass.new into.new.items) }
     ensures astray { SawNoneAstray D.told pass.new.seen }
-    ensures table { (t : Board) × IsOfShape t × (t.shape ≡ (opening_of D.state turns.now.first).first.fold.table.shape) × (into.new.items ≡ rows_of t selection) }
+    ensures table { AreRowsOf (shape_in D.Disk turns.now) selection into.new.items }
     ensures room { vec_capacity into.new ≡ vec_capacity into.old }
 {
     let turn = turns.enter(pass, rt);
@@ -183,13 +179,13 @@ pub fn look<D: Disk + Drop, R: Wait>(
     rt: &R,
 ) -> Looked
     requires pass { HasPass turns.now pass.old }
-    requires seen { (h : List Entry) × Saw (opening_of D.state turns.now.first) pass.old.seen h × Rests pass.old.number h }
+    requires seen { Upon D.Disk turns.now pass.old AtRest }
     requires room { kept ≤ vec_capacity into.old }
     ensures pass { HasPass turns.now pass.new × (pass.new.number ≡ pass.old.number) }
-    ensures look { (h : List Entry) → Saw (opening_of D.state turns.now.first) pass.old.seen h → LookIs (opening_of D.state turns.now.first) pass.old.number h cursor pass.new.seen result into.new.items }
+    ensures look { After D.Disk turns.now pass.old (Looks cursor pass.new result into.new.items) }
     ensures astray { SawNoneAstray D.told pass.new.seen }
     ensures few { length into.new.items ≤ result.newest }
-    ensures apt { AllByRecursion (λ c. IsApt (opening_of D.state turns.now.first).first.fold.table.shape (op_of c)) into.new.items }
+    ensures apt { AreApt (shape_in D.Disk turns.now) into.new.items }
     ensures room { vec_capacity into.old ≤ vec_capacity into.new }
 {
     let turn = turns.enter(pass, rt);
@@ -206,9 +202,9 @@ pub fn look<D: Disk + Drop, R: Wait>(
 /// Gives the number of the newest change.
 pub fn mark<D: Disk + Drop, R: Wait>(pass: &mut Pass, turns: &Turnstile<State<D>>, rt: &R) -> u64
     requires pass { HasPass turns.now pass.old }
-    requires seen { (h : List Entry) × Saw (opening_of D.state turns.now.first) pass.old.seen h × Rests pass.old.number h }
+    requires seen { Upon D.Disk turns.now pass.old AtRest }
     ensures pass { HasPass turns.now pass.new × (pass.new.number ≡ pass.old.number) }
-    ensures mark { (h : List Entry) → Saw (opening_of D.state turns.now.first) pass.old.seen h → MarkIs (opening_of D.state turns.now.first) pass.old.number h pass.new.seen result }
+    ensures mark { After D.Disk turns.now pass.old (Marks pass.new result) }
     ensures astray { SawNoneAstray D.told pass.new.seen }
 {
     let turn = turns.enter(pass, rt);

@@ -1,4 +1,4 @@
-use Rattle.core_laws.proofs.Moves.{middles_few, moves_few}
+use Rattle.xc_core.proofs.Moves.{middles_few, moves_few}
 use Rattle.core_laws.proofs.moves_are_few.Goals as goal
 
 pub returns-clause-legs : goal.returns-clause-legs

@@ -9,14 +9,14 @@ use Rattle.craft_server.proofs.Loading.{no_read_fault, not_spent}
 use Rattle.craft_server.proofs.load.serve_load.Goals as goal
 
 pub unreachable-requires : goal.unreachable-requires
-unreachable-requires g c = no_read_fault (c.serve_session-end.ensures.read_fault c.in-ReadFault.is)
+unreachable-requires g c = no_read_fault (c.serve_session-end.ensures.why.read_fault c.in-ReadFault.is)
 
 pub unreachable-requires-in-Spent : goal.unreachable-requires-in-Spent
 unreachable-requires-in-Spent g c =
     let l = link_state c.serve_session-end.new.link in
     let e = c.serve_session-end.ensures in
-    let counted = subst (λ (n : ℕ). Counted n l.reads (2 ^ 32)) c.requires.unread (e.spent c.in-Spent.is) in
-    not_spent l.ended l.reads c.serve_session-end.result c.in-Spent.is e.end counted (λ on. subst (λ (n : ℕ). n < 2 ^ 21) c.reads-reads.ensures.value (c.reads-reads.ensures.few on))
+    let counted = subst (λ (n : ℕ). Counted n l.reads (2 ^ 32)) c.requires.unread (e.why.spent c.in-Spent.is) in
+    not_spent l.ended l.reads c.serve_session-end.result c.in-Spent.is e.why.ended counted (λ on. subst (λ (n : ℕ). n < 2 ^ 21) c.reads-reads.ensures.value (c.reads-reads.ensures.few on))
 
 pub returns-in-End-clause-served : goal.returns-in-End-clause-served
 returns-in-End-clause-served g c =
@@ -27,13 +27,13 @@ returns-in-End-clause-served g c =
     let e = c.serve_session-end.ensures in
     record {
       session = subst (λ (end : SessionEnd). IsServed (language old.shelf) (Unit {0}) (Unit {0}) k l load_moments load_moments old.seat new.seat old.users new.users end) c.in-End.is e.session;
-      seat = e.seat;
-      users = e.users;
-      numbers = e.numbers;
-      users_numbers = e.users_numbers;
-      astray = e.astray;
-      ended = e.end.0 c.in-End.is;
-      all_read = e.all_read tt c.in-End.is;
+      seat = e.place.seat;
+      users = e.place.users;
+      numbers = e.place.numbers;
+      users_numbers = e.place.users_numbers;
+      astray = e.place.astray;
+      ended = e.why.ended.0 c.in-End.is;
+      all_read = e.why.all_read tt c.in-End.is;
     }
 
 pub returns-in-End-clause-unstopped : goal.returns-in-End-clause-unstopped

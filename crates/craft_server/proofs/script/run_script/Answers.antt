@@ -33,13 +33,13 @@ returns-clause-opens g c =
     let l = g.K.Link.state c.serve_session.new.link in
     let later = g.G.Gate.stops c.serve_session.new.gate in
     let e = c.serve_session.ensures in
-    let ended : IsEnd k l (g.G.Gate.stops c.open.new.gate) later c.serve_session.result = record { ended = e.end; read_fault = e.read_fault; write_fault = e.write_fault; stopped = e.stopped; unstopped = e.unstopped; spent = e.spent } in
+    let ended : IsEnd k l (g.G.Gate.stops c.open.new.gate) later c.serve_session.result = record { ended = e.why.ended; read_fault = e.why.read_fault; write_fault = e.why.write_fault; stopped = e.stopped; unstopped = e.unstopped; spent = e.why.spent } in
     inr (
       f,
       opening_of state x.state,
       begun told state f.disk f.shelf _ x st,
       users_began told state g.O.Opener.told _ _ f.shelf users u,
-      ran_session told state g.K.Link.told g.C.Clock.told g.K.Link.begun k l (g.C.Clock.coming c.args.clock.now) (g.C.Clock.coming c.serve_session.new.clock) (g.G.Gate.stops c.args.gate.now) later f.shelf f.disk u.0.disk _ x users c.in-Ok-lone_place.place c.serve_session.new.place c.serve_session.result c.after_session.result st u.1 c.in-Ok-lone_place.ensures e.seat e.users e.numbers e.users_numbers e.astray e.session e.prompt
+      ran_session told state g.K.Link.told g.C.Clock.told g.K.Link.begun k l (g.C.Clock.coming c.args.clock.now) (g.C.Clock.coming c.serve_session.new.clock) (g.G.Gate.stops c.args.gate.now) later f.shelf f.disk u.0.disk _ x users c.in-Ok-lone_place.place c.serve_session.new.place c.serve_session.result c.after_session.result st u.1 c.in-Ok-lone_place.ensures e.place.seat e.place.users e.place.numbers e.place.users_numbers e.place.astray e.session e.prompt
           (subst (λ (n : ℕ). IsEnd k l n later c.serve_session.result) c.in-Ok.ensures.unstopped ended) c.after_session.ensures,
     )
 

@@ -1,5 +1,4 @@
 use Rattle.std.proofs.Common.{◌≡◌, ◌∙◌, ◌≤◌, ◌++◌, [], ℕ, List, refl, sym, ap, subst, arith}
-use Rattle.dxc_causes.specs.Causes.{Rose}
 use Rattle.dxc_num.specs.declared.register.RegWrite.{RegWrite}
 use Rattle.dxc_outside.specs.declared.gate.GatePlace.{GatePlace}
 use Rattle.fabric_core.specs.declared.size.Size.{Size}
@@ -13,8 +12,11 @@ use Rattle.roll_engine.specs.Courses.{IsReady}
 use Rattle.roll_engine.specs.Answers.{AnswerIs, GoesOn, asked_at}
 use Rattle.roll_engine.specs.Cold.{IsCold, left_behind, left_of, legs_then}
 use Rattle.roll_engine.specs.Leading.{IsLeading}
+use Rattle.dxc_causes.specs.Stops.{RoseOnlyFor}
+use Rattle.dxc_causes.proofs.Stops.{stands_still}
 use Rattle.roll_engine.proofs.Asking.{asked_nothing, asked_behind, asked_in_front}
 use Rattle.roll_engine.proofs.ColdRolling.{cold_on, no_frame}
+use Rattle.roll_engine.proofs.Running.{written_on}
 use Rattle.roll_engine.proofs.Leading.{IsOnWay, all_advances, answer_on, behind_kept, led_to_rest, leading_ready, way_begun, way_next, way_on}
 use Rattle.roll_engine.proofs.cold.advance_cold.Goals as goal
 
@@ -62,14 +64,13 @@ returns-in_default g c =
       fabric = c.advance.ensures.fabric ∙ i.fabric;
       advances = way.advances;
       leading = way.leading;
+      written = written_on z (left_of k m first) (left_of k b r') m b way.advances;
       kept = λ h. still_cold z r r' a b goes (i.kept h);
       answer = answer;
       done = λ e. absurd (c.in_default.not-Done e);
       cold = λ h. cold_on z k first r' m b h way.advances;
       joins = λ h f e. no_frame z k r' (left_of k m first) m b f (cold_on z k first r' m b h way.advances) (subst (λ (x : Advance). AnswerIs z (left_of k m first) (left_of k b r') m b x) e answer);
-      stopped = λ e. subst (λ (n : ℕ). Rose n (g.G.Gate.stops c.advance.new.gate)) i.unstopped (c.advance.ensures.stopped e);
-      unstopped = λ h. c.advance.ensures.unstopped h ∙ i.unstopped;
-      later = subst (λ (n : ℕ). n ≤ g.G.Gate.stops c.advance.new.gate) i.unstopped c.advance.ensures.later;
+      stopped = subst (λ (n : ℕ). RoseOnlyFor n (g.G.Gate.stops c.advance.new.gate) (c.advance.result ≡ Stopped)) i.unstopped c.advance.ensures.stopped;
       asked = subst (λ (places : List GatePlace). g.G.Gate.asked c.args.gate.now c.advance.new.gate places) (asked_on_way z k first r r' m a b c.advance.result i.way goes)
           (g.G.Gate.asked_on c.args.gate.now c.loop-answer.gate c.advance.new.gate (asked_at (left_of k m first) (left_of k a r) Done) (asked_at (rest_of r) (rest_of r') c.advance.result) i.asked c.advance.ensures.asked);
     }
@@ -88,7 +89,7 @@ returns-then-not-take_next g c =
     let goes : GoesOn z r r' a b = subst (λ (f : FabricId). GoesOn f.size r r' a b) i.fabric c.advance.ensures.goes_on in
     let stays : b' ≡ b = ap (λ (s : MoverAt). s.mover) c.take_next.ensures.mover in
     let way = way_next z c.loop-answer.mover.fabric k first r r' then m a b b' sized stays c.take_next.ensures.same i.way c.advance.ensures.goes_on in
-    let same = c.advance.ensures.unstopped (λ e. not_stopped (sym c.in-Done.is ∙ e)) ∙ i.unstopped in
+    let same = c.advance.ensures.stopped.only (λ e. not_stopped (sym c.in-Done.is ∙ e)) ∙ i.unstopped in
     let left : left_of k b r' ≡ left_of k b' then = sym c.take_next.ensures.same ∙ ap (λ (x : Mover). left_of k x then) (sym stays) in
     let asked : g.G.Gate.asked c.args.gate.now c.advance.new.gate (asked_at (left_of k m first) (left_of k b' then) Done)
     = subst (λ (places : List GatePlace). g.G.Gate.asked c.args.gate.now c.advance.new.gate places)
@@ -99,14 +100,13 @@ returns-then-not-take_next g c =
       fabric = ap (λ (s : MoverAt). s.fabric) c.take_next.ensures.mover ∙ (c.advance.ensures.fabric ∙ i.fabric);
       advances = way.advances;
       leading = way.leading;
+      written = written_on z (left_of k m first) (left_of k b' then) m b' way.advances;
       kept = λ h. c.take_next.ensures.cold (still_cold z r r' a b goes (i.kept h));
       answer = none;
       done = λ e. led_to_rest z k b' (subst (λ (ws : List RegWrite). IsLeading z k ws b') none way.leading.leading);
       cold = λ h. cold_on z k first then m b' h way.advances;
       joins = λ h f e. cc;
-      stopped = λ e. absurd (not_stopped e);
-      unstopped = λ e. same;
-      later = omega arith;
+      stopped = stands_still _ _ _ same not_stopped;
       asked = asked;
     }
 
@@ -121,7 +121,7 @@ loop-answer-preserved g c =
     let goes : GoesOn z r r' a b = subst (λ (f : FabricId). GoesOn f.size r r' a b) i.fabric c.advance.ensures.goes_on in
     let stays : b' ≡ b = ap (λ (s : MoverAt). s.mover) c.take_next.ensures.mover in
     let way = way_next z c.loop-answer.mover.fabric k first r r' then m a b b' sized stays c.take_next.ensures.same i.way c.advance.ensures.goes_on in
-    let same = c.advance.ensures.unstopped (λ e. not_stopped (sym c.in-Done.is ∙ e)) ∙ i.unstopped in
+    let same = c.advance.ensures.stopped.only (λ e. not_stopped (sym c.in-Done.is ∙ e)) ∙ i.unstopped in
     let left : left_of k b r' ≡ left_of k b' then = sym c.take_next.ensures.same ∙ ap (λ (x : Mover). left_of k x then) (sym stays) in
     let asked : g.G.Gate.asked c.args.gate.now c.advance.new.gate (asked_at (left_of k m first) (left_of k b' then) Done)
     = subst (λ (places : List GatePlace). g.G.Gate.asked c.args.gate.now c.advance.new.gate places)

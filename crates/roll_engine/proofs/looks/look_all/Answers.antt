@@ -1,7 +1,7 @@
-use Rattle.std.proofs.Common.{rules, arith, ◌≡◌, ◌++◌, ◌∙◌, true}
+use Rattle.std.proofs.Common.{rules, arith, ◌≡◌, ◌++◌, ◌∙◌}
 use Rattle.fabric_core.specs.declared.size.Size.{Size}
 use Rattle.fabric_core.specs.declared.mover.Mover.{Mover}
-use Rattle.fabric_core.specs.Passing.{has_passed}
+use Rattle.fabric_core.specs.Passing.{Passed}
 use Rattle.fabric_core.specs.State.{looks_of}
 use Rattle.roll_engine.proofs.Looking.{looks_join, looks_length, passed_more, all_passed, seen_later}
 use Rattle.roll_engine.proofs.looks.look_all.Goals as goal
@@ -21,7 +21,7 @@ loop-worker-preserved c =
     let b = c.look_one.ensures.looks in
     let m : Mover = c.loop-worker.mover.mover in
     let m' : Mover = c.look_one.new.mover.mover in
-    let now : has_passed (looks_of m' c.loop-worker.worker) ≡ true = search rules in record {
+    let now : Passed (looks_of m' c.loop-worker.worker) = search rules in record {
       own = c.look_one.ensures.own;
       looks = (i.looks.0 ++ b.0, looks_join z i.looks.0 b.0 c.args.mover.now.mover m m' i.looks.1 b.1);
       full = looks_length z b.0 m m' b.1 ∙ i.full;

@@ -4,6 +4,7 @@ use Rattle.fabric_words.specs.Seats.{FabricId}
 use Rattle.roll_engine.specs.Rollings.{RollingAt, at_step, rest_of}
 use Rattle.roll_engine.specs.Courses.{IsReady}
 use Rattle.roll_engine.specs.Walks.{Walks}
+use Rattle.roll_engine.proofs.Running.{written_on}
 use Rattle.roll_engine.proofs.Walking.{answer_is, walks_reached}
 use Rattle.roll_engine.proofs.run.advance.Goals as goal
 
@@ -23,8 +24,7 @@ returns g c =
       goes_on = k.goes_on;
       ready = k.ready;
       answer = answer_is c.args.mover.now.fabric.size (rest_of first) (rest_of new) m b c.writes_on-answer.result (λ e. ap rest_of c.reach.ensures ∙ c.writes_on-answer.ensures.all e) k.halted;
+      written = written_on c.args.mover.now.fabric.size (rest_of first) (rest_of new) m b k.goes_on.advances;
       stopped = k.stopped;
-      unstopped = k.unstopped;
-      later = k.later;
       asked = k.asked;
     }

@@ -4,6 +4,7 @@ use Rattle.dxc_outside.specs.Links.{LinkState}
 use Rattle.standby_link.specs.declared.line.Line.{Line}
 use Rattle.standby_link.specs.declared.mirror.Lost.{Lost}
 use Rattle.standby_link.specs.Moves.{SendsFile}
+use Rattle.dxc_disk.proofs.DiskSteps.{spends_more, spends_on}
 use Rattle.dxc_disk.proofs.LookSteps.{looks_on}
 use Rattle.standby_link.specs.Acts.{write, pieces}
 use Rattle.standby_link.specs.Lines.{SentActs}
@@ -36,6 +37,7 @@ loop-at-init g c = record {
   size = λ t. c.in-Ok.ensures.value t;
   looks = λ t. c.in-Ok.ensures.looks t;
   faults = c.in-Ok.ensures.cause.later;
+  room = spends_more 1 (1 + 0) _ _ (omega arith) c.in-Ok.ensures.room;
   sending = λ t small. subst (λ (n : ℕ). Sending g.K.Link.told (g.K.Link.state c.args.line.now.link) (g.K.Link.state c.args.line.now.link) 0 n 0 0 (g.D.Disk.state c.args.disk.now).reads_as) (sym c.requires.first) (sending_none _ _ _ _ _);
 }
 
@@ -49,6 +51,8 @@ loop-at-preserved g c =
       size = c.loop-at.invariant.size;
       looks = λ t. looks_on _ _ _ (g.met.D.Disk.is_disk _ t) (c.loop-at.invariant.looks t) (c.read.ensures.looks t);
       faults = omega (arith, c.loop-at.invariant.faults, c.read.ensures.cause.later);
+      room = spends_more ((1 + c.loop-at.at) + 1) (1 + (c.loop-at.at + c.min-count.result)) _ _ (omega (arith, c.min-count.ensures, c.loop-at-test.true))
+          (spends_on (1 + c.loop-at.at) 1 _ _ _ c.loop-at.invariant.room c.read.ensures.room);
       sending = λ t small.
           let file = (g.D.Disk.state c.args.disk.now).reads_as in
           let sending = c.loop-at.invariant.sending t small in
@@ -66,6 +70,17 @@ pub returns-clause-sends : goal.returns-clause-sends
 returns-clause-sends g c = λ t small.
     file_sent _ _ _ _ _ (subst (λ l. SentActs g.K.Link.told (g.K.Link.state c.args.line.now.link) (g.K.Link.state c.loop-at.line.link) 0 c.loop-at.line.number l (pieces 0 (g.D.Disk.state c.args.disk.now).reads_as)) (sym c.loop-at.invariant.here)
     (sending_all _ _ _ _ _ _ _ _ (c.loop-at.invariant.sending t small) (omega (arith, c.loop-at-test.false, c.loop-at.invariant.size t))))
+
+pub returns-clause-room : goal.returns-clause-room
+returns-clause-room g c = λ t. spends_more (1 + c.loop-at.at) (1 + length (g.D.Disk.state c.args.disk.now).reads_as) _ _ (omega (arith, c.loop-at.invariant.within, c.loop-at.invariant.size t)) c.loop-at.invariant.room
+
+pub returns-then-is_err-clause-room : goal.returns-then-is_err-clause-room
+returns-then-is_err-clause-room g c = λ t. spends_more ((1 + c.loop-at.at) + 1) (1 + length (g.D.Disk.state c.args.disk.now).reads_as) _ _ (omega (arith, c.loop-at-test.true, c.loop-at.invariant.size t))
+    (spends_on (1 + c.loop-at.at) 1 _ _ _ c.loop-at.invariant.room c.read.ensures.room)
+
+pub returns-then-is_some-clause-room : goal.returns-then-is_some-clause-room
+returns-then-is_some-clause-room g c = λ t. spends_more ((1 + c.loop-at.at) + 1) (1 + length (g.D.Disk.state c.args.disk.now).reads_as) _ _ (omega (arith, c.loop-at-test.true, c.loop-at.invariant.size t))
+    (spends_on (1 + c.loop-at.at) 1 _ _ _ c.loop-at.invariant.room c.read.ensures.room)
 
 pub returns-then-is_err-clause-looks : goal.returns-then-is_err-clause-looks
 returns-then-is_err-clause-looks g c = λ t. looks_on _ _ _ (g.met.D.Disk.is_disk _ t) (c.loop-at.invariant.looks t) (c.read.ensures.looks t)

@@ -1,5 +1,5 @@
-use Rattle.std.proofs.Common.{◌≡◌, true, false, ◌∙◌, sym, ap, subst}
-use Rattle.std.specs.Prelude.{OnOk, IsErr, Result, Ok, Err}
+use Rattle.std.proofs.Common.{◌≡◌, ◌⊎◌, inl, inr, true, false, ◌∙◌, sym, ap, subst}
+use Rattle.std.specs.Prelude.{OnErr, OnOk, IsErr, Result, Ok, Err}
 use Rattle.std.specs.List.{AllByRecursion}
 use Rattle.dxc_num.specs.Dimensions.{IsInLimits}
 use Rattle.dxc_disk.specs.Disks.{LeavesOnly}
@@ -12,17 +12,23 @@ use Rattle.paull_matrix.specs.Colourings.{Colouring}
 use Rattle.xc_journal.specs.Entries.{FitsConn}
 use Rattle.xc_core.specs.declared.provisioner.Provisioner.{Provisioner}
 use Rattle.xc_core.specs.Journals.{IsCounted, IsOldOrDoubted, StillCounts}
+use Rattle.xc_core.specs.Provisioners.{HasNoDoubt, IsUnmended}
 use Rattle.xc_core.proofs.Counting.{counts_same, keeps_counted, left_counted, still_from}
 use Rattle.xc_core.proofs.Pasts.{home_with}
 use Rattle.xc_core.proofs.Rolling.{home_limits, placed_as}
 use Rattle.xc_core.proofs.Rooms.{fault_on}
-use Rattle.xc_core.proofs.Settling.{kept_or_none, settled_left}
+use Rattle.xc_core.proofs.Settling.{settled_left}
 use Rattle.xc_core.proofs.keep.make_ready.Goals as goal
 
 -- two things hold where it went well
 ok_both : {T E : Type 0} (r : Result T E) (P Q : Type 0) → OnOk r P → Q → OnOk r (P × Q)
 ok_both (Ok x) P Q here other = (here, other)
 ok_both (Err e) P Q here other = tt
+
+-- what holds anyway holds where it didn't
+on_err : {T E : Type 0} (r : Result T E) (P : Type 0) → P → OnErr r P
+on_err (Ok x) P here = tt
+on_err (Err e) P here = here
 
 pub write_checkpoint-requires-clause-placed : goal.write_checkpoint-requires-clause-placed
 write_checkpoint-requires-clause-placed g c = let w = c.requires.home in let h = c.settle.ensures.home w.0 w.1 in placed_as w.0 c.args.table.now c.settle.new.p.matrix (sym w.2) h.past.matrix h.past.placed
@@ -52,14 +58,13 @@ returns-clause-any_moment g c = λ told b home same.
     only_on (g.D.Disk.state a.journal.0) (g.D.Disk.state m.journal.0) (g.D.Disk.state c.write_checkpoint.new.journal.0) (IsOldOrDoubted b a.doubt) (c.settle.ensures.any_moment told b home)
     (settled_left b a.doubt m.doubt (g.D.Disk.state m.journal.0) (g.D.Disk.state c.write_checkpoint.new.journal.0) c.settle.ensures.doubt (c.write_checkpoint.ensures.any_moment told b m.doubt h.journal (sym same, h.past.matrix)))
 
-pub returns-in-Err-clause-doubt : goal.returns-in-Err-clause-doubt
-returns-in-Err-clause-doubt g c = kept_or_none c.args.p.now.doubt c.settle.new.p.doubt c.settle.ensures.doubt
+pub returns-in-Err-clause-unready : goal.returns-in-Err-clause-unready
+returns-in-Err-clause-unready g c = inl c.in-Err.ensures.unmended
 
-pub returns-then-not-due-clause-doubt : goal.returns-then-not-due-clause-doubt
-returns-then-not-due-clause-doubt g c = kept_or_none c.args.p.now.doubt c.settle.new.p.doubt c.settle.ensures.doubt
-
-pub returns-clause-doubt : goal.returns-clause-doubt
-returns-clause-doubt g c = kept_or_none c.args.p.now.doubt c.settle.new.p.doubt c.settle.ensures.doubt
+pub returns-clause-unready : goal.returns-clause-unready
+returns-clause-unready g c =
+    let left : Provisioner g.row.D.Denot = record (c.settle.new.p) { journal = c.write_checkpoint.new.journal } in
+    on_err c.write_checkpoint.result (IsUnmended c.args.p.now left ⊎ HasNoDoubt left) (inr (c.write_checkpoint.ensures.whole c.in-Ok.ensures.settled.0, c.in-Ok.ensures.settled.1))
 
 pub returns-in-Err-clause-acknowledged : goal.returns-in-Err-clause-acknowledged
 returns-in-Err-clause-acknowledged g c told =
@@ -108,7 +113,7 @@ pub returns-clause-ground : goal.returns-clause-ground
 returns-clause-ground g c = (λ i. record { fabric = c.settle.new.p.mover.fabric; shape = c.write_checkpoint.ensures.shape i }) ∙ c.settle.ensures.ground
 
 pub returns-clause-ready : goal.returns-clause-ready
-returns-clause-ready g c = ok_both c.write_checkpoint.result (IsReady c.write_checkpoint.new.journal.1) (c.write_checkpoint.new.journal.1.to_mend ≡ false) c.write_checkpoint.ensures.ready (c.write_checkpoint.ensures.whole c.in-Ok.ensures.mended)
+returns-clause-ready g c = ok_both c.write_checkpoint.result (IsReady c.write_checkpoint.new.journal.1) (HasNoDoubt (record (c.settle.new.p) { journal = c.write_checkpoint.new.journal })) c.write_checkpoint.ensures.ready (c.write_checkpoint.ensures.whole c.in-Ok.ensures.settled.0, c.in-Ok.ensures.settled.1)
 
 pub returns-clause-cause : goal.returns-clause-cause
 returns-clause-cause g c = fault_on (g.D.Disk.state c.args.p.now.journal.0).faults (g.D.Disk.state c.settle.new.p.journal.0).faults (g.D.Disk.state c.write_checkpoint.new.journal.0).faults (IsErr c.write_checkpoint.result) c.settle.ensures.cause.later c.write_checkpoint.ensures.cause.later c.write_checkpoint.ensures.cause.cause

@@ -38,6 +38,7 @@ returns-clause-restarted g c = λ h saw.
       c.end-lacking.result,
       turned g.D.Disk.told g.D.Disk.state (opening_of g.D.Disk.state c.args.turns.now.first) c.args.pass.now.number w.0 c.enter-turn.result.state c.enter-turn.result.seen f c.end-lacking.new.state e c.leave.new.pass.seen (c.end-lacking.ensures.restarted (opening_of g.D.Disk.state c.args.turns.now.first) c.args.pass.now.number (w.0 ++ f.later) c.args.asked.now st t) (seen_own g.D.Disk.told g.D.Disk.state (opening_of g.D.Disk.state c.args.turns.now.first) c.args.pass.now.number w.0 c.enter-turn.result.state c.enter-turn.result.seen f c.number-place.result Restart (Restarted c.end-lacking.result) c.leave.new.pass.seen (c.number-place.ensures ∙ c.enter-turn.ensures.out.0) c.leave.ensures.seen),
       t.due,
+      c.end-lacking.ensures.of_stop (opening_of g.D.Disk.state c.args.turns.now.first) c.args.pass.now.number (w.0 ++ f.later) c.args.asked.now st t,
     )
 
 pub returns-clause-pass : goal.returns-clause-pass

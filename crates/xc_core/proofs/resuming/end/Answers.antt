@@ -1,4 +1,5 @@
-use Rattle.std.proofs.Common.{[], ◌∷◌, ◌++◌, sym, ◌∙◌, ap, subst, inl}
+use Rattle.std.proofs.Common.{[], ◌∷◌, ◌++◌, Option, sym, ◌∙◌, ap, subst, inl}
+use Rattle.dxc_model.specs.declared.op.Change.{Change}
 use Rattle.dxc_model.specs.declared.entry.Outcome.TheVariants.{Restarted}
 use Rattle.dxc_model.specs.declared.op.Op.TheVariants.{Restart}
 use Rattle.std.specs.Box.{with_value}
@@ -8,7 +9,7 @@ use Rattle.xc_core.specs.Provisioners.{Boxed}
 use Rattle.xc_core.specs.Restarts.{Resumes}
 use Rattle.xc_core.specs.declared.state.Home.TheVariants.{In}
 use Rattle.xc_core.specs.declared.state.State.{State}
-use Rattle.xc_core.specs.Seeing.{HasRestart, entry}
+use Rattle.xc_core.specs.Seeing.{HasRestart, IsOfStop, entry}
 use Rattle.xc_core.specs.States.{StandsFor}
 use Rattle.xc_core.proofs.Away.{same_number, same_table}
 use Rattle.xc_core.proofs.Halting.{alone_left}
@@ -43,3 +44,10 @@ returns-clause-restarted g c = λ o own h asked st taken.
     let same = same_table g.D.Disk.told g.D.Disk.state o s h st own Restart v.p t.out in
     subst (λ (x : State g.row.D.Denot). StandsFor g.D.Disk.told g.D.Disk.state o x (h ++ entry own Restart (Restarted c.end_recovery-lacking.result) ∷ [])) (sym final)
     (stands_restarted g.D.Disk.told g.D.Disk.state o s h st own asked v.p v.rolling t left c.end_recovery-lacking.new.state.table c.end_recovery-lacking.result (c.end_recovery-lacking.ensures.ends t.out.now t.lacking t.behind t.resumes same) c.end_recovery-lacking.ensures.ground c.end_recovery-lacking.ensures.journal (g.met.D.Disk.counts_on c.end_recovery-lacking.new.p.journal.0))
+
+pub returns-clause-of_stop : goal.returns-clause-of_stop
+returns-clause-of_stop g c = λ o own h asked st taken.
+    let v : Driver g.row.D.Denot = c.deref_mut-held.result.now in
+    let t = subst (λ (x : Driver g.row.D.Denot). HasRestart g.D.Disk.told g.D.Disk.state o own asked h x.p x.rolling) (sym c.deref_mut-held.ensures.value) taken in
+    let same = same_table g.D.Disk.told g.D.Disk.state o c.args.state.now h st own Restart v.p t.out in
+    subst (λ (x : Option Change). IsOfStop x h) (sym (c.end_recovery-lacking.ensures.ends t.out.now t.lacking t.behind t.resumes same).change) t.of_stop

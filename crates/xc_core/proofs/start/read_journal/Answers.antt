@@ -1,19 +1,19 @@
-use Rattle.std.proofs.Common.{◌≡◌, ◌≢◌, ℕ, Bool, List, Err, Ok, refl, subst, sym, ◌∙◌}
-use Rattle.std.specs.Prelude.{IfSome}
+use Rattle.std.proofs.Common.{◌≡◌, ℕ, Bool, List, Err, Ok, refl, subst, sym, ◌∙◌}
 use Rattle.dxc_causes.specs.Causes.{HasCause}
+use Rattle.dxc_disk.proofs.DiskSteps.{spends_none}
 use Rattle.dxc_disk.proofs.LookSteps.{looks_same}
 use Rattle.dxc_num.specs.Dimensions.{Dimensions}
 use Rattle.dxc_disk.specs.Disks.{DiskState, Leaves, LeavesOnly, Spends}
 use Rattle.journal_core.specs.declared.head.Head.{Head}
 use Rattle.journal_core.specs.Opens.{IsRefused, OpensNew, OpensOld, made_head}
 use Rattle.journal_core.specs.Turns.{Passing}
+use Rattle.journal_core.proofs.KeepSteps.{none_only}
 use Rattle.xc_core.specs.declared.fault.OpenFault.{OpenFault}
-use Rattle.xc_core.specs.declared.fault.OpenFault.TheVariants as open_fault
 use Rattle.xc_core.specs.declared.start.Start.{Start}
 use Rattle.xc_core.specs.Starts.{IsStart}
-use Rattle.xc_core.specs.Openings.{Fails, IsDiskFault, LeavesOpened, disk_of_fault}
+use Rattle.xc_core.specs.Openings.{Fails, IsDiskFault, IsStopFault, LeavesOpened, disk_of_fault}
 use Rattle.xc_core.proofs.Journalling.{looked_on}
-use Rattle.xc_core.proofs.Opened.{bad_header, leaves_opened}
+use Rattle.xc_core.proofs.Opened.{bad_header, leaves_opened, none_counted, none_opened}
 use Rattle.xc_core.proofs.Rooms.{fault_on, replay_room, replay_sound}
 use Rattle.xc_core.proofs.Unread.{unread_cause, unread_disk, unread_fails, unread_sound, unread_unstopped}
 use Rattle.xc_core.proofs.start.read_journal.Goals as goal
@@ -114,7 +114,7 @@ returns-in-Err-replay-clause-any_moment g c told =
     let a = g.D.Disk.state c.args.disk in
     let j = c.in-Ok-open.journal in
     let b = g.D.Disk.state j.0 in
-    subst (λ (e : OpenFault g.row.D.Denot). IfSome (disk_of_fault e) (λ d. LeavesOpened c.args.shelf.now a (g.D.Disk.state d))) (sym c.failed.ensures)
+    subst (λ (e : OpenFault g.row.D.Denot). LeavesOpened c.args.shelf.now a (g.D.Disk.state (disk_of_fault e))) (sym c.failed.ensures)
     (unread_disk c.in-Err-replay.fault c.replay.new.journal.0 (λ d. LeavesOpened c.args.shelf.now a (g.D.Disk.state d)) (leaves_opened c.args.shelf.now a b (g.D.Disk.state c.replay.new.journal.0) (Ok j.1) (g.met.D.Disk.is_disk j.0 told)
     (λ old. subst (λ (d : Dimensions). OpensOld d a b (Ok j.1)) c.shape-shape.ensures (c.in-Ok-open.ensures.old told old))
     (λ new. subst (λ (w : Dimensions × ℕ). OpensNew w.0 (made_head w.1) a b (Ok j.1)) (λ k. (c.shape-shape.ensures k, c.equipped.ensures.value k)) (c.in-Ok-open.ensures.is_new told new))
@@ -124,7 +124,7 @@ pub returns-in-Err-replay-clause-passing : goal.returns-in-Err-replay-clause-pas
 returns-in-Err-replay-clause-passing g c told test begin =
     let a = g.D.Disk.state c.args.disk in
     let j = c.in-Ok-open.journal in
-    subst (λ (e : OpenFault g.row.D.Denot). IfSome (disk_of_fault e) (λ d. LeavesOnly a (g.D.Disk.state d) (Passing c.args.shelf.now.shape test))) (sym c.failed.ensures)
+    subst (λ (e : OpenFault g.row.D.Denot). LeavesOnly a (g.D.Disk.state (disk_of_fault e)) (Passing c.args.shelf.now.shape test)) (sym c.failed.ensures)
     (unread_disk c.in-Err-replay.fault c.replay.new.journal.0 (λ d. LeavesOnly a (g.D.Disk.state d) (Passing c.args.shelf.now.shape test)) (looked_on a (g.D.Disk.state j.0) (g.D.Disk.state c.replay.new.journal.0) (Passing c.args.shelf.now.shape test) (g.met.D.Disk.is_disk j.0 told)
     (passing_as c.shape-shape.result c.args.shelf.now.shape test a (g.D.Disk.state j.0) c.shape-shape.ensures (c.in-Ok-open.ensures.passing told test) begin) (c.in-Err-replay.ensures.looks told)))
 
@@ -132,13 +132,13 @@ pub returns-in-Err-replay-clause-room : goal.returns-in-Err-replay-clause-room
 returns-in-Err-replay-clause-room g c =
     let a = g.D.Disk.state c.args.disk in
     let j = c.in-Ok-open.journal in
-    subst (λ (e : OpenFault g.row.D.Denot). IfSome (disk_of_fault e) (λ d. Spends 131_081 a (g.D.Disk.state d))) (sym c.failed.ensures)
+    subst (λ (e : OpenFault g.row.D.Denot). Spends 131_081 a (g.D.Disk.state (disk_of_fault e))) (sym c.failed.ensures)
     (unread_disk c.in-Err-replay.fault c.replay.new.journal.0 (λ d. Spends 131_081 a (g.D.Disk.state d)) (replay_room 65_545 a (g.D.Disk.state j.0) (g.D.Disk.state c.replay.new.journal.0) j.1 c.in-Ok-open.ensures.whole.0 c.in-Ok-open.ensures.room c.in-Err-replay.ensures.room))
 
 pub returns-in-Err-replay-clause-cause : goal.returns-in-Err-replay-clause-cause
 returns-in-Err-replay-clause-cause g c =
     let j = c.in-Ok-open.journal in
-    subst (λ (e : OpenFault g.row.D.Denot). IfSome (disk_of_fault e) (λ d. HasCause (g.D.Disk.state c.args.disk).faults (g.D.Disk.state d).faults (IsDiskFault e))) (sym c.failed.ensures)
+    subst (λ (e : OpenFault g.row.D.Denot). HasCause (g.D.Disk.state c.args.disk).faults (g.D.Disk.state (disk_of_fault e)).faults (IsDiskFault e)) (sym c.failed.ensures)
     (unread_cause g.D.Disk.state c.in-Err-replay.fault c.replay.new.journal.0 (g.D.Disk.state c.args.disk).faults (g.D.Disk.state j.0).faults c.in-Ok-open.ensures.cause.later c.in-Err-replay.ensures.cause.later c.in-Err-replay.ensures.cause.cause)
 
 pub returns-in-Err-replay-clause-sound : goal.returns-in-Err-replay-clause-sound
@@ -148,4 +148,21 @@ returns-in-Err-replay-clause-sound g c = λ sound.
     (unread_sound c.in-Err-replay.fault c.replay.new.journal.0 (c.in-Err-replay.ensures.sound (replay_sound 65_545 (g.D.Disk.state c.args.disk) (g.D.Disk.state j.0) j.1 c.in-Ok-open.ensures.whole.0 c.in-Ok-open.ensures.cause.later c.in-Ok-open.ensures.room sound)))
 
 pub returns-in-Err-replay-clause-unstopped : goal.returns-in-Err-replay-clause-unstopped
-returns-in-Err-replay-clause-unstopped g c = subst (λ (e : OpenFault g.row.D.Denot). e ≢ open_fault.Stopped) (sym c.failed.ensures) (unread_unstopped c.in-Err-replay.fault c.replay.new.journal.0)
+returns-in-Err-replay-clause-unstopped g c = subst (λ (e : OpenFault g.row.D.Denot). IsStopFault e → ⊥) (sym c.failed.ensures) (unread_unstopped c.in-Err-replay.fault c.replay.new.journal.0)
+
+-- before the journal was opened the disk is as it was
+pub returns-in_default-clause-any_moment : goal.returns-in_default-clause-any_moment
+returns-in_default-clause-any_moment g c told =
+    let a = g.D.Disk.state c.args.disk in
+    none_opened c.args.shelf.now a (g.met.D.Disk.is_disk c.args.disk told)
+
+pub returns-in_default-clause-passing : goal.returns-in_default-clause-passing
+returns-in_default-clause-passing g c told test begin =
+    let a = g.D.Disk.state c.args.disk in
+    none_only a (Passing c.args.shelf.now.shape test) (g.met.D.Disk.is_disk c.args.disk told) begin
+
+pub returns-in_default-clause-room : goal.returns-in_default-clause-room
+returns-in_default-clause-room g c = spends_none 131_081 (g.D.Disk.state c.args.disk)
+
+pub returns-in_default-clause-cause : goal.returns-in_default-clause-cause
+returns-in_default-clause-cause g c = none_counted (g.D.Disk.state c.args.disk)

@@ -15,12 +15,12 @@ invariant_of-self g c =
     let t = arc_value c.self.inside.turns in
     let p = c.self.inside.pass in
     let w = c.self.invariant.2 in
-    let o = opening_of g.D.Disk.state c.deref.result.now.first in
-    let turn = c.warm_restart.ensures.restarted w.0 (saw_there g.D.Disk.told g.D.Disk.state p t c.deref.result.now w.0 c.deref.ensures w.1) in
-    seated_on g.D.Disk.told g.D.Disk.state p c.warm_restart.new.pass t c.deref.result.now (arc_value c.self.inside.fabric) c.deref.ensures c.self.invariant c.warm_restart.ensures.pass.0 c.warm_restart.ensures.pass.1
-    (restarted_ended o p.number w.0 c.warm_restart.new.pass.seen c.warm_restart.result turn) c.warm_restart.ensures.astray
+    let o = opening_of g.D.Disk.state c.deref-turns.result.now.first in
+    let turn = c.warm_restart-restarted.ensures.restarted w.0 (saw_there g.D.Disk.told g.D.Disk.state p t c.deref-turns.result.now w.0 c.deref-turns.ensures w.1) in
+    seated_on g.D.Disk.told g.D.Disk.state p c.warm_restart-restarted.new.pass t c.deref-turns.result.now (arc_value c.self.inside.fabric) c.deref-turns.ensures c.self.invariant c.warm_restart-restarted.ensures.pass.0 c.warm_restart-restarted.ensures.pass.1
+    (restarted_ended o p.number w.0 c.warm_restart-restarted.new.pass.seen c.warm_restart-restarted.result turn) c.warm_restart-restarted.ensures.astray
 
 pub returns-clause-entered : goal.returns-clause-entered
 returns-clause-entered g c =
-    let eq = ap (λ (t : Gate (State g.row.D.Denot)). seat_at g.D.Disk.state c.self.inside.pass t) c.deref.ensures ∙ c.self.view_is in
-    subst (λ (s : SeatAt). (h : List Entry) → Saw s.opening s.seen h → Entered s.opening s.place (g.G.Gate.asked c.args.gate.now c.warm_restart.new.gate) false false h c.warm_restart.new.pass.seen) eq c.warm_restart.ensures.entered
+    let eq = ap (λ (t : Gate (State g.row.D.Denot)). seat_at g.D.Disk.state c.self.inside.pass t) c.deref-turns.ensures ∙ c.self.view_is in
+    subst (λ (s : SeatAt). (h : List Entry) → Saw s.opening s.seen h → Entered s.opening s.place (g.G.Gate.asked c.args.gate.now c.warm_restart-restarted.new.gate) false false h c.warm_restart-restarted.new.pass.seen) eq c.warm_restart-restarted.ensures.entered

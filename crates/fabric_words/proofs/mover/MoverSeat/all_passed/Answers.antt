@@ -4,7 +4,6 @@ use native.Mathlib.Decide.{ℕ_discrete}
 use mathlib.Core.Logic.{dite}
 use Rattle.fabric_core.specs.Passing.{Passed}
 use Rattle.fabric_core.specs.State.{looks_of}
-use Rattle.fabric_core.proofs.Passing.{passed_test, test_passed}
 use Rattle.fabric_words.proofs.mover.MoverSeat.all_passed.Goals as goal
 
 pub returns-then-not-passed : goal.returns-then-not-passed
@@ -14,11 +13,10 @@ returns-then-not-passed c =
     let low : w < c.args.self.now.fabric.size.workers = omega arith in
     let none : c.passed.result ≡ false = c.if-not-passed.true in (
       (λ e. absurd (false≢true e)),
-      (λ all. absurd (true≢false (sym (test_passed (looks_of m w) (all w low)) ∙ (sym c.passed.ensures ∙ none)))),
+      (λ all. absurd (true≢false (sym (c.passed.ensures.1 (all w low)) ∙ none))),
     )
 
 pub loop-worker-preserved : goal.loop-worker-preserved
 loop-worker-preserved c = λ w low. dite (ℕ_discrete w c.loop-worker.worker)
-    (λ e. let m = c.args.self.now.mover in
-    subst (λ (u : ℕ). Passed (looks_of m u)) (sym e) (passed_test (looks_of m c.loop-worker.worker) (sym c.passed.ensures ∙ c.if-not-passed.false)))
+    (λ e. let m = c.args.self.now.mover in subst (λ (u : ℕ). Passed (looks_of m u)) (sym e) (c.passed.ensures.0 c.if-not-passed.false))
     (λ other. c.loop-worker.invariant w (omega arith))

@@ -2,15 +2,14 @@ use Rattle.std.proofs.Common.{◌≡◌, true, ap, subst, sym, ◌∙◌}
 use Rattle.std.specs.Prelude.{IfSome}
 use Rattle.dxc_num.specs.Dimensions.{IsInLimits}
 use Rattle.dxc_causes.specs.Causes.{HasCause}
-use Rattle.dxc_disk.specs.Disks.{LeavesOnly, Spends}
-use Rattle.journal_core.specs.Turns.{Passing}
+use Rattle.dxc_disk.specs.Disks.{Spends}
 use Rattle.fabric_core.specs.declared.mover.Mover.{Mover}
 use Rattle.fabric_words.specs.Seats.{FabricId, MoverAt}
 use Rattle.xc_core.specs.declared.provisioner.Provisioner.{Provisioner}
 use Rattle.xc_core.specs.declared.state.Home.TheVariants.{In}
 use Rattle.xc_core.specs.declared.state.State.{State}
 use Rattle.xc_core.specs.Adoptions.{HasSeat, IsAdopting, IsOffLast, IsOnLast}
-use Rattle.xc_core.specs.Openings.{Begins, LeavesOpened, disk_home}
+use Rattle.xc_core.specs.Openings.{Begins, KeepsPassing, LeavesOpened, disk_home}
 use Rattle.xc_core.specs.States.{opening_of}
 use Rattle.xc_core.proofs.Adoption.{adopted, strange}
 use Rattle.xc_core.proofs.Opened.{home_disk, last_start, matrix_shape}
@@ -61,7 +60,7 @@ at_home g c P is =
     home_disk P c.begun.result h.beside.table h.beside.reports h.driver c.begun.result.origin c.begun.ensures.state (subst (λ (p : Provisioner g.row.D.Denot). P p.journal.0) (sym (behind g c)) is)
 
 pub returns-clause-passing : goal.returns-clause-passing
-returns-clause-passing g c told test begin = at_home g c (λ d. LeavesOnly (g.D.Disk.state c.args.disk) (g.D.Disk.state d) (Passing c.args.shelf.now.shape test)) (c.in-Ok.ensures.passing told test begin)
+returns-clause-passing g c told = at_home g c (λ d. KeepsPassing c.args.shelf.now (g.D.Disk.state c.args.disk) (g.D.Disk.state d)) (c.in-Ok.ensures.passing told)
 
 pub returns-clause-any_moment : goal.returns-clause-any_moment
 returns-clause-any_moment g c told = at_home g c (λ d. LeavesOpened c.args.shelf.now (g.D.Disk.state c.args.disk) (g.D.Disk.state d)) (c.in-Ok.ensures.any_moment told)
@@ -73,7 +72,7 @@ pub returns-clause-cause : goal.returns-clause-cause
 returns-clause-cause g c = at_home g c (λ d. HasCause (g.D.Disk.state c.args.disk).faults (g.D.Disk.state d).faults ⊥) c.in-Ok.ensures.cause
 
 pub returns-in_default-clause-passing : goal.returns-in_default-clause-passing
-returns-in_default-clause-passing g c told test begin = subst (λ (d : g.row.D.Denot). LeavesOnly (g.D.Disk.state c.args.disk) (g.D.Disk.state d) (Passing c.args.shelf.now.shape test)) (sym c.release-disk.ensures.disk) (c.in-Ok.ensures.passing told test begin)
+returns-in_default-clause-passing g c told = subst (λ (d : g.row.D.Denot). KeepsPassing c.args.shelf.now (g.D.Disk.state c.args.disk) (g.D.Disk.state d)) (sym c.release-disk.ensures.disk) (c.in-Ok.ensures.passing told)
 
 pub returns-in_default-clause-strange : goal.returns-in_default-clause-strange
 returns-in_default-clause-strange g c =
@@ -85,3 +84,19 @@ returns-in_default-clause-strange g c =
       c.release-disk.ensures.mover ∙ found.ensures.mover ∙ ap (λ (p : Provisioner g.row.D.Denot). p.mover) r.held,
       strange g.D.Disk.told g.D.Disk.state c.args.shelf.now (g.D.Disk.state c.args.disk) c.args.mover x r (λ told. g.met.D.Disk.is_disk r.journal.0 told) limits off,
     )
+
+-- memory was wanting
+housed_not : (g : given.Over) (c : goal.In-Err-house g) (P : g.row.D.Denot → Type 0) → P c.in-Ok.read.p.journal.0 → P c.in-Err-house.disk
+housed_not g c P is = subst P (sym c.in-Err-house.ensures) (subst (λ (p : Provisioner g.row.D.Denot). P p.journal.0) (sym c.halt_at.ensures) is)
+
+pub returns-in-Err-house-clause-passing : goal.returns-in-Err-house-clause-passing
+returns-in-Err-house-clause-passing g c told = housed_not g c (λ d. KeepsPassing c.args.shelf.now (g.D.Disk.state c.args.disk) (g.D.Disk.state d)) (c.in-Ok.ensures.passing told)
+
+pub returns-in-Err-house-clause-any_moment : goal.returns-in-Err-house-clause-any_moment
+returns-in-Err-house-clause-any_moment g c told = housed_not g c (λ d. LeavesOpened c.args.shelf.now (g.D.Disk.state c.args.disk) (g.D.Disk.state d)) (c.in-Ok.ensures.any_moment told)
+
+pub returns-in-Err-house-clause-room : goal.returns-in-Err-house-clause-room
+returns-in-Err-house-clause-room g c = housed_not g c (λ d. Spends 131_081 (g.D.Disk.state c.args.disk) (g.D.Disk.state d)) c.in-Ok.ensures.room
+
+pub returns-in-Err-house-clause-cause : goal.returns-in-Err-house-clause-cause
+returns-in-Err-house-clause-cause g c = housed_not g c (λ d. HasCause (g.D.Disk.state c.args.disk).faults (g.D.Disk.state d).faults ⊥) c.in-Ok.ensures.cause

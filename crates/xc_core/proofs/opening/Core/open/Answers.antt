@@ -3,10 +3,9 @@ use Rattle.std.specs.Prelude.{IfSome, replicate}
 use Rattle.std.specs.Box.{with_value}
 use Rattle.dxc_outside.specs.declared.gate.GatePlace.TheVariants.{Register}
 use Rattle.dxc_causes.specs.Causes.{HasCause}
-use Rattle.dxc_disk.specs.Disks.{LeavesOnly, Spends}
+use Rattle.dxc_disk.specs.Disks.{Spends}
 use Rattle.fabric_words.specs.Seats.{FabricId, MoverAt}
 use Rattle.journal_core.specs.declared.book.Book.{Book}
-use Rattle.journal_core.specs.Turns.{Passing}
 use Rattle.paull_matrix.specs.Colourings.{Colouring, IsProperColouring}
 use Rattle.roll_engine.specs.Cold.{joins_of}
 use Rattle.roll_engine.specs.Stages.{IsAtRestOn}
@@ -14,7 +13,7 @@ use Rattle.roll_plan.specs.Works.{switches_in}
 use Rattle.xc_core.specs.declared.provisioner.Driver.{Driver}
 use Rattle.xc_core.specs.declared.provisioner.Provisioner.{Provisioner}
 use Rattle.xc_core.specs.declared.state.State.{State}
-use Rattle.xc_core.specs.Openings.{Begins, IsOpening, LeavesOpened, disk_home}
+use Rattle.xc_core.specs.Openings.{Begins, IsOpening, KeepsPassing, LeavesOpened, disk_home}
 use Rattle.xc_core.specs.Provisioners.{Boxed}
 use Rattle.xc_core.specs.States.{opening_of}
 use Rattle.xc_core.proofs.Asked.{none_asked}
@@ -75,7 +74,7 @@ at_home g c P is =
     home_disk P c.begun.result h.beside.table h.beside.reports (joined_in g c) c.begun.result.origin c.begun.ensures.state (subst (λ (j : g.row.D.Denot × Book). P j.0) (sym (journal_is g c)) is)
 
 pub returns-clause-passing : goal.returns-clause-passing
-returns-clause-passing g c told test begin = at_home g c (λ d. LeavesOnly (g.D.Disk.state c.args.disk) (g.D.Disk.state d) (Passing c.args.shelf.now.shape test)) (c.in-Ok.ensures.passing told test begin)
+returns-clause-passing g c told = at_home g c (λ d. KeepsPassing c.args.shelf.now (g.D.Disk.state c.args.disk) (g.D.Disk.state d)) (c.in-Ok.ensures.passing told)
 
 pub returns-clause-any_moment : goal.returns-clause-any_moment
 returns-clause-any_moment g c told = at_home g c (λ d. LeavesOpened c.args.shelf.now (g.D.Disk.state c.args.disk) (g.D.Disk.state d)) (c.in-Ok.ensures.any_moment told)
@@ -93,5 +92,39 @@ returns-clause-cause g c = at_home g c (λ d. HasCause (g.D.Disk.state c.args.di
 pub returns-in-Err-clause-asked : goal.returns-in-Err-clause-asked
 returns-in-Err-clause-asked g c = none_asked g.D.Disk.state (g.G.Gate.asked c.args.gate.now c.args.gate.now) c.in-Err.fault c.in-Err.ensures.unstopped (g.G.Gate.unasked c.args.gate.now)
 
-pub returns-in_default-clause-asked : goal.returns-in_default-clause-asked
-returns-in_default-clause-asked g c = g.G.Gate.unasked c.args.gate.now
+pub returns-in-Err-house-clause-asked : goal.returns-in-Err-house-clause-asked
+returns-in-Err-house-clause-asked g c = g.G.Gate.unasked c.args.gate.now
+
+-- memory was wanting
+housed_not : (g : given.Over) (c : goal.In-Err-house g) (P : g.row.D.Denot → Type 0) → P c.in-Ok.read.p.journal.0 → P c.in-Err-house.disk
+housed_not g c P is = subst P (sym c.in-Err-house.ensures) is
+
+pub returns-in-Err-house-clause-any_moment : goal.returns-in-Err-house-clause-any_moment
+returns-in-Err-house-clause-any_moment g c told = housed_not g c (λ d. LeavesOpened c.args.shelf.now (g.D.Disk.state c.args.disk) (g.D.Disk.state d)) (c.in-Ok.ensures.any_moment told)
+
+pub returns-in-Err-house-clause-passing : goal.returns-in-Err-house-clause-passing
+returns-in-Err-house-clause-passing g c told = housed_not g c (λ d. KeepsPassing c.args.shelf.now (g.D.Disk.state c.args.disk) (g.D.Disk.state d)) (c.in-Ok.ensures.passing told)
+
+pub returns-in-Err-house-clause-room : goal.returns-in-Err-house-clause-room
+returns-in-Err-house-clause-room g c = housed_not g c (λ d. Spends 131_081 (g.D.Disk.state c.args.disk) (g.D.Disk.state d)) c.in-Ok.ensures.room
+
+pub returns-in-Err-house-clause-cause : goal.returns-in-Err-house-clause-cause
+returns-in-Err-house-clause-cause g c = housed_not g c (λ d. HasCause (g.D.Disk.state c.args.disk).faults (g.D.Disk.state d).faults ⊥) c.in-Ok.ensures.cause
+
+-- the gate stopped
+stopped_with : (g : given.Over) (c : goal.After-unhoused g) (P : g.row.D.Denot → Type 0) → P c.in-Ok.read.p.journal.0 → P c.unhoused.result
+stopped_with g c P is =
+    let journal = ap (λ (p : Provisioner g.row.D.Denot). p.journal.0) (c.join_all.ensures.others ∙ ap (λ (y : Provisioner g.row.D.Denot). record y { mover = c.join_all.new.p.mover; spent = c.join_all.new.p.spent }) (ap (λ (x : Driver g.row.D.Denot). x.p) c.deref_mut.ensures.value ∙ c.in-Ok-house.ensures.p)) in
+    subst P (sym (c.unhoused.ensures ∙ journal)) is
+
+pub returns-in-Stop-clause-any_moment : goal.returns-in-Stop-clause-any_moment
+returns-in-Stop-clause-any_moment g c told = stopped_with g c (λ d. LeavesOpened c.args.shelf.now (g.D.Disk.state c.args.disk) (g.D.Disk.state d)) (c.in-Ok.ensures.any_moment told)
+
+pub returns-in-Stop-clause-passing : goal.returns-in-Stop-clause-passing
+returns-in-Stop-clause-passing g c told = stopped_with g c (λ d. KeepsPassing c.args.shelf.now (g.D.Disk.state c.args.disk) (g.D.Disk.state d)) (c.in-Ok.ensures.passing told)
+
+pub returns-in-Stop-clause-room : goal.returns-in-Stop-clause-room
+returns-in-Stop-clause-room g c = stopped_with g c (λ d. Spends 131_081 (g.D.Disk.state c.args.disk) (g.D.Disk.state d)) c.in-Ok.ensures.room
+
+pub returns-in-Stop-clause-cause : goal.returns-in-Stop-clause-cause
+returns-in-Stop-clause-cause g c = stopped_with g c (λ d. HasCause (g.D.Disk.state c.args.disk).faults (g.D.Disk.state d).faults ⊥) c.in-Ok.ensures.cause

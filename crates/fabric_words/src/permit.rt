@@ -1,0 +1,45 @@
+//! What the gate gives before each register write.
+ghost use Rattle.std.specs.Prelude.{◌≡◌, ◌∷◌, [], None, IfSome};
+ghost use Rattle.dxc_causes.specs.Stops.{RoseOnlyFor};
+ghost use Rattle.dxc_outside.specs.declared.gate.GatePlace.TheVariants.{Register};
+
+use crate::mover::MoverSeat;
+use crate::table::Token;
+use dxc_outside::{Gate, GatePlace, Pass1};
+use std::marker::Model;
+use std::snapshot::Snapshot;
+
+/// That a gate was asked, and let the mover go on, when these register writes were made and no other. Each write asks for one that was
+/// given after the write before it, so the gate is asked before each of them, with the registers as that write finds them. It has no bytes.
+#[derive(Drop)]
+pub struct Permit {
+    asked: Snapshot<Token>,
+}
+
+impl Model for Permit {
+    ghost use Rattle.std.specs.Prelude.{List};
+    ghost use Rattle.dxc_num.specs.declared.register.RegWrite.{RegWrite};
+    ghost use Rattle.fabric_words.specs.Seats.{mover_in};
+
+    ghost Value = { List RegWrite };
+
+    ghost view = { λ p. (mover_in p.asked.value.me.0).written };
+}
+
+impl MoverSeat {
+    /// Asks the gate before a register write. None: it stopped.
+    #[inline(always)]
+    pub fn ask<G: Gate>(&self, gate: &mut G) -> Option<Permit>
+        ensures permit { IfSome result (λ p. p ≡ self.now.mover.written) }
+        ensures stopped { RoseOnlyFor (G.stops gate.old) (G.stops gate.new) (result ≡ None) }
+        ensures asked { G.asked gate.old gate.new (Register ∷ []) }
+    {
+        match gate.pass(GatePlace::Register) {
+            Pass1::Stop => None,
+            Pass1::Go => {
+                let asked = Snapshot::of(&self.token);
+                Some(Permit { asked })
+            }
+        }
+    }
+}

@@ -1,0 +1,93 @@
+-- What a pass has seen of a turnstile's history, and what holds after it.
+use Rattle.std.specs.Prelude.{◌≡◌, ℕ, List}
+use Rattle.std.specs.List.{AllByRecursion}
+use Rattle.turnstile.specs.Passing.{Gate, Token}
+use Rattle.dxc_num.specs.Dimensions.{Dimensions}
+use Rattle.dxc_disk.specs.declared.disk.Disk.{Ghosts as DiskOf}
+use Rattle.dxc_model.specs.declared.conn.Conn.{Conn}
+use Rattle.dxc_model.specs.declared.entry.Entry.{Entry}
+use Rattle.dxc_model.specs.declared.op.Change.{Change}
+use Rattle.dxc_model.specs.declared.op.Op.{Op}
+use Rattle.dxc_model.specs.declared.op.Selection.{Selection}
+use Rattle.dxc_model.specs.Operations.{IsApt, op_of}
+use Rattle.dxc_model.specs.Tables.{Board, IsOfShape, rows}
+use Rattle.xc_core.specs.declared.provisioner.Driver.{Driver}
+use Rattle.xc_core.specs.declared.restarts.Restarting.{Restarting}
+use Rattle.xc_core.specs.declared.state.State.{State}
+use Rattle.xc_core.specs.declared.turns.Looked.{Looked}
+use Rattle.xc_core.specs.declared.turns.Took.{Took}
+use Rattle.xc_core.specs.Seeing.{HasRestart, HasTaken, Rests, Saw}
+use Rattle.xc_core.specs.States.{Opening, opening_of}
+use Rattle.xc_core.specs.Turns.{CutIs, DoneIs, LookIs, MarkIs, RestartCutIs, RestartIs, RestartedIs, RowsAre, TookIs}
+
+-- where the history began, and whose pass it is
+pub record View : Type 0 where
+  pub opening : Opening
+  pub own : ℕ
+
+-- of this pass of the turnstile
+abbrev pub view : {D : Type 0} → DiskOf D → Gate (State D) → Token → View
+view g t p = record { opening = opening_of g.state t.first; own = p.number }
+
+-- the shape of the turnstile's table
+abbrev pub shape_in : {D : Type 0} → DiskOf D → Gate (State D) → Dimensions
+shape_in g t = (opening_of g.state t.first).first.fold.table.shape
+
+-- it is a history
+abbrev pub HasSeen : {D : Type 0} → DiskOf D → Gate (State D) → Token → Type 0
+HasSeen g t p = (h : List Entry) × Saw (opening_of g.state t.first) p.seen h
+
+-- after a history that was seen this holds
+abbrev pub Upon : {D : Type 0} → DiskOf D → Gate (State D) → Token → (View → List Entry → Type 0) → Type 0
+Upon g t p P = (h : List Entry) × Saw (opening_of g.state t.first) p.seen h × P (view g t p) h
+
+-- after each history that was seen this holds
+abbrev pub After : {D : Type 0} → DiskOf D → Gate (State D) → Token → (View → List Entry → Type 0) → Type 0
+After g t p P = (h : List Entry) → Saw (opening_of g.state t.first) p.seen h → P (view g t p) h
+
+-- the place hasn't got the Provisioner out
+abbrev pub AtRest : View → List Entry → Type 0
+AtRest v h = Rests v.own h
+
+-- it has it out for a change, or for a restart
+abbrev pub OutFor : {D : Type 0} → DiskOf D → Op → Driver D → View → List Entry → Type 0
+OutFor g op d v h = HasTaken g.told g.state v.opening v.own op h d.p d.rolling
+
+abbrev pub OutToRestart : {D : Type 0} → DiskOf D → Op → Driver D → View → List Entry → Type 0
+OutToRestart g asked d v h = HasRestart g.told g.state v.opening v.own asked h d.p d.rolling
+
+-- what a turn comes to, by what the pass has seen then
+abbrev pub Takes : {D : Type 0} → DiskOf D → Op → (next : Token) → Took D → View → List Entry → Type 0
+Takes g op next took v h = TookIs g.told g.state v.opening v.own h op next.seen took
+
+abbrev pub Restarts : {D : Type 0} → DiskOf D → Op → (next : Token) → Restarting D → View → List Entry → Type 0
+Restarts g asked next answer v h = RestartIs g.told g.state v.opening v.own h asked next.seen answer
+
+abbrev pub Brings : Op → (next : Token) → View → List Entry → Type 0
+Brings op next v h = DoneIs v.opening v.own h op next.seen
+
+abbrev pub Cuts : Op → (next : Token) → View → List Entry → Type 0
+Cuts op next v h = CutIs v.opening v.own h op next.seen
+
+abbrev pub EndsRestart : Op → (next : Token) → View → List Entry → Type 0
+EndsRestart asked next v h = RestartedIs v.opening v.own h asked next.seen
+
+abbrev pub CutsRestart : Op → (next : Token) → View → List Entry → Type 0
+CutsRestart asked next v h = RestartCutIs v.opening v.own h asked next.seen
+
+abbrev pub ShowsRows : Selection → (next : Token) → List Conn → View → List Entry → Type 0
+ShowsRows which next given v h = RowsAre v.opening v.own h which next.seen given
+
+abbrev pub Looks : ℕ → (next : Token) → Looked → List Change → View → List Entry → Type 0
+Looks cursor next looked given v h = LookIs v.opening v.own h cursor next.seen looked given
+
+abbrev pub Marks : (next : Token) → ℕ → View → List Entry → Type 0
+Marks next n v h = MarkIs v.opening v.own h next.seen n
+
+-- these are rows of a table of that shape
+abbrev pub AreRowsOf : Dimensions → Selection → List Conn → Type 0
+AreRowsOf d which given = (t : Board) × IsOfShape t × (t.shape ≡ d) × (given ≡ rows t which)
+
+-- the operations of these changes are apt in that shape
+abbrev pub AreApt : Dimensions → List Change → Type 0
+AreApt d cs = AllByRecursion (λ c. IsApt d (op_of c)) cs
