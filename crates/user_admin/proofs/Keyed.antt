@@ -1,5 +1,5 @@
 -- Users behind their names, in a map.
-use Rattle.std.proofs.Common.{◌≡◌, ◌≢◌, ℕ, zero, suc, ◌+◌, ◌-◌, ◌<◌, ◌≤◌, Bool, true, false, not, ◌&&◌, T, cond, Option, Some, None, List, [], ◌∷◌, ◌++◌, length, map, option_map, slice_get, take, get_or, nat_lt, if◌then◌else◌, sym, refl, ap, ◌∙◌, subst, arith}
+use Rattle.std.proofs.Common.{◌≡◌, ◌≢◌, ℕ, zero, suc, ◌+◌, ◌-◌, ◌<◌, ◌≤◌, Bool, true, false, true≢false, not, ◌&&◌, T, cond, Option, Some, None, List, [], ◌∷◌, ◌++◌, length, map, option_map, slice_get, take, get_or, nat_lt, if◌then◌else◌, sym, refl, ap, ◌∙◌, subst, arith}
 use Rattle.std.proofs.lemmas.Bool.Decides.{nat_tests}
 use Rattle.std.proofs.lemmas.List.{length-map}
 use Rattle.std.proofs.lemmas.Map.Text.{is_eq-slice_cmp}
@@ -165,17 +165,17 @@ few_so_far name us i =
     omega arith
 
 -- a user at a place, by its name
-listed : (o : Option (ArrayVec ℕ × User)) → option_map (λ (e : ArrayVec ℕ × User). (e.1.uid, e.1)) o ≡ option_map (λ (u : User). (u.uid, u)) (option_map (λ (e : ArrayVec ℕ × User). e.1) o)
+listed : (o : Option (ArrayVec ℕ × User)) → option_map {U = List ℕ × User} (λ (e : ArrayVec ℕ × User). (e.1.uid, e.1)) o ≡ option_map {U = List ℕ × User} (λ (u : User). (u.uid, u)) (option_map (λ (e : ArrayVec ℕ × User). e.1) o)
 listed None = refl
 listed (Some e) = refl
 
-pub place_in : (es : List (ArrayVec ℕ × User)) (i : ℕ) → option_map (λ (e : ArrayVec ℕ × User). (e.1.uid, e.1)) (slice_get es i) ≡ option_map (λ (u : User). (u.uid, u)) (slice_get (values_of es) i)
-place_in es i = listed (slice_get es i) ∙ ap (option_map (λ (u : User). (u.uid, u))) (sym (slice_get-map (λ (e : ArrayVec ℕ × User). e.1) es i))
+pub place_in : (es : List (ArrayVec ℕ × User)) (i : ℕ) → option_map {U = List ℕ × User} (λ (e : ArrayVec ℕ × User). (e.1.uid, e.1)) (slice_get es i) ≡ option_map {U = List ℕ × User} (λ (u : User). (u.uid, u)) (slice_get (values_of es) i)
+place_in es i = listed (slice_get es i) ∙ ap (option_map {U = List ℕ × User} (λ (u : User). (u.uid, u))) (sym (slice_get-map (λ (e : ArrayVec ℕ × User). e.1) es i))
 
 -- what a call says of an answer that is Ok
 pub on_is_ok : {X E P : Type 0} (result : Result X E) → IsOk result → OnOk result P → P
 on_is_ok (Ok v) ok p = p
-on_is_ok (Err e) ok p = absurd ok
+on_is_ok (Err e) ok p = absurd (true≢false (sym ok))
 
 pub new_entries : {S E : Type 0} (old new : IndexMap (ArrayVec ℕ) User S) (key : ArrayVec ℕ) (v : User) (i : ℕ) (result : Result (ℕ × Option User) E) → IsOk result
     → IfOk result (λ r. new.entries ≡ move_index (insert_entry same_key old.entries key v) (insert_index same_key old key) r.0) → IfOk result (λ r. r.0 ≡ index_before (insert_index same_key old key) i)
@@ -183,4 +183,4 @@ pub new_entries : {S E : Type 0} (old new : IndexMap (ArrayVec ℕ) User S) (key
 new_entries old new key v i (Ok r) ok entries index us k e le none =
     entries ∙ (ap (λ (l : ArrayVec ℕ). move_index (insert_entry same_key old.entries l v) (position_or_len (same_key l) (keys_of old.entries)) r.0) k
     ∙ inserted old.entries v us i r.0 e le none (index ∙ ap (λ (l : ArrayVec ℕ). index_before (position_or_len (same_key l) (keys_of old.entries)) i) k))
-new_entries old new key v i (Err x) ok entries index us k e le none = absurd ok
+new_entries old new key v i (Err x) ok entries index us k e le none = absurd (true≢false (sym ok))
