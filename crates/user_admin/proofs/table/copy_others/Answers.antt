@@ -1,4 +1,4 @@
-use Rattle.std.proofs.Common.{◌≡◌, ◌∙◌, ◌++◌, ◌≤◌, ◌<◌, List, [], ◌∷◌, ap, sym, take, get_or, length, arith}
+use Rattle.std.proofs.Common.{◌∙◌, ◌++◌, ◌<◌, List, [], ◌∷◌, ap, sym, take, get_or, length, arith}
 use Rattle.std.proofs.lemmas.List.{take_all, take_more}
 use Rattle.std.specs.Map.{lookup}
 use Rattle.arrayvec.specs.ArrayVec.{ArrayVec}
