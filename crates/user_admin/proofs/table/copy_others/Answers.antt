@@ -31,7 +31,7 @@ loop-at-preserved c =
     let lt : c.loop-at.at < length us = omega (arith, c.loop-at-test.true) in
     record {
       entries = c.copy_other.ensures.entries ∙ ((λ k. i.entries k ++ keyed (others_of name (c.index-users-at.is k ∷ [])))
-        ∙ (sym (others_more name (take c.loop-at.at us) (get_or us c.loop-at.at u)) ∙ sym (ap (λ (vs : List User). keyed (others_of name vs)) (take_more us c.loop-at.at u lt))));
+          ∙ (sym (others_more name (take c.loop-at.at us) (get_or us c.loop-at.at u)) ∙ sym (ap (λ (vs : List User). keyed (others_of name vs)) (take_more us c.loop-at.at u lt))));
       room = omega (arith, i.room, c.copy_other.ensures.room);
     }
 
