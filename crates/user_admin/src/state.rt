@@ -8,6 +8,7 @@ ghost use Rattle.user_admin.specs.declared.op.UserEntry.{UserEntry as Entry};
 ghost use Rattle.user_admin.specs.Histories.{Opening};
 ghost use Rattle.user_admin.specs.Openings.{Begins, Fails, IsDiskErr, IsOpening, LeavesOpened, asked_at, disk_of, read_fault};
 ghost use Rattle.user_admin.specs.Spellable.{NamesUid};
+ghost use Rattle.user_admin.specs.Users.{shelf_users};
 ghost use Rattle.user_admin.specs.States.{ChangedIs, IsFileAfter, IsFileWithChange, StandsFor, opening_of};
 ghost use Rattle.user_admin.specs.Verdicts.{IsChanging, login, refusal, rows_in};
 
@@ -18,6 +19,7 @@ use crate::op::{User, UserDone, UserEntry, UserOp, UserRows};
 use crate::secret::copy_as;
 use crate::table::{UserTable, row_of};
 use arrayvec::ArrayVec;
+use dxc_causes::NoMemory;
 use dxc_disk::{Disk, DiskFault};
 use dxc_model::{Cause, Class, Uid};
 use dxc_outside::{Gate, GatePlace, Pass1};
@@ -96,6 +98,19 @@ impl<D: Disk> UserOrigin<D> {
     }
 }
 
+// The users that the shelf describes, as both lists.
+fn lists_of(alloc: Global, shelf: &Shelf) -> Result<Box<Lists>, NoMemory>
+    ensures described { IfOk result (λ l. l.value.described ≡ shelf_users shelf.now) }
+    ensures users { IfOk result (λ l. l.value.users ≡ shelf_users shelf.now) }
+{
+    let described = UserTable::of(alloc, shelf)?;
+    let users = UserTable::of(alloc, shelf)?;
+    match Box::new(alloc, Lists { described, users }) {
+        Ok(lists) => Ok(lists),
+        Err(_) => Err(NoMemory),
+    }
+}
+
 // Why the records couldn't be taken.
 fn unread<D: Disk + Drop>(fault: FoldFault, journal: Journal<D>) -> UserOpenFault<D>
     ensures { result ≡ read_fault fault journal.0 }
@@ -119,9 +134,7 @@ impl<D: Disk + Drop> UserState<D> {
         ensures room { IfSome (disk_of result) (λ d. Spends 131_081 (D.state disk) (D.state d)) }
         ensures sound { IsSound 131_081 (D.state disk) → IsDiskErr result → ⊥ }
     {
-        let described = UserTable::of(shelf);
-        let users = UserTable::of(shelf);
-        let Ok(mut lists) = Box::new(alloc, Lists { described, users }) else {
+        let Ok(mut lists) = lists_of(alloc, shelf) else {
             return Err(UserOpenFault::NoMemory);
         };
         let sid = copy_of(shelf.sid());

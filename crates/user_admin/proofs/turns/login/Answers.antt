@@ -1,4 +1,4 @@
-use Rattle.std.proofs.Common.{◌++◌, refl, ◌∙◌, ap}
+use Rattle.std.proofs.Common.{refl, ◌∙◌, ap}
 use Rattle.user_admin.specs.declared.op.UserOp.TheVariants.{Look}
 use Rattle.user_admin.specs.declared.op.UserOutcome.TheVariants.{Answered}
 use Rattle.user_admin.specs.States.{opening_of}

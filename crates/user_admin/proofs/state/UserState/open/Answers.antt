@@ -23,8 +23,8 @@ use Rattle.user_admin.proofs.state.UserState.open.Goals as goal
 
 pub fold-requires : goal.fold-requires
 fold-requires g c =
-    let e = c.deref_mut.ensures.value ∙ c.in-Ok.ensures.ok in
-    ap (λ (l : Lists). l.users) e ∙ (c.of-users.ensures ∙ (sym c.of-described.ensures ∙ sym (ap (λ (l : Lists). l.described) e)))
+    let e = c.deref_mut.ensures.value in
+    ap (λ (l : Lists). l.users) e ∙ (c.in-Ok.ensures.users ∙ (sym c.in-Ok.ensures.described ∙ sym (ap (λ (l : Lists). l.described) e)))
 
 pub returns-in-Err-clause-fails : goal.returns-in-Err-clause-fails
 returns-in-Err-clause-fails g c told bytes is =
@@ -54,7 +54,7 @@ returns-in-Err-fold-clause-fails g c told =
     let a = g.D.Disk.state c.args.disk in
     let j = c.in-Ok-open.journal in
     let b = g.D.Disk.state j.0 in
-    let described = ap (λ (l : Lists). l.described) (c.deref_mut.ensures.value ∙ c.in-Ok.ensures.ok) ∙ c.of-described.ensures in
+    let described = ap (λ (l : Lists). l.described) c.deref_mut.ensures.value ∙ c.in-Ok.ensures.described in
     subst (λ (e : UserOpenFault g.row.D.Denot). Fails g.D.Disk.state a shelf e) (sym c.unread.ensures)
     (unread_fails g.D.Disk.state shelf (made_head c.equipped.result) a b j.1 c.fold.new.lists.users c.fold.new.journal.0 (c.fold.ensures.looks told).same (g.met.D.Disk.is_disk j.0 told) c.in-Ok-open.ensures.whole.0 c.in-Ok-open.ensures.whole.2 c.in-Ok-open.ensures.whole.3
     (λ old. subst (λ (d : Dimensions). OpensOld d a b (Ok j.1)) c.shape.ensures (c.in-Ok-open.ensures.old told old))
@@ -97,8 +97,7 @@ returns-clause-ok g c =
     let j = c.in-Ok-open.journal in
     let b = g.D.Disk.state j.0 in
     let n = c.fold.new.journal in
-    let e = c.deref_mut.ensures.value ∙ c.in-Ok.ensures.ok in
-    let described = ap (λ (l : Lists). l.described) e ∙ c.of-described.ensures in
+    let described = ap (λ (l : Lists). l.described) c.deref_mut.ensures.value ∙ c.in-Ok.ensures.described in
     let read = c.in-Ok-fold.ensures.read in
     let size = few_described shelf.users in
     let count = c.users-few.ensures.count in
