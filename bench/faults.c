@@ -14,6 +14,8 @@ struct shared {
     _Atomic uint64_t failed;
     _Atomic uint64_t one_of;
     _Atomic uint64_t state;
+    /* How many of the failed calls were syncs. */
+    _Atomic uint64_t unsynced;
 };
 
 static struct shared *shared;
@@ -55,4 +57,15 @@ static int fails(void)
 
 CALL(ssize_t, pwrite, (int file, const void *from, size_t size, off_t at), file, from, size, at)
 CALL(ssize_t, pread, (int file, void *into, size_t size, off_t at), file, into, size, at)
-CALL(int, fdatasync, (int file), file)
+
+int fdatasync(int file)
+{
+    static int (*next)(int file);
+    if (!next)
+        next = (int (*)(int))dlsym(RTLD_NEXT, "fdatasync");
+    if (fails()) {
+        atomic_fetch_add(&shared->unsynced, 1);
+        return -1;
+    }
+    return next(file);
+}

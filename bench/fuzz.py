@@ -38,17 +38,20 @@ class Different(Exception):
 
 
 class Faults:
-    """What the library shares: how many calls failed, one of how many fails (0: none does), and its random state."""
+    """What the library shares: how many calls failed, one of how many fails (0: none does), its random state, and how many syncs failed."""
 
     def __init__(self, folder):
         self.name = os.path.join(folder, "faulted")
         with open(self.name, "wb") as file:
-            file.write(struct.pack("QQQ", 0, 0, random.getrandbits(64)))
+            file.write(struct.pack("QQQQ", 0, 0, random.getrandbits(64), 0))
         with open(self.name, "r+b") as file:
-            self.words = mmap.mmap(file.fileno(), 24)
+            self.words = mmap.mmap(file.fileno(), 32)
 
     def failed(self):
         return struct.unpack_from("Q", self.words)[0]
+
+    def unsynced(self):
+        return struct.unpack_from("Q", self.words, 24)[0]
 
     def fail(self, one_of):
         struct.pack_into("Q", self.words, 8, one_of)
@@ -251,8 +254,9 @@ class Run:
                 callers = [self.caller(port, server) for _ in range(SESSIONS)]
                 self.equip(callers[0])
                 self.faults.fail(ONE_OF)
-                until = self.count + most
-                while self.count < until:
+                until, unsynced = self.count + most, self.faults.unsynced()
+                # After a sync that failed its file refuses every call until the program is started anew.
+                while self.count < until and self.faults.unsynced() == unsynced:
                     self.turn(random.choice(callers), text_of_unit(self.element) + b";")
             finally:
                 self.faults.fail(0)
