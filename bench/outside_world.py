@@ -375,7 +375,6 @@ def told(folder):
             (["script", "shelf.toml", "j"], "j", taken),
             (["script", "shelf.toml", "a\nb/j"], "a\\nb/j", absent),
             ([*serve, at, "nothing", "1"], "nothing.in", absent),
-            ([*serve, at, "lines", "1"], "lines.0.out", taken),
             ([*serve, used, "other", "1"], used, busy),
             ([*serve, "192.0.2.1:3083", "other", "1"], "192.0.2.1:3083", "Cannot assign requested address"),
             ([*serve, "here", "other", "1"], "here", "invalid socket address"),
