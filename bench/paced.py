@@ -14,7 +14,8 @@ import tempfile
 import threading
 
 import serve
-from serve import CALLERS, LOG_IN, PROGRAM, TOP, Caller, Server, expect
+from program import PROGRAM, TOP
+from serve import CALLERS, LOG_IN, Caller, Server, expect
 
 MICROSECONDS = 125
 PATIENCE = 60
