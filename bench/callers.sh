@@ -8,7 +8,7 @@ set -eu
 cd "$(dirname "$0")/.."
 units=${1:-160000}
 disk=${2:-${TMPDIR:-/tmp}}
-program=${PROGRAM:-$PWD/crates/dxc/out/dxc}
+program=${DXC_PROGRAM:-$(./dxc --program)}
 room=$(mktemp -d)
 server=
 clean_up() {
