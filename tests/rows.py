@@ -13,8 +13,8 @@ import tempfile
 import time
 
 TOP = os.path.dirname(os.path.dirname(os.path.abspath(__file__)))
-sys.path.insert(0, os.path.join(TOP, "bench"))
-from program import PROGRAM
+sys.path.insert(0, TOP)
+from bench.shared.program import PROGRAM
 
 DATA = os.path.join(TOP, "crates", "worked_rows", "data")
 MOMENT = re.compile(rb" \d\d-\d\d-\d\d \d\d:\d\d:\d\d\r\n")

@@ -9,6 +9,7 @@ tools/checks/words.py with its reason.
  - A TL1 command code stands whole in a source, and isn't looked into.
  - A file's name, with a slash or a known ending, is one of the top, of a crate, or one that an example makes.
  - A link leads to a file, and to a heading of it.
+ - What `bench/run GROUP NAME` runs is a module of bench/.
  - A command of the manual page (`.Cm`) is a word of `craft_words`.
 """
 import os
@@ -25,6 +26,7 @@ PATH = re.compile(r"[A-Za-z_]\w*(?:::[A-Za-z_]\w*)+")
 ENDINGS = ("py", "sh", "md", "toml", "tl1", "out", "txt", "service", "c", "rt", "antt", "edit", "svg")
 FILE = re.compile(r"(?<![\w/.$-])(?:\.?[\w-]+/)+[\w.-]*|(?<![\w/.$-])[\w-]+\.(?:" + "|".join(ENDINGS) + r")\b")
 OURS = re.compile(r"(?<![\w./$])(?:bench|tools|docs|dist|examples|man)/[\w./-]*\w")
+BENCH = re.compile(r"\bbench/run (oracle|rows|stress|measure|docs) (\w+)")
 COMMAND_OF_MAN = re.compile(r"^\.(?:It )?Cm (\w+)", re.MULTILINE)
 LINK = re.compile(r"\]\(([^)\s]+)\)")
 COMMENTS = {".rt": re.compile(r"//.*"), ".antt": re.compile(r"(?:^|(?<=\s))--.*", re.MULTILINE), ".py": re.compile(r"#.*"), ".sh": re.compile(r"#.*")}
@@ -165,4 +167,8 @@ def check_files(_):
             count += 1
             if file[0] not in ALLOWED and not sources.has_file(file[0]):
                 failed.append(f"{name}:{line_of(text, file.start())}: {file[0]} isn't there")
+        for ran in BENCH.finditer(text):
+            count += 1
+            if f"bench/{ran[1]}/{ran[2]}.py" not in sources.files:
+                failed.append(f"{name}:{line_of(text, ran.start())}: {ran[0]} isn't there")
     return count, failed

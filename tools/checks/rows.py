@@ -6,12 +6,12 @@ import sys
 
 from checks import TOP, read, tracked
 
-# Each ends with an error where a file of its own is another one (`--check`), and names it; bench/walk.py's rows are among those of bench/restarts.py.
-GENERATORS = ("bench/journals.py", "bench/restarts.py", "bench/users.py")
+# Each ends with an error where a file of its own is another one (`--check`), and names it; bench/rows/walk.py's rows are among those of restarts.
+GENERATORS = ("journals", "restarts", "users")
 
 
 def run(generator, *words):
-    return subprocess.run([sys.executable, "-B", os.path.join(TOP, generator), *words], capture_output=True, text=True, check=False)
+    return subprocess.run([sys.executable, os.path.join(TOP, "bench", "run"), "rows", generator, *words], capture_output=True, text=True, check=False)
 
 
 def unknown_words():
@@ -28,7 +28,7 @@ def check(_):
     for generator in GENERATORS:
         done = run(generator, "--check")
         if done.returncode:
-            failed.append(f"{generator}:1: {(done.stderr or done.stdout).strip().splitlines()[-1]}")
+            failed.append(f"bench/rows/{generator}.py:1: {(done.stderr or done.stdout).strip().splitlines()[-1]}")
     return len(GENERATORS), failed
 
 

@@ -59,7 +59,7 @@ ALLOWED = {
     "CRATE": DRAWN,
     "FN": DRAWN,
     "DIR": DRAWN,
-    "bench/NAME": DRAWN,
+    "bench/crates/NAME": DRAWN,
     "office.svg": "made by the command beside it",
     "proofs/Tests.antt": "a name that the toolchain refuses, beside src/tests.rt",
     "src/tests.rt": "a name that the toolchain refuses, beside proofs/Tests.antt",

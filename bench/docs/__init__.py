@@ -1,0 +1,1 @@
+"""what the documents tell to type"""

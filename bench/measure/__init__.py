@@ -1,0 +1,1 @@
+"""what the program costs: instructions, seconds, memory"""

@@ -1,0 +1,1 @@
+"""the program beside elements, journals and scripts that are reckoned anew from the documents"""

@@ -1,0 +1,1 @@
+"""writes the worked rows of crates/, which the gate runs"""

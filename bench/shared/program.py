@@ -1,0 +1,27 @@
+"""The program that the scripts try: the one that DXC_PROGRAM names, or that of this checkout, which the launcher makes ready."""
+import os
+import subprocess
+import sys
+
+from bench import TOP
+
+LAUNCHER = os.path.abspath(os.environ.get("DXC_PROGRAM") or os.path.join(TOP, "dxc"))
+
+
+def made_ready():
+    """The program's path. Where there is none, the launcher has said why."""
+    if os.environ.get("DXC_PROGRAM"):
+        return LAUNCHER
+    ran = subprocess.run([LAUNCHER, "--program"], stdin=subprocess.DEVNULL, stdout=subprocess.PIPE, text=True, check=False)
+    return ran.stdout.strip() if ran.returncode == 0 else sys.exit(ran.returncode)
+
+
+def counted(count):
+    """The count and the seed that the script's words give, or this count and seed 1; the seed is printed."""
+    words = [int(word) for word in sys.argv[1:3]]
+    count, seed = words + [count, 1][len(words) :]
+    print(f"seed {seed}", flush=True)
+    return count, seed
+
+
+PROGRAM = made_ready()

@@ -1,0 +1,439 @@
+"""Tries the program against what goes wrong around it, point by point, with real processes.
+
+usage: bench/run stress outside_world [POINT..]     (all of them where none is named)
+
+peer         a PEER that doesn't answer a call holds a start up for seconds, not minutes
+check        `check` changes no byte of any file and runs beside a server; nothing but a journal or its beginning becomes one
+sync         a disk whose sync failed refuses every change until the program is started anew, and then has all that was answered
+dead         callers whose machines are gone are let go within two minutes, silent ones and ones with answers on their way
+full         the seventeenth caller is told so and let go, and comes in once a place is free
+slow         a caller that takes nothing is given up after ten seconds
+descriptors  a shortage of descriptors ends no place: after it sixteen callers are served again
+told         each cause of "cannot open" is told by name, in a second line on any stream
+lines        a FIFO without a writer, or whose writer comes again, stops nothing; one program at a time has an output, and keeps its bytes
+             where it can't start
+
+Each point prints a line, and ends by itself: `dead` after two minutes, each other one within half of one. The program is the checkout's, or
+the one that DXC_PROGRAM names. Nothing leaves the loopback.
+"""
+import contextlib
+import ctypes
+import os
+import resource
+import select
+import socket
+import struct
+import subprocess
+import sys
+import tempfile
+import time
+
+from bench.shared.program import PROGRAM
+
+DIGEST = "ba7816bf8f01cfea414140de5dae2223b00361a396177a9cb410ff61f20015ad"
+SHELF = f'sid = "DXC1"\nmodules = 4\nslots = 8\n[[user]]\nuid = "ANNA"\nclass = "S"\nsalt = "61"\ndigest = "{DIGEST}"\n'
+PORTS = 32
+LOG_IN = b"ACT-USER::ANNA:1::bc;"
+ENTRY = b"ENT-CRS-T0::DS0-1-1,DS0-2-1:2;"
+DELETION = b"DLT-CRS-T0::DS0-1-1,DS0-2-1:3;"
+ROW = "DS0-1-1,DS0-2-1:1WAY\nRECORDS 1\n"
+PLACES = 16
+CANNOT_OPEN = (6, "dxc: cannot open")
+# A filter that drops each packet that comes to a socket (linux/filter.h): its machine might as well be gone.
+SO_ATTACH_FILTER, DROP_ALL = 26, struct.pack("HBBI", 0x06, 0, 0, 0)
+ESTABLISHED = "01"
+# Fails each fdatasync while the file that FAILING names is there.
+FAILING_SYNC = """#define _GNU_SOURCE
+#include <dlfcn.h>
+#include <errno.h>
+#include <stdlib.h>
+#include <unistd.h>
+int fdatasync(int file)
+{
+    const char *name = getenv("FAILING");
+    if (name && access(name, F_OK) == 0) {
+        errno = EIO;
+        return -1;
+    }
+    return ((int (*)(int))dlsym(RTLD_NEXT, "fdatasync"))(file);
+}
+"""
+
+
+class Wrong(Exception):
+    """What isn't as it has to be."""
+
+
+def expect(fact, what):
+    if not fact:
+        raise Wrong(what)
+
+
+def free_port():
+    with socket.socket() as some:
+        some.bind(("127.0.0.1", 0))
+        return some.getsockname()[1]
+
+
+def write(path, content):
+    with open(path, "wb") as file:
+        file.write(content)
+
+
+def content(path):
+    with open(path, "rb") as file:
+        return file.read()
+
+
+def run(folder, words, commands=b"", **more):
+    """The status, what came to standard output, and the lines of standard error."""
+    ended = subprocess.run([PROGRAM, *words], cwd=folder, input=commands, capture_output=True, timeout=30, check=False, **more)
+    return ended.returncode, ended.stdout.decode(), ended.stderr.decode().splitlines()
+
+
+def is_open(port):
+    with contextlib.suppress(OSError):
+        socket.create_connection(("127.0.0.1", port), 1).close()
+        return True
+    return False
+
+
+def until(fact, seconds):
+    """Whether the fact holds within so many seconds."""
+    end = time.monotonic() + seconds
+    while not fact():
+        if time.monotonic() > end:
+            return False
+        time.sleep(0.05)
+    return True
+
+
+class Server:
+    """A server in the folder, whose port is open."""
+
+    def __init__(self, folder, journal="j", lines="lines"):
+        self.port = free_port()
+        words = ["serve", "shelf.toml", journal, f"127.0.0.1:{self.port}", lines, "1"]
+        self.process = subprocess.Popen([PROGRAM, *words], cwd=folder, stderr=subprocess.PIPE)
+        opened = until(lambda: self.process.poll() is not None or is_open(self.port), 10)
+        if not opened or self.process.poll() is not None:
+            self.end()
+            raise Wrong("the server didn't open its port within ten seconds")
+
+    def end(self):
+        self.process.kill()
+        self.process.communicate()
+
+    def call(self, receive=None):
+        """A caller, with so many bytes of room for what it doesn't read."""
+        caller = socket.socket()
+        if receive:
+            caller.setsockopt(socket.SOL_SOCKET, socket.SO_RCVBUF, receive)
+        caller.settimeout(10)
+        caller.connect(("127.0.0.1", self.port))
+        return caller
+
+    def ends(self):
+        """The server's end of each connection, by the caller's port: its state and how many bytes wait to be sent."""
+        found = {}
+        with open("/proc/net/tcp", encoding="ascii") as table:
+            for line in table.readlines()[1:]:
+                _, local, remote, state, queues = line.split()[:5]
+                if int(local.split(":")[1], 16) == self.port:
+                    found[int(remote.split(":")[1], 16)] = state, int(queues.split(":")[0], 16)
+        return found
+
+    def is_joined(self, port):
+        return self.ends().get(port, ("", 0))[0] == ESTABLISHED
+
+
+@contextlib.contextmanager
+def serving(folder, **more):
+    server = Server(folder, **more)
+    try:
+        yield server
+    finally:
+        server.end()
+
+
+def answer(caller, commands):
+    """What comes of the commands, up to the end of so many answers."""
+    caller.sendall(commands)
+    got = b""
+    while got.count(b"\n;") < commands.count(b";"):
+        piece = caller.recv(65536)
+        expect(piece, f"the connection ended behind {got!r}")
+        got += piece
+    return got.decode()
+
+
+def is_served(caller):
+    with contextlib.suppress(OSError, Wrong):
+        return "COMPLD" in answer(caller, LOG_IN)
+    return False
+
+
+def peer(folder):
+    with socket.socket() as deaf, contextlib.ExitStack() as held:
+        # Where as many wait as may, the system drops each further call.
+        deaf.bind(("127.0.0.1", 0))
+        deaf.listen(0)
+        for _ in range(4):
+            waiting = held.enter_context(socket.socket())
+            waiting.setblocking(False)
+            waiting.connect_ex(deaf.getsockname())
+        time.sleep(0.2)
+        address = f"127.0.0.1:{deaf.getsockname()[1]}"
+        started = time.monotonic()
+        process = subprocess.Popen([PROGRAM, "serve", "shelf.toml", "j", f"127.0.0.1:{free_port()}", "lines", "1", address], cwd=folder, stderr=subprocess.PIPE)
+        try:
+            said = process.communicate(timeout=15)[1].decode().splitlines()
+        except subprocess.TimeoutExpired:
+            raise Wrong("the start was held up for more than fifteen seconds") from None
+        finally:
+            process.kill()
+        expect((process.returncode, said[0]) == CANNOT_OPEN, f"it ended with {process.returncode} and {said}")
+        expect(said[1:] == [f"dxc: {address}: connection timed out"], f"it said {said}")
+    return f"given up after {time.monotonic() - started:.1f} s"
+
+
+def files_of(folder):
+    """Each file's name, bytes and time of change."""
+    return {name: (content(os.path.join(folder, name)), os.stat(os.path.join(folder, name)).st_mtime_ns) for name in sorted(os.listdir(folder))}
+
+
+def check(folder):
+    def checked(journal):
+        before = files_of(folder)
+        ended = run(folder, ["check", "shelf.toml", journal])
+        expect(files_of(folder) == before, f"check of {journal} changed a file")
+        return ended
+
+    expect(checked("absent")[:2] == (0, "RECORDS 0\n"), "check of no file")
+    expect(run(folder, ["check", "shelf.toml", "none/j"])[0] == 6, "check in no folder")
+    run(folder, ["script", "shelf.toml", "j"], LOG_IN + ENTRY)
+    expect(checked("j")[:2] == (0, ROW), "check of a journal")
+    with serving(folder) as server:
+        expect(checked("j")[:2] == (0, ROW), "check beside a server")
+        with server.call() as caller:
+            expect("DENY" not in answer(caller, LOG_IN + DELETION), "the server was disturbed")
+            expect(checked("j")[:2] == (0, "RECORDS 2\n"), "check behind a change")
+    notes = os.path.join(folder, "notes")
+    write(notes, b"circuits of MAY 1997")
+    told = [CANNOT_OPEN[1], "dxc: notes: it holds something else than a journal or the beginning of one"]
+    for mode in ("check", "script"):
+        expect(run(folder, [mode, "shelf.toml", "notes"]) == (6, "", told), f"{mode} of a text")
+    expect(content(notes) == b"circuits of MAY 1997", "a text was written over")
+    for beginning in (b"", b"\0", b"\0DXCJ", b"\0DXCJRNL\2"):
+        write(os.path.join(folder, "begun"), beginning)
+        expect(run(folder, ["script", "shelf.toml", "begun"], LOG_IN + ENTRY)[1].count("COMPLD") == 2, f"no journal was made of {beginning}")
+    return "no byte changed"
+
+
+def sync(folder):
+    source, library, failing = (os.path.join(folder, name) for name in ("failing.c", "failing.so", "failing"))
+    write(source, FAILING_SYNC.encode())
+    subprocess.run(["cc", "-shared", "-fPIC", "-o", library, source, "-ldl"], check=True)
+    world = dict(os.environ, LD_PRELOAD=library, FAILING=failing)
+    script = [PROGRAM, "script", "shelf.toml", "j"]
+    session = subprocess.Popen(script, cwd=folder, env=world, stdin=subprocess.PIPE, stdout=subprocess.PIPE, bufsize=0)
+
+    def sent(commands):
+        session.stdin.write(commands)
+        got = b""
+        while got.count(b"\n;") < commands.count(b";"):
+            ready, _, _ = select.select([session.stdout], [], [], 10)
+            expect(ready, f"no answer behind {got!r}")
+            got += os.read(session.stdout.fileno(), 65536)
+        return got.decode()
+
+    try:
+        expect("DENY" not in sent(LOG_IN + ENTRY), "no entry")
+        write(failing, b"")
+        expect("JOURNAL WRITE FAILED" in sent(DELETION), "a sync that failed was answered")
+        os.remove(failing)
+        for commands in (b"INIT-SYS:::4;", DELETION, b"ENT-CRS-T0::DS0-1-2,DS0-2-2:5;"):
+            expect("JOURNAL WRITE FAILED" in sent(commands), f"{commands.decode()} was completed on a disk whose sync had failed")
+        expect("COMPLD" in sent(b"RTRV-CRS-T0:::6;"), "retrievals ended")
+    finally:
+        session.kill()
+        session.communicate()
+    expect("DENY" not in run(folder, ["script", "shelf.toml", "j"], LOG_IN + b"INIT-SYS:::4;ENT-CRS-T0::DS0-1-2,DS0-2-2:5;")[1], "a new start didn't go on")
+    return "refused until it was started anew"
+
+
+def lose(caller):
+    """From here on nothing comes to the caller, and so nothing is acknowledged."""
+    program = ctypes.create_string_buffer(DROP_ALL)
+    caller.setsockopt(socket.SOL_SOCKET, SO_ATTACH_FILTER, struct.pack("HL", 1, ctypes.addressof(program)))
+
+
+def dead(folder):
+    with serving(folder) as server, contextlib.ExitStack() as held:
+        callers = [held.enter_context(server.call()) for _ in range(3)]
+        expect("DENY" not in answer(callers[0], LOG_IN + b"ALW-MSG-ALL:::2;"), "no reports")
+        expect(is_served(callers[1]), "no log-in")
+        ports = [caller.getsockname()[1] for caller in callers]
+        expect(until(lambda: all(map(server.is_joined, ports)), 5), "not joined")
+        for caller in callers:
+            lose(caller)
+        with server.call() as other:
+            expect("DENY" not in answer(other, LOG_IN + ENTRY), "no change to be told of")
+        started = time.monotonic()
+        gone = until(lambda: not any(map(server.is_joined, ports)), 120)
+        expect(gone, f"{sum(map(server.is_joined, ports))} of three callers whose machines are gone are there after two minutes")
+    return f"gone after {time.monotonic() - started:.0f} s"
+
+
+def full(folder):
+    with serving(folder) as server, contextlib.ExitStack() as held:
+        callers = [held.enter_context(server.call()) for _ in range(PLACES)]
+        expect(all(map(is_served, callers)), "not all of sixteen are served")
+        for commands in (b"", LOG_IN):
+            with server.call() as late:
+                late.sendall(commands)
+                late.settimeout(5)
+                told = b""
+                try:
+                    while piece := late.recv(4096):
+                        told += piece
+                except TimeoutError:
+                    raise Wrong(f"the seventeenth was told {told!r} and not let go") from None
+                expect(told == b"dxc: all places are taken, call again later\r\n", f"the seventeenth was told {told!r}")
+        callers[3].close()
+        time.sleep(0.5)
+        with server.call() as next_one:
+            expect(is_served(next_one), "no place became free")
+    return "told and let go"
+
+
+def slow(folder):
+    with serving(folder) as server, server.call(4096) as caller:
+        expect("DENY" not in answer(caller, LOG_IN + ENTRY), "no log-in")
+        port = caller.getsockname()[1]
+        caller.setblocking(False)
+        waiting, since = -1, time.monotonic()
+        while server.is_joined(port):
+            with contextlib.suppress(BlockingIOError, ConnectionError):
+                caller.send(b"RTRV-CRS-T0:::7;" * 4096)
+            now = server.ends().get(port, ("", waiting))[1]
+            if now != waiting:
+                waiting, since = now, time.monotonic()
+            expect(time.monotonic() - since < 25, "it is there after 25 seconds")
+            time.sleep(0.05)
+        taken = time.monotonic() - since
+    expect(9.0 <= taken <= 12.0, f"it was given up after {taken:.1f} s")
+    return f"given up after {taken:.1f} s"
+
+
+def limit(server, count):
+    hard = resource.prlimit(server.process.pid, resource.RLIMIT_NOFILE)[1]
+    resource.prlimit(server.process.pid, resource.RLIMIT_NOFILE, (count, hard))
+
+
+def descriptors(folder):
+    with serving(folder) as server:
+        own = f"/proc/{server.process.pid}"
+        time.sleep(0.5)
+        threads = len(os.listdir(f"{own}/task"))
+        with contextlib.ExitStack() as held:
+            limit(server, max(int(name) for name in os.listdir(f"{own}/fd")) + 3)
+            for _ in range(8):
+                held.enter_context(server.call())
+            time.sleep(6)
+        limit(server, 1024)
+        time.sleep(1)
+        left = len(os.listdir(f"{own}/task"))
+        with contextlib.ExitStack() as held:
+            callers = [held.enter_context(server.call()) for _ in range(PLACES)]
+            for caller in callers:
+                caller.settimeout(2)
+            served = sum(map(is_served, callers))
+    expect((left, served) == (threads, PLACES), f"of {threads} threads {left} are left, and {served} callers are served")
+    return "no place was lost"
+
+
+def told_lines(folder, words, name, text):
+    ended = run(folder, words)
+    wanted = (CANNOT_OPEN[0], "", [CANNOT_OPEN[1], f"dxc: {name}: {text}"])
+    expect(ended == wanted, f"{' '.join(words)} ended with {ended}")
+
+
+def told(folder):
+    absent, busy, taken = "No such file or directory", "Address already in use", "another program has it"
+    os.mkdir(os.path.join(folder, "folder"))
+    at = f"127.0.0.1:{free_port()}"
+    serve = ["serve", "shelf.toml", "other"]
+    with serving(folder) as server:
+        used = f"127.0.0.1:{server.port}"
+        causes = [
+            (["check", "no.toml", "j"], "no.toml", absent),
+            (["check", "folder", "j"], "folder", "Is a directory"),
+            (["script", "shelf.toml", "none/j"], "none/j", absent),
+            (["script", "shelf.toml", "folder"], "folder", "Is a directory"),
+            (["script", "shelf.toml", "j"], "j", taken),
+            (["script", "shelf.toml", "a\nb/j"], "a\\nb/j", absent),
+            ([*serve, at, "nothing", "1"], "nothing.in", absent),
+            ([*serve, used, "other", "1"], used, busy),
+            ([*serve, "192.0.2.1:3083", "other", "1"], "192.0.2.1:3083", "Cannot assign requested address"),
+            ([*serve, "here", "other", "1"], "here", "invalid socket address"),
+            ([*serve, at, "other", "1", at], at, "Connection refused"),
+            (["standby", "copy", used], used, busy),
+            (["standby", "j", at], "j", taken),
+        ]
+        write(os.path.join(folder, "other.in"), b"")
+        for words, name, text in causes:
+            told_lines(folder, words, name, text)
+    return f"{len(causes)} causes"
+
+
+def lines(folder):
+    fifo, output = os.path.join(folder, "fifo.in"), os.path.join(folder, "fifo.0.out")
+    os.mkfifo(fifo)
+    write(output, b"of the day before")
+    held = socket.socket()
+    with held:
+        held.bind(("127.0.0.1", 0))
+        held.listen()
+        words = ["serve", "shelf.toml", "other", f"127.0.0.1:{held.getsockname()[1]}", "fifo", "1"]
+        with contextlib.suppress(subprocess.TimeoutExpired):
+            expect(run(folder, words)[0] == 6, "two had one address")
+        expect(content(output) == b"of the day before", "the output of a server that didn't start was emptied")
+    with serving(folder, lines="fifo"):
+        for count in (1, 2):
+            with open(fifo, "wb", buffering=0) as writer:
+                writer.write(bytes(PORTS))
+            expect(until(lambda c=count: os.stat(output).st_size == c * PORTS, 5), f"frame {count} didn't come out")
+        ended = run(folder, ["serve", "shelf.toml", "other", f"127.0.0.1:{free_port()}", "fifo", "1"])
+        expect(ended[0] == 6, "two servers had one output")
+        expect(os.stat(output).st_size == 2 * PORTS, "a second server emptied the output")
+    return "frames go on"
+
+
+POINTS = (peer, check, sync, dead, full, slow, descriptors, told, lines)
+
+
+def tried(point):
+    with tempfile.TemporaryDirectory() as folder:
+        write(os.path.join(folder, "shelf.toml"), SHELF.encode())
+        write(os.path.join(folder, "lines.in"), b"")
+        try:
+            print(f"{point.__name__} passed: {point(folder)}", flush=True)
+            return True
+        except (Wrong, OSError, subprocess.TimeoutExpired) as why:
+            print(f"{point.__name__} failed: {why}", flush=True)
+            return False
+
+
+def main():
+    named = sys.argv[1:] or [point.__name__ for point in POINTS]
+    unknown = set(named) - {point.__name__ for point in POINTS}
+    if unknown:
+        sys.exit(__doc__)
+    passed = [tried(point) for point in POINTS if point.__name__ in named]
+    print(f"{sum(passed)} passed, {len(passed) - sum(passed)} failed")
+    sys.exit(not all(passed))
+
+
+if __name__ == "__main__":
+    main()
