@@ -8,8 +8,10 @@ DRAWN = "stands for any name of its kind"
 
 ALLOWED = {
     "xz": HOST,
+    "base64": HOST,
     "dmesg": HOST,
     "smartctl": HOST,
+    "socat": HOST,
     "out": "a folder that builds make, and git ignores",
     "rattle": PROVER,
     "logic": PROVER,
