@@ -2,3 +2,7 @@
 from pathlib import Path
 
 TOP = str(Path(__file__).resolve().parent.parent)
+
+
+class Wrong(Exception):
+    """What a trial found to be otherwise than it has to be."""

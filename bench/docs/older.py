@@ -10,12 +10,13 @@ import subprocess
 import sys
 import tempfile
 
-from bench.stress.kills import SHELF
+from bench.shared.changes import MODULES, SLOTS
+from bench.shared.office import LOG_IN, write_shelf
 from bench.shared.program import PROGRAM
 
-CHANGES = 'ACT-USER::ANNA:1::bc;ENT-CRS-T0::DS0-1-1,DS0-2-1:2::2WAY,"C 7";RMV-MID::MID-1:3;ENT-USER-SECU::FAY:4::cb,P;'
-MORE = "ACT-USER::ANNA:1::bc;ENT-CRS-T0::DS0-1-2,DS0-3-1:2;"
-LOOKS = "ACT-USER::ANNA:1::bc;RTRV-CRS-T0:::2;"
+CHANGES = LOG_IN + 'ENT-CRS-T0::DS0-1-1,DS0-2-1:2::2WAY,"C 7";RMV-MID::MID-1:3;ENT-USER-SECU::FAY:4::cb,P;'
+MORE = LOG_IN + "ENT-CRS-T0::DS0-1-2,DS0-3-1:2;"
+LOOKS = LOG_IN + "RTRV-CRS-T0:::2;"
 FAY = "ACT-USER::FAY:1::cb;"
 
 
@@ -24,8 +25,7 @@ class Office:
 
     def __init__(self, folder):
         self.folder = folder
-        with open(os.path.join(folder, "shelf.toml"), "w", encoding="utf-8") as file:
-            file.write(SHELF)
+        write_shelf(folder, MODULES, SLOTS)
 
     def content(self):
         names = [name for name in ("j", "j.users") if os.path.exists(os.path.join(self.folder, name))]

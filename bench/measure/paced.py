@@ -6,62 +6,47 @@ Half of the ports have circuits that stand throughout; sixteen callers enter and
 answered. Frames come every 125 microseconds (8,000 a second) by bench/c/paced.c, which needs a C compiler, and one worker carries them. It
 runs a second time with a copier in the controller's place and no callers, which shows the machine's own pauses.
 """
+import contextlib
 import os
 import subprocess
 import sys
 import tempfile
 import threading
 
-from bench.stress import serve
-from bench.shared.program import PROGRAM, TOP
-from bench.stress.serve import CALLERS, LOG_IN, Caller, Server, expect
+from bench.measure.streams import deletion, entry
+from bench.shared.compiled import executable
+from bench.shared.office import write_shelf
+from bench.shared.program import expect
+from bench.shared.server import PLACES, Caller, Server, enter
 
 MICROSECONDS = 125
 PATIENCE = 60
 
 
-def port(number, slots):
-    return f"DS0-{number // slots + 1}-{number % slots + 1}"
-
-
-def entry(a, b, slots):
-    return f"ENT-CRS-T0::{port(a, slots)},{port(b, slots)}:1;".encode()
-
-
-def deletion(a, b, slots):
-    return f"DLT-CRS-T0::{port(a, slots)},{port(b, slots)}:1;".encode()
-
-
-class PacedServer(Server):
+@contextlib.contextmanager
+def paced(modules, slots, before):
     """A server whose lines read a pipe with a name. The pipe has a writer before the server starts."""
-
-    def __init__(self, modules, slots, before):
-        self.held = tempfile.TemporaryDirectory(dir="/dev/shm")
-        self.folder, self.port, self.workers = self.held.name, serve.free_port(), 1
-        with open(self.path("shelf.toml"), "w", encoding="utf-8") as file:
-            file.write(serve.shelf(modules, slots))
-        subprocess.run([PROGRAM, "script", "shelf.toml", "j"], cwd=self.folder, input=LOG_IN + before, capture_output=True, check=True)
-        os.mkfifo(self.path("lines.in"))
-        self.pipe = os.open(self.path("lines.in"), os.O_RDWR)
-        self.process = subprocess.Popen([PROGRAM, *self.words()], cwd=self.folder, stderr=subprocess.PIPE)
-        self.wait_until_open()
-
-    def __exit__(self, *gone):
-        os.close(self.pipe)
-        super().__exit__(*gone)
+    with tempfile.TemporaryDirectory(dir="/dev/shm") as folder:
+        write_shelf(folder, modules, slots)
+        enter(folder, before.encode())
+        lines = os.path.join(folder, "lines.in")
+        os.mkfifo(lines)
+        pipe = os.open(lines, os.O_RDWR)
+        try:
+            with Server(folder) as server:
+                yield server
+        finally:
+            os.close(pipe)
 
 
 def change(server, number, free, slots, stop, counts):
     """Enters and deletes circuits between the ports that are this caller's own."""
-    caller = Caller(server)
-    caller.send(LOG_IN)
-    caller.messages(1)
-    mine = free[number::CALLERS]
+    caller = Caller(server).log_in()
+    mine = free[number::PLACES]
     while not stop.is_set():
         for a, b in zip(mine, reversed(mine)):
-            for unit in (entry(a, b, slots), deletion(a, b, slots)):
-                caller.send(unit)
-                expect(b"COMPLD" in caller.messages(1)[0], f"{unit} was denied")
+            for unit in (entry(a, b, slots, 1), deletion(a, b, slots, 1)):
+                expect(b"COMPLD" in caller.ask(unit.encode()), f"{unit} was denied")
                 counts[number] += 1
             if stop.is_set():
                 return
@@ -74,13 +59,12 @@ def main(words):
     standing = list({b: (a, b) for a, b in standing}.values())
     free = list(range(ports // 2, ports))
     frames = seconds * 1_000_000 // MICROSECONDS
-    with tempfile.TemporaryDirectory(dir="/dev/shm") as room, PacedServer(modules, slots, b"".join(entry(a, b, slots) for a, b in standing)) as server:
-        pacer, sides = os.path.join(room, "paced"), os.path.join(room, "sides")
-        subprocess.run(["cc", "-O2", "-pthread", "-o", pacer, os.path.join(TOP, "bench", "c", "paced.c")], check=True)
+    with tempfile.TemporaryDirectory(dir="/dev/shm") as room, paced(modules, slots, "".join(entry(a, b, slots, 1) for a, b in standing)) as server:
+        pacer, sides = executable("paced", room, "-pthread"), os.path.join(room, "sides")
         with open(sides, "w", encoding="ascii") as file:
             file.writelines(f"{a} {b}\n" for a, b in standing)
-        stop, counts = threading.Event(), [0] * CALLERS
-        callers = [threading.Thread(target=change, args=(server, n, free, slots, stop, counts), daemon=True) for n in range(CALLERS)]
+        stop, counts = threading.Event(), [0] * PLACES
+        callers = [threading.Thread(target=change, args=(server, n, free, slots, stop, counts), daemon=True) for n in range(PLACES)]
         for caller in callers:
             caller.start()
         given = [str(ports), str(frames), str(MICROSECONDS), sides]
@@ -88,7 +72,7 @@ def main(words):
         stop.set()
         for caller in callers:
             caller.join()
-        print(f"{sum(counts)} changes by {CALLERS} callers meanwhile, {sum(counts) / seconds:.0f} a second")
+        print(f"{sum(counts)} changes by {PLACES} callers meanwhile, {sum(counts) / seconds:.0f} a second")
         print("a copier in the controller's place:", flush=True)
         os.mkfifo(os.path.join(room, "pipe"))
         subprocess.run([pacer, os.path.join(room, "pipe"), os.path.join(room, "out"), *given, "--copy"], check=False, timeout=seconds + PATIENCE)

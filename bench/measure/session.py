@@ -9,28 +9,19 @@ there, the instructions of a unit of a mixed stream: of 100 units 40 entries, 22
 """
 import os
 import random
-import re
-import shutil
 import subprocess
 import sys
 import tempfile
 import time
 
+from bench.shared import valgrind
+from bench.shared.office import LOG_IN, begin_anew, shelf_text
 from bench.shared.program import PROGRAM
 
 MEMORY = "/dev/shm"
 MOST_CHANGES = 60_000
 CHANGES_ON_DISK = 2_000
-SHELF = """sid = "BENCH"
-modules = 32
-slots = 32
-[[user]]
-uid = "ANNA"
-class = "S"
-salt = "61"
-digest = "ba7816bf8f01cfea414140de5dae2223b00361a396177a9cb410ff61f20015ad"
-"""
-LOG_IN = "ACT-USER::ANNA:1::bc;"
+SHELF = shelf_text(32, 32, "BENCH")
 
 
 def port(index):
@@ -84,13 +75,6 @@ def streams(units):
     yield "changes beside 1,000 connections", LOG_IN + entered(1000) + changes(units), False
 
 
-def begin_anew(journal):
-    """Removes the journal, and that of the users beside it."""
-    for name in (journal, journal + ".users"):
-        if os.path.exists(name):
-            os.remove(name)
-
-
 def measured(command, stream, journal=None):
     """Seconds and the largest resident memory in KiB of a command that reads the stream, on a new journal."""
     if journal:
@@ -110,15 +94,10 @@ def measured(command, stream, journal=None):
     return took, memory
 
 
-def instructions(shelf, stream, journal, text):
+def instructions(shelf, journal, text):
     """Instructions of the program over a stream."""
-    with open(stream, "w") as file:
-        file.write(text)
     begin_anew(journal)
-    command = ["valgrind", "--tool=callgrind", "--callgrind-out-file=/dev/null", PROGRAM, "script", shelf, journal]
-    with open(stream, "rb") as given:
-        ended = subprocess.run(command, stdin=given, stdout=subprocess.DEVNULL, stderr=subprocess.PIPE, text=True, check=True)
-    return int(re.search(r"Collected : (\d+)", ended.stderr).group(1))
+    return valgrind.instructions([PROGRAM, "script", shelf, journal], text.encode())[0]
 
 
 def main():
@@ -140,9 +119,9 @@ def main():
         records = commands.count("CRS-T0")
         opened, _ = min(measured([PROGRAM, "check", shelf, journal], stream) for _ in range(5))
         print(f"a start on {records} records: {1e6 * opened / records:.2f} microseconds a record, with reading")
-        if shutil.which("valgrind"):
+        if valgrind.is_here():
             journal = os.path.join(fast, "office.journal")
-            few, many = (instructions(shelf, stream, journal, LOG_IN + mixed(count)) for count in (2_000, 12_000))
+            few, many = (instructions(shelf, journal, LOG_IN + mixed(count)) for count in (2_000, 12_000))
             print(f"mixed: {(many - few) / 10_000:,.0f} instructions a unit")
 
 

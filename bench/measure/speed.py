@@ -17,13 +17,14 @@ import sys
 import tempfile
 import time
 
-from bench.shared.program import PROGRAM, TOP
+from bench import TOP
+from bench.shared import valgrind
+from bench.shared.office import begin_anew, shelf_text
+from bench.shared.program import PROGRAM
 from bench.measure.streams import LOG_IN, busy, chains, churn, direct, filled, full, headers, mixed, refused, retrievals
 
 CONVENTIONAL = os.path.join(TOP, "bench", "measure", "conventional.json")
 MEMORY = "/dev/shm"
-# SHA-256 of the salt "a" and the PID "bc"
-DIGEST = "ba7816bf8f01cfea414140de5dae2223b00361a396177a9cb410ff61f20015ad"
 STAMP = re.compile(rb"\d\d-\d\d-\d\d \d\d:\d\d:\d\d(?=\r\n)")
 
 # What is measured: name, what a unit is, shape, whether the table is full at first, few and many units, and their stream.
@@ -64,23 +65,15 @@ class Room:
 
     def words(self, shape):
         with open(self.shelf, "w") as file:
-            file.write(f'sid = "BENCH"\nmodules = {shape[0]}\nslots = {shape[1]}\n')
-            for uid, kind in (("ANNA", "S"), ("BEN", "P"), ("CARA", "R")):
-                file.write(f'[[user]]\nuid = "{uid}"\nclass = "{kind}"\nsalt = "61"\ndigest = "{DIGEST}"\n')
-        for name in (self.journal, self.journal + ".users"):
-            if os.path.exists(name):
-                os.unlink(name)
+            file.write(shelf_text(*shape, "BENCH", (("ANNA", "S"), ("BEN", "P"), ("CARA", "R"))))
+        begin_anew(self.journal)
         return [PROGRAM, "script", self.shelf, self.journal]
 
 
 def collected(words, text=""):
     """Instructions of a run, and the digest of what it wrote; None where it doesn't end well."""
-    grind = ["valgrind", "--tool=callgrind", "--callgrind-out-file=/dev/null"]
-    done = subprocess.run(grind + words, input=text.encode("latin-1"), capture_output=True)
-    count = re.search(rb"Collected : (\d+)", done.stderr)
-    if done.returncode or not count:
-        return None
-    return int(count[1]), hashlib.sha256(STAMP.sub(b"T", done.stdout)).hexdigest()
+    ran = valgrind.instructions(words, text.encode("latin-1"))
+    return ran and (ran[0], hashlib.sha256(STAMP.sub(b"T", ran[1])).hexdigest())
 
 
 def measured(room, shape, filled, text):

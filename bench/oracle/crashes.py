@@ -1,37 +1,26 @@
-"""Audits each file that a crash may leave of a run of five commands, and of a run that moves a journal of version 1 over.
+"""Audits each file that a crash may leave of two runs.
 
 usage: bench/run oracle crashes [EVERY [SEED]]     (each file where nothing is given, else one of so many, drawn by the seed)
 
-The writes and syncs on the run's journal are those of the plain journal (bench/oracle/journal.py), which the file is compared with. A crash leaves what was
-synced; of the writes behind that nothing, all, or each one's range filled with one byte; and of the write in hand any front of it besides. `dxc check`
-must tell the commands that were acknowledged before that moment, or one more; and a further command on that file must go on from there.
+One run makes five commands, the other goes on with a journal of version 1. The writes and syncs on a run's journal are those of the plain journal
+(bench/oracle/journal.py), which the file is compared with. A crash leaves what was synced; of the writes after that nothing, all, or each one's range
+filled with one byte; and of the write in hand any front of it besides. `dxc check` must tell the commands that were acknowledged before that moment, or
+one more; and a further command on that file must go on from there.
 """
 import os
 import random
-import subprocess
-import sys
 import tempfile
 
+from bench import Wrong
 from bench.oracle import journal
 from bench.oracle.journal import File
-from bench.shared.program import PROGRAM, counted
+from bench.shared.office import LOG_IN, write_shelf
+from bench.shared.program import counted, expect, run_program
 
-SHELF = """sid = "DXC1"
-modules = 3
-slots = 2
-[[user]]
-uid = "ANNA"
-class = "S"
-salt = "61"
-digest = "ba7816bf8f01cfea414140de5dae2223b00361a396177a9cb410ff61f20015ad"
-"""
+MODULES, SLOTS = 3, 2
 # The last one moves three circuits.
 ENTRIES = [("DS0-2-1", "DS0-2-2"), ("DS0-1-1", "DS0-2-1"), ("DS0-3-1", "DS0-1-2"), ("DS0-3-2", "DS0-3-1"), ("DS0-1-2", "DS0-1-1")]
 FREE = ("DS0-2-2", "DS0-3-2")
-
-
-def run(mode, shelf, name, commands=""):
-    return subprocess.run([PROGRAM, mode, shelf, name], input=commands, capture_output=True, text=True)
 
 
 def rows(entries):
@@ -39,7 +28,7 @@ def rows(entries):
 
 
 def units(entries):
-    return ["ACT-USER::ANNA:1::bc"] + [f"ENT-CRS-T0::{a},{b}:1" for a, b in entries]
+    return [LOG_IN.rstrip(";")] + [f"ENT-CRS-T0::{a},{b}:1" for a, b in entries]
 
 
 def sent(entries):
@@ -48,14 +37,14 @@ def sent(entries):
 
 def old_journal():
     """A journal of version 1 with the first four entries."""
-    element = journal.element_of(3, 2)
+    element = journal.element_of(MODULES, SLOTS)
     session, records = journal.plain.Session(element), []
     for unit in units(ENTRIES[:4]):
         session.answer(unit.encode())
         if session.change:
             records.append(journal.record(element, session.change.op, session.change.what, session.choices, 1))
             element.make(session.change)
-    return journal.header(1, 0, journal.element_of(3, 2)) + b"".join(records) + b"\0"
+    return journal.header(1, 0, journal.element_of(MODULES, SLOTS)) + b"".join(records) + b"\0"
 
 
 def images(old, calls, number):
@@ -74,18 +63,18 @@ def audit(shelf, name, image, done):
     """How many entries the image stands for."""
     with open(name, "wb") as file:
         file.write(image)
-    told = run("check", shelf, name).stdout.splitlines()[:-1]
+    told = run_program(["check", shelf, name]).stdout.splitlines()[:-1]
     for count in (done, done + 1):
         if told == rows(ENTRIES[:count]):
-            went_on = run("script", shelf, name, sent([FREE])).stdout
-            if went_on.count("COMPLD") == 2 and run("check", shelf, name).stdout.splitlines()[:-1] == rows(ENTRIES[:count] + [FREE]):
+            went_on = run_program(["script", shelf, name], sent([FREE])).stdout
+            if went_on.count("COMPLD") == 2 and run_program(["check", shelf, name]).stdout.splitlines()[:-1] == rows(ENTRIES[:count] + [FREE]):
                 return count
-    sys.exit(f"after {done} acknowledged commands check wrote {told} of a file of {len(image)} bytes")
+    raise Wrong(f"after {done} acknowledged commands check wrote {told} of a file of {len(image)} bytes")
 
 
 def calls_of(old, entries):
     file = File(old)
-    journal.script(file, 3, 2, units(entries))
+    journal.script(file, MODULES, SLOTS, units(entries))
     return file
 
 
@@ -93,11 +82,10 @@ def tried(shelf, name, old, first, is_drawn):
     """Tries a run that makes the entries behind the first so many; how many files were audited, and in how many the one in hand stood."""
     with open(name, "wb") as file:
         file.write(old)
-    run("script", shelf, name, sent(ENTRIES[first:]))
+    run_program(["script", shelf, name], sent(ENTRIES[first:]))
     made = calls_of(old, ENTRIES[first:])
     with open(name, "rb") as file:
-        if file.read() != made.content:
-            sys.exit("the journal isn't what the plain one makes of it")
+        expect(file.read() == made.content, "the journal isn't what the plain one makes of it")
     ends = [len(calls_of(old, ENTRIES[first:last]).calls) for last in range(first, len(ENTRIES) + 1)]
     count = more = 0
     for number in range(len(made.calls)):
@@ -114,9 +102,7 @@ def main():
     every, seed = counted(1)
     rng = random.Random(seed)
     with tempfile.TemporaryDirectory() as folder:
-        shelf, name = os.path.join(folder, "shelf.toml"), os.path.join(folder, "office.journal")
-        with open(shelf, "w", encoding="utf-8") as file:
-            file.write(SHELF)
+        shelf, name = write_shelf(folder, MODULES, SLOTS), os.path.join(folder, "office.journal")
         for what, old, first in (("a new journal", b"", 0), ("one of version 1", old_journal(), 4)):
             count, more = tried(shelf, name, old, first, lambda _: rng.randrange(every) == 0)
             print(f"{what}: {count} files of a crash: each stands for the acknowledged commands, {more} of them for the one in hand besides")

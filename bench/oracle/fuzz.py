@@ -1,8 +1,8 @@
-"""Sends random and mutated units over several TCP sessions, and compares each answer and report with a plain table's (bench/oracle/plain.py).
+"""Sends random and mutated units over several TCP sessions, and compares each answer and report with a plain table's.
 
 usage: bench/run oracle fuzz [UNITS [SEED]]     (a million units, seed 1, where nothing is given)
 
-The sessions take turns, so that there is one order; a session that is told changes may be written its reports at any time, in their order.
+The plain table is bench/oracle/plain.py. The sessions take turns, so that there is one order; a session that is told changes may be written its reports at any time, in their order.
 Calls on the journals fail at random: a change or an INIT-SYS may then be denied with SROF, exactly where such a call failed in it. The server is killed
 and started again every few thousand units: the journal then stands for what was completed, or for that and the change that was in hand or denied
 for a fault. It takes a C compiler, for a library that is loaded before the C library (bench/c/faults.c).
@@ -19,20 +19,21 @@ import sys
 import tempfile
 import time
 
+from bench import Wrong
 from bench.oracle import plain
-from bench.shared.program import PROGRAM, TOP, counted
+from bench.shared.compiled import library
+from bench.shared.office import DIGEST, shelf_text
+from bench.shared.program import PROGRAM, counted
+from bench.shared.server import free_port
 
-DIGEST = bytes.fromhex("ba7816bf8f01cfea414140de5dae2223b00361a396177a9cb410ff61f20015ad")
 MODULES, SLOTS, SESSIONS, LIFE, ONE_OF = 4, 3, 4, 4000, 60
 RANKS = {"ANNA": "S", "BEN": "P", "CARA": "R"}
 LOST = re.compile(r'"LOST=(\d+)"\Z')
 MESSAGE = re.compile(rb"\r\n\n   ([!-~]+) \d\d-\d\d-\d\d \d\d:\d\d:\d\d\r\n([MA])  (\w+) ([A-Z ]+)\r\n((?:   [^\r]*\r\n)*)([;>])", re.DOTALL)
-SHELF = f'sid = "DXC1"\nmodules = {MODULES}\nslots = {SLOTS}\n' + "".join(
-    f'[[user]]\nuid = "{name}"\nclass = "{rank}"\nsalt = "61"\ndigest = "{DIGEST.hex()}"\n' for name, rank in RANKS.items()
-)
+SHELF = shelf_text(MODULES, SLOTS, users=RANKS.items())
 
 
-class Different(Exception):
+class Different(Wrong):
     """The program and the plain table differ."""
 
 
@@ -201,13 +202,11 @@ class Run:
 
     def __init__(self, folder):
         self.folder, self.faults, self.count, self.refused, self.lives = folder, Faults(folder), 0, 0, 0
-        self.library = self.path("faults.so")
-        source = os.path.join(TOP, "bench", "c", "faults.c")
-        subprocess.run(["cc", "-O1", "-shared", "-fPIC", "-o", self.library, source, "-ldl"], check=True)
+        self.library = library("faults", folder)
         with open(self.path("shelf.toml"), "w", encoding="utf-8") as file:
             file.write(SHELF)
         open(self.path("lines.in"), "wb").close()
-        users = [plain.User(name, rank, b"a", DIGEST) for name, rank in RANKS.items()]
+        users = [plain.User(name, rank, b"a", bytes.fromhex(DIGEST)) for name, rank in RANKS.items()]
         self.element = plain.Element(b"DXC1", MODULES, SLOTS, users, set(range(1, MODULES + 1)))
         # Changes that were denied for a fault since the last that was completed: the journal may hold one of them.
         self.doubts, self.is_due = [], False
@@ -243,9 +242,7 @@ class Run:
         """One life of the server, of at least so many units."""
         self.take_up()
         self.is_due = False
-        with socket.socket() as some:
-            some.bind(("127.0.0.1", 0))
-            port = some.getsockname()[1]
+        port = free_port()
         world = dict(os.environ, LD_PRELOAD=self.library, FAULTED=self.faults.name)
         words = [PROGRAM, "serve", "shelf.toml", "j", f"127.0.0.1:{port}", "lines", "1"]
         with subprocess.Popen(words, cwd=self.folder, env=world, stderr=subprocess.PIPE) as server:

@@ -4,7 +4,8 @@ import struct
 from dataclasses import dataclass
 
 from bench.oracle import plain
-from bench.oracle.paths import COLUMN, DIRECT, ROW
+from bench.oracle.paths import COLUMN, DIRECT, ROW, legs_of
+from bench.shared.office import DIGEST
 
 SEALED = 0xA5
 AREAS = (0, 2_097_216)
@@ -285,8 +286,6 @@ def is_label(label):
 
 def place(element, change, choices, version):
     """Joins and parts the legs of the change by these choices."""
-    from bench.oracle.paths import legs_of
-
     paths = element.paths
     if change.op.endswith("MID"):
         paths.plan(change)
@@ -324,8 +323,7 @@ def is_valid(paths, leg, choice):
 
 
 def element_of(modules, slots):
-    digest = bytes.fromhex("ba7816bf8f01cfea414140de5dae2223b00361a396177a9cb410ff61f20015ad")
-    return plain.Element(b"DXC1", modules, slots, [plain.User("ANNA", "S", b"a", digest)], set(range(1, modules + 1)))
+    return plain.Element(b"DXC1", modules, slots, [plain.User("ANNA", "S", b"a", bytes.fromhex(DIGEST))], set(range(1, modules + 1)))
 
 
 def script(file, modules, slots, units):

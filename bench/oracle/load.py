@@ -1,11 +1,13 @@
-"""What `dxc load NUMBER` has to write, computed anew: the script drawn from the number, a plain table, and Paull's choice of middles by
-lowest numbers. It shares nothing with the program.
+"""Reckons anew what `dxc load NUMBER` has to write, and compares it.
 
-usage: bench/run oracle load NUMBER..                 writes the summary of each number
-       bench/run oracle load -p PROGRAM NUMBER..      runs `PROGRAM load NUMBER` for each, and tells the first that writes something else
+usage: bench/run oracle load NUMBER..              runs `dxc load NUMBER` for each, and tells the first that writes something else
+       bench/run oracle load --write NUMBER..      writes the summary of each number alone
+
+The script is drawn from the number, and served by a plain table with Paull's choice of middles by lowest numbers. It shares nothing with the program.
 """
-import subprocess
 import sys
+
+from bench.shared.program import expect, run_program
 
 MODULES, SLOTS, COMMANDS = 8, 24, 10_000
 PORTS = MODULES * SLOTS
@@ -113,18 +115,15 @@ def summary(number):
 
 
 def main(words):
-    program = None
-    if words[:1] == ["-p"]:
-        program, words = words[1], words[2:]
-    for word in words:
+    only_written = words[:1] == ["--write"]
+    for word in words[only_written:]:
         wanted = summary(int(word))
-        if program is None:
+        if only_written:
             print(wanted, end="")
             continue
-        run = subprocess.run([program, "load", word], capture_output=True, text=True)
-        if (run.stdout, run.returncode) != (wanted, 0):
-            sys.exit(f"load {word}: status {run.returncode}\nwrote:  {run.stdout}wanted: {wanted}")
-        print(f"load {word}: as computed")
+        ran = run_program(["load", word])
+        expect((ran.stdout, ran.returncode) == (wanted, 0), f"load {word}: status {ran.returncode}\nwrote:  {ran.stdout}wanted: {wanted}")
+        print(f"load {word}: as reckoned")
 
 
 if __name__ == "__main__":

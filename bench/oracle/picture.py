@@ -8,13 +8,13 @@ connections that the program lists.
 import os
 import random
 import subprocess
-import sys
 import tempfile
 
-from bench.shared.program import PROGRAM, TOP, counted
+from bench import TOP
+from bench.shared.office import LOG_IN, write_shelf
+from bench.shared.program import PROGRAM, counted, expect
 
 PICTURE = os.path.join(TOP, "tools", "picture")
-DIGEST = "ba7816bf8f01cfea414140de5dae2223b00361a396177a9cb410ff61f20015ad"
 
 
 def ran(words, **more):
@@ -22,7 +22,7 @@ def ran(words, **more):
 
 
 def commands(modules, slots, count):
-    yield "ACT-USER::ANNA:1::bc;"
+    yield LOG_IN
     entered = []
     for _ in range(count):
         if random.random() < 0.05:
@@ -50,16 +50,13 @@ def main():
     for number in range(rounds):
         modules, slots = random.choice(((2, 1), (3, 2), (4, 4), (8, 6), (64, 96)))
         with tempfile.TemporaryDirectory() as folder:
-            shelf, journal = os.path.join(folder, "shelf.toml"), os.path.join(folder, "j")
-            with open(shelf, "w", encoding="utf-8") as file:
-                file.write(f'sid = "DXC1"\nmodules = {modules}\nslots = {slots}\n[[user]]\nuid = "ANNA"\nclass = "S"\nsalt = "61"\ndigest = "{DIGEST}"\n')
+            shelf, journal = write_shelf(folder, modules, slots), os.path.join(folder, "j")
             ran([PROGRAM, "script", shelf, journal], input="".join(commands(modules, slots, 300)))
             wanted = ran([PROGRAM, "check", shelf, journal])
             found = ran([PICTURE, "--rows", journal])
-            if found != wanted:
-                sys.exit(f"bench/run oracle picture: round {number}, {modules} by {slots}: the picture has\n{found}and check says\n{wanted}")
-            if ran([PICTURE, journal]).count("<path") < len(wanted.splitlines()) - 1:
-                sys.exit(f"bench/run oracle picture: round {number}: a connection isn't drawn")
+            expect(found == wanted, f"round {number}, {modules} by {slots}: the picture has\n{found}and check says\n{wanted}")
+            drawn = ran([PICTURE, journal]).count("<path")
+            expect(drawn >= len(wanted.splitlines()) - 1, f"round {number}: a connection isn't drawn")
             records += int(wanted.rsplit(" ", 1)[1])
     print(f"{rounds} journals, {records} records: the picture reads what check says")
 

@@ -1,8 +1,8 @@
-"""Sends random units over sixteen TCP sessions at once, and compares each answer and report with a plain table's (bench/oracle/plain.py).
+"""Sends random units over sixteen TCP sessions at once, and compares each answer and report with a plain table's.
 
 usage: bench/run oracle together [ROUNDS [UNITS [SEED]]]     (10 rounds of 30 units a session, seed 1, where nothing is given)
 
-Each session is told all changes, so their order is that of the reports, which must be the same for all. A change that was completed must stand in
+The plain table is bench/oracle/plain.py. Each session is told all changes, so their order is that of the reports, which must be the same for all. A change that was completed must stand in
 that order between the reports that its session was written before and behind the answer; any other answer must be the plain table's at some
 moment between them. In each round the sessions send all their units at once, each on a thread of its own.
 """
@@ -12,9 +12,10 @@ import threading
 
 from bench.oracle import plain
 from bench.oracle.fuzz import Caller, Different
-from bench.stress.serve import DIGEST, LOG_IN, Server
+from bench.shared.office import DIGEST, LOG_IN
+from bench.shared.server import PLACES, serving
 
-MODULES, SLOTS, SESSIONS = 4, 3, 16
+MODULES, SLOTS, SESSIONS = 4, 3, PLACES
 
 
 class Table(plain.Element):
@@ -137,10 +138,10 @@ def check_changes(changes, texts):
 
 
 def run(rounds, units, seed):
-    with Server(MODULES, SLOTS, workers=2) as server:
+    with serving(MODULES, SLOTS, workers=2) as server:
         callers = [Told(server.port, seed * SESSIONS + number) for number in range(SESSIONS)]
         for caller in callers:
-            caller.link.sendall(LOG_IN + b"ALW-MSG-ALL:::2;")
+            caller.link.sendall(LOG_IN.encode() + b"ALW-MSG-ALL:::2;")
             caller.answer(), caller.answer()
         dice = random.Random(seed)
         pool = []
@@ -163,14 +164,11 @@ def run(rounds, units, seed):
 def main():
     rounds, units, seed = (int(given) for given in (sys.argv[1:] + ["10", "30", "1"][len(sys.argv) - 1 :])[:3])
     print(f"seed {seed}", flush=True)
-    try:
-        callers = run(rounds, units, seed)
-        texts = callers[0].texts
-        if any(it.texts != texts for it in callers):
-            raise Different("two sessions were told changes in different orders")
-        check_changes(check_answers(callers, tables_of(texts)), texts)
-    except Different as why:
-        sys.exit(f"bench/run oracle together: {why}")
+    callers = run(rounds, units, seed)
+    texts = callers[0].texts
+    if any(it.texts != texts for it in callers):
+        raise Different("two sessions were told changes in different orders")
+    check_changes(check_answers(callers, tables_of(texts)), texts)
     print(f"{sum(len(it.answers) for it in callers)} units over {SESSIONS} sessions at once, {len(texts)} changes told to each: 0 differences")
 
 

@@ -1,6 +1,6 @@
-"""Writes crates/worked_rows/data/journals.txt: rows of journals that are old, torn, changed or left behind by a crash, and what comes of them.
+"""Writes rows of crates/worked_rows: journals that are old, torn, changed or left by a crash, and what comes of them.
 
-usage: bench/run rows journals                writes that file
+usage: bench/run rows journals                writes crates/worked_rows/data/journals.txt
        bench/run rows journals --check        ends with an error where that file is another one
        bench/run rows journals --to FOLDER    writes it there
 

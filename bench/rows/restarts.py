@@ -1,10 +1,10 @@
-"""Writes rows of crates/worked_restarts: an entry that needs three moves, and a middle that goes out of service and comes back, are stopped at each
-of their gate places, and restarts come after; and the longest chains and random walks (bench/rows/walk.py).
+"""Writes rows of crates/worked_restarts: stops at each place of the gate and restarts after them, random walks, and the longest chains.
 
 usage: bench/run rows restarts                writes crates/worked_restarts/data/stops.txt and points.txt
        bench/run rows restarts --check        ends with an error where one of these files is another one
        bench/run rows restarts --to FOLDER    writes them there
 
+Stopped are an entry that needs three moves, and a middle that goes out of service and comes back; bench/rows/walk.py has walks and chains.
 What the registers hold after each of the entry's writes is reckoned from the words before it and the writes, which are worked out by hand.
 """
 from bench.rows import generated

@@ -1,9 +1,9 @@
-"""The program that the scripts try: the one that DXC_PROGRAM names, or that of this checkout, which the launcher makes ready."""
+"""The program that is tried: the one that DXC_PROGRAM names, or that of this checkout, which the launcher makes ready; and what each trial does with it."""
 import os
 import subprocess
 import sys
 
-from bench import TOP
+from bench import TOP, Wrong
 
 LAUNCHER = os.path.abspath(os.environ.get("DXC_PROGRAM") or os.path.join(TOP, "dxc"))
 
@@ -22,6 +22,17 @@ def counted(count):
     count, seed = words + [count, 1][len(words) :]
     print(f"seed {seed}", flush=True)
     return count, seed
+
+
+def expect(fact, what):
+    """Ends the trial with status 1 where the fact doesn't hold, and says what is wrong."""
+    if not fact:
+        raise Wrong(what)
+
+
+def run_program(words, commands="", **more):
+    """The program's run over these commands, with what it wrote."""
+    return subprocess.run([PROGRAM, *words], input=commands, capture_output=True, text=True, check=False, **more)
 
 
 PROGRAM = made_ready()

@@ -10,27 +10,25 @@ is loaded before the C library (bench/c/refusing.c).
 import os
 import socket
 import subprocess
-import sys
 import tempfile
 import time
 
-from bench.shared.program import PROGRAM, TOP
+from bench import TOP
+from bench.shared.compiled import library
+from bench.shared.office import LOG_IN, begin_anew
+from bench.shared.program import PROGRAM, expect, run_program
+from bench.shared.server import free_port
 
 SHELF = os.path.join(TOP, "examples", "shelf.toml")
-COMMANDS = "ACT-USER::ANNA:1::bc;ENT-CRS-T0::DS0-2-1,DS0-1-1:2;RTRV-CRS-T0:::3;"
+COMMANDS = LOG_IN + "ENT-CRS-T0::DS0-2-1,DS0-1-1:2;RTRV-CRS-T0:::3;"
 KEPT = ["DS0-1-1,DS0-2-1:1WAY"]
 ENTERED = "DS0-2-1,DS0-1-1:1WAY"
 NO_MEMORY, NO_THREAD = 8, 7
 SAYS = {NO_MEMORY: "dxc: no memory\n", NO_THREAD: "dxc: cannot start a thread\n"}
 
 
-def expect(fact, what):
-    if not fact:
-        sys.exit(f"bench/run stress memory: {what}")
-
-
 def run(words, commands="", **world):
-    return subprocess.run([PROGRAM, *words], input=commands, capture_output=True, text=True, env=dict(os.environ, **world), check=False)
+    return run_program(words, commands, env=dict(os.environ, **world))
 
 
 def rows(journal):
@@ -61,9 +59,7 @@ def served(folder, journal, **world):
     """A server that is sent the commands over one session, and then ended, as a run that came to its end."""
     lines = os.path.join(folder, "l")
     open(f"{lines}.in", "wb").close()
-    with socket.socket() as free:
-        free.bind(("127.0.0.1", 0))
-        port = free.getsockname()[1]
+    port = free_port()
     words = [PROGRAM, "serve", SHELF, journal, f"127.0.0.1:{port}", lines, "2"]
     with subprocess.Popen(words, stderr=subprocess.PIPE, text=True, env=dict(os.environ, **world)) as server:
         text = answered(server, port)
@@ -72,18 +68,18 @@ def served(folder, journal, **world):
         return subprocess.CompletedProcess(words, 0 if status is None else status, text, server.stderr.read())
 
 
-def refused_in_turn(folder, library, mode):
+def refused_in_turn(folder, refusing, mode):
     """Runs the mode with each growth refused; how many growths there were, and how many runs ended for want of memory."""
     journal, reached = os.path.join(folder, "j"), os.path.join(folder, "reached")
     ended = number = 0
     while True:
         number += 1
-        for name in (journal, journal + ".users", reached):
-            if os.path.exists(name):
-                os.remove(name)
-        made = run(["script", SHELF, journal], "ACT-USER::ANNA:1::bc;ENT-CRS-T0::DS0-1-1,DS0-2-1:2;")
+        begin_anew(journal)
+        if os.path.exists(reached):
+            os.remove(reached)
+        made = run(["script", SHELF, journal], LOG_IN + "ENT-CRS-T0::DS0-1-1,DS0-2-1:2;")
         expect(made.returncode == 0 and rows(journal) == KEPT, "a journal can't be made")
-        world = {"LD_PRELOAD": library, "REFUSED": str(number), "REACHED": reached}
+        world = {"LD_PRELOAD": refusing, "REFUSED": str(number), "REACHED": reached}
         if mode == "serve":
             ran = served(folder, journal, **world)
         else:
@@ -99,11 +95,9 @@ def refused_in_turn(folder, library, mode):
 
 def main():
     with tempfile.TemporaryDirectory() as folder:
-        library = os.path.join(folder, "refusing.so")
-        source = os.path.join(TOP, "bench", "c", "refusing.c")
-        subprocess.run(["cc", "-O1", "-shared", "-fPIC", "-o", library, source, "-ldl"], check=True)
+        refusing = library("refusing", folder)
         for mode in ("script", "check", "serve"):
-            growths, ended = refused_in_turn(folder, library, mode)
+            growths, ended = refused_in_turn(folder, refusing, mode)
             expect(ended > 0, f"{mode}: no growth was refused")
             print(f"{mode}: {growths} growths, each refused in a run of its own: {ended} runs ended for want of memory, nothing was lost")
 

@@ -28,51 +28,21 @@ import sys
 import tempfile
 import time
 
-from bench.shared.program import PROGRAM
+from bench import Wrong
+from bench.shared import office
+from bench.shared.compiled import library
+from bench.shared.program import PROGRAM, expect
+from bench.shared.server import PLACES, Server, ends_at, free_port
 
-DIGEST = "ba7816bf8f01cfea414140de5dae2223b00361a396177a9cb410ff61f20015ad"
-SHELF = f'sid = "DXC1"\nmodules = 4\nslots = 8\n[[user]]\nuid = "ANNA"\nclass = "S"\nsalt = "61"\ndigest = "{DIGEST}"\n'
-PORTS = 32
-LOG_IN = b"ACT-USER::ANNA:1::bc;"
+MODULES, SLOTS = 4, 8
+LOG_IN = office.LOG_IN.encode()
 ENTRY = b"ENT-CRS-T0::DS0-1-1,DS0-2-1:2;"
 DELETION = b"DLT-CRS-T0::DS0-1-1,DS0-2-1:3;"
 ROW = "DS0-1-1,DS0-2-1:1WAY\nRECORDS 1\n"
-PLACES = 16
 CANNOT_OPEN = (6, "dxc: cannot open")
 # A filter that drops each packet that comes to a socket (linux/filter.h): its machine might as well be gone.
 SO_ATTACH_FILTER, DROP_ALL = 26, struct.pack("HBBI", 0x06, 0, 0, 0)
 ESTABLISHED = "01"
-# Fails each fdatasync while the file that FAILING names is there.
-FAILING_SYNC = """#define _GNU_SOURCE
-#include <dlfcn.h>
-#include <errno.h>
-#include <stdlib.h>
-#include <unistd.h>
-int fdatasync(int file)
-{
-    const char *name = getenv("FAILING");
-    if (name && access(name, F_OK) == 0) {
-        errno = EIO;
-        return -1;
-    }
-    return ((int (*)(int))dlsym(RTLD_NEXT, "fdatasync"))(file);
-}
-"""
-
-
-class Wrong(Exception):
-    """What isn't as it has to be."""
-
-
-def expect(fact, what):
-    if not fact:
-        raise Wrong(what)
-
-
-def free_port():
-    with socket.socket() as some:
-        some.bind(("127.0.0.1", 0))
-        return some.getsockname()[1]
 
 
 def write(path, content):
@@ -91,13 +61,6 @@ def run(folder, words, commands=b"", **more):
     return ended.returncode, ended.stdout.decode(), ended.stderr.decode().splitlines()
 
 
-def is_open(port):
-    with contextlib.suppress(OSError):
-        socket.create_connection(("127.0.0.1", port), 1).close()
-        return True
-    return False
-
-
 def until(fact, seconds):
     """Whether the fact holds within so many seconds."""
     end = time.monotonic() + seconds
@@ -108,21 +71,8 @@ def until(fact, seconds):
     return True
 
 
-class Server:
-    """A server in the folder, whose port is open."""
-
-    def __init__(self, folder, journal="j", lines="lines"):
-        self.port = free_port()
-        words = ["serve", "shelf.toml", journal, f"127.0.0.1:{self.port}", lines, "1"]
-        self.process = subprocess.Popen([PROGRAM, *words], cwd=folder, stderr=subprocess.PIPE)
-        opened = until(lambda: self.process.poll() is not None or is_open(self.port), 10)
-        if not opened or self.process.poll() is not None:
-            self.end()
-            raise Wrong("the server didn't open its port within ten seconds")
-
-    def end(self):
-        self.process.kill()
-        self.process.communicate()
+class Element(Server):
+    """A server whose end of each connection is looked at."""
 
     def call(self, receive=None):
         """A caller, with so many bytes of room for what it doesn't read."""
@@ -135,25 +85,10 @@ class Server:
 
     def ends(self):
         """The server's end of each connection, by the caller's port: its state and how many bytes wait to be sent."""
-        found = {}
-        with open("/proc/net/tcp", encoding="ascii") as table:
-            for line in table.readlines()[1:]:
-                _, local, remote, state, queues = line.split()[:5]
-                if int(local.split(":")[1], 16) == self.port:
-                    found[int(remote.split(":")[1], 16)] = state, int(queues.split(":")[0], 16)
-        return found
+        return {port: (state, waiting) for port, state, waiting in ends_at(self.port)}
 
     def is_joined(self, port):
         return self.ends().get(port, ("", 0))[0] == ESTABLISHED
-
-
-@contextlib.contextmanager
-def serving(folder, **more):
-    server = Server(folder, **more)
-    try:
-        yield server
-    finally:
-        server.end()
 
 
 def answer(caller, commands):
@@ -213,7 +148,7 @@ def check(folder):
     expect(run(folder, ["check", "shelf.toml", "none/j"])[0] == 6, "check in no folder")
     run(folder, ["script", "shelf.toml", "j"], LOG_IN + ENTRY)
     expect(checked("j")[:2] == (0, ROW), "check of a journal")
-    with serving(folder) as server:
+    with Element(folder) as server:
         expect(checked("j")[:2] == (0, ROW), "check beside a server")
         with server.call() as caller:
             expect("DENY" not in answer(caller, LOG_IN + DELETION), "the server was disturbed")
@@ -231,10 +166,8 @@ def check(folder):
 
 
 def sync(folder):
-    source, library, failing = (os.path.join(folder, name) for name in ("failing.c", "failing.so", "failing"))
-    write(source, FAILING_SYNC.encode())
-    subprocess.run(["cc", "-shared", "-fPIC", "-o", library, source, "-ldl"], check=True)
-    world = dict(os.environ, LD_PRELOAD=library, FAILING=failing)
+    failing = os.path.join(folder, "failing")
+    world = dict(os.environ, LD_PRELOAD=library("failing_sync", folder), FAILING=failing)
     script = [PROGRAM, "script", "shelf.toml", "j"]
     session = subprocess.Popen(script, cwd=folder, env=world, stdin=subprocess.PIPE, stdout=subprocess.PIPE, bufsize=0)
 
@@ -269,7 +202,7 @@ def lose(caller):
 
 
 def dead(folder):
-    with serving(folder) as server, contextlib.ExitStack() as held:
+    with Element(folder) as server, contextlib.ExitStack() as held:
         callers = [held.enter_context(server.call()) for _ in range(3)]
         expect("DENY" not in answer(callers[0], LOG_IN + b"ALW-MSG-ALL:::2;"), "no reports")
         expect(is_served(callers[1]), "no log-in")
@@ -286,7 +219,7 @@ def dead(folder):
 
 
 def full(folder):
-    with serving(folder) as server, contextlib.ExitStack() as held:
+    with Element(folder) as server, contextlib.ExitStack() as held:
         callers = [held.enter_context(server.call()) for _ in range(PLACES)]
         expect(all(map(is_served, callers)), "not all of sixteen are served")
         for commands in (b"", LOG_IN):
@@ -308,7 +241,7 @@ def full(folder):
 
 
 def slow(folder):
-    with serving(folder) as server, server.call(4096) as caller:
+    with Element(folder) as server, server.call(4096) as caller:
         expect("DENY" not in answer(caller, LOG_IN + ENTRY), "no log-in")
         port = caller.getsockname()[1]
         caller.setblocking(False)
@@ -332,7 +265,7 @@ def limit(server, count):
 
 
 def descriptors(folder):
-    with serving(folder) as server:
+    with Element(folder) as server:
         own = f"/proc/{server.process.pid}"
         time.sleep(0.5)
         threads = len(os.listdir(f"{own}/task"))
@@ -364,7 +297,7 @@ def told(folder):
     os.mkdir(os.path.join(folder, "folder"))
     at = f"127.0.0.1:{free_port()}"
     serve = ["serve", "shelf.toml", "other"]
-    with serving(folder) as server:
+    with Element(folder) as server:
         used = f"127.0.0.1:{server.port}"
         causes = [
             (["check", "no.toml", "j"], "no.toml", absent),
@@ -399,14 +332,14 @@ def lines(folder):
         with contextlib.suppress(subprocess.TimeoutExpired):
             expect(run(folder, words)[0] == 6, "two had one address")
         expect(content(output) == b"of the day before", "the output of a server that didn't start was emptied")
-    with serving(folder, lines="fifo"):
+    with Element(folder, lines="fifo"):
         for count in (1, 2):
             with open(fifo, "wb", buffering=0) as writer:
-                writer.write(bytes(PORTS))
-            expect(until(lambda c=count: os.stat(output).st_size == c * PORTS, 5), f"frame {count} didn't come out")
+                writer.write(bytes(MODULES * SLOTS))
+            expect(until(lambda c=count: os.stat(output).st_size == c * MODULES * SLOTS, 5), f"frame {count} didn't come out")
         ended = run(folder, ["serve", "shelf.toml", "other", f"127.0.0.1:{free_port()}", "fifo", "1"])
         expect(ended[0] == 6, "two servers had one output")
-        expect(os.stat(output).st_size == 2 * PORTS, "a second server emptied the output")
+        expect(os.stat(output).st_size == 2 * MODULES * SLOTS, "a second server emptied the output")
     return "frames go on"
 
 
@@ -415,7 +348,7 @@ POINTS = (peer, check, sync, dead, full, slow, descriptors, told, lines)
 
 def tried(point):
     with tempfile.TemporaryDirectory() as folder:
-        write(os.path.join(folder, "shelf.toml"), SHELF.encode())
+        office.write_shelf(folder, MODULES, SLOTS)
         write(os.path.join(folder, "lines.in"), b"")
         try:
             print(f"{point.__name__} passed: {point(folder)}", flush=True)

@@ -14,23 +14,14 @@ import os
 import random
 import stat
 import subprocess
-import sys
 import tempfile
 import time
 
-from bench.shared.program import PROGRAM, counted
+from bench.shared.office import LOG_IN, write_shelf
+from bench.shared.program import PROGRAM, counted, expect, run_program
 
 NOBODY = 65534
-SHELF = """sid = "DXC1"
-modules = 4
-slots = 8
-[[user]]
-uid = "ANNA"
-class = "S"
-salt = "61"
-digest = "ba7816bf8f01cfea414140de5dae2223b00361a396177a9cb410ff61f20015ad"
-"""
-LOG_IN = "ACT-USER::ANNA:1::bc;"
+MODULES, SLOTS = 4, 8
 ENTRY = "ENT-CRS-T0::DS0-1-1,DS0-2-1:1;"
 DELETION = "DLT-CRS-T0::DS0-1-1,DS0-2-1:1;"
 CANNOT_OPEN = 6
@@ -40,22 +31,13 @@ RECORD, MOST = 64, 32_767
 FAULT = "dxc: cannot open\n"
 
 
-def expect(fact, what):
-    if not fact:
-        sys.exit(f"bench/run stress owners: {what}")
-
-
-def run(words, commands="", **more):
-    return subprocess.run([PROGRAM, *words], input=commands, capture_output=True, text=True, **more)
-
-
 def content(journal):
     with open(journal, "rb") as file:
         return file.read()
 
 
 def records(shelf, journal):
-    checked = run(["check", shelf, journal])
+    checked = run_program(["check", shelf, journal])
     expect(checked.returncode == 0, f"check ended with status {checked.returncode}: {checked.stderr}")
     return int(checked.stdout.rsplit(" ", 1)[1])
 
@@ -68,7 +50,7 @@ def is_grown(before, after):
 
 def closed_streams(folder, shelf):
     journal = os.path.join(folder, "closed.journal")
-    expect(run(["script", shelf, journal], LOG_IN + ENTRY).returncode == 0, "no journal was made")
+    expect(run_program(["script", shelf, journal], LOG_IN + ENTRY).returncode == 0, "no journal was made")
     tried = 0
     for mode, closed in itertools.product(["check", "script"], itertools.product([False, True], repeat=3)):
         redirections = " ".join(f"{fd}{'<' if fd == 0 else '>'}&-" for fd in range(3) if closed[fd])
@@ -102,8 +84,8 @@ def owners(folder, shelf, moments, seed):
         session.stdin.write((ENTRY + DELETION).encode() * 100)
         session.stdin.flush()
         time.sleep(rng.uniform(0, 0.02))
-        expect(run(["check", shelf, journal]).returncode == 0, "a check beside a session failed")
-        second = run(["script", shelf, journal], LOG_IN + ENTRY)
+        expect(run_program(["check", shelf, journal]).returncode == 0, "a check beside a session failed")
+        second = run_program(["script", shelf, journal], LOG_IN + ENTRY)
         wanted = (CANNOT_OPEN, "", f"{FAULT}dxc: {journal}: another program has it\n")
         expect((second.returncode, second.stdout, second.stderr) == wanted, f"a second program ended with {second}")
         session.stdin.close()
@@ -129,13 +111,13 @@ def modes(folder, shelf):
     names = (journal, journal + ".users")
     before = os.umask(0o022)
     try:
-        expect(run(["script", shelf, journal], LOG_IN).returncode == 0, "no journal was made")
+        expect(run_program(["script", shelf, journal], LOG_IN).returncode == 0, "no journal was made")
     finally:
         os.umask(before)
     for name in names:
         expect(permissions(name) == OWNER_ALONE, f"{name} was made with mode {permissions(name):o}")
         os.chmod(name, 0o640)
-    expect(run(["script", shelf, journal], LOG_IN).returncode == 0, "the journal wasn't taken up")
+    expect(run_program(["script", shelf, journal], LOG_IN).returncode == 0, "the journal wasn't taken up")
     for name in names:
         expect(permissions(name) == 0o640, f"{name} was given mode {permissions(name):o}")
     return f"{len(names)} files made with {OWNER_ALONE:o}"
@@ -149,15 +131,15 @@ def as_nobody():
 def no_files(folder, shelf):
     tried = ["a folder that isn't there", "a folder as a journal"]
     for journal in (os.path.join(folder, "absent", "a.journal"), folder):
-        ended = run(["script", shelf, journal], LOG_IN)
+        ended = run_program(["script", shelf, journal], LOG_IN)
         expect(is_refused(ended, journal), f"{journal} ended with {ended}")
     if os.geteuid() == 0:
         journal = os.path.join(folder, "kept.journal")
-        run(["script", shelf, journal], LOG_IN + ENTRY)
+        run_program(["script", shelf, journal], LOG_IN + ENTRY)
         before = content(journal)
         os.chmod(journal, 0o444)
         for name in (journal, os.path.join(folder, "new.journal")):
-            ended = run(["script", shelf, name], LOG_IN, preexec_fn=as_nobody)
+            ended = run_program(["script", shelf, name], LOG_IN, preexec_fn=as_nobody)
             expect(is_refused(ended, name), f"{name} ended with {ended}")
         expect(content(journal) == before, "a journal that may only be read was changed")
         tried += ["a journal that may only be read", "a folder that may only be read"]
@@ -185,7 +167,7 @@ def full_disk(folder, shelf):
         return "left out"
     try:
         journal = os.path.join(place, "a.journal")
-        ended = run(["script", shelf, journal], LOG_IN + (ENTRY + DELETION) * 400)
+        ended = run_program(["script", shelf, journal], LOG_IN + (ENTRY + DELETION) * 400)
         expect(ended.returncode == 0, f"a full disk ended with status {ended.returncode}")
         expect("JOURNAL WRITE FAILED" in ended.stdout, "the disk wasn't full")
         kept = ended.stdout.count("COMPLD") - 1
@@ -201,9 +183,7 @@ def main():
     moments, seed = counted(200)
     with tempfile.TemporaryDirectory() as folder:
         os.chmod(folder, 0o755)
-        shelf = os.path.join(folder, "shelf.toml")
-        with open(shelf, "w") as file:
-            file.write(SHELF)
+        shelf = write_shelf(folder, MODULES, SLOTS)
         print(f"closed streams: {closed_streams(folder, shelf)} choices, the journal kept")
         print(f"full devices: {', '.join(full_devices(folder, shelf))}")
         print(f"modes: {modes(folder, shelf)}")

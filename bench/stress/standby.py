@@ -19,44 +19,23 @@ import tempfile
 import threading
 import time
 
-from bench.stress.kills import SHELF, commands, listing
+from bench.shared.changes import MODULES, SLOTS, commands, listing
+from bench.shared.office import LOG_IN, write_shelf
 from bench.shared.program import PROGRAM, counted
+from bench.shared.server import await_listening, free_port
 
 # More than a run comes to before it is killed, on most disks.
 CHANGES = 600
 WAIT = 20
-LOGIN = "ACT-USER::ANNA:1::bc;"
-
-
-def free_port():
-    with socket.socket() as probe:
-        probe.bind(("127.0.0.1", 0))
-        return probe.getsockname()[1]
 
 
 def start(*words):
     return subprocess.Popen([PROGRAM, *words], stdout=subprocess.DEVNULL, stderr=subprocess.PIPE)
 
 
-def is_listening(port):
-    """Whether some process listens at the port; a call there would be a standby's one link."""
-    want = f":{port:04X}"
-    with open("/proc/net/tcp") as table:
-        return any(row.split()[1].endswith(want) and row.split()[3] == "0A" for row in table.readlines()[1:])
-
-
-def await_listening(port, process):
-    end = time.monotonic() + WAIT
-    while not is_listening(port):
-        if process.poll() is not None or time.monotonic() > end:
-            return False
-        time.sleep(0.002)
-    return True
-
-
 def call(port):
     caller = socket.create_connection(("127.0.0.1", port), timeout=WAIT)
-    caller.sendall(LOGIN.encode())
+    caller.sendall(LOG_IN.encode())
     return caller
 
 
@@ -204,7 +183,7 @@ def is_whole(copy, journal):
 
 def run_alone(shelf, journal, texts):
     """Makes these changes without a standby, and answers how many records there are."""
-    session = subprocess.run([PROGRAM, "script", shelf, journal], input=(LOGIN + "".join(texts)).encode(), capture_output=True, timeout=WAIT)
+    session = subprocess.run([PROGRAM, "script", shelf, journal], input=(LOG_IN + "".join(texts)).encode(), capture_output=True, timeout=WAIT)
     if session.returncode != 0 or session.stdout.count(b"COMPLD") != len(texts) + 1:
         sys.exit(f"a session alone ended with status {session.returncode}: {session.stdout[-200:]}")
     return len(texts)
@@ -286,8 +265,7 @@ def main():
     for number in range(runs):
         rng = random.Random(1_000_003 * seed + number)
         with tempfile.TemporaryDirectory() as folder:
-            with open(os.path.join(folder, "shelf.toml"), "w") as shelf:
-                shelf.write(SHELF)
+            write_shelf(folder, MODULES, SLOTS)
             with open(os.path.join(folder, "lines.in"), "wb"):
                 pass
             if number % 50 == 5:
