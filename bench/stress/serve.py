@@ -36,7 +36,7 @@ def callers_hold_nobody_up():
         expect(b"DS0-1-1,DS0-2-1" in two.ask(b"RTRV-CRS-T0:::3;"), "a caller doesn't see another's change")
         answers = half.messages(2)
         expect(b"M  7 COMPLD" in answers[1], "a caller that closed its half isn't answered")
-        expect(half.link.recv(1) == b"", "a session goes on behind the end of its input")
+        expect(half.link.recv(1) == b"", "a session goes on after the end of its input")
         silent.link.close()
     print("callers: each sees the other; one that hangs, is silent, closes its half or resets holds nobody up")
 
