@@ -111,8 +111,8 @@ def serving(modules=8, slots=24, workers=1, frames=b"", before=b""):
 class Caller:
     """One session's connection."""
 
-    def __init__(self, server):
-        self.link = socket.create_connection(("127.0.0.1", server.port))
+    def __init__(self, port):
+        self.link = socket.create_connection(("127.0.0.1", port))
         self.link.setsockopt(socket.IPPROTO_TCP, socket.TCP_NODELAY, 1)
         self.link.settimeout(PATIENCE)
         self.read = b""

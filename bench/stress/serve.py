@@ -21,14 +21,14 @@ IDLE = 0x7F
 
 def callers_hold_nobody_up():
     with serving() as server:
-        hangs, silent, half, resets = (Caller(server) for _ in range(4))
+        hangs, silent, half, resets = (Caller(server.port) for _ in range(4))
         hangs.send(LOG_IN.encode() + b"RTRV-HDR:::2;" * 200)
         half.send(LOG_IN.encode() + b"RTRV-HDR:::7;")
         half.link.shutdown(socket.SHUT_WR)
         resets.send(LOG_IN.encode() + b"RTRV-HD")
         resets.link.setsockopt(socket.SOL_SOCKET, socket.SO_LINGER, struct.pack("ii", 1, 0))
         resets.link.close()
-        one, two = Caller(server).log_in(), Caller(server).log_in()
+        one, two = Caller(server.port).log_in(), Caller(server.port).log_in()
         two.ask(b"ALW-MSG-ALL:::2;")
         expect(b"COMPLD" in one.ask(b"ENT-CRS-T0::DS0-1-1,DS0-2-1:2;"), "an entry was denied beside callers that hang")
         report = two.messages(1)[0]
