@@ -6,7 +6,7 @@
 
 enum { IDLE = 0x7f };
 
-/* The words of IN, MID and OUT, one array behind the other; cells of a middle are `modules` apart. */
+/* The words of IN, MID and OUT, one array after the other; cells of a middle are `modules` apart. */
 struct network {
     size_t modules, slots, mids, outs;
     uint64_t *words;

@@ -183,7 +183,7 @@ static void fill_and_churn(void) {
         counted_join(&last, circuits[i].from, circuits[i].to);
     }
     tell("fill from 89 to 99 %", &last);
-    /* The free ends stand behind the circuits: a circuit is deleted, and a random free input joined to a random free output. */
+    /* The free ends stand after the circuits: a circuit is deleted, and a random free input joined to a random free output. */
     struct tally churn = {.began = now()};
     for (int change = 0; change < 100000; change++) {
         long at = (long)draw(filled), other_in = filled + (long)draw(ports - filled), other_out = filled + (long)draw(ports - filled);

@@ -2,7 +2,7 @@
 
 usage: bench/run docs examples [DOCUMENT..]     (README.md and docs/OPERATING.md where nothing is given)
 
-An example is a block marked `sh` and the block marked `text` behind it; a block without one must only succeed. All of a document run in
+An example is a block marked `sh` and the block marked `text` after it; a block without one must only succeed. All of a document run in
 bash, in order, in one new folder with links to the checkout's launcher, or the program that DXC_PROGRAM names, to its examples and its tools.
 Dates and times of headers, carriage returns, and blank lines beyond one are left out of the comparison.
 """

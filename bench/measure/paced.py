@@ -41,7 +41,7 @@ def paced(modules, slots, before):
 
 def change(server, number, free, slots, stop, counts):
     """Enters and deletes circuits between the ports that are this caller's own."""
-    caller = Caller(server).log_in()
+    caller = Caller(server.port).log_in()
     mine = free[number::PLACES]
     while not stop.is_set():
         for a, b in zip(mine, reversed(mine)):

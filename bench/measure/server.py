@@ -14,7 +14,7 @@ from bench.shared.server import PLACES, Caller, serving
 
 def timed(server, callers, units, unit, batch):
     """Answers a second, of units that are sent so many at a time."""
-    links = [Caller(server).log_in() for _ in range(callers)]
+    links = [Caller(server.port).log_in() for _ in range(callers)]
 
     def serve(caller):
         for _ in range(units // batch):
@@ -45,7 +45,7 @@ def main():
                     print(f"times: {callers} callers, {batch} units at a time, beside {beside}: {rate} answers a second")
             print(f"memory: {server.resident()} KiB resident at most")
     with serving(64, 96, workers=4) as server:
-        links = [Caller(server).log_in() for _ in range(PLACES)]
+        links = [Caller(server.port).log_in() for _ in range(PLACES)]
         print(f"memory: {server.resident()} KiB resident at most at 64 by 96, with {len(links)} sessions and four workers")
     for modules, slots in ((8, 24), (32, 32), (64, 96)):
         for workers in (1, 2, 4):

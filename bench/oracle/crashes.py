@@ -79,7 +79,7 @@ def calls_of(old, entries):
 
 
 def tried(shelf, name, old, first, is_drawn):
-    """Tries a run that makes the entries behind the first so many; how many files were audited, and in how many the one in hand stood."""
+    """Tries a run that makes the entries after the first few; how many files were audited, and in how many the one in hand stood."""
     with open(name, "wb") as file:
         file.write(old)
     run_program(["script", shelf, name], sent(ENTRIES[first:]))

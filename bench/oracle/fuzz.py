@@ -11,20 +11,17 @@ import mmap
 import os
 import random
 import re
-import signal
-import socket
 import struct
 import subprocess
 import sys
 import tempfile
-import time
 
 from bench import Wrong
 from bench.oracle import plain
+from bench.shared import server
 from bench.shared.compiled import library
 from bench.shared.office import DIGEST, shelf_text
 from bench.shared.program import PROGRAM, counted
-from bench.shared.server import free_port
 
 MODULES, SLOTS, SESSIONS, LIFE, ONE_OF = 4, 3, 4, 4000, 60
 RANKS = {"ANNA": "S", "BEN": "P", "CARA": "R"}
@@ -57,12 +54,10 @@ class Faults:
         struct.pack_into("Q", self.words, 8, one_of)
 
 
-class Caller:
+class Caller(server.Caller):
     def __init__(self, port, element):
-        self.link = socket.create_connection(("127.0.0.1", port))
-        self.link.setsockopt(socket.IPPROTO_TCP, socket.TCP_NODELAY, 1)
-        self.link.settimeout(20)
-        self.read, self.rest, self.session, self.told = b"", b"", plain.Session(element), None
+        super().__init__(port)
+        self.rest, self.session, self.told = b"", plain.Session(element), None
 
     def message(self):
         """The next message: kind, tag or number, code, text lines, and how its block ends."""
@@ -242,12 +237,10 @@ class Run:
         """One life of the server, of at least so many units."""
         self.take_up()
         self.is_due = False
-        port = free_port()
         world = dict(os.environ, LD_PRELOAD=self.library, FAULTED=self.faults.name)
-        words = [PROGRAM, "serve", "shelf.toml", "j", f"127.0.0.1:{port}", "lines", "1"]
-        with subprocess.Popen(words, cwd=self.folder, env=world, stderr=subprocess.PIPE) as server:
+        with server.Server(self.folder, env=world) as running:
             try:
-                callers = [self.caller(port, server) for _ in range(SESSIONS)]
+                callers = [Caller(running.port, self.element) for _ in range(SESSIONS)]
                 self.equip(callers[0])
                 self.faults.fail(ONE_OF)
                 until, unsynced = self.count + most, self.faults.unsynced()
@@ -256,18 +249,7 @@ class Run:
                     self.turn(random.choice(callers), text_of_unit(self.element) + b";")
             finally:
                 self.faults.fail(0)
-                server.send_signal(signal.SIGKILL)
         self.lives += 1
-
-    def caller(self, port, server):
-        for _ in range(200):
-            try:
-                return Caller(port, self.element)
-            except ConnectionRefusedError:
-                if server.poll() is not None:
-                    raise Different(f"the server ended with status {server.returncode}") from None
-                time.sleep(0.02)
-        raise Different("the server didn't open its port")
 
     def equip(self, caller):
         """Equips each module. Only what is in doubt may be otherwise than the plain table has it."""

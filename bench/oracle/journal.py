@@ -62,7 +62,7 @@ def left_of(data, left):
 
 
 def crashed(content, calls, number, left):
-    """The file behind a crash in front of the call of this number, with this left of each write that no sync came behind."""
+    """The file after a crash just before the call of this number, with this left of each write that no sync followed."""
     synced, pending = bytearray(content), []
     for call in calls[:number]:
         if call.data is not None:
@@ -106,7 +106,7 @@ class Area:
     records: list
 
     def end(self):
-        """Where the byte behind the last record is."""
+        """Where the byte after the last record is."""
         return self.start + 32 + SIZE[self.version] * len(self.records)
 
 
@@ -183,7 +183,7 @@ class Journal:
         return self.turning or self.area.version == 1 or len(self.area.records) == MOST[self.area.version]
 
     def keep(self, spelled, rows):
-        """Makes the record stand; behind a checkpoint of these rows where one is due."""
+        """Makes the record stand, after a checkpoint of these rows where one is due."""
         if self.to_mend:
             self.file.write(self.area.end(), b"\0")
             self.file.sync()

@@ -1,5 +1,5 @@
 """Which middle each leg goes over, by the rule of docs/THEOREMS.md: the plain slow program. Ports are (module, slot), as in names; middles count
-from 0, and the spare is behind the last."""
+from 0, and the spare is after the last."""
 DIRECT, ROW, COLUMN = 0, 1, 2
 
 

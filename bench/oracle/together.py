@@ -3,7 +3,7 @@
 usage: bench/run oracle together [ROUNDS [UNITS [SEED]]]     (10 rounds of 30 units a session, seed 1, where nothing is given)
 
 The plain table is bench/oracle/plain.py. Each session is told all changes, so their order is that of the reports, which must be the same for all. A change that was completed must stand in
-that order between the reports that its session was written before and behind the answer; any other answer must be the plain table's at some
+that order between the reports that its session was written before and after the answer; any other answer must be the plain table's at some
 moment between them. In each round the sessions send all their units at once, each on a thread of its own.
 """
 import random
@@ -26,7 +26,7 @@ class Table(plain.Element):
 
 
 class Told(Caller):
-    """A session that keeps what it was written: its units with their answers, and how many changes it was told before and behind each."""
+    """A session that keeps what it was written: its units with their answers, and how many changes it was told before and after each."""
 
     def __init__(self, port, number):
         super().__init__(port, None)
@@ -34,7 +34,7 @@ class Told(Caller):
 
     def report(self, number, code, lines):
         if code != "REPT DBCHG" or int(number) != len(self.texts) + 1:
-            raise Different(f"report {number} {code} {lines} behind {len(self.texts)}")
+            raise Different(f"report {number} {code} {lines} after {len(self.texts)}")
         self.texts.append(lines[0].strip('"'))
 
     def reports(self, until):
@@ -49,12 +49,12 @@ class Told(Caller):
         self.link.sendall(b";".join(units) + b";")
         for asked in units:
             answer = self.answer()
-            # (what was told in front of an answer was told behind the one before)
+            # (what was told before an answer was told after the one before it)
             self.close()
             self.answers.append([asked, answer, len(self.texts), None])
 
     def close(self):
-        """Notes how much was told behind the last answer."""
+        """Notes how much was told after the last answer."""
         if self.answers:
             self.answers[-1][3] = len(self.texts)
 
@@ -86,7 +86,7 @@ def asked_by(text):
 
 
 def tables_of(texts):
-    """The plain table behind so many changes, for each number of them."""
+    """The plain table after so many changes, for each number of them."""
     tables = [Table(b"DXC1", MODULES, SLOTS, [plain.User("ANNA", "S", b"a", bytes.fromhex(DIGEST))], set(range(1, MODULES + 1)))]
     for number, text in enumerate(texts):
         was = tables[-1]

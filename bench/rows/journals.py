@@ -20,14 +20,14 @@ ROWS = "crates/worked_rows/data/journals.txt"
 HEAD = """# Worked rows of journals, over fakes in memory. `bench/run rows journals` writes them; `faults.txt` tells what a line says, and these say more.
 #
 #   shape M N      a shelf file of so many modules and slots, 2 and 1 where nothing is said
-#   old HEX        bytes behind those of the old journal so far; 00*N stands for N zeros        times N HEX    these bytes N times
+#   old HEX        bytes after those of the old journal so far; 00*N stands for N zeros        times N HEX    these bytes N times
 #   from N         zeros up to this place            cut        it ends at N, the number for which the row is run
 #   change BITS    its byte at N has these bits turned
 #   torn HOW       what is left of a write that fails: lost, whole, front (its first half), sealed (filled with A5)
 #   fails writes N     that write or sync of the run fails
-#   crash HOW      all writes and syncs from N on fail, and the journal is then what such a crash leaves: this of those that no sync came behind
+#   crash HOW      all writes and syncs from N on fail, and the journal is then what such a crash leaves: this of those that no sync followed
 #   any            whatever is written and however the run ends
-#   enters M N C S     enters the first C ports of M modules of N slots, each to the one S behind it; retrieves, lists: wants them so
+#   enters M N C S     enters the first C ports of M modules of N slots, each to the one S after it; retrieves, lists: wants them so
 #   calls N        how many writes and syncs the journal must see
 #   length N       how many bytes the journal must then have            piece N HEX    which bytes it must have there
 """
@@ -71,7 +71,7 @@ class Row:
         return "\n".join(head + old + lines) + "\n"
 
     def script(self, *units, failing=None, calls=True):
-        """A session that is sent these units behind a log-in."""
+        """A session that is sent these units after a log-in."""
         file = File(self.content, failing)
         units = (LOGIN, *units)
         answers = journal.script(file, *self.shape, units)
@@ -251,7 +251,7 @@ def given_choices():
     for count in range(1, len(records) + 1):
         old = header(1, 0, element) + b"".join(bytes([0xA5, *each]).ljust(32, b"\0") for each in records[:count]) + b"\0"
         yield Row(f"{count} records with choices that aren't the lowest", 3, 2, old).check()
-    yield Row("a session behind these records", 3, 2, old).script("RTRV-CRS-T0:::1", "ENT-EQPT::MOD-3:2", "ENT-EQPT::MOD-2:3", "ENT-EQPT::MOD-1:4").check()
+    yield Row("a session after these records", 3, 2, old).script("RTRV-CRS-T0:::1", "ENT-EQPT::MOD-3:2", "ENT-EQPT::MOD-2:3", "ENT-EQPT::MOD-1:4").check()
 
 
 def choices_while_out():
@@ -377,7 +377,7 @@ def torn():
 
 
 def like(row, old, content):
-    """The row with the runs behind this content; its old journal is spelled as it was before it was torn or changed."""
+    """The row with the runs after this content; its old journal is spelled as it was before it was torn or changed."""
     row.content = content
     row.old_lines = list(old_lines(old))
     return row
@@ -407,14 +407,14 @@ def calls_of(old, unit):
 
 
 def crashes():
-    """A crash in front of each write and sync of a making, a migration, checkpoints to either area, and the changes behind them."""
+    """A crash in front of each write and sync of a making, a migration, checkpoints to either area, and the changes after them."""
     near = two_areas(area(1, 0, [entry(FROM, version=1)]), area(1, 1, [entry(BACK, version=1)]))
     for name, old, unit in (
         ("a making and an entry", b"", enter(ONE)),
         ("an entry", area(2, 0, [entry(BACK)]), enter(ONE, 1, "::1WAY,C8")),
         ("a migration", OLD, enter(TWO)),
         ("a migration to area 0", near, delete(TWO)),
-        ("a migration with no change behind it", near, "RMV-MID::MID-1:2"),
+        ("a migration with no change after it", near, "RMV-MID::MID-1:2"),
     ):
         calls = calls_of(old, unit)
         for left in LEFTS:
@@ -426,7 +426,7 @@ def crashes():
 
 
 def last_of(calls):
-    """The places of all calls, or of those behind the zeros between the areas."""
+    """The places of all calls, or of those after the zeros between the areas."""
     return range(0 if len(calls) < 50 else len(calls) - 12, len(calls) + 1)
 
 

@@ -62,7 +62,7 @@ FIRST = {"IN": (0, MIDDLES), "MID": (MODULES * MIDDLES, MODULES), "OUT": (2 * MO
 
 
 class Work:
-    """The writes of a change, by what the registers hold, and what a frame is before it and behind the write that it turns at, its last where nothing
+    """The writes of a change, by what the registers hold, and what a frame is before it and after the write that it turns at, its last where nothing
     is said."""
 
     def __init__(self, part, words, writes, before, behind, turns=None):
@@ -122,7 +122,7 @@ class Point:
 
 
 def fifth(asking):
-    """The entry, behind four others, stopped at that asking."""
+    """The entry, after four others, stopped at that asking."""
     made = Point.at(asking).made
     asked = f"asked 1 {min(asking, COUNT)} {int(asking == PLACES - 1)}"
     return ["use four", "use fifth", f"stop {asking}", asked, f"frames .eacf. {frame(made)}", f"use made-{made}"]
@@ -162,7 +162,7 @@ def stopped_at(asking, work):
 
 
 def restarted(point):
-    """A restart behind it, which moves no more than what is left."""
+    """A restart after it, which moves no more than what is left."""
     work, made = point.work, point.ended().made
     return ["use restart", "use completed", "use four-listed", f"asked 1 {point.left()} 1", f"frames {work.before}", f"use {work.part}-{made}"]
 
@@ -191,7 +191,7 @@ def second_stops():
 
 
 def stops_of_deletions():
-    """A deletion finds that a restart is due, and is stopped in that restart, or behind it at one of its own places."""
+    """A deletion finds that a restart is due, and is stopped in that restart, or after it at one of its own places."""
     for asking in range(PLACES):
         point = Point.at(asking)
         for then in range(point.left() + 2):
@@ -211,7 +211,7 @@ def deletion_stopped(point, own):
 
 
 def behind_deletion(point, own):
-    """The restart behind a deletion that was stopped."""
+    """The restart after a deletion that was stopped."""
     work, cut = PART[point.held], Point.at(own, PART[point.held])
     stands = "five" if point.held else "four"
     listed = f"{stands}-less-listed" if cut.held else f"{stands}-listed"
@@ -235,7 +235,7 @@ NEEDS = [(0, "restart", 11), (8, "restart", 13), (19, "restart", 13), (8, "delet
 
 
 def faults():
-    """Each call of the disk in a restart fails, with what comes of a write that fails, and a restart comes behind it."""
+    """Each call of the disk in a restart fails, with what comes of a write that fails, and a restart comes after it."""
     for stopped, unit, calls in NEEDS:
         point = Point.at(stopped or 0)
         first = ["use four", "use doubted"] if stopped is None else fifth(stopped)

@@ -55,13 +55,16 @@ class Server:
         words = [PROGRAM, *self.words(journal=journal, lines=lines)]
         self.started = time.monotonic()
         self.process = subprocess.Popen(words, cwd=folder, stderr=subprocess.PIPE, **more)
-        if not await_listening(self.port, self.process):
-            self.end()
-            expect(False, f"the server didn't open its port; its status is {self.process.returncode}")
+        self.wait_until_open()
 
     def words(self, **other):
         words = dict(shelf="shelf.toml", journal="j", address=f"127.0.0.1:{self.port}", lines="lines", workers=self.workers) | other
         return ["serve", *(str(word) for word in words.values())]
+
+    def wait_until_open(self):
+        if not await_listening(self.port, self.process):
+            self.end()
+            expect(False, f"the server didn't open its port; its status is {self.process.returncode}")
 
     def path(self, name):
         return os.path.join(self.folder, name)
@@ -108,8 +111,8 @@ def serving(modules=8, slots=24, workers=1, frames=b"", before=b""):
 class Caller:
     """One session's connection."""
 
-    def __init__(self, server):
-        self.link = socket.create_connection(("127.0.0.1", server.port))
+    def __init__(self, port):
+        self.link = socket.create_connection(("127.0.0.1", port))
         self.link.setsockopt(socket.IPPROTO_TCP, socket.TCP_NODELAY, 1)
         self.link.settimeout(PATIENCE)
         self.read = b""

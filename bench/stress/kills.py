@@ -3,7 +3,7 @@
 usage: bench/run stress kills [RUNS [SEED]]     (300 runs, seed 1, where nothing is given)
 
 A run on a real file is killed by signal 9 after a random time. Each change that was acknowledged, by a response that ended, must be in the
-journal, and at most the one behind them besides: `dxc check` has the rows of a plain table after so many changes. A further session
+journal, and at most the one after them besides: `dxc check` has the rows of a plain table after so many changes. A further session
 on the same journal then begins with what was checked.
 """
 import os
@@ -19,7 +19,7 @@ from bench.shared.program import PROGRAM, counted, expect, run_program
 
 # More than a run comes to before it is killed, on most disks.
 CHANGES = 1_200
-# The latest moment of a kill, in seconds behind a start.
+# The latest moment of a kill, in seconds after a start.
 LATEST = 0.12
 
 

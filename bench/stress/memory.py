@@ -3,7 +3,7 @@
 usage: bench/run stress memory
 
 A run that is refused memory ends with status 8 (or, where what is refused isn't needed to serve, as it would have), says so, and the
-journal behind it stands for what it stood for, or for the commands that were answered COMPLD. A server whose thread is refused ends with
+journal after it stands for what it stood for, or for the commands that were answered COMPLD. A server whose thread is refused ends with
 status 7 where no session runs, and else goes on with those that do. It takes a C compiler, for a library that
 is loaded before the C library (bench/c/refusing.c).
 """
@@ -33,7 +33,7 @@ def run(words, commands="", **world):
 
 def rows(journal):
     checked = run(["check", SHELF, journal])
-    expect(checked.returncode == 0, f"the journal is refused behind a run: {checked.stderr}")
+    expect(checked.returncode == 0, f"the journal is refused after a run: {checked.stderr}")
     return checked.stdout.splitlines()[:-1]
 
 

@@ -97,7 +97,7 @@ def answer(caller, commands):
     got = b""
     while got.count(b"\n;") < commands.count(b";"):
         piece = caller.recv(65536)
-        expect(piece, f"the connection ended behind {got!r}")
+        expect(piece, f"the connection ended after {got!r}")
         got += piece
     return got.decode()
 
@@ -152,7 +152,7 @@ def check(folder):
         expect(checked("j")[:2] == (0, ROW), "check beside a server")
         with server.call() as caller:
             expect("DENY" not in answer(caller, LOG_IN + DELETION), "the server was disturbed")
-            expect(checked("j")[:2] == (0, "RECORDS 2\n"), "check behind a change")
+            expect(checked("j")[:2] == (0, "RECORDS 2\n"), "check after a change")
     notes = os.path.join(folder, "notes")
     write(notes, b"circuits of MAY 1997")
     told = [CANNOT_OPEN[1], "dxc: notes: it holds something else than a journal or the beginning of one"]
@@ -176,7 +176,7 @@ def sync(folder):
         got = b""
         while got.count(b"\n;") < commands.count(b";"):
             ready, _, _ = select.select([session.stdout], [], [], 10)
-            expect(ready, f"no answer behind {got!r}")
+            expect(ready, f"no answer after {got!r}")
             got += os.read(session.stdout.fileno(), 65536)
         return got.decode()
 

@@ -43,7 +43,7 @@ def records(shelf, journal):
 
 
 def is_grown(before, after):
-    """Whether the second journal is the first, or the first with whole records behind it."""
+    """Whether the second journal is the first, or the first with whole records after it."""
     added = len(after) - len(before)
     return added % RECORD == 0 and added >= 0 and after.startswith(before[:-1])
 
@@ -64,8 +64,8 @@ def closed_streams(folder, shelf):
 
 
 def records_behind(count, changes):
-    """How many records a journal of so many has behind these changes, entries and deletions of one connection in turn from an empty table:
-    where it is full, the next change's stands behind those of the rows."""
+    """How many records a journal of so many has after these changes, entries and deletions of one connection in turn from an empty table:
+    where it is full, the next change's stands after those of the rows."""
     for change in range(changes):
         count = (change % 2 if count == MOST else count) + 1
     return count

@@ -21,14 +21,14 @@ IDLE = 0x7F
 
 def callers_hold_nobody_up():
     with serving() as server:
-        hangs, silent, half, resets = (Caller(server) for _ in range(4))
+        hangs, silent, half, resets = (Caller(server.port) for _ in range(4))
         hangs.send(LOG_IN.encode() + b"RTRV-HDR:::2;" * 200)
         half.send(LOG_IN.encode() + b"RTRV-HDR:::7;")
         half.link.shutdown(socket.SHUT_WR)
         resets.send(LOG_IN.encode() + b"RTRV-HD")
         resets.link.setsockopt(socket.SOL_SOCKET, socket.SO_LINGER, struct.pack("ii", 1, 0))
         resets.link.close()
-        one, two = Caller(server).log_in(), Caller(server).log_in()
+        one, two = Caller(server.port).log_in(), Caller(server.port).log_in()
         two.ask(b"ALW-MSG-ALL:::2;")
         expect(b"COMPLD" in one.ask(b"ENT-CRS-T0::DS0-1-1,DS0-2-1:2;"), "an entry was denied beside callers that hang")
         report = two.messages(1)[0]
@@ -36,7 +36,7 @@ def callers_hold_nobody_up():
         expect(b"DS0-1-1,DS0-2-1" in two.ask(b"RTRV-CRS-T0:::3;"), "a caller doesn't see another's change")
         answers = half.messages(2)
         expect(b"M  7 COMPLD" in answers[1], "a caller that closed its half isn't answered")
-        expect(half.link.recv(1) == b"", "a session goes on behind the end of its input")
+        expect(half.link.recv(1) == b"", "a session goes on after the end of its input")
         silent.link.close()
     print("callers: each sees the other; one that hangs, is silent, closes its half or resets holds nobody up")
 

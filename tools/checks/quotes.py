@@ -1,4 +1,4 @@
-"""Clauses that documents quote: a block behind `<!-- clauses FILE FUNCTION [NAME..] -->` is the function's head and those of its clauses.
+"""Clauses that documents quote: a block after `<!-- clauses FILE FUNCTION [NAME..] -->` is the function's head and those of its clauses.
 
 Without names all clauses are quoted; `record` in place of FUNCTION's names a record of a specification: `<!-- record FILE NAME -->`.
 """
