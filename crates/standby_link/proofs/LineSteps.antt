@@ -10,7 +10,7 @@ use Rattle.standby_link.specs.declared.mirror.Lost.TheVariants.{Link, End}
 use Rattle.standby_link.specs.Acts.{Act, write, sync, most, most_is, pieces, pieces_in}
 use Rattle.standby_link.specs.Messages.{Item, spelled, spelled_all, numbered}
 use Rattle.standby_link.specs.Lines.{LineState, SentActs, SendsOne, Syncs}
-use Rattle.standby_link.specs.Listens.{WaitsFor, WaitsInVain}
+use Rattle.standby_link.specs.Listens.{WaitsFor, WaitsInVain, patience}
 
 -- a line by its parts
 abbrev pub line : LinkState → ℕ → List ℕ → Option Lost → LineState
@@ -75,7 +75,7 @@ lost_here (Some x) none some = cc
 
 -- a Sync that was sent whole, and the wait for its Have
 pub syncs_whole : (told : Type 0) (old mid new : LinkState) (n m : ℕ) (kept part rest message : List ℕ) (before sent lost : Option Lost) → kept ≡ part → m ≡ n + 1 → message ≡ spelled (n + 1) sync → is_some sent ≡ false → SendsOne told old mid sent message
-    → IfNone lost (WaitsFor told mid new kept rest m) → IfSome lost (λ why. WaitsInVain told mid new kept m why) → ((lost ≡ Some End) ↔ IsTrue new.ended) → new.reads ≤ mid.reads + 256 → (lost ≢ Some Link → new.read_faults ≡ mid.read_faults) → new.write_faults ≡ mid.write_faults → Syncs told (line old n part before) (line new m rest lost)
+    → IfNone lost (WaitsFor told mid new kept rest m) → IfSome lost (λ why. WaitsInVain told mid new kept m why) → ((lost ≡ Some End) ↔ IsTrue new.ended) → new.reads ≤ mid.reads + patience → (lost ≢ Some Link → new.read_faults ≡ mid.read_faults) → new.write_faults ≡ mid.write_faults → Syncs told (line old n part before) (line new m rest lost)
 syncs_whole told old mid new n m kept part rest message before sent lost same number is here sends came vain end few no_fault writes = ⊎_elim
     (λ whole. inr (
       mid,

@@ -7,7 +7,7 @@ use Rattle.standby_link.specs.declared.line.Line.{Line}
 use Rattle.standby_link.specs.declared.mirror.Lost.{Lost}
 use Rattle.standby_link.specs.declared.mirror.Lost.TheVariants.{Link, End}
 use Rattle.standby_link.specs.Acts.{Act, sync}
-use Rattle.standby_link.specs.Listens.{WaitsFor, WaitsInVain}
+use Rattle.standby_link.specs.Listens.{WaitsFor, WaitsInVain, patience}
 use Rattle.standby_link.specs.Messages.{spelled, spelled_all, numbered}
 
 -- a line to a standby, as contracts see it
@@ -47,7 +47,7 @@ pub record SentSync (told : Type 0) (mid : LinkState) (old new : LineState) : Ty
   pub came : new.lost ≡ None → WaitsFor told mid new.link old.held new.held (old.number + 1)
   pub vain : (why : Lost) → new.lost ≡ Some why → WaitsInVain told mid new.link old.held (old.number + 1) why
   pub end : (new.lost ≡ Some End) ↔ IsTrue new.link.ended
-  pub few : new.link.reads ≤ mid.reads + 256
+  pub few : new.link.reads ≤ mid.reads + patience
   -- a read that failed loses the line
   pub no_fault : new.lost ≢ Some Link → new.link.read_faults ≡ mid.read_faults
   pub no_write_fault : new.link.write_faults ≡ old.link.write_faults
