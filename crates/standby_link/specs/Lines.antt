@@ -4,8 +4,8 @@ use Rattle.dxc_causes.specs.Causes.{Rose}
 use Rattle.dxc_outside.specs.Links.{LinkState, Wrote, IsSent}
 use Rattle.dxc_outside.specs.declared.send.Sent.TheVariants.{Cut}
 use Rattle.standby_link.specs.declared.line.Line.{Line}
-use Rattle.standby_link.specs.declared.mirror.Lost.{Lost}
-use Rattle.standby_link.specs.declared.mirror.Lost.TheVariants.{Link, End}
+use Rattle.dxc_outside.specs.declared.link.Lost.{Lost}
+use Rattle.dxc_outside.specs.declared.link.Lost.TheVariants.{Link, End}
 use Rattle.standby_link.specs.Acts.{Act, sync}
 use Rattle.standby_link.specs.Listens.{WaitsFor, WaitsInVain, patience}
 use Rattle.standby_link.specs.Messages.{spelled, spelled_all, numbered}
@@ -21,6 +21,12 @@ pub record LineState : Type 0 where
 
 abbrev pub line_at : {K : Type 0} → (K → LinkState) → Line K → LineState
 line_at state l = record { link = state l.link; number = l.number; held = take l.ear.held l.ear.inbox; lost = l.lost }
+
+-- What a call does to a line and its link. A line that is lost in it is hung up, for that cause; one that was lost before stays so; and as long
+-- as it isn't lost its link isn't hung up.
+pub record IsHungUp (old new before now : Option Lost) : Type 0 where
+  pub over : (IsSome old → before ≡ old) → IsSome new → now ≡ new
+  pub same : new ≡ None → now ≡ before
 
 -- Acts were sent as items, all of them, or as far as the link took them, and the line is then lost.
 pub record SentActs (told : Type 0) (old new : LinkState) (n m : ℕ) (lost : Option Lost) (acts : List Act) : Type 0 where
