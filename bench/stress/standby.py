@@ -142,6 +142,10 @@ def primary_killed(rng, folder, number):
     if standby.wait(WAIT) not in (0, 9):
         sys.exit(f"the standby ended with status {standby.returncode}: {standby.stderr.read()}")
     own = stands(shelf, journal, tables[before:], records, done)
+    if b"holds nothing" in standby.stderr.read():
+        if done > 0 or subprocess.run([PROGRAM, "check", shelf, copy], capture_output=True, timeout=WAIT).returncode != 6:
+            sys.exit(f"{done} changes were acknowledged, and the copy holds nothing; or it is a journal")
+        return done
     kept = stands(shelf, copy, tables[before:], records, done)
     if kept > own:
         sys.exit(f"the standby has {kept} changes, the primary {own}")
@@ -151,7 +155,7 @@ def primary_killed(rng, folder, number):
 
 
 def joining_killed(rng, folder):
-    """How many bytes of a long file the standby has of a primary that was killed while it joined."""
+    """How many bytes of a long file the standby has of a primary that was killed while it joined, beside a name that stands for none of them."""
     shelf, lines = os.path.join(folder, "shelf.toml"), os.path.join(folder, "lines")
     journal, copy = os.path.join(folder, "primary.journal"), os.path.join(folder, "standby.journal")
     # No journal, but it is joined before it is looked into.
@@ -170,6 +174,11 @@ def joining_killed(rng, folder):
     standby.wait()
     with open(copy, "rb") as file:
         part = file.read()
+    if part == b"joining\n":
+        with open(f"{copy}.joining", "rb") as file:
+            part = file.read()
+    elif part != whole:
+        sys.exit("the name of a copy stands for a part")
     if part != whole[: len(part)]:
         sys.exit("a file that was joined in part isn't the first bytes of the primary's")
     return len(part)

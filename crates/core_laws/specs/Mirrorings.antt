@@ -1,5 +1,5 @@
 -- What a primary's commands do to its journal's disk, call by call, and what a file stands for that this disk read at one of the moments.
-use Rattle.std.specs.Prelude.{◌≡◌, ◌⊎◌, ℕ, ◌≤◌, Bool, List, [], ◌∷◌, ◌++◌, length, take, slice_get, Option, Some, None}
+use Rattle.std.specs.Prelude.{◌≡◌, ◌⊎◌, ℕ, ◌≤◌, ◌<◌, Bool, List, [], ◌∷◌, ◌++◌, length, take, slice_get, Option, Some, None, IfSome}
 use Rattle.dxc_disk.specs.Disks.{DiskState, IsSettled, LeavesOnly}
 use Rattle.dxc_model.specs.declared.op.Op.{Op}
 use Rattle.dxc_model.specs.declared.op.Change.{Change}
@@ -10,7 +10,7 @@ use Rattle.journal_core.specs.Opens.{made_head}
 use Rattle.roll_engine.specs.Rollings.{RollingAt}
 use Rattle.shelf_file.specs.Contents.{Contents}
 use Rattle.standby_link.specs.Calls.{AreCalls, Call, last_of, read_in}
-use Rattle.standby_link.specs.Laws.{KeepsUp}
+use Rattle.standby_link.specs.Laws.{KeepsUp, named}
 use Rattle.standby_link.specs.Mirrors.{Pair, moments}
 use Rattle.xc_core.specs.declared.provisioner.Provisioner.{Provisioner}
 use Rattle.xc_core.specs.declared.state.State.{State}
@@ -109,6 +109,12 @@ abbrev pub StandbysStand : {D : Type 0} → Type 0 → (D → DiskState) → Typ
 StandbysStand {D} told state = told → (d : D) (b : Past) (cs : List (Command D)) (p : Provisioner D) → AreCommands told state d b cs p
     → (pair : Pair) (unseen : List (List ℕ)) → KeepsUp pair → moments pair.primary ++ unseen ≡ (state d).reads_as ∷ read_by state cs
     → StandsForFirst state b cs p.doubt pair.primary.answered pair.standby.file
+
+-- By its name, whatever messages came, again, never or in any order, a copy is no file, or one that stands for those changes.
+abbrev pub CopiesStand : {D : Type 0} → Type 0 → (D → DiskState) → Type 0
+CopiesStand {D} told state = told → (d : D) (b : Past) (cs : List (Command D)) (p : Provisioner D) → AreCommands told state d b cs p
+    → (pair : Pair) (unseen : List (List ℕ)) → (0 < pair.standby.synced → KeepsUp pair) → moments pair.primary ++ unseen ≡ (state d).reads_as ∷ read_by state cs
+    → IfSome (named pair.standby) (StandsForFirst state b cs p.doubt pair.primary.answered)
 
 -- the command that a start on this shelf is
 abbrev pub started_by : {D : Type 0} → Contents → List (Call D) → Command D

@@ -2,7 +2,7 @@
 #![tactic(auto)]
 
 ghost use Rattle.core_laws.specs.Laws.{ChangesAreCounted, ChangesComeToOne, LimitsAreOne, MiddlesMoveFew, MovesAreFew, OpeningsAreOne, StandbysAreAdopted, StoppedAreAdopted, SyncedAreMirrored};
-ghost use Rattle.core_laws.specs.Mirrorings.{StandbysStand, StartsAreCommands};
+ghost use Rattle.core_laws.specs.Mirrorings.{CopiesStand, StandbysStand, StartsAreCommands};
 
 use dxc_disk::Disk;
 
@@ -42,12 +42,16 @@ pub fn standbys_are_adopted<D: Disk>()
 /// operation in hand or in doubt. All commands that ended by the last sync which the primary answered while Joined are among the first, and so all that
 /// were acknowledged while Joined. This holds whenever the primary stopped, in the middle of a command too, and long after the mirror was lost.
 ///
+/// Before that Sync the name of the copy stands for no file at all (`named` of `standby_link`), so a copy that was cut off in its joining is never taken for
+/// a shorter journal.
+///
 /// Each premise is what clauses give. What a crash at any moment of a command leaves: `any_moment` of `begin`, `settle` and `recover`, and of
 /// `Core::open` and `Core::adopt` with what they found, which make a start the first command (`start`); of a command that a crash cut short, what it
 /// would have done is unseen. What stands behind the changes: `finishes` of `finish`, `ends` of `end_recovery`; all other calls leave it, and the
 /// journal too. The Provisioner between two commands: `begun`, `home`, `halted`, `rolls` and `resumes`. The calls on the disk, and the primary's
-/// moments: `moments_are_left`, `calls_are_moments` and `answers_stay` of `standby_link::laws`; that the standby keeps up: `standbys_keep_up` there.
+/// moments: `moments_are_left`, `calls_are_moments` and `answers_stay` of `standby_link::laws`; that the standby keeps up from its first Sync on: `standbys_keep_up` there.
 pub fn standbys_stand_for_commands<D: Disk>()
     ensures start { StartsAreCommands D.told D.state }
     ensures stands { StandbysStand D.told D.state }
+    ensures copies { CopiesStand D.told D.state }
 {}

@@ -1,6 +1,6 @@
 //! A second controller's copy of a journal.
 ghost use Rattle.std.specs.Prelude.{◌≡◌, ◌∷◌, []};
-ghost use Rattle.dxc_outside.specs.Asked.{AskedFor, journal_named, listener_named};
+ghost use Rattle.dxc_outside.specs.Asked.{AskedFor, copy_named, listener_named};
 ghost use Rattle.craft_jobs.specs.Missing.{IsOfNoOpening};
 ghost use Rattle.craft_jobs.specs.Standbys.{IsFirst, RanStandby, StandsBy, status_of_standby};
 ghost use Rattle.standby_link.specs.Serves.{IsPrompt};
@@ -25,9 +25,9 @@ pub fn run_standby<O: Opener, R: Wait>(
     rt: &R,
 ) -> Status
     ensures stands_by { StandsBy O.told O.Journal.told O.Listener.told O.Listener.Link.told O.Journal.state O.Listener.state O.Listener.Link.state O.Listener.Link.begun (O.journal_at opener.old) (O.listener_at opener.old) (O.state opener.old).faults (O.state opener.new).faults journal.now address.now result }
-    ensures asked { AskedFor (O.asked opener.old opener.new) (journal_named journal.now ∷ listener_named address.now ∷ []) (IsOfNoOpening result) }
+    ensures asked { AskedFor (O.asked opener.old opener.new) (copy_named journal.now ∷ listener_named address.now ∷ []) (IsOfNoOpening result) }
 {
-    let mut disk = match opener.journal(alloc, journal) {
+    let mut disk = match opener.copy(alloc, journal) {
         Opened::Open(disk) => disk,
         Opened::Failed => return Status::CannotOpen,
         Opened::NoMemory => return Status::NoMemory,

@@ -1,6 +1,6 @@
 -- What the opener is asked for, by the program's words.
 use Rattle.std.specs.Prelude.{ℕ, List, [], ◌∷◌, ◌++◌, ◌⊎◌, Option, Some, None}
-use Rattle.dxc_outside.specs.Asked.{Asking, AskedFor, asked_each, journal_named, lines_named, listener_named}
+use Rattle.dxc_outside.specs.Asked.{Asking, AskedFor, asked_each, copy_named, lines_named, listener_named}
 use Rattle.craft_words.specs.declared.line.Line.{Line}
 use Rattle.craft_words.specs.declared.line.Line.TheVariants.{Script, Check, Serve, Standby, Load}
 use Rattle.craft_words.specs.declared.status.Status.{Status}
@@ -24,7 +24,7 @@ abbrev pub line_asked : Line → List Asking
 line_asked (Script shelf journal) = files_asked (named shelf journal)
 line_asked (Check shelf journal) = files_asked (named shelf journal)
 line_asked (Serve shelf journal address lines workers peer) = opened_asked (named shelf journal) peer ++ site_asked lines address workers
-line_asked (Standby journal address) = journal_named journal ∷ listener_named address ∷ []
+line_asked (Standby journal address) = copy_named journal ∷ listener_named address ∷ []
 line_asked (Load number) = []
 
 -- nothing was asked for, since the words are no line; or what the line asks for, up to the first that failed

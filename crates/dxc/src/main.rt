@@ -2,8 +2,8 @@
 #![tactic(auto)]
 
 use craft_server::{Status, dxc_run};
-use dxc_console::{held_streams, help_asked, only_look, tell_status, words_given};
-use dxc_host::{HostClock, HostOpener, Refusal, TermLink, ThreadSpawner};
+use dxc_console::{held_streams, help_asked, only_look, tell_standby, tell_status, words_given};
+use dxc_host::{HostClock, HostOpener, Refusal, TermLink, ThreadSpawner, Utc};
 use dxc_outside::Sent;
 use std::io;
 use std::process::ExitCode;
@@ -48,5 +48,8 @@ fn main(rt: HostRuntime) -> ExitCode {
     };
     let refusal = no_stream.as_ref().or(opener.refusal());
     tell_status(&rt, status, &words, refusal);
+    if let Some(copied) = opener.copied() {
+        tell_standby(&rt, status, &Utc::now(), copied);
+    }
     ExitCode::from(status.number())
 }

@@ -9,5 +9,5 @@ mod words;
 
 pub use help::help_asked;
 pub use streams::held_streams;
-pub use why::tell_status;
+pub use why::{tell_standby, tell_status};
 pub use words::{only_look, words_given};

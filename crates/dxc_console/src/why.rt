@@ -19,6 +19,32 @@ pub fn tell_status<R: Eprint, E: Display>(
     let _ = eprint!(rt; "{}{why}", fault_text(status));
 }
 
+/// Tells of a standby's end on standard error: when and how it ended, and what its copy stands for. What can't be written there changes
+/// nothing.
+pub fn tell_standby<R: Eprint, M: Display, C: Display>(
+    rt: &R,
+    status: Status,
+    now: &M,
+    copied: &C,
+) {
+    let _ = eprint!(rt;
+        "dxc: {now}: standby ended, {}; {copied}\n",
+        end_text(status)
+    );
+}
+
+// How a standby ended, by its status.
+fn end_text(status: Status) -> &'static str {
+    match status {
+        Status::Done => "its primary hung up",
+        Status::Link => "its connection failed",
+        Status::Disk => "its disk failed",
+        Status::BadMessage => "what came is no message",
+        Status::Spent => "its read limit was reached",
+        _ => "no primary could call",
+    }
+}
+
 // The line that tells of a status other than Done.
 fn fault_text(status: Status) -> &'static str {
     match status {

@@ -1,1 +1,2 @@
+pub mod TcpLinks
 pub mod Utc

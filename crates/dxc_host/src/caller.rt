@@ -3,7 +3,7 @@ ghost use Rattle.std.specs.Prelude.{◌≤◌, length, IfOk};
 use crate::entrance::Seat;
 use crate::keepalive;
 use std::io::{self, ErrorKind, Read, Write};
-use std::net::TcpStream;
+use std::net::{Shutdown, TcpStream};
 use std::time::Duration;
 
 /// How long a read waits for bytes.
@@ -32,6 +32,11 @@ impl Caller {
         stream.set_nodelay(true)?;
         keepalive::watch(&stream)?;
         Ok(Caller { stream, seat })
+    }
+
+    /// Ends both directions. Where that fails the connection is gone already.
+    pub(crate) fn hang_up(&self) {
+        let _ = self.stream.shutdown(Shutdown::Both);
     }
 
     // Tries again where there was no room.

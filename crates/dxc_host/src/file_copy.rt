@@ -59,7 +59,7 @@ impl FileCopy {
 }
 
 // The folder in which the file of that path lies.
-fn folder_of(path: &str) -> Path<'_> {
+pub(crate) fn folder_of(path: &str) -> Path<'_> {
     match Path::new(path).parent() {
         Some(folder) if !folder.as_os_str().is_empty() => folder,
         _ => Path::new("."),

@@ -2,6 +2,7 @@ ghost use Rattle.std.specs.Prelude.{◌≡◌, [], IfOk, IsErr};
 ghost use Rattle.dxc_causes.specs.Causes.{HasCause};
 
 use crate::file_copy::FileCopy;
+use crate::staged_file::StagedFile;
 use dxc_disk::{Disk, DiskFault, FileDisk};
 use std::alloc::Global;
 use std::fs::File;
@@ -16,7 +17,7 @@ const SEALED: u8 = 0xA5;
 
 const UNSEALED: u8 = 0;
 
-/// The file of a journal, or a copy of it in memory for who only looks. It tells nothing of its content.
+/// The file of a journal, one that is to become the copy of another, or a copy in memory for who only looks. It tells nothing of its content.
 #[derive(Drop)]
 pub struct HostDisk {
     bytes: Bytes,
@@ -27,6 +28,7 @@ pub struct HostDisk {
 enum Bytes {
     File(FileDisk),
     Copy(FileCopy),
+    Staged(StagedFile),
 }
 
 impl Bytes {
@@ -34,6 +36,7 @@ impl Bytes {
         match self {
             Bytes::File(file) => file.length(),
             Bytes::Copy(copy) => Ok(copy.length()),
+            Bytes::Staged(file) => file.length(),
         }
     }
 
@@ -42,6 +45,7 @@ impl Bytes {
         match self {
             Bytes::File(file) => file.read(at, into),
             Bytes::Copy(copy) => copy.read(at, into),
+            Bytes::Staged(file) => file.read(at, into),
         }
     }
 
@@ -60,6 +64,7 @@ impl Bytes {
         match self {
             Bytes::File(file) => file.write_at(at, from),
             Bytes::Copy(copy) => copy.write_at(at, from),
+            Bytes::Staged(file) => file.write_at(at, from),
         }
     }
 
@@ -67,6 +72,7 @@ impl Bytes {
         match self {
             Bytes::File(file) => file.sync(),
             Bytes::Copy(_) => Ok(()),
+            Bytes::Staged(file) => file.sync(),
         }
     }
 }
@@ -80,7 +86,24 @@ impl HostDisk {
     ) -> io::Result<HostDisk>
         ensures { IfOk result (λ disk. disk.faults ≡ 0) }
     {
-        HostDisk::of_journal(Bytes::File(FileDisk::open(alloc, files, path)?))
+        HostDisk::of_file(FileDisk::open(alloc, files, path)?)
+    }
+
+    /// That file, which holds a journal or the beginning of one.
+    pub(crate) fn of_file(file: FileDisk) -> io::Result<HostDisk>
+        ensures { IfOk result (λ disk. disk.faults ≡ 0) }
+    {
+        HostDisk::of_journal(Bytes::File(file))
+    }
+
+    /// The file of a copy that is to be made.
+    pub(crate) fn staged(file: StagedFile) -> HostDisk
+        ensures { result.faults ≡ 0 }
+    {
+        HostDisk {
+            bytes: Bytes::Staged(file),
+            faults: 0,
+        }
     }
 
     /// A copy of the file of that path. What is done to the disk changes no file.

@@ -3,9 +3,13 @@ ghost use Rattle.dxc_causes.specs.Causes.{HasCause};
 ghost use Rattle.dxc_outside.specs.Openings.{IsClosed, most_shelf_bytes};
 
 use crate::changes::Changes;
+use crate::copied::Copied;
 use crate::entrance::Entrance;
+use crate::last_sync::LastSync;
 use crate::lines_files::{open_input, open_output};
-use crate::{FileLines, HostClock, HostDisk, HostGate, Refusal, TcpDoor, TcpLink};
+use crate::staged_file::{StagedFile, is_free};
+use crate::{FileLines, HostClock, HostDisk, HostGate, PeerLink, Refusal, TcpDoor, TcpLink};
+use dxc_disk::FileDisk;
 use dxc_outside::{Opened, Opener, most_shelf_bytes};
 use std::alloc::{AllocError, Global};
 use std::fs::File;
@@ -29,6 +33,8 @@ pub struct HostOpener<T> {
     only_looks: bool,
     /// What couldn't be opened last.
     refusal: Option<Refusal>,
+    /// The copy of a journal that was to be made last.
+    copied: Option<Copied>,
 }
 
 impl<T: Drop> HostOpener<T> {
@@ -43,6 +49,7 @@ impl<T: Drop> HostOpener<T> {
             faults: 0,
             only_looks: false,
             refusal: None,
+            copied: None,
         }
     }
 
@@ -58,6 +65,11 @@ impl<T: Drop> HostOpener<T> {
         self.refusal.as_ref()
     }
 
+    /// The copy of a journal that was to be made last, where one was.
+    pub fn copied(&self) -> Option<&Copied> {
+        self.copied.as_ref()
+    }
+
     // The answer for an error in opening what has that name: memory was wanting, or else a fault, which is counted.
     fn not_opened<X>(&mut self, alloc: Global, name: &str, error: &io::Error) -> Opened<X>
         ensures closed { IsClosed result }
@@ -69,6 +81,23 @@ impl<T: Drop> HostOpener<T> {
         self.faults = self.faults.saturating_add(1);
         self.refusal = Refusal::of(alloc, name, error);
         Opened::Failed
+    }
+}
+
+impl<T: Files<File = File>> HostOpener<T> {
+    // The disk of a copy, which is kept in mind where it is begun.
+    fn stage(&mut self, alloc: Global, name: &str) -> io::Result<HostDisk>
+        ensures { self.new.faults ≡ self.old.faults }
+    {
+        let mut place = FileDisk::open(alloc, &self.system, name)?;
+        if !is_free(&mut place)? {
+            return HostDisk::of_file(place);
+        }
+        let last_sync = LastSync::new(alloc)?;
+        let shared = last_sync.shared()?;
+        let staged = StagedFile::new(alloc, &self.system, name, place, shared)?;
+        self.copied = Some(Copied::new(alloc, name, last_sync)?);
+        Ok(HostDisk::staged(staged))
     }
 }
 
@@ -152,7 +181,7 @@ impl<
 
     type Gate = HostGate;
 
-    type Peer = TcpLink;
+    type Peer = PeerLink;
 
     ghost told = { ⊥ };
 
@@ -193,6 +222,15 @@ impl<
         }
     }
 
+    /// The file is made beside its name, as NAME`.joining`, and takes the name with its first sync. A name whose file holds bytes already, but
+    /// for what a copy leaves that was never whole, gets the disk of that file.
+    fn copy(&mut self, alloc: Global, name: &str) -> Opened<HostDisk> {
+        match self.stage(alloc, name) {
+            Ok(disk) => Opened::Open(disk),
+            Err(error) => self.not_opened(alloc, name, &error),
+        }
+    }
+
     /// Worker `w` of the name `L` reads `L.in` and writes `L.w.out`, which is made where it isn't there.
     fn lines(&mut self, alloc: Global, name: &str, worker: u16) -> Opened<FileLines> {
         let (Ok(from), Ok(to)) = (
@@ -225,9 +263,9 @@ impl<
         }
     }
 
-    fn peer(&mut self, alloc: Global, address: &str) -> Opened<TcpLink> {
+    fn peer(&mut self, alloc: Global, address: &str) -> Opened<PeerLink> {
         match call(alloc, &self.system, address) {
-            Ok(link) => Opened::Open(link),
+            Ok(link) => Opened::Open(PeerLink::new(alloc, link)),
             Err(error) => self.not_opened(alloc, address, &error),
         }
     }

@@ -1,11 +1,11 @@
-ghost use Rattle.std.specs.Prelude.{[], false, ◌≡◌, IfOk};
-ghost use base.Stored.{gnil};
+ghost use Rattle.std.specs.Prelude.{false, ◌≡◌, IfOk};
+ghost use Rattle.dxc_host.specs.TcpLinks.{tcp_state};
 
 use crate::caller::Caller;
 use crate::changes::Changes;
 use crate::entrance::Seat;
 use crate::outbox::Outbox;
-use dxc_outside::{Got, Link, Put};
+use dxc_outside::{Got, Link, Lost, Put};
 use std::alloc::Global;
 use std::io::{self, ErrorKind, Read};
 use std::net::TcpStream;
@@ -17,6 +17,8 @@ pub struct TcpLink {
     caller: Caller,
     outbox: Outbox,
     ended: bool,
+    /// Why it was hung up.
+    hung_up: Option<Lost>,
     reads: u64,
     read_faults: u64,
     write_faults: u64,
@@ -41,6 +43,7 @@ impl TcpLink {
             caller,
             outbox,
             ended: false,
+            hung_up: None,
             reads: 0,
             read_faults: 0,
             write_faults: 0,
@@ -55,6 +58,7 @@ impl Drop for TcpLink {
             mut caller,
             mut outbox,
             ended: _,
+            hung_up: _,
             reads: _,
             read_faults: _,
             write_faults: _,
@@ -66,18 +70,11 @@ impl Drop for TcpLink {
 impl Link for TcpLink {
     ghost told = { ⊥ };
 
-    ghost state = { λ t. record {
-      left = [];
-      written = [];
-      ended = t.ended;
-      reads = t.reads;
-      read_faults = t.read_faults;
-      write_faults = t.write_faults;
-      sound = false;
-      lasting = gnil;
-    } };
+    ghost state = { tcp_state };
 
     ghost begun = { λ _. Unit {0} };
+
+    ghost hung_up = { λ t. t.hung_up };
 
     fn read(&mut self, into: &mut [u8]) -> Got {
         self.reads = self.reads.saturating_add(1);
@@ -111,5 +108,11 @@ impl Link for TcpLink {
                 Put::Failed
             }
         }
+    }
+
+    /// What was collected isn't written out any more.
+    fn hang_up(&mut self, why: Lost) {
+        self.caller.hang_up();
+        self.hung_up = Some(why);
     }
 }

@@ -5,7 +5,7 @@ use crate::HostGate;
 use crate::changes::Changes;
 use crate::outbox::Outbox;
 use crate::patient::{Patient, rest};
-use dxc_outside::{Got, Link, Put, Sent};
+use dxc_outside::{Got, Link, Lost, Put, Sent};
 use std::alloc::{AllocError, Global};
 use std::io::{ErrorKind, Read, Write};
 use std::rt::Clock as SystemClock;
@@ -20,6 +20,8 @@ pub struct TermLink<R: Read, W: Write, T: SystemClock> {
     output: Patient<W, T>,
     outbox: Outbox,
     ended: bool,
+    /// Why it was hung up.
+    hung_up: Option<Lost>,
     reads: u64,
     read_faults: u64,
     write_faults: u64,
@@ -50,6 +52,7 @@ impl<R: Read, W: Write, T: SystemClock> TermLink<R, W, T> {
             output: Patient { output, system },
             outbox,
             ended: false,
+            hung_up: None,
             reads: 0,
             read_faults: 0,
             write_faults: 0,
@@ -69,6 +72,7 @@ impl<R: Read, W: Write, T: SystemClock> TermLink<R, W, T> {
             mut output,
             mut outbox,
             ended: _,
+            hung_up: _,
             reads: _,
             read_faults: _,
             write_faults: _,
@@ -96,6 +100,8 @@ impl<R: Read, W: Write, T: SystemClock> Link for TermLink<R, W, T> {
     } };
 
     ghost begun = { λ _. Unit {0} };
+
+    ghost hung_up = { λ t. t.hung_up };
 
     fn read(&mut self, into: &mut [u8]) -> Got {
         self.reads = self.reads.saturating_add(1);
@@ -133,5 +139,10 @@ impl<R: Read, W: Write, T: SystemClock> Link for TermLink<R, W, T> {
                 Put::Failed
             }
         }
+    }
+
+    /// A terminal has no other end that could learn of it: it is only kept.
+    fn hang_up(&mut self, why: Lost) {
+        self.hung_up = Some(why);
     }
 }

@@ -5,6 +5,8 @@ use Rattle.std.specs.Prelude.{◌≡◌, ℕ, zero, suc, List, [], ◌∷◌, �
 pub data Asking : Type 0 where
   shelf_named : List ℕ → Asking
   journal_named : List ℕ → Asking
+  -- the disk of a copy that is to be made
+  copy_named : List ℕ → Asking
   lines_named : List ℕ → ℕ → Asking
   listener_named : List ℕ → Asking
   peer_named : List ℕ → Asking

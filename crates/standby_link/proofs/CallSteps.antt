@@ -6,7 +6,7 @@ use Rattle.dxc_disk.specs.declared.disk.DiskFault.{DiskFault}
 use Rattle.dxc_disk.specs.Disks.{DiskState, IsDisk}
 use Rattle.dxc_outside.specs.Links.{LinkState}
 use Rattle.standby_link.specs.declared.line.Line.{Line}
-use Rattle.standby_link.specs.declared.mirror.Lost.{Lost}
+use Rattle.dxc_outside.specs.declared.link.Lost.{Lost}
 use Rattle.standby_link.specs.Acts.{write, acted, pieces}
 use Rattle.standby_link.specs.Calls.{AreCalls, Call, CallsAreMoments, CallsAreOfRuns, HasMoment, HasSynced, MomentsAreLeft, RunsAreMoments, last_of, looks, moves, read_in}
 use Rattle.standby_link.specs.Lines.{line_at}

@@ -3,14 +3,15 @@ use Rattle.std.proofs.Common.{◌≡◌, ◌≢◌, inr, ⊎_elim, ℕ, ◌+◌,
 use Rattle.std.proofs.lemmas.List.{append-nil, take_all, drop-drop}
 use Rattle.std.proofs.lemmas.Bool.{cases_lt}
 use Rattle.std.proofs.Math.ListN.{drop_of_length-le}
-use Rattle.dxc_outside.specs.Links.{LinkState, Wrote}
+use Rattle.dxc_outside.specs.Links.{LinkState, Wrote, IsSent}
+use Rattle.dxc_outside.specs.declared.send.Sent.TheVariants.{Cut}
 use Rattle.dxc_outside.proofs.LinkSteps.{wrote_none, wrote_more}
-use Rattle.standby_link.specs.declared.mirror.Lost.{Lost}
-use Rattle.standby_link.specs.declared.mirror.Lost.TheVariants.{Link, End}
+use Rattle.dxc_outside.specs.declared.link.Lost.{Lost}
+use Rattle.dxc_outside.specs.declared.link.Lost.TheVariants.{Link, End}
 use Rattle.standby_link.specs.Acts.{Act, write, sync, most, most_is, pieces, pieces_in}
 use Rattle.standby_link.specs.Messages.{Item, spelled, spelled_all, numbered}
 use Rattle.standby_link.specs.Lines.{LineState, SentActs, SendsOne, Syncs}
-use Rattle.standby_link.specs.Listens.{WaitsFor, WaitsInVain}
+use Rattle.standby_link.specs.Listens.{WaitsFor, WaitsInVain, patience}
 
 -- a line by its parts
 abbrev pub line : LinkState → ℕ → List ℕ → Option Lost → LineState
@@ -75,7 +76,7 @@ lost_here (Some x) none some = cc
 
 -- a Sync that was sent whole, and the wait for its Have
 pub syncs_whole : (told : Type 0) (old mid new : LinkState) (n m : ℕ) (kept part rest message : List ℕ) (before sent lost : Option Lost) → kept ≡ part → m ≡ n + 1 → message ≡ spelled (n + 1) sync → is_some sent ≡ false → SendsOne told old mid sent message
-    → IfNone lost (WaitsFor told mid new kept rest m) → IfSome lost (λ why. WaitsInVain told mid new kept m why) → ((lost ≡ Some End) ↔ IsTrue new.ended) → new.reads ≤ mid.reads + 256 → (lost ≢ Some Link → new.read_faults ≡ mid.read_faults) → new.write_faults ≡ mid.write_faults → Syncs told (line old n part before) (line new m rest lost)
+    → IfNone lost (WaitsFor told mid new kept rest m) → IfSome lost (λ why. WaitsInVain told mid new kept m why) → ((lost ≡ Some End) ↔ IsTrue new.ended) → new.reads ≤ mid.reads + patience → (lost ≢ Some Link → new.read_faults ≡ mid.read_faults) → new.write_faults ≡ mid.write_faults → Syncs told (line old n part before) (line new m rest lost)
 syncs_whole told old mid new n m kept part rest message before sent lost same number is here sends came vain end few no_fault writes = ⊎_elim
     (λ whole. inr (
       mid,
@@ -92,6 +93,24 @@ syncs_whole told old mid new n m kept part rest message before sent lost same nu
     ))
     (λ cut. absurd (lost_here sent here cut.0))
     sends
+
+none_of : {A : Type 0} (P : Type 0) (o : Option A) (x : A) → o ≡ Some x → IfNone o P
+none_of P None x is = cc
+none_of P (Some y) x is = tt
+
+-- where no Have came the line is lost; its link stands behind the hanging up as before
+pub syncs_vain : (told : Type 0) (old mid heard new : LinkState) (n m k : ℕ) (kept part rest message : List ℕ) (before sent found lost : Option Lost) (why : Lost) → kept ≡ part → m ≡ n + 1 → message ≡ spelled (n + 1) sync → is_some sent ≡ false → SendsOne told old mid sent message
+    → found ≡ Some why → IfSome found (λ why. WaitsInVain told mid heard kept m why) → ((found ≡ Some End) ↔ IsTrue heard.ended) → heard.reads ≤ mid.reads + patience → (found ≢ Some Link → heard.read_faults ≡ mid.read_faults) → heard.write_faults ≡ mid.write_faults
+    → new ≡ heard → k ≡ m → lost ≡ Some why → Syncs told (line old n part before) (line new k rest lost)
+syncs_vain told old mid heard new n m k kept part rest message before sent found lost why same number is here sends vained vain end few no_fault writes as_heard as_sent as_found =
+    subst (λ (l : LinkState). Syncs told (line old n part before) (line l k rest lost)) (sym as_heard)
+    (subst (λ (j : ℕ). Syncs told (line old n part before) (line heard j rest lost)) (sym as_sent)
+    (subst (λ (o : Option Lost). Syncs told (line old n part before) (line heard m rest o)) (vained ∙ sym as_found)
+    (syncs_whole told old mid heard n m kept part rest message before sent found same number is here sends (none_of (WaitsFor told mid heard kept rest m) found why vained) vain end few no_fault writes)))
+
+-- a message that was cut short loses the line, whose link stands behind the hanging up as before
+pub cut_short : (told : Type 0) (old mid new : LinkState) (lost : Option Lost) (message : List ℕ) → IsSent told old mid Cut message → new ≡ mid → lost ≡ Some Link → SendsOne told old new lost message
+cut_short told old mid new lost message sent same is = inr (is, subst (λ (k : LinkState). IsSent told old k Cut message) (sym same) sent)
 
 spelled_all-append : (xs ys : List Item) → spelled_all (xs ++ ys) ≡ spelled_all xs ++ spelled_all ys
 spelled_all-append [] ys = refl

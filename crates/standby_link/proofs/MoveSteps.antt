@@ -8,8 +8,8 @@ use Rattle.dxc_outside.specs.Links.{LinkState}
 use Rattle.standby_link.specs.Messages.{spelled_all, numbered}
 use Rattle.standby_link.specs.Serves.{bytes_in}
 use Rattle.standby_link.proofs.LineSteps.{line, Sending, spelled_more}
-use Rattle.standby_link.specs.declared.mirror.Lost.{Lost}
-use Rattle.standby_link.specs.declared.mirror.Lost.TheVariants.{Link, Disk}
+use Rattle.dxc_outside.specs.declared.link.Lost.{Lost}
+use Rattle.dxc_outside.specs.declared.link.Lost.TheVariants.{Link, Disk}
 use Rattle.standby_link.specs.Acts.{Act, write, sync, acted, pieces}
 use Rattle.standby_link.specs.Lines.{LineState, SentActs, Syncs}
 use Rattle.standby_link.specs.Mirrors.{Primary, sends, called, syncing, failed, lose, is_awaited, takes, joining}

@@ -4,10 +4,10 @@ use Rattle.dxc_causes.specs.Causes.{Rose}
 use Rattle.dxc_outside.specs.Links.{LinkState, Wrote, IsSent}
 use Rattle.dxc_outside.specs.declared.send.Sent.TheVariants.{Cut}
 use Rattle.standby_link.specs.declared.line.Line.{Line}
-use Rattle.standby_link.specs.declared.mirror.Lost.{Lost}
-use Rattle.standby_link.specs.declared.mirror.Lost.TheVariants.{Link, End}
+use Rattle.dxc_outside.specs.declared.link.Lost.{Lost}
+use Rattle.dxc_outside.specs.declared.link.Lost.TheVariants.{Link, End}
 use Rattle.standby_link.specs.Acts.{Act, sync}
-use Rattle.standby_link.specs.Listens.{WaitsFor, WaitsInVain}
+use Rattle.standby_link.specs.Listens.{WaitsFor, WaitsInVain, patience}
 use Rattle.standby_link.specs.Messages.{spelled, spelled_all, numbered}
 
 -- a line to a standby, as contracts see it
@@ -21,6 +21,12 @@ pub record LineState : Type 0 where
 
 abbrev pub line_at : {K : Type 0} → (K → LinkState) → Line K → LineState
 line_at state l = record { link = state l.link; number = l.number; held = take l.ear.held l.ear.inbox; lost = l.lost }
+
+-- What a call does to a line and its link. A line that is lost in it is hung up, for that cause; one that was lost before stays so; and as long
+-- as it isn't lost its link isn't hung up.
+pub record IsHungUp (old new before now : Option Lost) : Type 0 where
+  pub over : (IsSome old → before ≡ old) → IsSome new → now ≡ new
+  pub same : new ≡ None → now ≡ before
 
 -- Acts were sent as items, all of them, or as far as the link took them, and the line is then lost.
 pub record SentActs (told : Type 0) (old new : LinkState) (n m : ℕ) (lost : Option Lost) (acts : List Act) : Type 0 where
@@ -47,7 +53,7 @@ pub record SentSync (told : Type 0) (mid : LinkState) (old new : LineState) : Ty
   pub came : new.lost ≡ None → WaitsFor told mid new.link old.held new.held (old.number + 1)
   pub vain : (why : Lost) → new.lost ≡ Some why → WaitsInVain told mid new.link old.held (old.number + 1) why
   pub end : (new.lost ≡ Some End) ↔ IsTrue new.link.ended
-  pub few : new.link.reads ≤ mid.reads + 256
+  pub few : new.link.reads ≤ mid.reads + patience
   -- a read that failed loses the line
   pub no_fault : new.lost ≢ Some Link → new.link.read_faults ≡ mid.read_faults
   pub no_write_fault : new.link.write_faults ≡ old.link.write_faults

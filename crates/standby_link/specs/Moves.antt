@@ -4,8 +4,8 @@ use Rattle.dxc_causes.specs.Causes.{Rose}
 use Rattle.dxc_disk.specs.Disks.{DiskState}
 use Rattle.dxc_outside.specs.Items.{Item as LinkItem}
 use Rattle.dxc_outside.specs.Links.{LinkState, Wrote}
-use Rattle.standby_link.specs.declared.mirror.Lost.{Lost}
-use Rattle.standby_link.specs.declared.mirror.Lost.TheVariants.{Link, Disk}
+use Rattle.dxc_outside.specs.declared.link.Lost.{Lost}
+use Rattle.dxc_outside.specs.declared.link.Lost.TheVariants.{Link, Disk}
 use Rattle.standby_link.specs.declared.mirror.Mirror.{Mirror}
 use Rattle.standby_link.specs.declared.mirror.Mirror.TheVariants.{Joined, Lost as Gone}
 use Rattle.standby_link.specs.Acts.{write, acted, pieces}

@@ -13,7 +13,8 @@ mod mirror_disk;
 mod serve;
 mod spell;
 
+pub use dxc_outside::Lost;
 pub use end::StandbyEnd;
-pub use mirror::{Lost, Mirror};
+pub use mirror::Mirror;
 pub use mirror_disk::MirrorDisk;
 pub use serve::serve_standby;

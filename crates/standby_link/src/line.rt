@@ -1,17 +1,16 @@
 ghost use Rattle.std.specs.Prelude.{◌≡◌, ◌+◌, ◌^◌, ◌≤◌, ◌<◌, [], ◌∷◌, length, Option, Some, None, IsSome};
 ghost use Rattle.dxc_causes.specs.Causes.{Rose};
 ghost use Rattle.standby_link.specs.Acts.{write, sync, pieces};
-ghost use Rattle.standby_link.specs.Lines.{line_at, Sends, SendsOne, Syncs};
+ghost use Rattle.standby_link.specs.Lines.{line_at, Sends, SendsOne, Syncs, IsHungUp};
 
 use crate::ear::Ear;
-use crate::mirror::Lost;
 use crate::spell::{spell_sync, spell_write};
-use dxc_outside::{Link, Sent, write_all};
+use dxc_outside::{Link, Lost, Sent, write_all};
 
 /// The most bytes that one item carries.
 pub(crate) const MOST: usize = 4096;
 
-/// A primary's end of the link to its standby. Once it is lost nothing more is sent or read.
+/// A primary's end of the link to its standby. Once it is lost it is hung up, and nothing more is sent or read.
 #[derive(Drop)]
 pub(crate) struct Line<K: Link> {
     pub(crate) link: K,
@@ -42,6 +41,7 @@ impl<K: Link> Line<K> {
         ensures sends { self.old.lost ≡ None → self.old.number + length (pieces place from.now) < 2 ^ 64 → place + length from.now < 2 ^ 64
             → Sends K.told (line_at K.state self.old) (line_at K.state self.new) (pieces place from.now) }
         ensures ear { self.new.ear ≡ self.old.ear }
+        ensures hung_up { IsHungUp self.old.lost self.new.lost (K.hung_up self.old.link) (K.hung_up self.new.link) }
     {
         if self.lost.is_some() {
             return;
@@ -63,6 +63,7 @@ impl<K: Link> Line<K> {
         requires here { self.old.lost ≡ None }
         ensures sends { self.old.number + 1 < 2 ^ 64 → Sends K.told (line_at K.state self.old) (line_at K.state self.new) (write place from.now ∷ []) }
         ensures ear { self.new.ear ≡ self.old.ear }
+        ensures hung_up { IsHungUp self.old.lost self.new.lost (K.hung_up self.old.link) (K.hung_up self.new.link) }
     {
         let mut message = [0; 4115];
         self.number = self.number.wrapping_add(1);
@@ -75,9 +76,10 @@ impl<K: Link> Line<K> {
         ensures sends { SendsOne K.told (K.state self.old.link) (K.state self.new.link) self.new.lost message.now }
         ensures number { self.new.number ≡ self.old.number }
         ensures ear { self.new.ear ≡ self.old.ear }
+        ensures hung_up { IsHungUp self.old.lost self.new.lost (K.hung_up self.old.link) (K.hung_up self.new.link) }
     {
         if let Sent::Cut = write_all(&mut self.link, message) {
-            self.lost = Some(Lost::Link);
+            self.lose(Lost::Link);
         }
     }
 
@@ -85,25 +87,45 @@ impl<K: Link> Line<K> {
     pub(crate) fn sync(&mut self)
         ensures gone { IsSome self.old.lost → self.new ≡ self.old }
         ensures syncs { self.old.lost ≡ None → self.old.number + 1 < 2 ^ 64 → Syncs K.told (line_at K.state self.old) (line_at K.state self.new) }
+        ensures hung_up { IsHungUp self.old.lost self.new.lost (K.hung_up self.old.link) (K.hung_up self.new.link) }
     {
         if self.lost.is_some() {
             return;
         }
         self.number = self.number.wrapping_add(1);
         self.send(&spell_sync(self.number));
-        if self.lost.is_none() {
-            self.lost = self.ear.wait(&mut self.link, self.number);
+        if self.lost.is_some() {
+            return;
+        }
+        if let Some(why) = self.ear.wait(&mut self.link, self.number) {
+            self.lose(why);
         }
     }
 
     /// Nothing more is sent, since the disk failed.
-    pub(crate) fn lose(&mut self)
-        ensures same { self.new ≡ record self.old { lost = self.new.lost } }
+    pub(crate) fn end(&mut self)
+        ensures link { K.state self.new.link ≡ K.state self.old.link }
+        ensures number { self.new.number ≡ self.old.number }
+        ensures ear { self.new.ear ≡ self.old.ear }
         ensures lost { self.old.lost ≡ None → self.new.lost ≡ Some Lost.Disk }
         ensures gone { IsSome self.old.lost → self.new ≡ self.old }
+        ensures hung_up { IsHungUp self.old.lost self.new.lost (K.hung_up self.old.link) (K.hung_up self.new.link) }
     {
         if self.lost.is_none() {
-            self.lost = Some(Lost::Disk);
+            self.lose(Lost::Disk);
         }
+    }
+
+    // Hangs up, for good.
+    fn lose(&mut self, why: Lost)
+        requires { self.old.lost ≡ None }
+        ensures link { K.state self.new.link ≡ K.state self.old.link }
+        ensures number { self.new.number ≡ self.old.number }
+        ensures ear { self.new.ear ≡ self.old.ear }
+        ensures lost { self.new.lost ≡ Some why }
+        ensures hung_up { K.hung_up self.new.link ≡ Some why }
+    {
+        self.link.hang_up(why);
+        self.lost = Some(why);
     }
 }

@@ -1,12 +1,12 @@
 ghost use Rattle.std.specs.Prelude.{◌≡◌, ◌+◌, ◌^◌, ◌≤◌, ◌<◌, length, None, MatchOption, IsSomeAnd};
 ghost use Rattle.dxc_disk.specs.Disks.{IsLength, IsRead, IsWrite, IsSync, Looks, Spends};
-ghost use Rattle.standby_link.specs.Lines.{line_at};
+ghost use Rattle.standby_link.specs.Lines.{line_at, IsHungUp};
 ghost use Rattle.standby_link.specs.Moves.{Both, mirrored, first_line, TellsWrite, TellsSync, StepsByWrite, StepsBySync, SendsFile, Joins, TookHaves, IsSmall, mirror_of};
 ghost use Rattle.standby_link.specs.Acts.{pieces};
 ghost use Rattle.standby_link.specs.Mirrors.{joining};
 
 use crate::line::{Line, MOST};
-use crate::mirror::{Lost, Mirror};
+use crate::mirror::Mirror;
 use dxc_disk::{Disk, DiskFault};
 use dxc_outside::Link;
 
@@ -38,6 +38,7 @@ impl<D: Disk, K: Link> MirrorDisk<D, K> {
         ensures line { IsSomeAnd result.line (λ l. Joins D.told K.told (D.state disk) (D.state result.disk) (K.state link) (line_at K.state l)) }
         ensures step { D.told → IsSmall 0 0 (D.state disk).reads_as → length (pieces 0 (D.state disk).reads_as) + 1 < 2 ^ 64
             → IsSomeAnd result.line (λ l. TookHaves D.told K.told (first_line (K.state link)) (mirrored (D.state result.disk) (line_at K.state l)) (joining (D.state disk).reads_as)) }
+        ensures hung_up { IsSomeAnd result.line (λ l. IsHungUp None l.lost (K.hung_up link) (K.hung_up l.link)) }
     {
         let mut disk = disk;
         let mut line = Line::new(link);
@@ -102,6 +103,7 @@ impl<D: Disk, K: Link> Disk for MirrorDisk<D, K> {
         ensures write { IsWrite D.told (D.state self.old.disk) (D.state self.new.disk) result at from.now }
         ensures tells { Both self.old.line self.new.line (λ l m. TellsWrite K.told (line_at K.state l) (line_at K.state m) at from.now result) }
         ensures steps { Both self.old.line self.new.line (λ l m. StepsByWrite D.told (mirrored (D.state self.old.disk) (line_at K.state l)) (mirrored (D.state self.new.disk) (line_at K.state m)) at from.now result) }
+        ensures hung_up { Both self.old.line self.new.line (λ l m. IsHungUp l.lost m.lost (K.hung_up l.link) (K.hung_up m.link)) }
     {
         let written = self.disk.write_at(at, from);
         tell_write(&mut self.line, written, at, from);
@@ -112,6 +114,7 @@ impl<D: Disk, K: Link> Disk for MirrorDisk<D, K> {
         ensures sync { IsSync D.told (D.state self.old.disk) (D.state self.new.disk) result }
         ensures tells { Both self.old.line self.new.line (λ l m. TellsSync K.told (line_at K.state l) (line_at K.state m) result) }
         ensures steps { Both self.old.line self.new.line (λ l m. StepsBySync D.told K.told (mirrored (D.state self.old.disk) (line_at K.state l)) (mirrored (D.state self.new.disk) (line_at K.state m)) result) }
+        ensures hung_up { Both self.old.line self.new.line (λ l m. IsHungUp l.lost m.lost (K.hung_up l.link) (K.hung_up m.link)) }
     {
         let synced = self.disk.sync();
         tell_sync(&mut self.line, synced);
@@ -126,23 +129,25 @@ fn tell_write<K: Link>(
     at: u64,
     from: &[u8],
 )
-    ensures { Both line.old line.new (λ l m. TellsWrite K.told (line_at K.state l) (line_at K.state m) at from.now written) }
+    ensures tells { Both line.old line.new (λ l m. TellsWrite K.told (line_at K.state l) (line_at K.state m) at from.now written) }
+    ensures hung_up { Both line.old line.new (λ l m. IsHungUp l.lost m.lost (K.hung_up l.link) (K.hung_up m.link)) }
 {
     let Some(line) = line else { return };
     match written {
         Ok(()) => line.write(at, from),
-        Err(_) => line.lose(),
+        Err(_) => line.end(),
     }
 }
 
 // Sends a sync and waits for its Have, if there is a standby.
 fn tell_sync<K: Link>(line: &mut Option<Line<K>>, synced: Result<(), DiskFault>)
-    ensures { Both line.old line.new (λ l m. TellsSync K.told (line_at K.state l) (line_at K.state m) synced) }
+    ensures tells { Both line.old line.new (λ l m. TellsSync K.told (line_at K.state l) (line_at K.state m) synced) }
+    ensures hung_up { Both line.old line.new (λ l m. IsHungUp l.lost m.lost (K.hung_up l.link) (K.hung_up m.link)) }
 {
     let Some(line) = line else { return };
     match synced {
         Ok(()) => line.sync(),
-        Err(_) => line.lose(),
+        Err(_) => line.end(),
     }
 }
 
@@ -155,10 +160,11 @@ fn send_file<D: Disk, K: Link>(disk: &mut D, line: &mut Line<K>)
     ensures room { D.told → Spends (1 + length (D.state disk.old).reads_as)
         (D.state disk.old) (D.state disk.new) }
     ensures ear { line.new.ear ≡ line.old.ear }
+    ensures hung_up { IsHungUp line.old.lost line.new.lost (K.hung_up line.old.link) (K.hung_up line.new.link) }
     ensures sends { D.told → IsSmall 0 0 (D.state disk.old).reads_as → SendsFile K.told (D.state disk.old) (D.state disk.new) (K.state line.old.link) (line_at K.state line.new) }
 {
     let Ok(length) = disk.length() else {
-        line.lose();
+        line.end();
         return;
     };
     let mut piece = [0; MOST];
@@ -166,7 +172,7 @@ fn send_file<D: Disk, K: Link>(disk: &mut D, line: &mut Line<K>)
     while at < length {
         let count = (length - at).min(MOST as u64) as usize;
         if disk.read(at, &mut piece[..count]).is_err() {
-            line.lose();
+            line.end();
             return;
         }
         line.send_write(at, &piece[..count]);

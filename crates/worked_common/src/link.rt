@@ -1,6 +1,6 @@
 ghost use Rattle.dxc_outside.specs.Fakes.{link_state};
 
-use dxc_outside::{Got, Link, MemLink, Put};
+use dxc_outside::{Got, Link, Lost, MemLink, Put};
 use std::alloc::Global;
 use std::sync::{Arc, OnceLock};
 
@@ -42,6 +42,8 @@ impl Link for RowLink {
 
     ghost begun = { λ _. Unit {0} };
 
+    ghost hung_up = { λ l. l.held.hung_up };
+
     fn read(&mut self, into: &mut [u8]) -> Got {
         self.held.read(into)
     }
@@ -49,6 +51,10 @@ impl Link for RowLink {
     fn write(&mut self, from: &[u8]) -> Put {
         let count = self.most.max(1).min(from.len());
         self.held.write(&from[..count])
+    }
+
+    fn hang_up(&mut self, why: Lost) {
+        self.held.hang_up(why);
     }
 }
 

@@ -135,6 +135,10 @@ impl Opener for RowOpener {
         self.opened(disk)
     }
 
+    fn copy(&mut self, alloc: Global, name: &str) -> Opened<RowDisk> {
+        self.journal(alloc, name)
+    }
+
     fn lines(&mut self, _alloc: Global, _name: &str, _worker: u16) -> Opened<RowLines> {
         let lines = self.holding.lines.pop();
         self.opened(lines)

@@ -2,7 +2,7 @@ ghost use Rattle.std.specs.Prelude.{[], false};
 ghost use base.Stored.{gnil};
 
 use crate::cue::Script;
-use dxc_outside::{Got, Link, Put};
+use dxc_outside::{Got, Link, Lost, Put};
 
 /// The link of a session: it gives what its script says, and keeps what is written. Where its session is over it is dropped, and
 /// leaves what was written to whoever compares it.
@@ -14,6 +14,8 @@ pub struct CueLink {
     over: Option<u64>,
     output: Vec<u8>,
     ended: bool,
+    /// Why it was hung up.
+    hung_up: Option<Lost>,
     reads: u64,
     read_faults: u64,
     write_faults: u64,
@@ -28,6 +30,7 @@ impl CueLink {
             over,
             output,
             ended: false,
+            hung_up: None,
             reads: 0,
             read_faults: 0,
             write_faults: 0,
@@ -51,6 +54,8 @@ impl Link for CueLink {
 
     ghost begun = { λ _. Unit {0} };
 
+    ghost hung_up = { λ c. c.hung_up };
+
     fn read(&mut self, into: &mut [u8]) -> Got {
         self.reads = self.reads.saturating_add(1);
         let got = self.script.read(into);
@@ -68,6 +73,10 @@ impl Link for CueLink {
         }
         Put::Took(from.len())
     }
+
+    fn hang_up(&mut self, why: Lost) {
+        self.hung_up = Some(why);
+    }
 }
 
 impl Drop for CueLink {
@@ -78,6 +87,7 @@ impl Drop for CueLink {
             over,
             output,
             ended: _,
+            hung_up: _,
             reads: _,
             read_faults: _,
             write_faults: _,

@@ -1,4 +1,4 @@
-use Rattle.core_laws.proofs.Mirrored.{standbys_stand, start_command}
+use Rattle.core_laws.proofs.Mirrored.{copies_stand, standbys_stand, start_command}
 use Rattle.core_laws.proofs.standbys_stand_for_commands.Goals as goal
 
 pub returns-clause-start : goal.returns-clause-start
@@ -6,3 +6,6 @@ returns-clause-start g c = start_command g.D.Disk.told g.D.Disk.state
 
 pub returns-clause-stands : goal.returns-clause-stands
 returns-clause-stands g c = standbys_stand g.D.Disk.told g.D.Disk.state g.met.D.Disk.is_disk
+
+pub returns-clause-copies : goal.returns-clause-copies
+returns-clause-copies g c = copies_stand g.D.Disk.told g.D.Disk.state g.met.D.Disk.is_disk

@@ -7,7 +7,7 @@ pub loop-at-init : goal.loop-at-init
 loop-at-init g c = sent_none _ _
 
 pub returns-in-Cut : goal.returns-in-Cut
-returns-in-Cut g c = row_cut (row_line c.args.shape) _ c.args.listed.now c.loop-at.at c.loop-at-test.true _ _ _ _ _ _ c.in-Cut.is (c.as_slice.ensures.value ∙ c.write_line.ensures ∙ ap (row_line c.args.shape) c.index-listed-at.is) c.loop-at.invariant c.write_all.ensures
+returns-in-Cut g c = row_cut (row_line c.args.shape) _ c.args.listed.now c.loop-at.at c.loop-at-test.true _ _ _ _ _ _ c.in-Cut.is (c.as_slice.ensures.value ∙ c.write_line.ensures ∙ ap (row_line c.args.shape) c.index-listed-at.is) c.loop-at.invariant c.write_all.ensures.sent
 
 pub loop-at-preserved : goal.loop-at-preserved
-loop-at-preserved g c = sent_is _ _ _ _ _ c.in-Whole.is (row_sent (row_line c.args.shape) _ c.args.listed.now c.loop-at.at c.loop-at-test.true _ _ _ _ _ _ (c.as_slice.ensures.value ∙ c.write_line.ensures ∙ ap (row_line c.args.shape) c.index-listed-at.is) c.loop-at.invariant c.write_all.ensures)
+loop-at-preserved g c = sent_is _ _ _ _ _ c.in-Whole.is (row_sent (row_line c.args.shape) _ c.args.listed.now c.loop-at.at c.loop-at-test.true _ _ _ _ _ _ (c.as_slice.ensures.value ∙ c.write_line.ensures ∙ ap (row_line c.args.shape) c.index-listed-at.is) c.loop-at.invariant c.write_all.ensures.sent)

@@ -9,5 +9,5 @@ pub returns : goal.returns
 returns g c =
     let k = g.K.Link.state c.args.terminal.now in
     let l = g.K.Link.state c.write_all.new.link in
-    let sent = subst (λ (bs : List ℕ). IsSent g.K.Link.told k l c.write_all.result bs) (c.as_slice.ensures.value ∙ c.write_line.ensures) c.write_all.ensures in
+    let sent = subst (λ (bs : List ℕ). IsSent g.K.Link.told k l c.write_all.result bs) (c.as_slice.ensures.value ∙ c.write_line.ensures) c.write_all.ensures.sent in
     inr (c.in-Ok.summary, c.in-Ok.ensures.loaded, c.in-Ok.ensures.unstopped, (c.write_all.result, sent, c.of_sent.ensures))

@@ -22,7 +22,7 @@ use Rattle.craft_jobs.proofs.Wording.{stands_words}
 use Rattle.craft_server.proofs.Mirroring.{serves_for}
 use Rattle.craft_server.proofs.Serves.{ran_serve}
 use Rattle.craft_server.proofs.Wording.{end_words, serve_words, serving_words}
-use Rattle.dxc_outside.specs.Asked.{Asking, AskedFor, journal_named, listener_named}
+use Rattle.dxc_outside.specs.Asked.{Asking, AskedFor, copy_named, listener_named}
 use Rattle.dxc_outside.proofs.Asking.{asked_all}
 use Rattle.craft_jobs.specs.Missing.{IsOfNoOpening}
 use Rattle.craft_element.specs.Openings.{files_asked}
@@ -166,7 +166,7 @@ returns-in-Serve-clause-asked g c = λ fit. c.serve_line.ensures.asked (subst Is
 
 pub returns-in-Standby-clause-asked : goal.returns-in-Standby-clause-asked
 returns-in-Standby-clause-asked g c = λ fit.
-    let list : journal_named c.text.result.now ∷ listener_named c.text-in-Standby.result.now ∷ [] ≡ journal_named c.in-Standby.journal ∷ listener_named c.in-Standby.address ∷ [] = λ i. journal_named (c.text.ensures i) ∷ listener_named (c.text-in-Standby.ensures i) ∷ [] in
+    let list : copy_named c.text.result.now ∷ listener_named c.text-in-Standby.result.now ∷ [] ≡ copy_named c.in-Standby.journal ∷ listener_named c.in-Standby.address ∷ [] = λ i. copy_named (c.text.ensures i) ∷ listener_named (c.text-in-Standby.ensures i) ∷ [] in
     subst (λ (l : List Asking). AskedFor (g.O.Opener.asked c.args.opener.now c.run_standby.new.opener) l (IsOfNoOpening c.run_standby.result)) (list ∙ sym (ap line_asked c.in-Standby.is)) c.run_standby.ensures.asked
 
 pub returns-in-Load-clause-asked : goal.returns-in-Load-clause-asked

@@ -1,9 +1,9 @@
-use Rattle.std.proofs.Common.{◌≡◌, ℕ, List, [], ◌++◌, refl, ◌≤◌, length, take, drop, sym, ◌∙◌, ap, subst, arith, take-append-drop}
+use Rattle.std.proofs.Common.{◌≡◌, ℕ, List, [], ◌++◌, refl, length, take, drop, sym, ◌∙◌, ap, subst, arith, take-append-drop}
 use Rattle.std.proofs.lemmas.List.{append_assoc, drop_all, take_rest}
 use Rattle.dxc_outside.specs.declared.link.Put.TheVariants.{Took, Failed}
 use Rattle.dxc_outside.specs.declared.send.Sent.{Sent}
 use Rattle.dxc_outside.specs.declared.send.Sent.TheVariants.{Whole, Cut}
-use Rattle.dxc_outside.specs.Links.{LinkState, IsWrite, Wrote, IsSent}
+use Rattle.dxc_outside.specs.Links.{LinkState, IsWrite, IsSent}
 use Rattle.dxc_outside.proofs.LinkSteps.{wrote_more}
 use Rattle.dxc_outside.proofs.send.write_some.Goals as goal
 
@@ -35,11 +35,11 @@ module _ (told : Type 0) (a b : LinkState) (bytes : List ℕ) where
   failed : IsWrite told a b Failed bytes → IsSent told a b Cut bytes
   failed write = record { part = []; rest = bytes; split = refl; wrote = write.wrote; whole = λ is_whole. cc; no_fault = λ is_whole. cc; cause = record { later = write.cause.later; cause = λ _. write.cause.cause refl } }
 
-pub returns-then-count-bytes : goal.returns-then-count-bytes
-returns-then-count-bytes g c = took_all _ _ _ _ _ c.if-count-bytes.true c.in-Took.ensures
+pub returns-then-count-bytes-clause-sent : goal.returns-then-count-bytes-clause-sent
+returns-then-count-bytes-clause-sent g c = took_all _ _ _ _ _ c.if-count-bytes.true c.in-Took.ensures.write
 
-pub returns-else-count-bytes : goal.returns-else-count-bytes
-returns-else-count-bytes g c = took_some _ _ _ _ _ _ _ c.in-Took.ensures (subst (λ (l : List ℕ). IsSent g.K.Link.told (g.K.Link.state c.write.new.self) (g.K.Link.state c.write_rest.new.link) c.write_rest.result l) (take_rest c.args.bytes.now c.in-Took.count) c.write_rest.ensures)
+pub returns-else-count-bytes-clause-sent : goal.returns-else-count-bytes-clause-sent
+returns-else-count-bytes-clause-sent g c = took_some _ _ _ _ _ _ _ c.in-Took.ensures.write (subst (λ (l : List ℕ). IsSent g.K.Link.told (g.K.Link.state c.write.new.self) (g.K.Link.state c.write_rest.new.link) c.write_rest.result l) (take_rest c.args.bytes.now c.in-Took.count) c.write_rest.ensures.sent)
 
-pub returns-in-Failed : goal.returns-in-Failed
-returns-in-Failed g c = failed _ _ _ _ c.in-Failed.ensures
+pub returns-in-Failed-clause-sent : goal.returns-in-Failed-clause-sent
+returns-in-Failed-clause-sent g c = failed _ _ _ _ c.in-Failed.ensures.write

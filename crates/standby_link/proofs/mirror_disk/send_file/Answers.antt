@@ -1,8 +1,7 @@
 use Rattle.std.proofs.Common.{◌≡◌, ℕ, List, [], ◌∷◌, ◌++◌, ◌+◌, ◌-◌, ◌<◌, min, Option, length, take, drop, refl, sym, ◌∙◌, ap, subst, arith, rules, length-take}
 use Rattle.std.proofs.lemmas.List.{take_all, take-append-le}
 use Rattle.dxc_outside.specs.Links.{LinkState}
-use Rattle.standby_link.specs.declared.line.Line.{Line}
-use Rattle.standby_link.specs.declared.mirror.Lost.{Lost}
+use Rattle.dxc_outside.specs.declared.link.Lost.{Lost}
 use Rattle.standby_link.specs.Moves.{SendsFile}
 use Rattle.dxc_disk.proofs.DiskSteps.{spends_more, spends_on}
 use Rattle.dxc_disk.proofs.LookSteps.{looks_on}
@@ -33,6 +32,7 @@ pub loop-at-init : goal.loop-at-init
 loop-at-init g c = record {
   here = c.requires.here;
   ear = refl;
+  hung_up = refl;
   within = omega arith;
   size = λ t. c.in-Ok.ensures.value t;
   looks = λ t. c.in-Ok.ensures.looks t;
@@ -47,6 +47,7 @@ loop-at-preserved g c =
     record {
       here = here;
       ear = c.send_write.ensures.ear ∙ c.loop-at.invariant.ear;
+      hung_up = c.send_write.ensures.hung_up.same here ∙ c.loop-at.invariant.hung_up;
       within = omega arith;
       size = c.loop-at.invariant.size;
       looks = λ t. looks_on _ _ _ (g.met.D.Disk.is_disk _ t) (c.loop-at.invariant.looks t) (c.read.ensures.looks t);
@@ -87,10 +88,9 @@ returns-then-is_err-clause-looks g c = λ t. looks_on _ _ _ (g.met.D.Disk.is_dis
 
 pub returns-then-is_err-clause-sends : goal.returns-then-is_err-clause-sends
 returns-then-is_err-clause-sends g c = λ t small.
-    let same = c.lose-then-is_err.ensures.same in
-    let link = ap (λ (l : Line g.row.K.Denot). g.K.Link.state l.link) same in
-    subst (λ (k : LinkState). SendsFile g.K.Link.told (g.D.Disk.state c.args.disk.now) (g.D.Disk.state c.read.new.self) (g.K.Link.state c.args.line.now.link) (line k c.lose-then-is_err.new.self.number (take c.lose-then-is_err.new.self.ear.held c.lose-then-is_err.new.self.ear.inbox) c.lose-then-is_err.new.self.lost)) (sym link)
-    (file_unread _ _ _ _ _ _ _ (c.loop-at.invariant.sending t small) (c.lose-then-is_err.ensures.lost c.loop-at.invariant.here)
+    let link = c.end-then-is_err.ensures.link in
+    subst (λ (k : LinkState). SendsFile g.K.Link.told (g.D.Disk.state c.args.disk.now) (g.D.Disk.state c.read.new.self) (g.K.Link.state c.args.line.now.link) (line k c.end-then-is_err.new.self.number (take c.end-then-is_err.new.self.ear.held c.end-then-is_err.new.self.ear.inbox) c.end-then-is_err.new.self.lost)) (sym link)
+    (file_unread _ _ _ _ _ _ _ (c.loop-at.invariant.sending t small) (c.end-then-is_err.ensures.lost c.loop-at.invariant.here)
     (let rose = c.read.ensures.cause.cause (sym c.if-is_err.ensures.value) in omega (arith, rose, c.loop-at.invariant.faults)))
 
 pub returns-then-is_some-clause-sends : goal.returns-then-is_some-clause-sends

@@ -9,6 +9,7 @@ pub loop-sent-init : goal.loop-sent-init
 loop-sent-init g c = record {
   here = is_none_of _ (sym c.if-is_some.ensures);
   ear = refl;
+  hung_up = refl;
   within = omega arith;
   sending = λ few fits. sending_none _ _ _ _ _;
 }
@@ -19,6 +20,7 @@ loop-sent-preserved g c =
     record {
       here = here;
       ear = c.send_write.ensures.ear ∙ c.loop-sent.invariant.ear;
+      hung_up = c.send_write.ensures.hung_up.same here ∙ c.loop-sent.invariant.hung_up;
       within = omega arith;
       sending = λ few fits.
           let sending = c.loop-sent.invariant.sending few fits in

@@ -1,4 +1,4 @@
-use Rattle.std.proofs.Common.{◌≡◌, ℕ, List, [], take, ◌∙◌, ap, subst}
+use Rattle.std.proofs.Common.{ℕ, take, ◌∙◌, ap, subst}
 use Rattle.dxc_outside.specs.Links.{LinkState}
 use Rattle.standby_link.specs.declared.ear.Ear.{Ear}
 use Rattle.standby_link.specs.declared.line.Line.{Line}

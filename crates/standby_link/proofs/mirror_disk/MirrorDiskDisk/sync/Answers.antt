@@ -13,4 +13,4 @@ returns-clause-steps g c =
     (λ (l : Line g.row.K.Denot) (m : Line g.row.K.Denot). TellsSync g.K.Link.told (at l) (at m) c.sync-synced.result)
     (λ (l : Line g.row.K.Denot) (m : Line g.row.K.Denot). StepsBySync g.D.Disk.told g.K.Link.told (mirrored old (at l)) (mirrored new (at m)) c.sync-synced.result)
     (λ l m tells. steps_by_sync g.D.Disk.told g.K.Link.told old new (at l) (at m) c.sync-synced.result c.sync-synced.ensures.looks tells)
-    c.tell_sync.ensures
+    c.tell_sync.ensures.tells

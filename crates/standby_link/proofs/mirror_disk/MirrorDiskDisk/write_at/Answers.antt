@@ -13,4 +13,4 @@ returns-clause-steps g c =
     (λ (l : Line g.row.K.Denot) (m : Line g.row.K.Denot). TellsWrite g.K.Link.told (at l) (at m) c.args.at c.args.from.now c.write_at-written.result)
     (λ (l : Line g.row.K.Denot) (m : Line g.row.K.Denot). StepsByWrite g.D.Disk.told (mirrored old (at l)) (mirrored new (at m)) c.args.at c.args.from.now c.write_at-written.result)
     (λ l m tells. steps_by_write g.D.Disk.told g.K.Link.told old new (at l) (at m) c.args.at c.args.from.now c.write_at-written.result c.write_at-written.ensures.writes tells)
-    c.tell_write.ensures
+    c.tell_write.ensures.tells

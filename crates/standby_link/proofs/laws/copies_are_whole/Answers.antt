@@ -1,0 +1,5 @@
+use Rattle.standby_link.proofs.CopySteps.{copies_are_whole}
+use Rattle.standby_link.proofs.laws.copies_are_whole.Goals as goal
+
+pub returns : goal.returns
+returns c = copies_are_whole
