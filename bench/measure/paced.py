@@ -4,7 +4,10 @@ usage: bench/run measure paced [SECONDS [MODULES SLOTS]]     (10 seconds of 64 m
 
 Half of the ports have circuits that stand throughout; sixteen callers enter and delete others between the rest, as fast as they are
 answered. Frames come every 125 microseconds (8,000 a second) by bench/c/paced.c, which needs a C compiler, and one worker carries them. It
-runs a second time with a copier in the controller's place and no callers, which shows the machine's own pauses.
+runs a second time, for at most ten seconds, with a copier in the controller's place and no callers, which shows the machine's own pauses.
+
+Where no shape is given, one worker then carries frames of full tables from a file, as fast as it can: how many ports one processor serves at
+the line's pace.
 """
 import contextlib
 import os
@@ -12,8 +15,9 @@ import subprocess
 import sys
 import tempfile
 import threading
+import time
 
-from bench.measure.streams import deletion, entry
+from bench.measure.streams import deletion, entry, full
 from bench.shared.compiled import executable
 from bench.shared.office import write_shelf
 from bench.shared.program import expect
@@ -21,6 +25,9 @@ from bench.shared.server import PLACES, Caller, Server, enter
 
 MICROSECONDS = 125
 PATIENCE = 60
+COPIED_SECONDS = 10
+# The shapes of full tables, and so many bytes of frames for each.
+SHAPES, CARRIED = ((8, 24), (32, 32), (64, 96)), 600_000_000
 
 
 @contextlib.contextmanager
@@ -52,6 +59,22 @@ def change(server, number, free, slots, stop, counts):
                 return
 
 
+def served(modules, slots):
+    """Tells how many frames of a full table one worker carries in a second, and how many ports that is at the line's pace."""
+    ports = modules * slots
+    count = CARRIED // ports
+    with tempfile.TemporaryDirectory(dir="/dev/shm") as folder:
+        write_shelf(folder, modules, slots)
+        enter(folder, full(modules, slots).encode())
+        with open(os.path.join(folder, "lines.in"), "wb") as file:
+            file.write(bytes(port % 127 for port in range(ports)) * count)
+        with Server(folder) as server:
+            while os.path.getsize(os.path.join(folder, "lines.0.out")) < ports * count:
+                time.sleep(0.01)
+            rate = count / (time.monotonic() - server.started)
+    print(f"{modules} by {slots}: {rate:.0f} frames a second of one worker; {rate * ports * MICROSECONDS / 1e6:.0f} ports at the line's pace", flush=True)
+
+
 def main(words):
     seconds, modules, slots = (int(word) for word in (words + ["10", "64", "96"][len(words) :]))
     ports = modules * slots
@@ -75,8 +98,11 @@ def main(words):
         print(f"{sum(counts)} changes by {PLACES} callers meanwhile, {sum(counts) / seconds:.0f} a second")
         print("a copier in the controller's place:", flush=True)
         os.mkfifo(os.path.join(room, "pipe"))
+        given[1] = str(min(seconds, COPIED_SECONDS) * 1_000_000 // MICROSECONDS)
         subprocess.run([pacer, os.path.join(room, "pipe"), os.path.join(room, "out"), *given, "--copy"], check=False, timeout=seconds + PATIENCE)
-        return ran.returncode
+    for shape in SHAPES if len(words) < 2 else ():
+        served(*shape)
+    return ran.returncode
 
 
 if __name__ == "__main__":
