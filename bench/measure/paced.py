@@ -27,7 +27,7 @@ MICROSECONDS = 125
 PATIENCE = 60
 COPIED_SECONDS = 10
 # The shapes of full tables, and so many bytes of frames for each.
-SHAPES, CARRIED = ((8, 24), (32, 32), (64, 96)), 600_000_000
+SHAPES, CARRIED = ((8, 24), (32, 32), (64, 96)), 200_000_000
 
 
 @contextlib.contextmanager
