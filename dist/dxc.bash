@@ -1,6 +1,6 @@
 # Completion of dxc's words for bash: modes, and what each may have behind it, are read from `dxc --help`.
 
-# The names of a mode's words, as "SHELF JOURNAL ADDRESS"; of several lines the longest.
+# The names of a mode's words, as "SHELF JOURNAL ADDRESS"; of several lines the longest, of equal ones the first.
 _dxc_words() {
     "$1" --help 2>/dev/null | sed -n "s/^  dxc $2 \([A-Z ]*[A-Z]\)\( .*\)*$/\1/p" | awk '{ if (NF > most) { most = NF; line = $0 } } END { print line }'
 }

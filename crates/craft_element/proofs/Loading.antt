@@ -1,4 +1,4 @@
--- The element of the load: on new disks in memory it starts, unless memory is wanting or the gate stops.
+-- On new disks in memory an element starts, unless memory is wanting or the gate stops.
 use Rattle.std.proofs.Common.{◌≡◌, ◌^◌, arith, ℕ, [], Result, Ok, Err, inl, inr, refl, sym, ◌∙◌, ap, subst}
 use Rattle.std.specs.Prelude.{MatchResult}
 use Rattle.dxc_disk.specs.declared.mem_disk.MemDisk.{MemDisk}
@@ -19,7 +19,8 @@ use Rattle.craft_words.specs.declared.status.Status.{Status}
 use Rattle.craft_words.specs.declared.status.Status.TheVariants.{Disk}
 use Rattle.craft_words.specs.declared.status.Status.TheVariants as Status_of
 use Rattle.craft_element.specs.declared.opening.Controller.{Controller}
-use Rattle.craft_element.specs.Loads.{IsLoadController, NotLoaded}
+use Rattle.craft_element.specs.declared.opening.Element.{Element}
+use Rattle.craft_element.specs.Loads.{IsInMemory, IsLoadStarted, IsNewController, NotLoaded}
 use Rattle.craft_element.specs.Openings.{AreUsersNotStarted, IsStarted, NotStarted}
 use Rattle.craft_element.specs.Statuses.{status_of_fault, status_of_users_fault, status_of_users_why, status_of_why}
 
@@ -55,10 +56,15 @@ module _ (disk : MemDisk) (s : Contents) (stops later : ℕ) (status : Status) (
   not_loaded = by_fault n.fault refl
 
 -- it started or not
-pub load_started : (disk : MemDisk) (s : Contents) (stops later : ℕ) (r : Result (Controller MemDisk) Status) → IsFresh (mem_state disk) [] [] (2 ^ 21) → IsLoadShelf s
-    → MatchResult r (IsStarted (Unit {0}) mem_state disk s 1) (NotStarted (Unit {0}) mem_state disk s stops later) → MatchResult r IsLoadController (NotLoaded stops later)
-load_started disk s stops later (Ok x) fresh shelf started = (disk, fresh, (s, shelf, started))
-load_started disk s stops later (Err e) fresh shelf not = not_loaded disk s stops later e fresh not
+pub new_started : (disk : MemDisk) (s : Contents) (stops later : ℕ) (r : Result (Controller MemDisk) Status) → IsFresh (mem_state disk) [] [] (2 ^ 21)
+    → MatchResult r (IsStarted (Unit {0}) mem_state disk s 1) (NotStarted (Unit {0}) mem_state disk s stops later) → MatchResult r (IsNewController s) (NotLoaded stops later)
+new_started disk s stops later (Ok x) fresh started = (disk, fresh, started)
+new_started disk s stops later (Err e) fresh not = not_loaded disk s stops later e fresh not
+
+-- the load's is one of its shelf
+pub load_started : (s : Contents) (stops later : ℕ) (r : Result (Element MemDisk MemDisk) Status) → IsLoadShelf s → MatchResult r (IsInMemory s) (NotLoaded stops later) → MatchResult r IsLoadStarted (NotLoaded stops later)
+load_started s stops later (Ok x) shelf el = record { shelf = s; is_shelf = shelf; disk = el.disk; fresh = el.fresh; started = el.started; users_disk = el.users_disk; users_fresh = el.users_fresh; users_started = el.users_started }
+load_started s stops later (Err e) shelf not = not
 
 -- on such a disk the users are taken up, unless memory is wanting
 module _ (disk : MemDisk) (s : Contents) (status : Status) (fresh : IsFresh (mem_state disk) [] [] (2 ^ 18)) (n : AreUsersNotStarted (Unit {0}) mem_state disk s status) where

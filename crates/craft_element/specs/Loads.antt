@@ -1,4 +1,4 @@
--- The element of the load mode: how it starts, on new disks in memory.
+-- Elements on new disks in memory, and that of the load mode: how they start.
 use Rattle.std.specs.Prelude.{◌≡◌, ◌⊎◌, ◌^◌, ℕ, []}
 use Rattle.dxc_causes.specs.Causes.{Rose}
 use Rattle.dxc_disk.specs.declared.mem_disk.MemDisk.{MemDisk}
@@ -14,25 +14,38 @@ use Rattle.craft_element.specs.declared.opening.Element.{Element}
 use Rattle.craft_element.specs.Openings.{AreUsersStarted, IsStarted}
 
 -- a new disk, none of whose calls is to fail, and one for the users
-abbrev pub IsLoadDisk : DiskState → Type 0
-IsLoadDisk s = IsFresh s [] [] (2 ^ 21)
+abbrev pub IsNewDisk : DiskState → Type 0
+IsNewDisk s = IsFresh s [] [] (2 ^ 21)
 
-abbrev pub IsLoadUsersDisk : DiskState → Type 0
-IsLoadUsersDisk s = IsFresh s [] [] (2 ^ 18)
+abbrev pub IsNewUsersDisk : DiskState → Type 0
+IsNewUsersDisk s = IsFresh s [] [] (2 ^ 18)
 
--- a controller of the load
-abbrev pub IsLoadController : Controller MemDisk → Type 0
-IsLoadController x = (disk : MemDisk) × IsLoadDisk (mem_state disk) × ((s : Contents) × IsLoadShelf s × IsStarted (Unit {0}) mem_state disk s 1 x)
+-- a controller of the shelf, with one worker, on such a disk
+abbrev pub IsNewController : Contents → Controller MemDisk → Type 0
+IsNewController s x = (disk : MemDisk) × IsNewDisk (mem_state disk) × IsStarted (Unit {0}) mem_state disk s 1 x
+
+-- such a controller and the shelf's users, on such disks of any kind
+pub record IsNewElement (told : Type 0) {D : Type 0} (state : D → DiskState) (s : Contents) (x : Element D D) : Type 0 where
+  pub disk : D
+  pub fresh : IsNewDisk (state disk)
+  pub started : IsStarted told state disk s 1 x.controller
+  pub users_disk : D
+  pub users_fresh : IsNewUsersDisk (state users_disk)
+  pub users_started : AreUsersStarted told state users_disk s x.users
+
+-- and in memory
+abbrev pub IsInMemory : Contents → Element MemDisk MemDisk → Type 0
+IsInMemory s x = IsNewElement (Unit {0}) mem_state s x
 
 -- the load's element on such disks of any kind
 pub record IsLoadElement (told users_told : Type 0) {D U : Type 0} (state : D → DiskState) (users_state : U → DiskState) (x : Element D U) : Type 0 where
   pub shelf : Contents
   pub is_shelf : IsLoadShelf shelf
   pub disk : D
-  pub fresh : IsLoadDisk (state disk)
+  pub fresh : IsNewDisk (state disk)
   pub started : IsStarted told state disk shelf 1 x.controller
   pub users_disk : U
-  pub users_fresh : IsLoadUsersDisk (users_state users_disk)
+  pub users_fresh : IsNewUsersDisk (users_state users_disk)
   pub users_started : AreUsersStarted users_told users_state users_disk shelf x.users
 
 -- and in memory

@@ -4,12 +4,14 @@
 
 mod check;
 mod load;
+mod memory;
 mod opening;
 mod peer;
 mod stock;
 
 pub use check::{WORKERS, run_check};
 pub use load::load_element;
+pub use memory::memory_element;
 pub use opening::{Controller, Element, Names, open};
 pub use peer::{Mirror, open_mirrored};
 pub use stock::{Stock, stock_of};

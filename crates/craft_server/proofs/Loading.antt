@@ -22,6 +22,7 @@ use Rattle.xc_core.specs.Seeing.{Saw}
 use Rattle.xc_core.specs.States.{Opening, opening_of}
 use Rattle.craft_session.specs.declared.end.SessionEnd.{SessionEnd}
 use Rattle.craft_session.specs.declared.end.SessionEnd.TheVariants.{End, Spent}
+use Rattle.craft_session.specs.Meanings.{language}
 use Rattle.craft_session.specs.Places.{place_at}
 use Rattle.craft_session.specs.Seats.{PlaceAt, SeatAt, seat_at}
 use Rattle.craft_session.proofs.Scripts.{script_seen}
@@ -106,7 +107,7 @@ module _ (told users_told : Type 0) {D U : Type 0} (state : D → DiskState) (us
       let first = place_at el.shelf o p 1 0 in
       let at : place ≡ first = is ∙ ap (λ (y : Contents). place_at y o p 1 0) el.started.shelf in
       let served = subst (λ (q : PlaceAt). IsLoadServed told q s.new start l) at (subst (λ (m : LinkState). IsLoadServed told place s.new m l) unread_is s.served) in
-      let seen = script_seen told (Unit {0}) (Unit {0}) (state el.disk) (users_state el.users_disk) start l load_moments load_moments el.shelf first.seat s.new.seat first.users s.new.users
+      let seen = script_seen told (Unit {0}) (Unit {0}) (state el.disk) (users_state el.users_disk) start l load_moments load_moments (language el.shelf) first.seat s.new.seat first.users s.new.users
       (of_disk told state el.disk el.shelf 1 x.controller el.started) (users_of_disk users_told users_state el.users_disk el.shelf x.users el.users_started) refl refl refl served.seat.2 served.users.2 served.numbers served.users_numbers served.astray served.session in
       let seat = s.new.seat in
       let left = subst (λ (y : Opening). (h : List Entry) → Saw y seat.seen h → IsLeft seat.place seat.places y h (stock_in v)) served.seat.0 s.left in

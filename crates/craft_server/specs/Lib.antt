@@ -4,4 +4,5 @@ pub mod Statuses
 pub mod Loads
 pub mod Serving
 pub mod Scripts
+pub mod Trials
 pub mod Runs

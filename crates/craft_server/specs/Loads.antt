@@ -32,7 +32,7 @@ use Rattle.craft_words.specs.declared.status.Status.{Status}
 use Rattle.craft_words.specs.Statuses.{status_of_sent}
 use Rattle.craft_element.specs.declared.opening.Element.{Element}
 use Rattle.craft_element.specs.declared.stock.Stock.{Stock}
-use Rattle.craft_element.specs.Loads.{IsLoadDisk, IsLoadUsersDisk, NotLoaded}
+use Rattle.craft_element.specs.Loads.{IsNewDisk, IsNewUsersDisk, NotLoaded}
 use Rattle.craft_element.specs.Stocks.{IsLeft, IsStockAfter}
 
 -- what the clock of the load gives, however often it is asked
@@ -76,15 +76,15 @@ pub record IsLoadedOn (told users_told : Type 0) {D U : Type 0} (state : D → D
   pub is_shelf : IsLoadShelf shelf
   pub fabric : FabricId
   pub disk : D
-  pub fresh : IsLoadDisk (state disk)
+  pub fresh : IsNewDisk (state disk)
   pub opening : Opening
   pub opened : IsOpening told [] shelf fabric opening
   pub users_disk : U
-  pub users_fresh : IsLoadUsersDisk (users_state users_disk)
+  pub users_fresh : IsNewUsersDisk (users_state users_disk)
   pub users_opening : UsersOpening
   pub users_opened : IsUsersOpening users_told [] shelf users_opening
   pub link : LoadLink
-  pub wrote : WroteAll told (state disk) (users_state users_disk) 0 opening users_opening (Unit {0}) load_moments load_moments shelf (Unit {0}) (unread number fabric) (link_state link)
+  pub wrote : WroteAll told (state disk) (users_state users_disk) 0 opening users_opening (Unit {0}) load_moments load_moments (language shelf) (Unit {0}) (unread number fabric) (link_state link)
   pub own : link.carrier.seat.reader.fabric ≡ fabric
   pub all_read : (link_state link).left ≡ []
   pub left : IsStockAfter opening wrote.answered.walk.history (stock_in v)

@@ -5,12 +5,14 @@ use Rattle.dxc_outside.specs.declared.clock.Moment.{Moment}
 use Rattle.dxc_outside.specs.Callers.{ListenerState}
 use Rattle.dxc_outside.specs.Links.{LinkState}
 use Rattle.dxc_outside.specs.Threads.{SpawnerState}
+use Rattle.dxc_model.specs.declared.user.SessionUser.TheVariants.{Nobody}
+use Rattle.dxc_num.specs.Dimensions.{Dimensions}
 use Rattle.shelf_file.specs.Contents.{Contents}
 use Rattle.standby_link.specs.declared.mirror_disk.MirrorDisk.{MirrorDisk}
 use Rattle.user_admin.specs.Histories.{Opening as UsersOpening}
 use Rattle.xc_core.specs.States.{Opening}
 use Rattle.craft_words.specs.declared.line.Line.{Line}
-use Rattle.craft_words.specs.declared.line.Line.TheVariants.{Script, Check, Serve, Standby, Load}
+use Rattle.craft_words.specs.declared.line.Line.TheVariants.{Script, Trial, Check, Serve, Standby, Load}
 use Rattle.craft_words.specs.declared.status.Status.{Status}
 use Rattle.craft_words.specs.declared.status.Status.TheVariants.{BadWords, NoMemory}
 use Rattle.craft_words.specs.Lines.{IsLine}
@@ -19,6 +21,7 @@ use Rattle.craft_server.specs.Loads.{IsLoad}
 use Rattle.craft_element.specs.Openings.{Began, Found, Named, Opens, Sources, named}
 use Rattle.craft_element.specs.Peers.{Mirrors}
 use Rattle.craft_server.specs.Scripts.{RanSession}
+use Rattle.craft_server.specs.Trials.{IsTrialOn, memory_told, trial_lent}
 use Rattle.craft_server.specs.Serving.{JobsTold, ServedSite, SiteAt, named_in, site_at}
 use Rattle.craft_jobs.specs.Standbys.{StandsBy}
 
@@ -56,7 +59,7 @@ pub record IsUntouched {D : Type 0} (before after : Lent D) : Type 0 where
 module _ (told : Told) {D : Type 0} (state : D → DiskState) where
   -- one session was served over the terminal
   pub record RanScript (before after : Lent D) (s : Contents) (o : Opening) (p : UsersOpening) (disk users_disk : D) (status : Status) : Type 0 where
-    pub session : RanSession told.disk told.terminal told.clock told.terminal_begun (state disk) (state users_disk) s o p before.terminal after.terminal before.clock after.clock before.sources.stops after.sources.stops status
+    pub session : RanSession told.disk told.terminal told.clock told.terminal_begun (state disk) (state users_disk) Nobody s o p before.terminal after.terminal before.clock after.clock before.sources.stops after.sources.stops status
     pub spawner : after.spawner ≡ before.spawner
 
   -- the table was written to the terminal
@@ -74,6 +77,13 @@ module _ (told : Told) {D : Type 0} (state : D → DiskState) where
     pub clock : after.clock ≡ before.clock
     pub spawner : after.spawner ≡ before.spawner
 
+  -- a trial of the shape was run, with opener and spawner untouched
+  pub record RanNew (shape : Dimensions) (before after : Lent D) (status : Status) : Type 0 where
+    pub trial : IsTrialOn (memory_told told.terminal told.clock told.terminal_begun) shape (trial_lent before.terminal before.clock before.sources.stops) (trial_lent after.terminal after.clock after.sources.stops) status
+    pub opener : after.sources.opener ≡ before.sources.opener
+    pub journal_at : after.sources.journal_at ≡ before.sources.journal_at
+    pub spawner : after.spawner ≡ before.spawner
+
 -- sessions at a state on a disk of type E, and frame workers, were started, with terminal and clock untouched
 pub record RanServe (E : Type 0) {N L C G : Type 0} (jobs : JobsTold N L C G) {D : Type 0} (site : SiteAt) (before after : Lent D) (s : Contents) (o : Opening) (p : UsersOpening) (status : Status) : Type 0 where
   pub served : ServedSite E D jobs site before.sources after.sources before.spawner after.spawner s o p status
@@ -84,6 +94,7 @@ module _ (told : Told) {N L C G : Type 0} (jobs : JobsTold N L C G) {D : Type 0}
   -- what a line's mode did on what was opened
   abbrev pub Ran : (l : Line) (before after : Lent D) (status : Status) → (f : Found told.opener (named_in l) before.sources) → Opening → Began told.opener told.disk state (named_in l) before.sources f.shelf → Type 0
   Ran (Script shelf journal) before after status f o u = RanScript told state before after f.shelf o u.opening f.disk u.found.disk status
+  Ran (Trial shape) before after status f o u = ⊥
   Ran (Check shelf journal) before after status f o u = RanCheck told state before after f.shelf o status
   Ran (Serve shelf journal address lines workers peer) before after status f o u = RanServe D jobs (site_at address lines workers) before after f.shelf o u.opening status
   Ran (Standby journal address) before after status f o u = ⊥
@@ -111,6 +122,7 @@ module _ (told : Told) {N L C G : Type 0} (jobs : JobsTold N L C G) {D K J : Typ
   -- what a line did
   abbrev pub IsRunOf : Line → (before after : Lent D) → Status → Type 0
   IsRunOf (Load number) before after status = RanLoad told state number before after status
+  IsRunOf (Trial shape) before after status = RanNew told state shape before after status
   IsRunOf (Script shelf journal) before after status = OpensFor told jobs state (Script shelf journal) before after status
   IsRunOf (Check shelf journal) before after status = OpensFor told jobs state (Check shelf journal) before after status
   IsRunOf (Serve shelf journal address lines workers None) before after status = OpensFor told jobs state (Serve shelf journal address lines workers None) before after status

@@ -9,6 +9,7 @@ mod run;
 mod script;
 mod serve;
 mod sessions;
+mod trial;
 
 pub use craft_jobs::FrameJob;
 pub use craft_words::{JournalBad, Line, Status, WordsFault, line_of};

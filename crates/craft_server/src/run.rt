@@ -11,6 +11,7 @@ ghost use Rattle.craft_server.specs.Serving.{jobs_told};
 use crate::load::run_load;
 use crate::script::run_script;
 use crate::serve::serve_line;
+use crate::trial::run_trial;
 use craft_element::{Names, run_check};
 use craft_jobs::run_standby;
 use craft_words::{Line, Status, WordsFault, line_of};
@@ -19,10 +20,11 @@ use std::alloc::Global;
 use std::sync::Wait;
 
 /// Runs a line of words: `script SHELF JOURNAL`, `check SHELF JOURNAL` or `serve SHELF JOURNAL ADDRESS LINES WORKERS`, by the names of
-/// a shelf file, which is read in the form that `shelf_of` tells, and of a journal, which is made where it is new; or `standby JOURNAL
-/// ADDRESS`, or `load NUMBER`. The controller starts on what the journal stands for; that of `load` on a new journal in memory.
+/// a shelf file, which is read in the form that `shelf_of` tells, and of a journal, which is made where it is new; or `script MODULES SLOTS`,
+/// `standby JOURNAL ADDRESS`, or `load NUMBER`. The controller starts on what the journal stands for; that of `load` on a new journal in memory.
 ///
-/// `script` serves one session over the terminal; `check` writes each row of the table and the number of records to it; `serve`
+/// `script` serves one session over the terminal, and with the two numbers of a shape one on a new element of it, whose user is logged in and
+/// whose journals are in memory; `check` writes each row of the table and the number of records to it; `serve`
 /// serves 16 callers of the address at a time, and carries the frames of the lines with 1 to 8 workers. With one word more, PEER, it first
 /// joins the standby there, which gets a copy of the journal and of each change; where that is lost it goes on alone. `standby` waits for one
 /// primary at the address, and makes on the journal, which is to be new, what it sends, to the end of the link. `load` serves one session
@@ -51,7 +53,7 @@ where
     }
 }
 
-// Runs a line that `dxc_run` holds: with nothing to drop here, five modes cost the proof a fifth.
+// Runs a line that `dxc_run` holds: with nothing to drop here, the modes cost the proof a fifth.
 fn run_line<O: Opener, K: Link, C: Clock, G: Gate, P: Spawner, R: Wait>(
     alloc: Global,
     line: &Line,
@@ -73,6 +75,7 @@ where
             let names = names_of(shelf, journal);
             run_script(alloc, opener, names, terminal, clock, gate, rt)
         }
+        Line::Trial { shape } => run_trial(alloc, *shape, terminal, clock, gate, rt),
         Line::Check { shelf, journal } => {
             let names = names_of(shelf, journal);
             run_check(alloc, opener, names, terminal, gate)

@@ -2,6 +2,7 @@ ghost use Rattle.std.specs.Prelude.{◌≡◌};
 ghost use Rattle.dxc_outside.specs.Asked.{AskedFor};
 ghost use Rattle.craft_jobs.specs.Missing.{IsOfNoOpening};
 ghost use Rattle.craft_element.specs.Openings.{Opens, files_asked, named, sources};
+ghost use Rattle.dxc_model.specs.declared.user.SessionUser.{SessionUser};
 ghost use Rattle.craft_server.specs.Scripts.{RanSession};
 ghost use Rattle.craft_server.specs.Statuses.{status_of};
 
@@ -23,7 +24,7 @@ pub(crate) fn run_script<O: Opener, K: Link, C: Clock, G: Gate, R: Wait>(
     gate: &mut G,
     rt: &R,
 ) -> Status
-    ensures opens { Opens O.told O.Journal.told O.Journal.state (named names.entry.shelf.now names.entry.journal.now) (sources (O.state opener.old) (O.journal_at opener.old) (G.stops gate.old)) (sources (O.state opener.new) (O.journal_at opener.new) (G.stops gate.new)) ((K.state terminal.new ≡ K.state terminal.old) × (C.coming clock.new ≡ C.coming clock.old)) (λ f o u. RanSession O.Journal.told K.told C.told K.begun (O.Journal.state f.disk) (O.Journal.state u.found.disk) f.shelf o u.opening (K.state terminal.old) (K.state terminal.new) (C.coming clock.old) (C.coming clock.new) (G.stops gate.old) (G.stops gate.new) result) result }
+    ensures opens { Opens O.told O.Journal.told O.Journal.state (named names.entry.shelf.now names.entry.journal.now) (sources (O.state opener.old) (O.journal_at opener.old) (G.stops gate.old)) (sources (O.state opener.new) (O.journal_at opener.new) (G.stops gate.new)) ((K.state terminal.new ≡ K.state terminal.old) × (C.coming clock.new ≡ C.coming clock.old)) (λ f o u. RanSession O.Journal.told K.told C.told K.begun (O.Journal.state f.disk) (O.Journal.state u.found.disk) SessionUser.Nobody f.shelf o u.opening (K.state terminal.old) (K.state terminal.new) (C.coming clock.old) (C.coming clock.new) (G.stops gate.old) (G.stops gate.new) result) result }
     ensures asked { AskedFor (O.asked opener.old opener.new) (files_asked (named names.entry.shelf.now names.entry.journal.now)) (IsOfNoOpening result) }
 {
     let Element { controller, users } = match open(alloc, opener, names, WORKERS, gate) {
@@ -42,7 +43,8 @@ pub(crate) fn run_script<O: Opener, K: Link, C: Clock, G: Gate, R: Wait>(
     after_session(serve_session(&mut place, terminal, clock, gate, rt))
 }
 
-fn after_session(end: SessionEnd) -> Status
+/// The status of a session that ended so.
+pub(crate) fn after_session(end: SessionEnd) -> Status
     ensures { result ≡ status_of end }
 {
     match end {

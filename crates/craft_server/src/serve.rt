@@ -219,8 +219,10 @@ fn is_serve(line: &Line) -> bool
 {
     match line {
         Line::Serve { workers, .. } => 1 <= *workers && *workers <= 8,
-        Line::Script { .. } | Line::Check { .. } | Line::Standby { .. } | Line::Load { .. } => {
-            false
-        }
+        Line::Script { .. }
+        | Line::Trial { .. }
+        | Line::Check { .. }
+        | Line::Standby { .. }
+        | Line::Load { .. } => { false }
     }
 }

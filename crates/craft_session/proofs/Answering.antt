@@ -8,6 +8,7 @@ use Rattle.dxc_outside.specs.declared.send.Sent.{Sent}
 use Rattle.dxc_outside.specs.declared.send.Sent.TheVariants.{Whole, Cut as Sent_cut}
 use Rattle.dxc_outside.specs.Links.{LinkState}
 use Rattle.dxc_model.specs.declared.entry.Entry.{Entry}
+use Rattle.dxc_model.specs.declared.user.SessionUser.{SessionUser}
 use Rattle.tl1_text.specs.declared.reader.UnitKind.{UnitKind}
 use Rattle.tl1_text.specs.declared.reader.UnitKind.TheVariants.{Whole as WholeUnit, TooLong as TooLongUnit, More}
 use Rattle.tl1_text.specs.Reading.{Reader, hand}
@@ -28,14 +29,14 @@ use Rattle.craft_session.specs.Happenings.{Request}
 use Rattle.craft_session.specs.Hearing.{Heard, HeardBehind, IsAsked, IsHeard, IsUnasked, Wanted, rows_heard, unasked}
 use Rattle.craft_session.specs.Progresses.{progress_of}
 use Rattle.craft_session.specs.Desks.{IsReplied, IsSaidOf, IsStoppedAt, IsAnswered, input_of}
-use Rattle.craft_session.specs.Meanings.{asks, tag_of, language, wants}
+use Rattle.craft_session.specs.Meanings.{asks, tag_of, language_for, wants}
 use Rattle.craft_session.specs.Seats.{IsSameSeat, IsSameUserSeat, SeatAt, UserSeatAt}
 use Rattle.craft_session.specs.Sessions.{Now, Beginning, Halts, IsAt, IsSaid, Stands, Goes}
 use Rattle.craft_session.proofs.SessionSteps.{goes_on, goes_cut, goes_stopped, goes_unheard, whole_ended, long_ended}
 
-module _ (s : Contents) (told clock_told : Type 0) (k j : LinkState) (c d : List Moment) (b : Beginning) (now : Now) (kind : UnitKind) (r : Reader) (ahead : List ℕ) (stands : Stands (language s) told clock_told k j c d b now false kind r ahead)
+module _ (s : Contents) (first : SessionUser) (told clock_told : Type 0) (k j : LinkState) (c d : List Moment) (b : Beginning) (now : Now) (kind : UnitKind) (r : Reader) (ahead : List ℕ) (stands : Stands (language_for first s) told clock_told k j c d b now false kind r ahead)
     (seat : SeatAt) (users : UserSeatAt) (at : IsAt b seat users) (j2 : LinkState) (d2 : List Moment) (after : Now) (users_seen : users.seen ≡ now.users) where
-  said : (sent : Sent) (u : Request) (reply : Reply) → IsReplied s told clock_told j j2 d d2 sent (tag_of u.input) (rows_heard u.heard) reply → IsSaid (language s) told clock_told j j2 d d2 sent u reply
+  said : (sent : Sent) (u : Request) (reply : Reply) → IsReplied s told clock_told j j2 d d2 sent (tag_of u.input) (rows_heard u.heard) reply → IsSaid (language_for first s) told clock_told j j2 d d2 sent u reply
   said sent u reply x = record { moment = x.moment; wrote = x.wrote; now = x.now; later = x.later }
 
   -- the place of the seats is that of the beginning
@@ -55,19 +56,19 @@ module _ (s : Contents) (told clock_told : Type 0) (k j : LinkState) (c d : List
   stops a x = here (λ o n. (h : List Entry) → Saw o now.seen h → Stops o n h now.attending a after.attending after.seen) x
 
   module _ (u : Input) (ended : IsUnit stands.rest u × (hand r ≡ [])) where
-    said_on : (sent : Sent) (x : IsSaidOf s told clock_told j j2 d d2 sent u seat users now after) → IsSaid (language s) told clock_told j j2 d d2 sent (record { input = u; heard = x.heard }) x.reply
+    said_on : (sent : Sent) (x : IsSaidOf s told clock_told j j2 d d2 sent u seat users now after) → IsSaid (language_for first s) told clock_told j j2 d d2 sent (record { input = u; heard = x.heard }) x.reply
     said_on sent x = said sent (record { input = u; heard = x.heard }) x.reply x.said
 
-    answered_by_stop : IsStoppedAt s j j2 d d2 u seat users now after → Halts (language s) told clock_told k j2 c d2 b after
+    answered_by_stop : IsStoppedAt s j j2 d d2 u seat users now after → Halts (language_for first s) told clock_told k j2 c d2 b after
     answered_by_stop x = elim x.stopped [
-      | inl t ↦ goes_stopped (language s) told clock_told k c b j d now r kind ahead stands (record { input = u; heard = t.heard }) ended j2 d2 after x.link x.clock (hears (wants s now.attending.user u) t.heard t.behind) (stops (asks s now.attending.user t.heard u) t.stops)
-      | inr t ↦ goes_unheard (language s) told clock_told k c b j d now r kind ahead stands (record { input = u; heard = unasked }) ended j2 d2 after t.unasked.op x.link x.clock t.unasked.wanted t.unasked.changing
+      | inl t ↦ goes_stopped (language_for first s) told clock_told k c b j d now r kind ahead stands (record { input = u; heard = t.heard }) ended j2 d2 after x.link x.clock (hears (wants s now.attending.user u) t.heard t.behind) (stops (asks s now.attending.user t.heard u) t.stops)
+      | inr t ↦ goes_unheard (language_for first s) told clock_told k c b j d now r kind ahead stands (record { input = u; heard = unasked }) ended j2 d2 after t.unasked.op x.link x.clock t.unasked.wanted t.unasked.changing
           (there (λ o n seen. (h : List UserEntry) → SawUsers o seen h → TurnedBack o n h after.users) t.unasked.behind) t.seen t.attending
     ]
 
-    pub answered : (how : Progress) → IsAnswered s told clock_told j j2 d d2 u seat users now after how → Goes (language s) told clock_told k j2 c d2 b after how (is_some after.attending.watch) r ahead
-    answered On x = goes_on (language s) told clock_told k c b j d now r kind ahead stands (record { input = u; heard = x.heard }) ended j2 d2 x.reply after (said_on Whole x) (hears (wants s now.attending.user u) x.heard x.behind) (acts (asks s now.attending.user x.heard u) x.reply x.acts)
-    answered Cut x = goes_cut (language s) told clock_told k c b j d now r kind ahead stands (record { input = u; heard = x.heard }) ended j2 d2 x.reply after (said_on Sent_cut x) (hears (wants s now.attending.user u) x.heard x.behind) (acts (asks s now.attending.user x.heard u) x.reply x.acts)
+    pub answered : (how : Progress) → IsAnswered s told clock_told j j2 d d2 u seat users now after how → Goes (language_for first s) told clock_told k j2 c d2 b after how (is_some after.attending.watch) r ahead
+    answered On x = goes_on (language_for first s) told clock_told k c b j d now r kind ahead stands (record { input = u; heard = x.heard }) ended j2 d2 x.reply after (said_on Whole x) (hears (wants s now.attending.user u) x.heard x.behind) (acts (asks s now.attending.user x.heard u) x.reply x.acts)
+    answered Cut x = goes_cut (language_for first s) told clock_told k c b j d now r kind ahead stands (record { input = u; heard = x.heard }) ended j2 d2 x.reply after (said_on Sent_cut x) (hears (wants s now.attending.user u) x.heard x.behind) (acts (asks s now.attending.user x.heard u) x.reply x.acts)
     answered Stopped x = answered_by_stop x
 
 -- a unit that ended, whole or too long
@@ -112,10 +113,10 @@ pub unheard_of : (s : Contents) (k : LinkState) (c : List Moment) (u : Input) (s
 unheard_of s k c u seat users before after x seen attending = record { link = refl; clock = refl; stopped = inr (record { unasked = x; seen = seen; attending = attending }) }
 
 -- what a call does to a session stands for the language and the seat that the session began with
-module _ {Shelf : Type 0} (value : Shelf → Contents) (told clock_told : Type 0) (j j2 : LinkState) (d d2 : List Moment) (now after : Now) (due : Bool) (r r2 : Reader) (how : Progress) (old new : Shelf) (was is_now : SeatAt) (users_was users_now : UserSeatAt) where
+module _ {Shelf : Type 0} (value : Shelf → Contents) (first : SessionUser) (told clock_told : Type 0) (j j2 : LinkState) (d d2 : List Moment) (now after : Now) (due : Bool) (r r2 : Reader) (how : Progress) (old new : Shelf) (was is_now : SeatAt) (users_was users_now : UserSeatAt) where
   pub moved_goes : (ahead more : List ℕ) → new ≡ old → IsSameSeat was is_now → IsSameUserSeat users_was users_now
-      → ((k : LinkState) (c : List Moment) (b : Beginning) → IsAt b is_now users_now → Stands (language (value new)) told clock_told k j c d b now due More r ahead → Goes (language (value new)) told clock_told k j2 c d2 b after how false r2 more)
-      → (k : LinkState) (c : List Moment) (b : Beginning) → IsAt b was users_was → Stands (language (value old)) told clock_told k j c d b now due More r ahead → Goes (language (value old)) told clock_told k j2 c d2 b after how false r2 more
+      → ((k : LinkState) (c : List Moment) (b : Beginning) → IsAt b is_now users_now → Stands (language_for first (value new)) told clock_told k j c d b now due More r ahead → Goes (language_for first (value new)) told clock_told k j2 c d2 b after how false r2 more)
+      → (k : LinkState) (c : List Moment) (b : Beginning) → IsAt b was users_was → Stands (language_for first (value old)) told clock_told k j c d b now due More r ahead → Goes (language_for first (value old)) told clock_told k j2 c d2 b after how false r2 more
   moved_goes ahead more shelf seat users goes =
-      let there = subst (λ (s : Shelf). (k : LinkState) (c : List Moment) (b : Beginning) → IsAt b is_now users_now → Stands (language (value s)) told clock_told k j c d b now due More r ahead → Goes (language (value s)) told clock_told k j2 c d2 b after how false r2 more) shelf goes in
+      let there = subst (λ (s : Shelf). (k : LinkState) (c : List Moment) (b : Beginning) → IsAt b is_now users_now → Stands (language_for first (value s)) told clock_told k j c d b now due More r ahead → Goes (language_for first (value s)) told clock_told k j2 c d2 b after how false r2 more) shelf goes in
       λ k c b at s. there k c b (seat.0 ∙ at.0, seat.1 ∙ at.1, users.0 ∙ at.2, users.1 ∙ at.3) s

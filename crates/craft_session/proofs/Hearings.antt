@@ -3,7 +3,6 @@ use Rattle.std.specs.List.{AllByRecursion}
 use Rattle.std.proofs.Common.{◌≡◌, ◌≤◌, ◌<◌, ◌+◌, ◌*◌, ℕ, length, length-append, List, [], ◌∷◌, ◌++◌, append-nil, refl, sym, ◌∙◌, ap, subst, arith}
 use Rattle.dxc_disk.specs.Disks.{DiskState}
 use Rattle.dxc_model.specs.declared.user.SessionUser.{SessionUser}
-use Rattle.dxc_model.specs.declared.user.SessionUser.TheVariants.{Nobody}
 use Rattle.user_admin.specs.declared.op.UserEntry.{UserEntry}
 use Rattle.user_admin.specs.declared.op.UserOp.TheVariants as op
 use Rattle.user_admin.specs.declared.op.UserOutcome.{UserOutcome}
@@ -113,15 +112,15 @@ module _ {U M : Type 0} (l : Language U M) (place : ℕ) (o : Opening) (excused 
         ap (λ (k : List UserEntry). users_after o (g ++ k)) h.1 ∙ users_more o g e,
       )
 
-  pub consults_played : (hs : List (Happening U)) (h : List UserEntry) (s : SessionUser) → Consults l place o [] hs h s → AllByRecursion (λ e. e.place ≡ place) h → IsLegal o h → (1 ≤ failures h → excused) → PlaysUsers l o.shelf.sid excused o.users Nobody hs (users_after o h) s
+  pub consults_played : (hs : List (Happening U)) (h : List UserEntry) (s : SessionUser) → Consults l place o [] hs h s → AllByRecursion (λ e. e.place ≡ place) h → IsLegal o h → (1 ≤ failures h → excused) → PlaysUsers l o.shelf.sid excused o.users l.first hs (users_after o h) s
   consults_played _ _ _ consults_none mine legal fails = (refl, refl)
   consults_played _ _ _ (others_pass hs g s e other c) mine legal fails = absurd (other (split_last (λ (x : UserEntry). x.place ≡ place) g e mine))
   consults_played _ _ _ (unit_hears hs g s u es hears c) mine legal fails =
       let joined = failures_front g es in
       let front : IsLegal o g = record { opened = legal.opened; entries = legal_front o.shelf.sid o.users g es legal.entries } in
       let so_far = consults_played hs g s c (split_front (λ (x : UserEntry). x.place ≡ place) g es mine) front (λ some. fails (omega (arith, some, joined))) in
-      plays_unit l o.shelf.sid excused hs o.users (users_after o g) (users_after o (g ++ es)) Nobody s u so_far (heard_alone g es (l.wants s u) (l.heard u) hears legal (λ some. fails (omega (arith, some, joined))))
-  consults_played _ _ _ (quiet_passes hs g s c) mine legal fails = plays_quiet l o.shelf.sid excused hs o.users (users_after o g) Nobody s (consults_played hs g s c mine legal fails)
+      plays_unit l o.shelf.sid excused hs o.users (users_after o g) (users_after o (g ++ es)) l.first s u so_far (heard_alone g es (l.wants s u) (l.heard u) hears legal (λ some. fails (omega (arith, some, joined))))
+  consults_played _ _ _ (quiet_passes hs g s c) mine legal fails = plays_quiet l o.shelf.sid excused hs o.users (users_after o g) l.first s (consults_played hs g s c mine legal fails)
 
 -- a session that is alone on the opening of a disk heard what one list of users tells
 pub consults_alone : {U M : Type 0} (l : Language U M) (d : DiskState) (place : ℕ) (o : Opening) → IsUsersOpeningOf d o → (hs : List (Happening U)) (h : List UserEntry) (s : SessionUser) → Consults l place o [] hs h s → IsHistory o h → AllByRecursion (λ e. e.place ≡ place) h

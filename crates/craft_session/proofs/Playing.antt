@@ -22,7 +22,7 @@ use Rattle.craft_session.specs.declared.attending.Attending.{Attending}
 use Rattle.craft_session.specs.Asks.{Language, Reply, denied}
 use Rattle.craft_session.specs.Happenings.{Happening, unit, quiet}
 use Rattle.craft_session.specs.Runs.{Run, Walk, begins, passes, responds, waits, looks, with_entry}
-use Rattle.craft_session.specs.Walks.{ChangeReply, IsUnused, Mends, RestartReply, Serves, attending_after, nobody}
+use Rattle.craft_session.specs.Walks.{ChangeReply, IsUnused, Mends, RestartReply, Serves, attending_after, begun_by}
 use Rattle.craft_session.specs.Plain.{Answers, At, Attends, Decides, Ends, Excuse, IsReport, Judges, Limit, Meanwhile, Plays, PlaysTo, Prepares, PreparesFor, Replies, Reports, Said, TakesUp, after_ask, joined, ready, silence, standing, took_up, waited, with_one}
 
 -- the last entry of a legal history fits those before it
@@ -229,7 +229,7 @@ module _ {U M : Type 0} (l : Language U M) (r : Rules) (own : ℕ) (excused : Ex
     (passed : (h : List Entry) (e : Entry) (s : Attending) → P e → IsUnused own e → meanwhile (standing r.table h s) (standing r.table (h ++ e ∷ []) s)) (excuse : (e : Entry) (q : Cause) → P e → e.outcome ≡ Failed q → IsFault q → excused q)
     (doubts : (h : List Entry) (c : Change) → AllByRecursion P h → IsInDoubt (table_after r.table h) h c → excused DiskFault) (past : List Entry) where
   abbrev pub start : At
-  start = standing r.table past nobody
+  start = standing r.table past (begun_by l.first)
 
   abbrev pub here : Walk U M → At
   here w = standing r.table w.history w.attending

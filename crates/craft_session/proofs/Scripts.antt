@@ -23,7 +23,6 @@ use Rattle.user_admin.specs.declared.op.UserEntry.{UserEntry}
 use Rattle.user_admin.specs.Histories.{Opening as UsersOpening}
 use Rattle.user_admin.specs.Turns.{AreNumbered as AreUsersNumbered, codes as user_codes}
 use Rattle.dxc_model.specs.declared.user.SessionUser.{SessionUser}
-use Rattle.shelf_file.specs.Contents.{Contents}
 use base.Stored.{Gv}
 use Rattle.xc_core.specs.Seeing.{Saw, codes, entry}
 use Rattle.xc_core.proofs.Began.{seen_all}
@@ -35,7 +34,6 @@ use Rattle.craft_session.specs.declared.end.SessionEnd.{SessionEnd}
 use Rattle.craft_session.specs.declared.end.SessionEnd.TheVariants.{End, ReadFault, WriteFault, Stopped, Spent}
 use Rattle.craft_session.specs.Asks.{Language, Reply, user_after}
 use Rattle.craft_session.specs.Happenings.{Happening, Request, unit, bytes_in, inputs_in, units_in}
-use Rattle.craft_session.specs.Meanings.{language}
 use Rattle.craft_session.specs.PlainUsers.{ConsultsAlone, IsUsersOpeningOf}
 use Rattle.craft_session.specs.Plain.{Excuse, Plays, alone, said_in, standing}
 use Rattle.craft_session.specs.Runs.{Run, Walk, begins, passes, responds, waits, looks}
@@ -309,13 +307,13 @@ module _ (disk_told : Type 0) (disk users_disk : DiskState) (own : ℕ) (o : Ope
     played_alone : Played l (rules_of o) own excused alone (IsOwn own excused) (λ a. refl) alone_onward alone_keeps (alone_passed own excused o.first.fold.table) (own_excuse own excused) (own_doubts own excused o.first.fold.table) [] w
     played_alone = played l (rules_of o) own excused alone (IsOwn own excused) (λ a. refl) alone_onward alone_keeps (alone_passed own excused o.first.fold.table) (own_excuse own excused) (own_doubts own excused o.first.fold.table) [] w run history.legal history.own
 
-    plays_alone : w.due ≡ false → Plays l (LimitBehind o.first) excused alone (opened o) w.happenings (said_in w) (standing o.first.fold.table w.history w.attending)
+    plays_alone : w.due ≡ false → Plays l (LimitBehind o.first) excused alone (opened l o) w.happenings (said_in w) (standing o.first.fold.table w.history w.attending)
     plays_alone none = all_played l (rules_of o) own excused alone (IsOwn own excused) (λ a. refl) alone_onward alone_keeps (alone_passed own excused o.first.fold.table) (own_excuse own excused) (own_doubts own excused o.first.fold.table) [] w played_alone none
 
-    some_alone : w.happenings ≢ [] → Something l (LimitBehind o.first) excused alone (opened o) (standing o.first.fold.table w.history w.attending) w
+    some_alone : w.happenings ≢ [] → Something l (LimitBehind o.first) excused alone (opened l o) (standing o.first.fold.table w.history w.attending) w
     some_alone some = elim played_alone [ inl x ↦ absurd (some x.happenings) | inr x ↦ x ]
 
-  module _ (told clock_told : Type 0) (k l : LinkState) (c d : List Moment) (s : Contents) (now : Now) (mine : (h : List Entry) → now.seen ≡ codes h → AllByRecursion (λ e. e.place ≡ own) h) (never : SawNoneAstray disk_told now.seen)
+  module _ (told clock_told : Type 0) (k l : LinkState) (c d : List Moment) (tongue : Language Request Moment) (now : Now) (mine : (h : List Entry) → now.seen ≡ codes h → AllByRecursion (λ e. e.place ≡ own) h) (never : SawNoneAstray disk_told now.seen)
       (mine_users : (h : List UserEntry) → now.users ≡ user_codes h → AllByRecursion (λ e. e.place ≡ own) h) where
     abbrev b : Beginning
     b = record { opening = o; users = p; place = own; before = []; users_before = [] }
@@ -326,16 +324,16 @@ module _ (disk_told : Type 0) (disk users_disk : DiskState) (own : ℕ) (o : Ope
     abbrev commands : Walk Request Moment → ℕ
     commands w = length (units_in w.happenings)
 
-    history_of : (w : Walk Request Moment) → Run (language s) own o.first.fold.table [] w → Saw o now.seen w.history → IsOwnHistory disk_told disk users_disk own o p (commands w) w.history
+    history_of : (w : Walk Request Moment) → Run tongue own o.first.fold.table [] w → Saw o now.seen w.history → IsOwnHistory disk_told disk users_disk own o p (commands w) w.history
     history_of w run saw =
         let here = mine w.history (saw_all now.seen w.history saw) in
-        own_history (commands w) w.history saw.history.paid (run_costs (language s) own o.first.fold.table w run here) saw.history.legal saw.history.turns here (run_allowed (language s) own o.first.fold.table w run) (λ t. never t w.history (saw_all now.seen w.history saw))
+        own_history (commands w) w.history saw.history.paid (run_costs tongue own o.first.fold.table w run here) saw.history.legal saw.history.turns here (run_allowed tongue own o.first.fold.table w run) (λ t. never t w.history (saw_all now.seen w.history saw))
 
     -- what was heard of the users
-    asked_alone : (hs : List (Happening Request)) (user : SessionUser) → Consulted (language s) b now.users hs user → ConsultsAlone (language s) users_disk own p (length (units_in hs)) hs user
-    asked_alone hs user c = consults_alone (language s) users_disk own p users_is hs c.history user c.heard c.saw.history (mine_users c.history c.saw.codes_are)
+    asked_alone : (hs : List (Happening Request)) (user : SessionUser) → Consulted tongue b now.users hs user → ConsultsAlone tongue users_disk own p (length (units_in hs)) hs user
+    asked_alone hs user c = consults_alone tongue users_disk own p users_is hs c.history user c.heard c.saw.history (mine_users c.history c.saw.codes_are)
 
-    answered : (items : List Item) (rest out : List ℕ) → IsRest rest → Past (language s) clock_told c d b now false items rest out → Answered disk_told disk users_disk own o p clock_told c d s items out
+    answered : (items : List Item) (rest out : List ℕ) → IsRest rest → Past tongue clock_told c d b now false items rest out → Answered disk_told disk users_disk own o p clock_told c d tongue items out
     answered items rest out no_unit q =
         let history = history_of q.walk q.run q.saw in
         record {
@@ -348,13 +346,13 @@ module _ (disk_told : Type 0) (disk users_disk : DiskState) (own : ℕ) (o : Ope
           history = history;
           consulted = asked_alone q.walk.happenings q.walk.attending.user q.consulted;
           written = q.written;
-          plays = plays_alone (language s) (commands q.walk) q.walk q.run history q.looked;
+          plays = plays_alone tongue (commands q.walk) q.walk q.run history q.looked;
         }
 
-    in_part : (items : List Item) (out : List ℕ) → CutPast (language s) clock_told c d b now items out → AnsweredInPart disk_told disk users_disk own o p clock_told c d s items out
+    in_part : (items : List Item) (out : List ℕ) → CutPast tongue clock_told c d b now items out → AnsweredInPart disk_told disk users_disk own o p clock_told c d tongue items out
     in_part items out q =
         let history = history_of q.walk q.run q.saw in
-        let x = some_alone (language s) (commands q.walk) q.walk q.run history q.some in
+        let x = some_alone tongue (commands q.walk) q.walk q.run history q.some in
         record {
           walk = q.walk;
           rest = q.rest;
@@ -380,11 +378,11 @@ module _ (disk_told : Type 0) (disk users_disk : DiskState) (own : ℕ) (o : Ope
           written = q.written ∙ ap (λ (y : List ℕ). y ++ q.part) x.earlier_is;
         }
 
-    read_to_last : {out : List ℕ} (items : List Item) (q : StopPast (language s) clock_told c d b now items out) → IsStream (bytes_in items) (inputs_in q.walk.happenings ++ q.last.input ∷ []) []
+    read_to_last : {out : List ℕ} (items : List Item) (q : StopPast tongue clock_told c d b now items out) → IsStream (bytes_in items) (inputs_in q.walk.happenings ++ q.last.input ∷ []) []
     read_to_last items q = subst (λ (us : List Input). IsStream (bytes_in items) us []) (inputs_in-append q.walk.happenings (unit q.last ∷ [])) (stream_of items (q.walk.happenings ++ unit q.last ∷ []) [] q.happened rest_none)
 
     -- a stop cut the last unit's command at the table
-    to_stop : (items : List Item) (out : List ℕ) (q : StopPast (language s) clock_told c d b now items out) → IsStoppedAtTable (language s) b now q.walk q.last → AnsweredToStop disk_told disk users_disk own o p clock_told c d s items out
+    to_stop : (items : List Item) (out : List ℕ) (q : StopPast tongue clock_told c d b now items out) → IsStoppedAtTable tongue b now q.walk q.last → AnsweredToStop disk_told disk users_disk own o p clock_told c d tongue items out
     to_stop items out q y =
         let w = q.walk in
         let x = y.stops in
@@ -394,7 +392,7 @@ module _ (disk_told : Type 0) (disk users_disk : DiskState) (own : ℕ) (o : Ope
         let all = mine (g ++ e ∷ []) all_seen in
         let here = each_front (λ (y : Entry). y.place ≡ own) w.history x.front (each_front (λ (y : Entry). y.place ≡ own) g (e ∷ []) all) in
         let never_here : disk_told → IsNeverAstray w.history = λ t. each_front (λ (y : Entry). y.outcome ≢ Failed JournalAstray) w.history x.front (each_front (λ (y : Entry). y.outcome ≢ Failed JournalAstray) g (e ∷ []) (never t (g ++ e ∷ []) all_seen)) in
-        let history = own_history (commands w) w.history q.history.paid (run_costs (language s) own o.first.fold.table w q.run here) q.history.legal q.history.turns here (run_allowed (language s) own o.first.fold.table w q.run) never_here in
+        let history = own_history (commands w) w.history q.history.paid (run_costs tongue own o.first.fold.table w q.run here) q.history.legal q.history.turns here (run_allowed tongue own o.first.fold.table w q.run) never_here in
         record {
           walk = w;
           last = q.last;
@@ -405,17 +403,17 @@ module _ (disk_told : Type 0) (disk users_disk : DiskState) (own : ℕ) (o : Ope
           gave = q.gave;
           run = q.run;
           history = history;
-          consulted = asked_alone (w.happenings ++ unit q.last ∷ []) (user_after w.attending.user ((language s).asks w.attending.user q.last)) y.consulted;
+          consulted = asked_alone (w.happenings ++ unit q.last ∷ []) (user_after w.attending.user (tongue.asks w.attending.user q.last)) y.consulted;
           mends = x.stands;
           cuts = x.cuts;
           legal = x.saw.history.legal;
           written = q.written;
-          plays = plays_alone (language s) (commands w) w q.run history q.looked;
+          plays = plays_alone tongue (commands w) w q.run history q.looked;
           under_way = (fits_last (rules_of o) g e x.saw.history.legal).step.0;
         }
 
     -- or at the users
-    to_users_stop : (items : List Item) (out : List ℕ) (q : StopPast (language s) clock_told c d b now items out) → IsStoppedAtUsers (language s) b now q.walk q.last → AnsweredToUsersStop disk_told disk users_disk own o p clock_told c d s items out
+    to_users_stop : (items : List Item) (out : List ℕ) (q : StopPast tongue clock_told c d b now items out) → IsStoppedAtUsers tongue b now q.walk q.last → AnsweredToUsersStop disk_told disk users_disk own o p clock_told c d tongue items out
     to_users_stop items out q y =
         let w = q.walk in
         let history = history_of w q.run y.saw in
@@ -432,16 +430,16 @@ module _ (disk_told : Type 0) (disk users_disk : DiskState) (own : ℕ) (o : Ope
           wanted = y.wanted;
           changing = y.changing;
           written = q.written;
-          plays = plays_alone (language s) (commands w) w q.run history q.looked;
+          plays = plays_alone tongue (commands w) w q.run history q.looked;
         }
 
-    stopped : (items : List Item) (out : List ℕ) (q : StopPast (language s) clock_told c d b now items out) → AnsweredToStop disk_told disk users_disk own o p clock_told c d s items out ⊎ AnsweredToUsersStop disk_told disk users_disk own o p clock_told c d s items out
+    stopped : (items : List Item) (out : List ℕ) (q : StopPast tongue clock_told c d b now items out) → AnsweredToStop disk_told disk users_disk own o p clock_told c d tongue items out ⊎ AnsweredToUsersStop disk_told disk users_disk own o p clock_told c d tongue items out
     stopped items out q = elim q.stopped [ inl y ↦ inl (to_stop items out q y) | inr y ↦ inr (to_users_stop items out q y) ]
 
-    wrote_all : Served (language s) told clock_told k l c d b now → WroteAll disk_told disk users_disk own o p clock_told c d s told k l
+    wrote_all : Served tongue told clock_told k l c d b now → WroteAll disk_told disk users_disk own o p clock_told c d tongue told k l
     wrote_all x = record { items = x.items; out = x.out; exchanged = x.exchanged; no_fault = x.no_fault; answered = answered x.items x.rest x.out x.no_unit x.past }
 
-    scripted : (end : SessionEnd) → IsSession (language s) told clock_told k l c d b now end → IsScript disk_told disk users_disk own o p clock_told c d s told k l end
+    scripted : (end : SessionEnd) → IsSession tongue told clock_told k l c d b now end → IsScript disk_told disk users_disk own o p clock_told c d tongue told k l end
     scripted End x = wrote_all x
     scripted ReadFault x = wrote_all x
     scripted Spent x = wrote_all x
@@ -468,28 +466,28 @@ users_seen_mine : (own places : ℕ) (seen : List Gv) → own ≡ 0 → places �
 users_seen_mine own places seen zero one numbers h is = users_mine own zero h (subst (λ (n : ℕ). Each (λ e. e.place < n) h) one (numbers h is))
 
 -- the session of a place that had seen nothing
-session_alone : (told clock_told : Type 0) (k l : LinkState) (c d : List Moment) (s : Contents) (old new : SeatAt) (users then_users : UserSeatAt) (end : SessionEnd) → old.opening.due ≡ false → old.seen ≡ [] → users.seen ≡ [] → (x : IsServed (language s) told clock_told k l c d old new users then_users end)
-    → IsSession (language s) told clock_told k l c d (record { opening = old.opening; users = users.opening; place = old.place; before = []; users_before = [] }) (record { seen = new.seen; users = then_users.seen; attending = x.attending }) end
-session_alone told clock_told k l c d s old new users then_users end ready none no_users x =
+session_alone : (told clock_told : Type 0) (k l : LinkState) (c d : List Moment) (tongue : Language Request Moment) (old new : SeatAt) (users then_users : UserSeatAt) (end : SessionEnd) → old.opening.due ≡ false → old.seen ≡ [] → users.seen ≡ [] → (x : IsServed tongue told clock_told k l c d old new users then_users end)
+    → IsSession tongue told clock_told k l c d (record { opening = old.opening; users = users.opening; place = old.place; before = []; users_before = [] }) (record { seen = new.seen; users = then_users.seen; attending = x.attending }) end
+session_alone told clock_told k l c d tongue old new users then_users end ready none no_users x =
     let nothing : x.before ≡ [] = no_codes x.before (sym (seen_all old.opening old.seen x.before ready x.saw) ∙ none) in
     let no_user : x.users_before ≡ [] = no_user_codes x.users_before (sym x.users_saw.codes_are ∙ no_users) in
-    subst (λ (h : List Entry × List UserEntry). IsSession (language s) told clock_told k l c d (record { opening = old.opening; users = users.opening; place = old.place; before = h.0; users_before = h.1 }) (record { seen = new.seen; users = then_users.seen; attending = x.attending }) end) (λ i. (nothing i, no_user i)) x.session
+    subst (λ (h : List Entry × List UserEntry). IsSession tongue told clock_told k l c d (record { opening = old.opening; users = users.opening; place = old.place; before = h.0; users_before = h.1 }) (record { seen = new.seen; users = then_users.seen; attending = x.attending }) end) (λ i. (nothing i, no_user i)) x.session
 
 -- What the one session of turnstiles with one pass wrote, on the openings of two disks.
-pub script_of : (disk_told told clock_told : Type 0) (disk users_disk : DiskState) (k l : LinkState) (c d : List Moment) (s : Contents) (old new : SeatAt) (users then_users : UserSeatAt) (end : SessionEnd) → IsOpeningOf disk old.opening → IsUsersOpeningOf users_disk users.opening
+pub script_of : (disk_told told clock_told : Type 0) (disk users_disk : DiskState) (k l : LinkState) (c d : List Moment) (tongue : Language Request Moment) (old new : SeatAt) (users then_users : UserSeatAt) (end : SessionEnd) → IsOpeningOf disk old.opening → IsUsersOpeningOf users_disk users.opening
     → old.seen ≡ [] → users.seen ≡ [] → old.place ≡ 0 → users.place ≡ 0 → new.places ≡ 1 → then_users.places ≡ 1 → AreNumbered new.places new.seen → AreUsersNumbered then_users.places then_users.seen
-    → SawNoneAstray disk_told new.seen → IsServed (language s) told clock_told k l c d old new users then_users end → IsScript disk_told disk users_disk old.place old.opening users.opening clock_told c d s told k l end
-script_of disk_told told clock_told disk users_disk k l c d s old new users then_users end is users_is none no_users zero users_zero one users_one numbers users_numbers never x =
+    → SawNoneAstray disk_told new.seen → IsServed tongue told clock_told k l c d old new users then_users end → IsScript disk_told disk users_disk old.place old.opening users.opening clock_told c d tongue told k l end
+script_of disk_told told clock_told disk users_disk k l c d tongue old new users then_users end is users_is none no_users zero users_zero one users_one numbers users_numbers never x =
     let now : Now = record { seen = new.seen; users = then_users.seen; attending = x.attending } in
-    scripted disk_told disk users_disk old.place old.opening users.opening is users_is told clock_told k l c d s now (seen_mine old.place new.places new.seen zero one numbers) never (users_seen_mine old.place then_users.places then_users.seen zero users_one users_numbers) end
-    (session_alone told clock_told k l c d s old new users then_users end is.ready none no_users x)
+    scripted disk_told disk users_disk old.place old.opening users.opening is users_is told clock_told k l c d tongue now (seen_mine old.place new.places new.seen zero one numbers) never (users_seen_mine old.place then_users.places then_users.seen zero users_one users_numbers) end
+    (session_alone told clock_told k l c d tongue old new users then_users end is.ready none no_users x)
 
 -- Where it ended with its link, all that its seat has seen is the history of what it wrote.
-pub script_seen : (disk_told told clock_told : Type 0) (disk users_disk : DiskState) (k l : LinkState) (c d : List Moment) (s : Contents) (old new : SeatAt) (users then_users : UserSeatAt) → IsOpeningOf disk old.opening → IsUsersOpeningOf users_disk users.opening
+pub script_seen : (disk_told told clock_told : Type 0) (disk users_disk : DiskState) (k l : LinkState) (c d : List Moment) (tongue : Language Request Moment) (old new : SeatAt) (users then_users : UserSeatAt) → IsOpeningOf disk old.opening → IsUsersOpeningOf users_disk users.opening
     → old.seen ≡ [] → users.seen ≡ [] → old.place ≡ 0 → new.places ≡ 1 → then_users.places ≡ 1 → AreNumbered new.places new.seen → AreUsersNumbered then_users.places then_users.seen
-    → SawNoneAstray disk_told new.seen → IsServed (language s) told clock_told k l c d old new users then_users End → (w : WroteAll disk_told disk users_disk old.place old.opening users.opening clock_told c d s told k l) × Saw old.opening new.seen w.answered.walk.history
+    → SawNoneAstray disk_told new.seen → IsServed tongue told clock_told k l c d old new users then_users End → (w : WroteAll disk_told disk users_disk old.place old.opening users.opening clock_told c d tongue told k l) × Saw old.opening new.seen w.answered.walk.history
 unfolding wrote_all session_alone answered
-script_seen disk_told told clock_told disk users_disk k l c d s old new users then_users is users_is none no_users zero one users_one numbers users_numbers never x =
+script_seen disk_told told clock_told disk users_disk k l c d tongue old new users then_users is users_is none no_users zero one users_one numbers users_numbers never x =
     let now : Now = record { seen = new.seen; users = then_users.seen; attending = x.attending } in
-    let session = session_alone told clock_told k l c d s old new users then_users End is.ready none no_users x in
-    (wrote_all disk_told disk users_disk old.place old.opening users.opening is users_is told clock_told k l c d s now (seen_mine old.place new.places new.seen zero one numbers) never (users_seen_mine old.place then_users.places then_users.seen zero users_one users_numbers) session, session.past.saw)
+    let session = session_alone told clock_told k l c d tongue old new users then_users End is.ready none no_users x in
+    (wrote_all disk_told disk users_disk old.place old.opening users.opening is users_is told clock_told k l c d tongue now (seen_mine old.place new.places new.seen zero one numbers) never (users_seen_mine old.place then_users.places then_users.seen zero users_one users_numbers) session, session.past.saw)

@@ -46,7 +46,7 @@ use Rattle.craft_session.specs.Notices.{AreReported, Notice, found_notices, noti
 use Rattle.craft_session.specs.Progresses.{progress_of}
 use Rattle.craft_session.specs.Runs.{Run, Walk, begins, waits, looks, beginning, with_look, with_quiet, with_response}
 use Rattle.craft_session.specs.Sessions.{AreTold, Beginning, Breaks, Consulted, CutPast, Goes, Halts, IsSaid, Now, Past, Served, Stands, StopPast, Writes}
-use Rattle.craft_session.specs.Walks.{nobody}
+use Rattle.craft_session.specs.Walks.{begun_by}
 use Rattle.craft_session.proofs.Changing.{others_unused}
 use Rattle.craft_session.proofs.Consulted.{consulted_back, consulted_on, consulted_quiet}
 use Rattle.craft_session.proofs.Reporting.{found_is}
@@ -66,8 +66,8 @@ gives_more c d _ ms _ first (gave_none _) = subst (λ (x : List Moment). Gives c
 gives_more c d _ ms _ first (gave_next _ e ns next) = subst (λ (x : List Moment). Gives c (later_moments e) x) (append_assoc ms ns (moment_now e ∷ [])) (gave_next c e (ms ++ ns) (gives_more c d e ms ns first next))
 
 module _ (l : Language Request Moment) (clock_told : Type 0) (c : List Moment) (b : Beginning) where
-  past_none : (now : Now) → Saw b.opening now.seen b.before → SawUsers b.users now.users b.users_before → now.attending ≡ nobody → Past l clock_told c c b now false [] [] []
-  past_none now saw users none = record { walk = beginning b.before; happened = nothing_read; gave = λ _. gave_none c; run = begins; saw = saw; consulted = record { history = b.users_before; heard = consults_none; saw = users }; attending = none; looked = refl; written = refl }
+  past_none : (now : Now) → Saw b.opening now.seen b.before → SawUsers b.users now.users b.users_before → now.attending ≡ begun_by l.first → Past l clock_told c c b now false [] [] []
+  past_none now saw users none = record { walk = beginning l b.before; happened = nothing_read; gave = λ _. gave_none c; run = begins; saw = saw; consulted = record { history = b.users_before; heard = consults_none; saw = users }; attending = none; looked = refl; written = refl }
 
   module _ (d : List Moment) (now : Now) (items : List Item) (rest out : List ℕ) where
     past_bytes : (due : Bool) → Past l clock_told c d b now due items rest out → (bs : List ℕ) → Past l clock_told c d b now due (items ++ bytes bs) (rest ++ bs) out
@@ -236,7 +236,7 @@ module _ (l : Language Request Moment) (clock_told : Type 0) (c : List Moment) (
 
 module _ (l : Language Request Moment) (told clock_told : Type 0) (k : LinkState) (c : List Moment) (b : Beginning) where
   -- nothing has happened
-  pub stands_none : (now : Now) (r : Reader) → Saw b.opening now.seen b.before → SawUsers b.users now.users b.users_before → now.attending ≡ nobody → Holds [] (hand r) → Stands l told clock_told k k c c b now false More r []
+  pub stands_none : (now : Now) (r : Reader) → Saw b.opening now.seen b.before → SawUsers b.users now.users b.users_before → now.attending ≡ begun_by l.first → Holds [] (hand r) → Stands l told clock_told k k c c b now false More r []
   stands_none now r saw users none holds = record { items = []; rest = []; out = []; exchanged = exchanged_none told k; no_fault = refl; made = holds; past = past_none l clock_told c b now saw users none }
 
   module _ (j : LinkState) (d : List Moment) (now : Now) (r : Reader) where

@@ -68,8 +68,10 @@ watch_after w newest (Lists which) = w
 watch_after w newest Restarts = w
 watch_after w newest (Changes op) = w
 
--- What units want of the users and ask for a user, by what they heard of them, and the bytes of the response to a unit and of a report, at a moment.
+-- Who is logged in where a session begins; what units want of the users and ask for a user, by what they heard of them; and the bytes of the response
+-- to a unit and of a report, at a moment.
 pub record Language (U M : Type 0) : Type 0 where
+  pub first : SessionUser
   pub wants : SessionUser → U → Wanted
   pub heard : U → Heard
   pub asks : SessionUser → U → Ask

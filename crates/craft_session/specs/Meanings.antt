@@ -140,12 +140,17 @@ abbrev pub tag_of : Input → Option (List ℕ)
 tag_of too_long = None
 tag_of (whole text) = ctag_of text
 
--- the language of a shelf's sessions
-abbrev pub language : Contents → Language Request Moment
-language s = record {
+-- the language of a shelf's sessions that begin with this user
+abbrev pub language_for : SessionUser → Contents → Language Request Moment
+language_for first s = record {
+  first = first;
   wants = λ user u. wants s user u.input;
   heard = λ u. u.heard;
   asks = λ user u. asks s user u.heard u.input;
   response = λ m u r. reply_bytes s.sid s.shape m (tag_of u.input) (rows_heard u.heard) r;
   report = λ m n. notice_bytes s.sid s.shape m n;
 }
+
+-- and of those that begin with nobody
+abbrev pub language : Contents → Language Request Moment
+language s = language_for Nobody s

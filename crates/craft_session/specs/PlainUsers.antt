@@ -4,7 +4,6 @@ use Rattle.std.specs.List.{AllByRecursion}
 use Rattle.dxc_causes.specs.Causes.{last}
 use Rattle.dxc_disk.specs.Disks.{DiskState}
 use Rattle.dxc_model.specs.declared.user.SessionUser.{SessionUser}
-use Rattle.dxc_model.specs.declared.user.SessionUser.TheVariants.{Nobody}
 use Rattle.user_admin.specs.declared.op.UserEntry.{UserEntry}
 use Rattle.user_admin.specs.declared.op.UserOutcome.{UserOutcome}
 use Rattle.user_admin.specs.declared.op.UserOutcome.TheVariants.{Done, Denied, Failed, Answered}
@@ -62,4 +61,4 @@ pub record ConsultsAlone {U M : Type 0} (l : Language U M) (disk : DiskState) (p
   pub legal : IsLegal o history
   pub own : AllByRecursion (λ e. e.place ≡ place) history
   pub few : users_room_of commands < disk.room → failures history ≤ disk.margin
-  pub plays : PlaysUsers l o.shelf.sid (IsUsersUnsoundBy disk.margin disk.room commands) o.users Nobody hs (users_after o history) s
+  pub plays : PlaysUsers l o.shelf.sid (IsUsersUnsoundBy disk.margin disk.room commands) o.users l.first hs (users_after o history) s

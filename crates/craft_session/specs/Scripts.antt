@@ -19,21 +19,19 @@ use Rattle.tl1_text.specs.Units.{IsStream}
 use Rattle.user_admin.specs.declared.op.UserOp.{UserOp}
 use Rattle.user_admin.specs.Histories.{Opening as UsersOpening}
 use Rattle.user_admin.specs.Verdicts.{IsChanging}
-use Rattle.shelf_file.specs.Contents.{Contents}
 use Rattle.xc_core.specs.Seeing.{entry}
 use Rattle.xc_core.specs.States.{LimitBehind, Opening, faults_in, most_room, rules_of}
 use Rattle.craft_session.specs.declared.end.SessionEnd.{SessionEnd}
 use Rattle.craft_session.specs.declared.end.SessionEnd.TheVariants.{End, ReadFault, WriteFault, Stopped, Spent}
-use Rattle.craft_session.specs.Asks.{user_after}
+use Rattle.craft_session.specs.Asks.{Language, user_after}
 use Rattle.craft_session.specs.Happenings.{Happening, Happens, Request, bytes_in, inputs_in, unit, units_in}
 use Rattle.craft_session.specs.Hearing.{to_do}
-use Rattle.craft_session.specs.Meanings.{language}
 use Rattle.craft_session.specs.Moments.{Gives}
 use Rattle.craft_session.specs.Plain.{At, Excuse, Plays, PlaysTo, Said, alone, said_in, standing}
 use Rattle.craft_session.specs.PlainUsers.{ConsultsAlone}
 use Rattle.journal_core.specs.Rooms.{opening_room}
 use Rattle.craft_session.specs.Runs.{Run, Walk}
-use Rattle.craft_session.specs.Walks.{CutsAt, FrontOf, nobody}
+use Rattle.craft_session.specs.Walks.{CutsAt, FrontOf, begun_by}
 
 -- the most that a command takes: a restart that was due, and its operation
 abbrev pub command_room : ℕ
@@ -66,9 +64,9 @@ pub record IsOwn (place : ℕ) (excused : Excuse) (e : Entry) : Type 0 where
   pub mine : e.place ≡ place
   pub ended : IsEnded excused e.outcome
 
--- where a session begins that is alone: on what the journal came to, with nobody logged in
-abbrev pub opened : Opening → At
-opened o = standing o.first.fold.table [] nobody
+-- where a session begins that is alone: on what the journal came to, with the language's first user
+abbrev pub opened : {U M : Type 0} → Language U M → Opening → At
+opened l o = standing o.first.fold.table [] (begun_by l.first)
 
 -- the opening of a disk on a new fabric: it took of the disk's room what an opening may, each fault in it lowered the margin, and no restart is due
 pub record IsOpeningOf (d : DiskState) (o : Opening) : Type 0 where
@@ -91,10 +89,10 @@ module _ (disk_told : Type 0) (disk users_disk : DiskState) (place : ℕ) (o : O
     pub own : AllByRecursion (IsOwn place (excused_on commands)) h
     pub few : room_of commands < disk.room → faults_in h ≤ disk.margin
 
-  module _ (clock_told : Type 0) (c d : List Moment) (s : Contents) where
+  module _ (clock_told : Type 0) (c d : List Moment) (tongue : Language Request Moment) where
     -- what such a session heard of the users while this happened
     abbrev Asked : List (Happening Request) → SessionUser → Type 0
-    Asked hs user = ConsultsAlone (language s) users_disk place p (length (units_in hs)) hs user
+    Asked hs user = ConsultsAlone tongue users_disk place p (length (units_in hs)) hs user
 
     -- A run over such a history, and one over such a users' history; and what happened was served, each message with the next moment, by the plain session on one table.
     pub record Answered (items : List Item) (out : List ℕ) : Type 0 where
@@ -103,11 +101,11 @@ module _ (disk_told : Type 0) (disk users_disk : DiskState) (place : ℕ) (o : O
       pub happened : Happens items walk.happenings rest
       pub read : IsStream (bytes_in items) (inputs_in walk.happenings) rest
       pub gave : clock_told → Gives c d walk.moments
-      pub run : Run (language s) place o.first.fold.table [] walk
+      pub run : Run tongue place o.first.fold.table [] walk
       pub history : IsOwnHistory (length (units_in walk.happenings)) walk.history
       pub consulted : Asked walk.happenings walk.attending.user
       pub written : out ≡ walk.earlier ++ walk.latest
-      pub plays : Plays (language s) (LimitBehind o.first) (excused_on (length (units_in walk.happenings))) alone (opened o) walk.happenings (said_in walk) (standing o.first.fold.table walk.history walk.attending)
+      pub plays : Plays tongue (LimitBehind o.first) (excused_on (length (units_in walk.happenings))) alone (opened tongue o) walk.happenings (said_in walk) (standing o.first.fold.table walk.history walk.attending)
 
     -- What happened before the last was served, and of the last one's messages a part was written; the look behind a response may be missing.
     pub record AnsweredInPart (items : List Item) (out : List ℕ) : Type 0 where
@@ -122,13 +120,13 @@ module _ (disk_told : Type 0) (disk users_disk : DiskState) (place : ℕ) (o : O
       pub untaken : List Moment
       pub taken : walk.moments ≡ moments ++ untaken
       pub gave : clock_told → Gives c d moments
-      pub run : Run (language s) place o.first.fold.table [] walk
+      pub run : Run tongue place o.first.fold.table [] walk
       pub history : IsOwnHistory (length (units_in walk.happenings)) walk.history
       pub consulted : Asked walk.happenings walk.attending.user
       pub earlier : Said Moment
       pub latest : Said Moment
       pub took : walk.moments ≡ earlier.moments ++ latest.moments
-      pub plays : PlaysTo (language s) (LimitBehind o.first) (excused_on (length (units_in walk.happenings))) alone walk.due (opened o) front last earlier latest (standing o.first.fold.table walk.history walk.attending)
+      pub plays : PlaysTo tongue (LimitBehind o.first) (excused_on (length (units_in walk.happenings))) alone walk.due (opened tongue o) front last earlier latest (standing o.first.fold.table walk.history walk.attending)
       pub part : List ℕ
       pub missing : List ℕ
       pub split : latest.bytes ≡ part ++ missing
@@ -144,14 +142,14 @@ module _ (disk_told : Type 0) (disk users_disk : DiskState) (place : ℕ) (o : O
       pub happened : Happens items (walk.happenings ++ unit last ∷ []) []
       pub read : IsStream (bytes_in items) (inputs_in walk.happenings ++ last.input ∷ []) []
       pub gave : clock_told → Gives c d walk.moments
-      pub run : Run (language s) place o.first.fold.table [] walk
+      pub run : Run tongue place o.first.fold.table [] walk
       pub history : IsOwnHistory (length (units_in walk.happenings)) walk.history
-      pub consulted : Asked (walk.happenings ++ unit last ∷ []) (user_after walk.attending.user ((language s).asks walk.attending.user last))
-      pub mends : FrontOf place walk.history ((language s).asks walk.attending.user last) in_front
-      pub cuts : CutsAt (walk.history ++ in_front) ((language s).asks walk.attending.user last) op
+      pub consulted : Asked (walk.happenings ++ unit last ∷ []) (user_after walk.attending.user (tongue.asks walk.attending.user last))
+      pub mends : FrontOf place walk.history (tongue.asks walk.attending.user last) in_front
+      pub cuts : CutsAt (walk.history ++ in_front) (tongue.asks walk.attending.user last) op
       pub legal : IsLegal (rules_of o) ((walk.history ++ in_front) ++ entry place op Cut ∷ [])
       pub written : out ≡ walk.earlier ++ walk.latest
-      pub plays : Plays (language s) (LimitBehind o.first) (excused_on (length (units_in walk.happenings))) alone (opened o) walk.happenings (said_in walk) (standing o.first.fold.table walk.history walk.attending)
+      pub plays : Plays tongue (LimitBehind o.first) (excused_on (length (units_in walk.happenings))) alone (opened tongue o) walk.happenings (said_in walk) (standing o.first.fold.table walk.history walk.attending)
       pub under_way : IsUnderWay (table_after o.first.fold.table (walk.history ++ in_front)) op
 
     -- What happened before the last was served, and a stop cut the last, a command that changes users, before anything was done: it has no response, and
@@ -163,13 +161,13 @@ module _ (disk_told : Type 0) (disk users_disk : DiskState) (place : ℕ) (o : O
       pub happened : Happens items (walk.happenings ++ unit last ∷ []) []
       pub read : IsStream (bytes_in items) (inputs_in walk.happenings ++ last.input ∷ []) []
       pub gave : clock_told → Gives c d walk.moments
-      pub run : Run (language s) place o.first.fold.table [] walk
+      pub run : Run tongue place o.first.fold.table [] walk
       pub history : IsOwnHistory (length (units_in walk.happenings)) walk.history
       pub consulted : Asked walk.happenings walk.attending.user
-      pub wanted : (language s).wants walk.attending.user last ≡ to_do op
+      pub wanted : tongue.wants walk.attending.user last ≡ to_do op
       pub changing : IsChanging op
       pub written : out ≡ walk.earlier ++ walk.latest
-      pub plays : Plays (language s) (LimitBehind o.first) (excused_on (length (units_in walk.happenings))) alone (opened o) walk.happenings (said_in walk) (standing o.first.fold.table walk.history walk.attending)
+      pub plays : Plays tongue (LimitBehind o.first) (excused_on (length (units_in walk.happenings))) alone (opened tongue o) walk.happenings (said_in walk) (standing o.first.fold.table walk.history walk.attending)
 
     module _ (told : Type 0) (k l : LinkState) where
       -- all that was read was served

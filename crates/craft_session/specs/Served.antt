@@ -4,12 +4,14 @@ use Rattle.dxc_causes.specs.Causes.{Rose, Counted}
 use Rattle.dxc_outside.specs.Links.{LinkState}
 use Rattle.user_admin.specs.Turns.{AreNumbered as AreUsersNumbered}
 use Rattle.xc_core.specs.Turns.{AreNumbered, SawNoneAstray}
+use Rattle.dxc_model.specs.declared.user.SessionUser.{SessionUser}
+use Rattle.dxc_model.specs.declared.user.SessionUser.TheVariants.{Nobody}
 use Rattle.craft_session.specs.declared.end.SessionEnd.{SessionEnd}
 use Rattle.craft_session.specs.declared.end.SessionEnd.TheVariants.{End, ReadFault, WriteFault, Stopped, Spent}
 use Rattle.craft_session.specs.declared.lent.Lent.{Ghosts as LentOf}
 use Rattle.craft_session.specs.Gated.{AreEntered}
 use Rattle.craft_session.specs.Lending.{Things}
-use Rattle.craft_session.specs.Meanings.{language}
+use Rattle.craft_session.specs.Meanings.{language_for}
 use Rattle.craft_session.specs.Seats.{IsSameSeat, IsSameUserSeat, PlaceAt}
 use Rattle.craft_session.specs.Sessions.{IsPrompt, IsServed}
 
@@ -33,13 +35,17 @@ pub record EndedFor (told : Type 0) (k l : LinkState) (end : SessionEnd) : Type 
   pub spent : end ≡ Spent → Counted k.reads l.reads (2 ^ 32)
   pub few : l.reads ≤ k.reads + 2 ^ 32
 
--- what a session did, from one moment of what it was lent to the other, and why it ended
-pub record Served {T : Type 0} (world : LentOf T) (old new : Things world.lent) (end : SessionEnd) : Type 0 where
+-- what a session did that began with this user, from one moment of what it was lent to the other, and why it ended
+pub record ServedFor {T : Type 0} (world : LentOf T) (first : SessionUser) (old new : Things world.lent) (end : SessionEnd) : Type 0 where
   pub place : StaysPlace world.lent.disk.told old.0 new.0
-  pub session : let w = world.lent in IsServed (language old.0.shelf) w.link.told w.clock.told (w.link.state old.1) (w.link.state new.1) (w.clock.coming old.2) (w.clock.coming new.2) old.0.seat new.0.seat old.0.users new.0.users end
-  pub prompt : let w = world.lent in IsPrompt (language old.0.shelf) w.link.begun w.link.told w.clock.told (w.link.state old.1) (w.link.state new.1) (w.clock.coming old.2) old.0.seat old.0.users
+  pub session : let w = world.lent in IsServed (language_for first old.0.shelf) w.link.told w.clock.told (w.link.state old.1) (w.link.state new.1) (w.clock.coming old.2) (w.clock.coming new.2) old.0.seat new.0.seat old.0.users new.0.users end
+  pub prompt : let w = world.lent in IsPrompt (language_for first old.0.shelf) w.link.begun w.link.told w.clock.told (w.link.state old.1) (w.link.state new.1) (w.clock.coming old.2) old.0.seat old.0.users
   pub asked : AreEntered old.0.seat old.0.users (world.lent.gate.asked old.3 new.3) new.0.seat.seen new.0.users.seen
   pub why : EndedFor world.lent.link.told (world.lent.link.state old.1) (world.lent.link.state new.1) end
   pub stopped : end ≡ Stopped → Rose (world.lent.gate.stops old.3) (world.lent.gate.stops new.3)
   pub unstopped : end ≢ Stopped → world.lent.gate.stops new.3 ≡ world.lent.gate.stops old.3
   pub later : world.lent.gate.stops old.3 ≤ world.lent.gate.stops new.3
+
+-- the same of one that began with nobody
+abbrev pub Served : {T : Type 0} (world : LentOf T) (old new : Things world.lent) → SessionEnd → Type 0
+Served world old new end = ServedFor world Nobody old new end

@@ -8,7 +8,7 @@ use Rattle.dxc_model.specs.declared.op.Op.TheVariants.{Look, Restart, Rows}
 use Rattle.dxc_model.specs.declared.entry.Outcome.{Outcome}
 use Rattle.dxc_model.specs.declared.entry.Outcome.TheVariants.{Done, Denied, Failed, Answered, Restarted, Cut, Taken}
 use Rattle.dxc_model.specs.declared.entry.Entry.{Entry}
-use Rattle.dxc_model.specs.declared.user.SessionUser.TheVariants.{Nobody}
+use Rattle.dxc_model.specs.declared.user.SessionUser.{SessionUser}
 use Rattle.dxc_model.specs.Tables.{Board, rows}
 use Rattle.dxc_model.specs.Steps.{IsFault}
 use Rattle.dxc_model.specs.Histories.{IsRestarted, IsRestartDue, IsStopped, changes_of, table_after}
@@ -28,9 +28,9 @@ ChangeReply (Restarted c) r = ⊥
 ChangeReply Cut r = ⊥
 ChangeReply Taken r = ⊥
 
--- nobody is logged in, and reports are inhibited
-abbrev pub nobody : Attending
-nobody = record { user = Nobody; watch = None }
+-- who attends where a session begins: this user, or nobody, and reports are inhibited
+abbrev pub begun_by : SessionUser → Attending
+begun_by first = record { user = first; watch = None }
 
 -- after what was asked, with so many changes made
 abbrev pub attending_after : Attending → ℕ → Ask → Attending

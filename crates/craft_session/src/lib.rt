@@ -21,4 +21,4 @@ mod users;
 pub use end::SessionEnd;
 pub use lent::Lent;
 pub use place::Place;
-pub use session::serve_session;
+pub use session::{serve_session, serve_session_of};

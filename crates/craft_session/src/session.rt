@@ -1,18 +1,19 @@
 ghost use Rattle.std.specs.Prelude.{◌≡◌, ◌≢◌, ◌≤◌, ◌<◌, ◌+◌, ◌^◌, ◌↔◌, false, ℕ, List, [], length, IsTrue};
 ghost use Rattle.dxc_causes.specs.Causes.{Rose, Counted};
 ghost use Rattle.dxc_outside.specs.declared.clock.Moment.{Moment};
+ghost use Rattle.dxc_model.specs.declared.user.SessionUser.{SessionUser as AUser};
 ghost use Rattle.dxc_outside.specs.Links.{LinkState};
 ghost use Rattle.tl1_text.specs.declared.reader.UnitKind.TheVariants.{More};
 ghost use Rattle.tl1_text.specs.Reading.{Holds, hand};
 ghost use Rattle.std.specs.Arc.{arc_value};
 ghost use Rattle.craft_session.specs.Asks.{IsAptAsk};
 ghost use Rattle.craft_session.specs.Gated.{AreEntered};
-ghost use Rattle.craft_session.specs.Meanings.{language};
+ghost use Rattle.craft_session.specs.Meanings.{language_for};
 ghost use Rattle.craft_session.specs.Desks.{now, input_of, ConsultedIs, IsAnswered};
 ghost use Rattle.craft_session.specs.Seats.{IsSameSeat, IsSameUserSeat};
-ghost use Rattle.craft_session.specs.Served.{Served};
+ghost use Rattle.craft_session.specs.Served.{Served, ServedFor};
 ghost use Rattle.craft_session.specs.Sessions.{Beginning, IsAt, Writes, Stands, Goes, IsPrompt, IsServed};
-ghost use Rattle.craft_session.specs.Walks.{nobody};
+ghost use Rattle.craft_session.specs.Walks.{begun_by};
 
 use crate::act::act;
 use crate::ask::Ask;
@@ -24,7 +25,7 @@ use crate::place::Place;
 use crate::reports::report;
 use crate::say::say;
 use dxc_disk::Disk;
-use dxc_model::Cause;
+use dxc_model::{Cause, SessionUser};
 use dxc_outside::{Clock, Gate, Got, Link, Pass1};
 use std::sync::Wait;
 use tl1_text::{Ctag, UnitKind};
@@ -44,8 +45,8 @@ fn serve_piece<K: Link, C: Clock, G: Gate, D: Disk + Drop, U: Disk + Drop, R: Wa
     ensures seat { IsSameSeat desk.old.seat desk.new.seat }
     ensures users { IsSameUserSeat desk.old.users.seat desk.new.users.seat }
     ensures link { Writes K.told (K.state link.old) (K.state link.new) }
-    ensures goes { (k : LinkState) → (c : List Moment) → (b : Beginning) → IsAt b desk.old.seat desk.old.users.seat → Stands (language (arc_value desk.old.shelf)) K.told C.told k (K.state link.old) c (C.coming clock.old) b (now desk.old) false More desk.old.reader piece.now
-        → Goes (language (arc_value desk.old.shelf)) K.told C.told k (K.state link.new) c (C.coming clock.new) b (now desk.new) result false desk.new.reader [] }
+    ensures goes { (first : AUser) → (k : LinkState) → (c : List Moment) → (b : Beginning) → IsAt b desk.old.seat desk.old.users.seat → Stands (language_for first (arc_value desk.old.shelf)) K.told C.told k (K.state link.old) c (C.coming clock.old) b (now desk.old) false More desk.old.reader piece.now
+        → Goes (language_for first (arc_value desk.old.shelf)) K.told C.told k (K.state link.new) c (C.coming clock.new) b (now desk.new) result false desk.new.reader [] }
     ensures stopped { result ≡ Progress.Stopped → Rose (G.stops gate.old) (G.stops gate.new) }
     ensures unstopped { result ≢ Progress.Stopped → G.stops gate.new ≡ G.stops gate.old }
     ensures later { G.stops gate.old ≤ G.stops gate.new }
@@ -78,8 +79,8 @@ fn serve_unit<K: Link, C: Clock, G: Gate, D: Disk + Drop, U: Disk + Drop, R: Wai
     ensures users { IsSameUserSeat desk.old.users.seat desk.new.users.seat }
     ensures reader { desk.new.reader ≡ desk.old.reader }
     ensures link { Writes K.told (K.state link.old) (K.state link.new) }
-    ensures goes { (k : LinkState) → (c : List Moment) → (b : Beginning) → (ahead : List ℕ) → IsAt b desk.old.seat desk.old.users.seat → Stands (language (arc_value desk.old.shelf)) K.told C.told k (K.state link.old) c (C.coming clock.old) b (now desk.old) false kind desk.old.reader ahead
-        → Goes (language (arc_value desk.old.shelf)) K.told C.told k (K.state link.new) c (C.coming clock.new) b (now desk.new) result false desk.old.reader ahead }
+    ensures goes { (first : AUser) → (k : LinkState) → (c : List Moment) → (b : Beginning) → (ahead : List ℕ) → IsAt b desk.old.seat desk.old.users.seat → Stands (language_for first (arc_value desk.old.shelf)) K.told C.told k (K.state link.old) c (C.coming clock.old) b (now desk.old) false kind desk.old.reader ahead
+        → Goes (language_for first (arc_value desk.old.shelf)) K.told C.told k (K.state link.new) c (C.coming clock.new) b (now desk.new) result false desk.old.reader ahead }
     ensures stopped { result ≡ Progress.Stopped → Rose (G.stops gate.old) (G.stops gate.new) }
     ensures unstopped { result ≢ Progress.Stopped → G.stops gate.new ≡ G.stops gate.old }
     ensures later { G.stops gate.old ≤ G.stops gate.new }
@@ -107,8 +108,8 @@ fn attend<K: Link, C: Clock, G: Gate, D: Disk + Drop, U: Disk + Drop, R: Wait>(
     ensures users { IsSameUserSeat desk.old.users.seat desk.new.users.seat }
     ensures reader { desk.new.reader ≡ desk.old.reader }
     ensures link { Writes K.told (K.state link.old) (K.state link.new) }
-    ensures goes { (k : LinkState) → (c : List Moment) → (b : Beginning) → (ahead : List ℕ) → IsAt b desk.old.seat desk.old.users.seat → Stands (language (arc_value desk.old.shelf)) K.told C.told k (K.state link.old) c (C.coming clock.old) b (now desk.old) false kind desk.old.reader ahead
-        → Goes (language (arc_value desk.old.shelf)) K.told C.told k (K.state link.new) c (C.coming clock.new) b (now desk.new) result false desk.old.reader ahead }
+    ensures goes { (first : AUser) → (k : LinkState) → (c : List Moment) → (b : Beginning) → (ahead : List ℕ) → IsAt b desk.old.seat desk.old.users.seat → Stands (language_for first (arc_value desk.old.shelf)) K.told C.told k (K.state link.old) c (C.coming clock.old) b (now desk.old) false kind desk.old.reader ahead
+        → Goes (language_for first (arc_value desk.old.shelf)) K.told C.told k (K.state link.new) c (C.coming clock.new) b (now desk.new) result false desk.old.reader ahead }
     ensures stopped { result ≡ Progress.Stopped → Rose (G.stops gate.old) (G.stops gate.new) }
     ensures unstopped { result ≢ Progress.Stopped → G.stops gate.new ≡ G.stops gate.old }
     ensures later { G.stops gate.old ≤ G.stops gate.new }
@@ -203,7 +204,7 @@ fn ask_of<G: Gate, D: Disk + Drop, U: Disk + Drop, R: Wait>(
 }
 
 /// Serves the link, until it ends or fails, the gate stops, or 2^32 reads were made. It waits for its turn at the state, for the Provisioner, and for
-/// frames that stand in the way of a circuit's move. It takes no memory.
+/// frames that stand in the way of a circuit's move. It takes no memory. Nobody is logged in where it begins.
 pub fn serve_session<K: Link, C: Clock, G: Gate, D: Disk + Drop, U: Disk + Drop, R: Wait>(
     place: &mut Place<D, U>,
     link: &mut K,
@@ -214,7 +215,23 @@ pub fn serve_session<K: Link, C: Clock, G: Gate, D: Disk + Drop, U: Disk + Drop,
     ensures { Served ⟦<(K, C, G, D) as Lent>⟧
         (place.old, link.old, clock.old, gate.old) (place.new, link.new, clock.new, gate.new) result }
 {
-    place.desk.begin();
+    serve_session_of(place, SessionUser::Nobody, link, clock, gate, rt)
+}
+
+/// Serves the link as `serve_session` does, in a session that begins with this user logged in.
+pub fn serve_session_of<K: Link, C: Clock, G: Gate, D: Disk + Drop, U: Disk + Drop, R: Wait>(
+    place: &mut Place<D, U>,
+    first: SessionUser,
+    link: &mut K,
+    clock: &mut C,
+    gate: &mut G,
+    rt: &R,
+) -> SessionEnd
+    ensures { ServedFor ⟦<(K, C, G, D) as Lent>⟧ first
+        (place.old, link.old, clock.old, gate.old)
+        (place.new, link.new, clock.new, gate.new) result }
+{
+    place.desk.begin(first);
     let end = serve(&mut place.desk, &mut place.piece, link, clock, gate, rt);
     // Their clauses tell whose entries the seats have seen.
     place.desk.seat.seen();
@@ -232,12 +249,12 @@ fn serve<K: Link, C: Clock, G: Gate, D: Disk + Drop, U: Disk + Drop, R: Wait>(
 ) -> SessionEnd
     requires room { 0 < length piece.old }
     requires nothing_read { Holds [] (hand desk.old.reader) }
-    requires nobody { desk.old.attending ≡ nobody }
+    requires begun { desk.old.attending ≡ begun_by desk.old.attending.user }
     ensures shelf { desk.new.shelf ≡ desk.old.shelf }
     ensures seat { IsSameSeat desk.old.seat desk.new.seat }
     ensures users { IsSameUserSeat desk.old.users.seat desk.new.users.seat }
-    ensures session { IsServed (language (arc_value desk.old.shelf)) K.told C.told (K.state link.old) (K.state link.new) (C.coming clock.old) (C.coming clock.new) desk.old.seat desk.new.seat desk.old.users.seat desk.new.users.seat result }
-    ensures prompt { IsPrompt (language (arc_value desk.old.shelf)) K.begun K.told C.told (K.state link.old) (K.state link.new) (C.coming clock.old) desk.old.seat desk.old.users.seat }
+    ensures session { IsServed (language_for desk.old.attending.user (arc_value desk.old.shelf)) K.told C.told (K.state link.old) (K.state link.new) (C.coming clock.old) (C.coming clock.new) desk.old.seat desk.new.seat desk.old.users.seat desk.new.users.seat result }
+    ensures prompt { IsPrompt (language_for desk.old.attending.user (arc_value desk.old.shelf)) K.begun K.told C.told (K.state link.old) (K.state link.new) (C.coming clock.old) desk.old.seat desk.old.users.seat }
     ensures end { (result ≡ SessionEnd.End) ↔ IsTrue (K.state link.new).ended }
     ensures all_read { K.told → result ≡ SessionEnd.End → (K.state link.new).left ≡ [] }
     ensures read_fault { result ≡ SessionEnd.ReadFault → Rose (K.state link.old).read_faults (K.state link.new).read_faults }

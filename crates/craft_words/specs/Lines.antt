@@ -1,10 +1,12 @@
 -- The lines of words that the program understands.
-use Rattle.std.specs.Prelude.{◌≡◌, ◌^◌, ◌≤◌, ◌<◌, ◌==◌, ℕ, Bool, false, List, [], ◌∷◌, Option, Some, None, codes, decimal, map, if◌then◌else◌}
+use Rattle.std.specs.Prelude.{◌≡◌, ◌^◌, ◌≤◌, ◌<◌, ◌==◌, ◌&&◌, ℕ, Bool, false, List, [], ◌∷◌, Option, Some, None, codes, decimal, map, if◌then◌else◌}
 use denote.Bor.{Bor}
 use Rattle.std.specs.Str.{bytes_eq}
-use Rattle.std.specs.List.{list_any}
+use Rattle.std.specs.Char.{is_ascii_digit}
+use Rattle.std.specs.List.{list_all, list_any}
+use Rattle.dxc_num.specs.Dimensions.{IsInLimits}
 use Rattle.craft_words.specs.declared.line.Line.{Line}
-use Rattle.craft_words.specs.declared.line.Line.TheVariants.{Script, Check, Serve, Standby, Load}
+use Rattle.craft_words.specs.declared.line.Line.TheVariants.{Script, Trial, Check, Serve, Standby, Load}
 use Rattle.craft_words.specs.declared.line.Mode.{Mode}
 use Rattle.craft_words.specs.declared.line.Mode.TheVariants.{Script as ScriptMode, Check as CheckMode, Serve as ServeMode, Standby as StandbyMode, Load as LoadMode}
 
@@ -12,6 +14,15 @@ use Rattle.craft_words.specs.declared.line.Mode.TheVariants.{Script as ScriptMod
 abbrev pub is_dashed : List ℕ → Bool
 is_dashed [] = false
 is_dashed (c ∷ cs) = c == 45
+
+-- digits alone
+abbrev pub is_number : List ℕ → Bool
+is_number [] = false
+is_number (c ∷ cs) = list_all is_ascii_digit (c ∷ cs)
+
+-- two words that name no files, but a shape
+abbrev pub are_numbers : (first second : List ℕ) → Bool
+are_numbers first second = is_number first && is_number second
 
 -- what the first word of a line asks for
 abbrev pub mode_in : List ℕ → Option Mode
@@ -30,14 +41,16 @@ peer_words (Some peer) = peer ∷ []
 -- the words that spell a line
 abbrev pub words_of : Line → List (List ℕ)
 words_of (Script shelf journal) = codes "script" ∷ shelf ∷ journal ∷ []
+words_of (Trial shape) = codes "script" ∷ decimal shape.modules ∷ decimal shape.slots ∷ []
 words_of (Check shelf journal) = codes "check" ∷ shelf ∷ journal ∷ []
 words_of (Serve shelf journal address lines workers peer) = codes "serve" ∷ shelf ∷ journal ∷ address ∷ lines ∷ decimal workers ∷ peer_words peer
 words_of (Standby journal address) = codes "standby" ∷ journal ∷ address ∷ []
 words_of (Load number) = codes "load" ∷ decimal number ∷ []
 
--- 1 to 8 frame workers, a number of 64 bits
+-- names of files that are no shape, a shape, 1 to 8 frame workers, a number of 64 bits
 abbrev pub IsInRange : Line → Type 0
-IsInRange (Script shelf journal) = Unit {0}
+IsInRange (Script shelf journal) = are_numbers shelf journal ≡ false
+IsInRange (Trial shape) = IsInLimits shape
 IsInRange (Check shelf journal) = Unit {0}
 IsInRange (Serve shelf journal address lines workers peer) = (1 ≤ workers) × (workers ≤ 8)
 IsInRange (Standby journal address) = Unit {0}

@@ -1,9 +1,10 @@
-ghost use Rattle.std.specs.Prelude.{◌≡◌, ◌≢◌, ℕ, List, [], ◌∷◌, Option, Err, IfOk, codes};
-ghost use Rattle.craft_words.specs.Lines.{IsLine, Spells, mode_in, peer_words, texts, is_dashed as dashed};
+ghost use Rattle.std.specs.Prelude.{◌≡◌, ◌≢◌, ℕ, true, List, [], ◌∷◌, Option, Err, IfOk, codes};
+ghost use Rattle.craft_words.specs.Lines.{IsLine, Spells, are_numbers, mode_in, peer_words, texts, is_dashed as dashed};
 ghost use Rattle.std.specs.List.{list_any};
 
 use crate::matching::name_matches;
-use crate::number::{number_of, workers_of};
+use crate::number::{is_number, number_of, shape_of, workers_of};
+use dxc_num::Shape;
 use dxc_outside::Name;
 use std::alloc::Global;
 
@@ -14,6 +15,10 @@ pub enum Line {
     Script {
         shelf: Name,
         journal: Name,
+    },
+    /// One session over the terminal, on a new element of that shape whose journals are in memory.
+    Trial {
+        shape: Shape,
     },
     /// The rows of the table, and how many records the journal has.
     Check {
@@ -51,9 +56,9 @@ pub enum WordsFault {
 /// The most words of a line.
 const MOST_WORDS: usize = 7;
 
-/// The line that the words spell: `script SHELF JOURNAL`, `check SHELF JOURNAL`, `serve SHELF JOURNAL ADDRESS LINES WORKERS` with
-/// 1 to 8 workers, and the same with PEER behind it, `standby JOURNAL ADDRESS`, or `load NUMBER` with a number of 64 bits. No word of
-/// it begins with a dash.
+/// The line that the words spell: `script SHELF JOURNAL`, `script MODULES SLOTS` with the numbers of a shape, `check SHELF JOURNAL`,
+/// `serve SHELF JOURNAL ADDRESS LINES WORKERS` with 1 to 8 workers, and the same with PEER behind it, `standby JOURNAL ADDRESS`, or
+/// `load NUMBER` with a number of 64 bits. Behind `script` two words of digits alone are no names. No word begins with a dash.
 pub fn line_of(alloc: Global, words: &[Name]) -> Result<Line, WordsFault>
     ensures line { IfOk result (λ l. IsLine words.now l) }
     ensures no_line { result ≡ Err WordsFault.BadWords → (l : Line) → IsLine words.now l → ⊥ }
@@ -112,10 +117,7 @@ fn line_with(alloc: Global, mode: &str, rest: &[&str]) -> Result<Line, WordsFaul
     ensures no_line { result ≡ Err WordsFault.BadWords → (l : Line) → Spells (mode.now ∷ texts rest.now) l → ⊥ }
 {
     match mode_of(mode) {
-        Some(Mode::Script) => {
-            let (shelf, journal) = two_names(alloc, rest)?;
-            Ok(Line::Script { shelf, journal })
-        }
+        Some(Mode::Script) => script_line(alloc, rest),
         Some(Mode::Check) => {
             let (shelf, journal) = two_names(alloc, rest)?;
             Ok(Line::Check { shelf, journal })
@@ -126,6 +128,33 @@ fn line_with(alloc: Global, mode: &str, rest: &[&str]) -> Result<Line, WordsFaul
             Ok(Line::Standby { journal, address })
         }
         Some(Mode::Load) => load_line(rest),
+        None => Err(WordsFault::BadWords),
+    }
+}
+
+fn script_line(alloc: Global, rest: &[&str]) -> Result<Line, WordsFault>
+    ensures line { IfOk result (Spells (codes "script" ∷ texts rest.now)) }
+    ensures no_line { result ≡ Err WordsFault.BadWords
+        → (l : Line) → Spells (codes "script" ∷ texts rest.now) l → ⊥ }
+{
+    let (first, second) = two_names(alloc, rest)?;
+    if is_number(first.text().as_bytes()) && is_number(second.text().as_bytes()) {
+        return trial_line(&first, &second);
+    }
+    Ok(Line::Script {
+        shelf: first,
+        journal: second,
+    })
+}
+
+// The line of two words behind `script` that are digits alone.
+fn trial_line(modules: &Name, slots: &Name) -> Result<Line, WordsFault>
+    ensures line { IfOk result (Spells (codes "script" ∷ modules.now ∷ slots.now ∷ [])) }
+    ensures no_line { are_numbers modules.now slots.now ≡ true → result ≡ Err WordsFault.BadWords
+        → (l : Line) → Spells (codes "script" ∷ modules.now ∷ slots.now ∷ []) l → ⊥ }
+{
+    match shape_of(modules.text(), slots.text()) {
+        Some(shape) => Ok(Line::Trial { shape }),
         None => Err(WordsFault::BadWords),
     }
 }

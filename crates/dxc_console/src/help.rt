@@ -5,6 +5,7 @@ use dxc_outside::Name;
 const HELP: &str = "dxc: the controller of a digital cross-connect
 
   dxc script SHELF JOURNAL    one session: TL1 on standard input, answers on standard output
+  dxc script MODULES SLOTS    the same, to try it: on a new element in memory, whose user is logged in
   dxc check SHELF JOURNAL     the connections that the journal comes to, and how many records it has
   dxc serve SHELF JOURNAL ADDRESS LINES WORKERS
                               sessions over TCP, 16 at a time, and 1 to 8 workers that carry frames
@@ -15,6 +16,9 @@ const HELP: &str = "dxc: the controller of a digital cross-connect
   dxc --help                  this text
   dxc --version               the version, and SHA-256 of the sources that it was proved from
 
+MODULES is a number from 2 to 64, and SLOTS one from 1 to 96, without a leading zero: the ports are DS0-1-1 to DS0-MODULES-SLOTS.
+All is forgotten at the end. Files of such names are named with ./ in front of them.
+
 JOURNAL is the name of the journal, which is made where there is none. Every change is in it before it is answered, and a
 start takes it up again; changes of users are in JOURNAL.users beside it. One program at a time has them. That of a standby is
 to be new: no file, or an empty one; it gets no copy of JOURNAL.users.
@@ -23,6 +27,7 @@ ADDRESS is where TCP callers come in, such as 127.0.0.1:3083 or [::1]:3083. Each
 LINES names files: worker W reads the frames of LINES.in, a byte for each port, and writes those of LINES.W.out, from 0 on.
 PEER is an address too. A change is answered once the standby there has it; where the standby is lost, serve goes on alone.
 
+  printf 'ENT-CRS-T0::DS0-1-1,DS0-2-1:1;' | dxc script 2 1
   printf 'ACT-USER::ANNA:1::bc;ENT-CRS-T0::DS0-1-1,DS0-2-1:2;' | dxc script office.toml office.journal
   dxc check office.toml office.journal
   dxc serve office.toml office.journal 127.0.0.1:3083 office 2

@@ -1,4 +1,5 @@
 use craft_words::{JournalBad, Status};
+use dxc_num::Shape;
 use dxc_outside::Name;
 use shelf_file::{ShelfFault, ShelfKey};
 use std::fmt::{self, Display, Formatter, Write};
@@ -75,7 +76,7 @@ struct Why<'a, E> {
 impl<E: Display> Display for Why<'_, E> {
     fn fmt<W: Write>(&self, f: &mut Formatter<W>) -> fmt::Result {
         match self.status {
-            Status::BadWords => write_word(f, self.words),
+            Status::BadWords => write_words_fault(f, self.words),
             Status::CannotOpen => write_refusal(f, self.refusal),
             Status::BadShelf(fault) => write_shelf_fault(f, fault),
             Status::BadJournal(JournalBad::Header(bytes)) => write_header(f, "journal", &bytes),
@@ -129,6 +130,67 @@ fn word_at_fault(words: &[Name]) -> Option<&Name> {
     }
     // One too many, or else a number: of workers, or of the load.
     words.get(most).or(number_of_mode(mode.text(), words))
+}
+
+// A number that is no shape's: its word, what it counts, and the most of it.
+#[derive(Clone, Copy)]
+struct BadCount<'a> {
+    word: &'a str,
+    counted: &'static str,
+    least: u16,
+    most: u16,
+}
+
+impl BadCount<'_> {
+    // Whether the word is a number in these limits after all, without a leading zero.
+    fn is_good(&self) -> bool {
+        match self.word.parse::<u16>() {
+            Ok(count) => !self.word.starts_with('0') && self.least <= count && count <= self.most,
+            Err(_) => false,
+        }
+    }
+}
+
+fn is_number(word: &str) -> bool {
+    !word.is_empty() && word.as_bytes().iter().all(|byte| byte.is_ascii_digit())
+}
+
+// The first number behind `script` that is none of a shape. None: there aren't two numbers, or they are a shape.
+fn count_at_fault(words: &[Name]) -> Option<BadCount<'_>> {
+    let [mode, modules, slots] = words else {
+        return None;
+    };
+    if mode.text() != "script" || !is_number(modules.text()) || !is_number(slots.text()) {
+        return None;
+    }
+    let modules = BadCount {
+        word: modules.text(),
+        counted: "modules",
+        least: 2,
+        most: Shape::MODULES,
+    };
+    let slots = BadCount {
+        word: slots.text(),
+        counted: "slots",
+        least: 1,
+        most: Shape::SLOTS,
+    };
+    if modules.is_good() {
+        Some(slots)
+    } else {
+        Some(modules)
+    }
+}
+
+fn write_words_fault<W: Write>(f: &mut Formatter<W>, words: &[Name]) -> fmt::Result {
+    match count_at_fault(words) {
+        Some(bad) => writeln!(
+            f,
+            "dxc: {} is no number of {}, {} to {} without a leading zero; ./{} names a file",
+            bad.word, bad.counted, bad.least, bad.most, bad.word
+        ),
+        None => write_word(f, words),
+    }
 }
 
 fn write_word<W: Write>(f: &mut Formatter<W>, words: &[Name]) -> fmt::Result {

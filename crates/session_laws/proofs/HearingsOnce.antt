@@ -18,7 +18,7 @@ use Rattle.user_admin.proofs.Granted.{granted_once, same_some}
 use Rattle.craft_session.specs.Asks.{Language, user_after}
 use Rattle.craft_session.specs.Happenings.{Happening, Request, unit, quiet}
 use Rattle.craft_session.specs.Hearing.{Heard, Wanted, nothing, to_look, to_do, heard_of}
-use Rattle.craft_session.specs.Meanings.{language, wants}
+use Rattle.craft_session.specs.Meanings.{language_for, wants}
 use Rattle.craft_session.specs.PlainUsers.{HearsOf, IsExcusedBy, PlaysUsers}
 use Rattle.session_laws.specs.Laws.{bare}
 
@@ -56,9 +56,9 @@ module _ (E F : Type 0) (never : E → ⊥) (nor : F → ⊥) (sid : List ℕ) w
       let one = came_once o users h.0 k.0 h.1 k.1 h.2 k.2 in
       (h.3 ∙ ap (heard_of o users) one ∙ sym k.3, h.4 ∙ ap (λ (z : UserOutcome). after (change_in z) users) one ∙ sym k.4)
 
-  module _ (s : Contents) where
+  module _ (first : SessionUser) (s : Contents) where
     abbrev l : Language Request Moment
-    l = language s
+    l = language_for first s
 
     pub hearings_once : (users then_users also_users : Users) (t then_t also_t : SessionUser) (hs gs : List (Happening Request)) → PlaysUsers l sid E users t hs then_users then_t → PlaysUsers l sid F users t gs also_users also_t → bare hs ≡ bare gs
         → (hs ≡ gs) × ((then_users ≡ also_users) × (then_t ≡ also_t))

@@ -31,13 +31,13 @@ use Rattle.craft_session.specs.Asks.{Language, Reply, completed, denied}
 use Rattle.session_laws.specs.Entering.{CanBeEnteredBehind, HasMiddles, IsBelowLimit}
 use Rattle.craft_session.specs.Happenings.{Happening, Happens, Request, unit, quiet, bytes_in, inputs_in}
 use Rattle.craft_session.specs.Runs.{Run, Walk}
-use Rattle.craft_session.specs.Walks.{IsUnused, nobody}
+use Rattle.craft_session.specs.Walks.{IsUnused, begun_by}
 use Rattle.craft_session.specs.Plain.{At, Meanwhile, Plays, Replies, Said, alone, said_in, standing}
 use Rattle.craft_session.specs.Scripts.{IsOpeningOf, IsOwn, IsScript, excused_by, room_of}
 use Rattle.craft_session.specs.PlainUsers.{IsUsersOpeningOf, IsUsersUnsoundBy, PlaysUsers, users_room_of}
 use Rattle.craft_session.specs.Seats.{SeatAt, UserSeatAt}
 use Rattle.craft_session.specs.Sessions.{IsServed}
-use Rattle.craft_session.specs.Meanings.{language}
+use Rattle.craft_session.specs.Meanings.{language_for}
 use Rattle.craft_session.specs.declared.end.SessionEnd.{SessionEnd}
 
 -- entries that no unit of the place uses may come between two steps of a session
@@ -58,12 +58,12 @@ AreUnitsAlone = (items more : List Item) (hs gs : List (Happening Request)) (res
 -- change that table and limits grant is a fault of the journal.
 abbrev pub ArePlayed : Type 0
 ArePlayed = (l : Language Request Moment) (place : ℕ) (o : Opening) (past : List Entry) (w : Walk Request Moment) → Run l place o.first.fold.table past w → IsLegal (rules_of o) w.history → w.due ≡ false
-    → Plays l (LimitBehind o.first) IsFault (among place) (standing o.first.fold.table past nobody) w.happenings (said_in w) (standing o.first.fold.table w.history w.attending)
+    → Plays l (LimitBehind o.first) IsFault (among place) (standing o.first.fold.table past (begun_by l.first)) w.happenings (said_in w) (standing o.first.fold.table w.history w.attending)
 
 -- a run over a history of the place's entries alone writes what the plain session does on its one table
 abbrev pub ArePlayedAlone : Type 0
 ArePlayedAlone = (l : Language Request Moment) (place margin room commands : ℕ) (o : Opening) (past : List Entry) (w : Walk Request Moment) → Run l place o.first.fold.table past w → IsLegal (rules_of o) w.history → AllByRecursion (IsOwn place (excused_by ⊥ margin room commands)) w.history → w.due ≡ false
-    → Plays l (LimitBehind o.first) (excused_by ⊥ margin room commands) alone (standing o.first.fold.table past nobody) w.happenings (said_in w) (standing o.first.fold.table w.history w.attending)
+    → Plays l (LimitBehind o.first) (excused_by ⊥ margin room commands) alone (standing o.first.fold.table past (begun_by l.first)) w.happenings (said_in w) (standing o.first.fold.table w.history w.attending)
 
 -- on disks that are sound for opening and all commands the plain session is one: what happened and the moments determine what is written
 abbrev pub AreResponsesOnce : Type 0
@@ -72,16 +72,16 @@ AreResponsesOnce = (l : Language Request Moment) (o : Opening) (commands room ot
 
 -- from the same users on, on a disk that is sound, the same units of a session that is alone hear the same, and come to the same users
 abbrev pub AreHearingsOnce : Type 0
-AreHearingsOnce = (l : Contents) (sid : List ℕ) (commands room other_room : ℕ) (users then_users also_users : Users) (s then_s also_s : SessionUser) (hs gs : List (Happening Request)) → users_room_of commands < room → users_room_of commands < other_room
-    → PlaysUsers (language l) sid (IsUsersUnsoundBy 0 room commands) users s hs then_users then_s → PlaysUsers (language l) sid (IsUsersUnsoundBy 0 other_room commands) users s gs also_users also_s → bare hs ≡ bare gs
+AreHearingsOnce = (first : SessionUser) (l : Contents) (sid : List ℕ) (commands room other_room : ℕ) (users then_users also_users : Users) (s then_s also_s : SessionUser) (hs gs : List (Happening Request)) → users_room_of commands < room → users_room_of commands < other_room
+    → PlaysUsers (language_for first l) sid (IsUsersUnsoundBy 0 room commands) users s hs then_users then_s → PlaysUsers (language_for first l) sid (IsUsersUnsoundBy 0 other_room commands) users s gs also_users also_s → bare hs ≡ bare gs
     → (hs ≡ gs) × ((then_users ≡ also_users) × (then_s ≡ also_s))
 
 -- The one session of turnstiles with one pass, on the openings of two disks, wrote what the plain session writes that is alone. Where the disk tells its
 -- content, the journal never reads otherwise than it was written.
 abbrev pub AreScripts : (told clock_told disk_told : Type 0) {D U : Type 0} → (D → DiskState) → (U → DiskState) → Type 0
-AreScripts told clock_told disk_told {D} {U} state users_state = (disk : D) (users_disk : U) (k l : LinkState) (c d : List Moment) (s : Contents) (old new : SeatAt) (users then_users : UserSeatAt) (end : SessionEnd)
+AreScripts told clock_told disk_told {D} {U} state users_state = (disk : D) (users_disk : U) (k l : LinkState) (c d : List Moment) (tongue : Language Request Moment) (old new : SeatAt) (users then_users : UserSeatAt) (end : SessionEnd)
     → IsOpeningOf (state disk) old.opening → IsUsersOpeningOf (users_state users_disk) users.opening → old.seen ≡ [] → users.seen ≡ [] → old.place ≡ 0 → users.place ≡ 0 → new.places ≡ 1 → then_users.places ≡ 1 → AreNumbered new.places new.seen → AreUsersNumbered then_users.places then_users.seen
-    → SawNoneAstray disk_told new.seen → IsServed (language s) told clock_told k l c d old new users then_users end → IsScript disk_told (state disk) (users_state users_disk) old.place old.opening users.opening clock_told c d s told k l end
+    → SawNoneAstray disk_told new.seen → IsServed tongue told clock_told k l c d old new users then_users end → IsScript disk_told (state disk) (users_state users_disk) old.place old.opening users.opening clock_told c d tongue told k l end
 
 -- what a file stands for on a shelf has one set of legs in table and colouring, whatever the disk tells
 abbrev pub OpeningsArePlaced : Type 0

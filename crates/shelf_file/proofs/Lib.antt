@@ -2,6 +2,7 @@ pub mod Marking
 pub mod Tables
 pub mod Faults
 pub mod Kept
+pub mod TrialShelves
 pub mod Growing
 pub mod Shortness
 pub mod FirstFaults

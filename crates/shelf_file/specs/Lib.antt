@@ -3,3 +3,4 @@ pub mod Checks
 pub mod Contents
 pub mod Users
 pub mod Shelves
+pub mod Trials

@@ -1,5 +1,7 @@
 -- The users of a shelf, as they are kept.
 use Rattle.std.specs.Prelude.{◌≡◌, ◌⊎◌, ℕ, Option, Some, None, List, [], ◌∷◌, ◌++◌, map}
+use Rattle.dxc_model.specs.declared.user.SessionUser.{SessionUser}
+use Rattle.dxc_model.specs.declared.user.SessionUser.TheVariants as session
 use Rattle.shelf_file.specs.declared.user.User.{User}
 use Rattle.toml.specs.Data.{Members}
 use Rattle.shelf_file.specs.declared.fault.ShelfFault.{ShelfFault}
@@ -13,6 +15,10 @@ entry_of u = record { name = u.uid.items; class = u.class; salt = u.salt.items; 
 
 abbrev pub entries_of : List User → List UserEntry
 entries_of us = map entry_of us
+
+-- a user who is logged in
+abbrev pub logged_in : UserEntry → SessionUser
+logged_in e = session.User e.name e.class
 
 -- the names of users
 abbrev pub names_in : List UserEntry → List (List ℕ)

@@ -1,4 +1,4 @@
-//! The shelf file: the element's name, shape, equipped modules and users, read from TOML.
+//! The shelf file: the element's name, shape, equipped modules and users, read from TOML; and the shelf of an element on trial.
 #![tactic(auto)]
 
 mod document;
@@ -7,6 +7,7 @@ mod keys;
 mod lists;
 mod reading;
 mod shelf;
+mod trial;
 mod user;
 mod users;
 mod values;
@@ -14,3 +15,4 @@ mod values;
 pub use fault::{ShelfFault, ShelfKey};
 pub use reading::shelf_of;
 pub use shelf::Shelf;
+pub use trial::trial_shelf;

@@ -1,9 +1,10 @@
 ghost use Rattle.std.specs.Prelude.{◌≡◌, ◌<◌, ◌≤◌, Some, length, option_map, slice_get};
 ghost use Rattle.dxc_model.specs.Equipment.{IsEquipment};
 ghost use Rattle.shelf_file.specs.Shelves.{AreDescribed};
+ghost use Rattle.shelf_file.specs.Users.{logged_in as as_logged_in};
 
 use crate::user::User;
-use dxc_model::Class;
+use dxc_model::{Class, SessionUser, Uid};
 use dxc_num::Shape;
 use std::marker::Model;
 use tl1_text::Sid;
@@ -109,5 +110,17 @@ impl Shelf {
         ensures short { length result.now ≤ 10 }
     {
         self.user(user).uid.as_slice()
+    }
+
+    /// A user as one who is logged in.
+    pub fn logged_in(&self, user: u16) -> SessionUser
+        requires { user < length self.now.users }
+        ensures { option_map as_logged_in (slice_get self.now.users user) ≡ Some result }
+    {
+        let Some(uid) = Uid::of(self.name(user)) else {
+            unreachable!()
+        };
+        let class = self.class(user);
+        SessionUser::User { uid, class }
     }
 }

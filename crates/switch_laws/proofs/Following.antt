@@ -171,10 +171,10 @@ module _ {U M : Type 0} (l : Language U M) (r : Rules) (excused : Excuse) (past 
         let near_is : near ≡ far = ap (λ (bs : List ℕ). let s : Session U M = record { happenings = w.happenings ++ quiet ∷ []; attending = w.attending; due = is_some w.attending.watch; said = record { moments = w.moments; bytes = bs } } in let d : Desk = s ∷ ss in d) (sym (append-nil (w.earlier ++ w.latest))) in
         goes_free w.history first far (λ f good here. lands_still w.history p near far first f near_is (rest_turn p ∷ here.0, rests here.0 (element r.table w.history (placed p first f)) p (session_in w) ss (placed_here p first f) none here.1)) t
 
-    come : (h : List Entry) (ss : Desk) → Follows p h ss → Follows p h (fresh ∷ ss)
+    come : (h : List Entry) (ss : Desk) → Follows p h ss → Follows p h (fresh l ∷ ss)
     come h ss t =
         let older : (f : ℕ → Desk) → placed p ss f p ≡ ss = λ f. placed_here p ss f in
-        goes_free h ss (fresh ∷ ss) (λ f good here. lands_still h p (fresh ∷ placed p ss f p) (fresh ∷ ss) ss f (ap (λ (d : Desk). let k : Desk = fresh ∷ d in k) (older f)) (call p ∷ here.0, comes here.0 (element r.table h (placed p ss f)) p here.1)) t
+        goes_free h ss (fresh l ∷ ss) (λ f good here. lands_still h p (fresh l ∷ placed p ss f p) (fresh l ∷ ss) ss f (ap (λ (d : Desk). let k : Desk = fresh l ∷ d in k) (older f)) (call p ∷ here.0, comes here.0 (element r.table h (placed p ss f)) p here.1)) t
 
     ran : (h : List Entry) (ss : Desk) (w : Walk U M) → Run l p r.table h w → Follows p h ss → Follows p w.history (session_in w ∷ ss)
     ran h ss _ begins t = come h ss t

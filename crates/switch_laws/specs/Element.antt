@@ -19,7 +19,7 @@ use Rattle.craft_session.specs.Happenings.{Happening, unit, quiet}
 use Rattle.craft_session.specs.Hearing.{to_do}
 use Rattle.craft_session.specs.Notices.{AreReported, notices}
 use Rattle.craft_session.specs.Plain.{At, Excuse, Limit, Replies, Said, joined, silence}
-use Rattle.craft_session.specs.Walks.{attending_after, nobody}
+use Rattle.craft_session.specs.Walks.{attending_after, begun_by}
 use Rattle.switch_laws.specs.Placed.{placed}
 
 -- One session: what has happened in it, who is logged in and where its reports stand, whether reports are due, and the moments that it
@@ -53,8 +53,8 @@ with_did did ops e =
 
 -- A session that begins, that answers a unit, that a stop ends in the middle of one, that nothing comes to for a time, and that writes
 -- its reports.
-abbrev pub fresh : {U M : Type 0} → Session U M
-fresh = record { happenings = []; attending = nobody; due = false; said = silence }
+abbrev pub fresh : {U M : Type 0} → Language U M → Session U M
+fresh l = record { happenings = []; attending = begun_by l.first; due = false; said = silence }
 
 abbrev pub answered : {U M : Type 0} → U → Said M → Attending → Session U M → Session U M
 answered u x z s =
@@ -122,7 +122,7 @@ module _ {U M : Type 0} (l : Language U M) (limit : Limit) (excused : Excuse) (s
     opens : IsPlayed [] start
     comes : (ts : List (Turn U M)) (e : Element U M) (p : ℕ)
         → IsPlayed ts e
-        → IsPlayed (call p ∷ ts) (with_sessions p (fresh ∷ e.sessions p) e)
+        → IsPlayed (call p ∷ ts) (with_sessions p (fresh l ∷ e.sessions p) e)
     answers : (ts : List (Turn U M)) (e : Element U M) (p : ℕ) (s : Session U M) (older : List (Session U M))
         (u : U) (m : M) (r : Reply) (did : Option Change)
         → e.sessions p ≡ s ∷ older → s.due ≡ false

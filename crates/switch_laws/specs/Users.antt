@@ -3,7 +3,6 @@ use Rattle.std.specs.Prelude.{◌≡◌, ◌≢◌, ◌≤◌, ◌<◌, ℕ, Boo
 use Rattle.std.specs.List.{AllByRecursion}
 use Rattle.dxc_outside.specs.declared.clock.Moment.{Moment}
 use Rattle.dxc_model.specs.declared.user.SessionUser.{SessionUser}
-use Rattle.dxc_model.specs.declared.user.SessionUser.TheVariants.{Nobody}
 use Rattle.user_admin.specs.declared.op.UserEntry.{UserEntry}
 use Rattle.user_admin.specs.Histories.{IsLegal, Opening, failures, users_after}
 use Rattle.user_admin.specs.Users.{Users}
@@ -26,8 +25,9 @@ pub record Office (U : Type 0) : Type 0 where
 abbrev pub with_hearings : {U : Type 0} → ℕ → List (Hearing U) → Office U → Office U
 with_hearings p ss e = record e { sessions = placed p ss e.sessions }
 
-abbrev pub heard_nothing : {U : Type 0} → Hearing U
-heard_nothing = record { happenings = []; user = Nobody }
+-- a session that begins
+abbrev pub heard_nothing : {U M : Type 0} → Language U M → Hearing U
+heard_nothing l = record { happenings = []; user = l.first }
 
 abbrev pub with_happening : {U : Type 0} → Happening U → SessionUser → Hearing U → Hearing U
 with_happening h user s = record { happenings = s.happenings ++ h ∷ []; user = user }
@@ -38,7 +38,7 @@ module _ {U M : Type 0} (l : Language U M) (sid : List ℕ) (excused : Type 0) (
     users_open : AreHeard start
     caller_comes : (e : Office U) (p : ℕ)
         → AreHeard e
-        → AreHeard (with_hearings p (heard_nothing ∷ e.sessions p) e)
+        → AreHeard (with_hearings p (heard_nothing l ∷ e.sessions p) e)
     unit_asks : (e : Office U) (p : ℕ) (s : Hearing U) (older : List (Hearing U)) (u : U) (next : Users)
         → e.sessions p ≡ s ∷ older
         → HearsOf sid excused e.users (l.wants s.user u) (l.heard u) next

@@ -1,5 +1,7 @@
 use Rattle.std.proofs.Common.{◌≡◌, ◌+◌, ◌∙◌, [], ◌∷◌, ℕ, List, Option, refl, sym, ap, subst}
 use Rattle.std.specs.Prelude.{IsSome}
+use Rattle.dxc_model.specs.declared.user.SessionUser.TheVariants.{Nobody}
+use Rattle.dxc_outside.specs.declared.clock.Moment.{Moment}
 use Rattle.dxc_outside.specs.Links.{LinkState}
 use Rattle.dxc_outside.specs.Openings.{OpenerState}
 use Rattle.shelf_file.specs.Contents.{Contents}
@@ -21,6 +23,7 @@ use Rattle.craft_element.proofs.Wording.{mirrors_words, opens_words, sent_words}
 use Rattle.craft_jobs.proofs.Wording.{stands_words}
 use Rattle.craft_server.proofs.Mirroring.{serves_for}
 use Rattle.craft_server.proofs.Serves.{ran_serve}
+use Rattle.craft_server.proofs.Trying.{trial_words}
 use Rattle.craft_server.proofs.Wording.{end_words, serve_words, serving_words}
 use Rattle.dxc_outside.specs.Asked.{Asking, AskedFor, copy_named, listener_named}
 use Rattle.dxc_outside.proofs.Asking.{asked_all}
@@ -38,7 +41,7 @@ returns-in-Script-clause-run g c = λ fit.
     let before = lent (sources (g.O.Opener.state c.args.opener.now) (g.O.Opener.journal_at c.args.opener.now) (g.G.Gate.stops c.args.gate.now)) (g.K.Link.state c.args.terminal.now) (g.C.Clock.coming c.args.clock.now) p in
     let after = lent (sources (g.O.Opener.state c.run_script.new.opener) (g.O.Opener.journal_at c.run_script.new.opener) (g.G.Gate.stops c.run_script.new.gate)) (g.K.Link.state c.run_script.new.terminal) (g.C.Clock.coming c.run_script.new.clock) p in
     let status = c.run_script.result in
-    let P : Contents → g.row.O-Journal.Denot → Opening → g.row.O-Journal.Denot → UsersOpening → Type 0 = λ s d o e u. RanSession g.O.Journal.Disk.told g.K.Link.told g.C.Clock.told g.K.Link.begun (state d) (state e) s o u before.terminal after.terminal before.clock after.clock before.sources.stops after.sources.stops status in
+    let P : Contents → g.row.O-Journal.Denot → Opening → g.row.O-Journal.Denot → UsersOpening → Type 0 = λ s d o e u. RanSession g.O.Journal.Disk.told g.K.Link.told g.C.Clock.told g.K.Link.begun (state d) (state e) Nobody s o u before.terminal after.terminal before.clock after.clock before.sources.stops after.sources.stops status in
     let Q : Contents → g.row.O-Journal.Denot → Opening → g.row.O-Journal.Denot → UsersOpening → Type 0 = λ s d o e u. RanScript told state before after s o u d e status in
     let ran = opens_for told.disk state told.opener _ (named c.in-Script.shelf c.in-Script.journal) c.names_of-names.ensures before.sources after.sources ((after.terminal ≡ before.terminal) × (after.clock ≡ before.clock)) (IsUntouched before after) P Q status
     (λ u. record { terminal = u.0; clock = u.1; spawner = refl }) (λ s d o e u one. record { session = one; spawner = refl }) c.run_script.ensures.opens in
@@ -172,3 +175,20 @@ returns-in-Standby-clause-asked g c = λ fit.
 pub returns-in-Load-clause-asked : goal.returns-in-Load-clause-asked
 returns-in-Load-clause-asked g c = λ fit.
     subst (λ (l : List Asking). AskedFor (g.O.Opener.asked c.args.opener.now c.args.opener.now) l (IsOfNoOpening c.run_load.result)) (sym (ap line_asked c.in-Load.is)) (asked_all (g.O.Opener.asked c.args.opener.now c.args.opener.now) _ [] (g.O.Opener.unasked c.args.opener.now))
+
+pub returns-in-Trial-clause-run : goal.returns-in-Trial-clause-run
+returns-in-Trial-clause-run g c = λ fit.
+    let told = told_by g.O.Opener.told g.O.Journal.Disk.told g.K.Link.told g.C.Clock.told g.O.Peer.Link.told g.O.Listener.Listener.told g.O.Listener.Link.Link.told g.K.Link.begun g.O.Listener.Link.Link.begun in
+    let jobs = jobs_told g.row.O-Clock.Denot g.row.O-Gate.Denot g.O.Opener.lines_for g.O.Opener.listener_for (g.P.Spawner.handed c.args.spawner.now c.args.spawner.now) in
+    let state = g.O.Journal.Disk.state in
+    let at = λ (stops : ℕ) (terminal : LinkState) (moments : List Moment). lent (sources (g.O.Opener.state c.args.opener.now) (g.O.Opener.journal_at c.args.opener.now) stops) terminal moments (g.P.Spawner.state c.args.spawner.now) in
+    let before = at (g.G.Gate.stops c.args.gate.now) (g.K.Link.state c.args.terminal.now) (g.C.Clock.coming c.args.clock.now) in
+    let after = at (g.G.Gate.stops c.run_trial.new.gate) (g.K.Link.state c.run_trial.new.terminal) (g.C.Clock.coming c.run_trial.new.clock) in
+    subst (λ (l : Line). IsRunOf told jobs state g.O.Peer.Link.state g.O.Listener.Listener.state g.O.Listener.Link.Link.state (g.O.Opener.listener_at c.args.opener.now) l before after c.run_trial.result) (sym c.in-Trial.is) (record { trial = c.run_trial.ensures; opener = refl; journal_at = refl; spawner = refl })
+
+pub returns-in-Trial-clause-words : goal.returns-in-Trial-clause-words
+returns-in-Trial-clause-words g c = λ fit bad. trial_words _ c.in-Trial.shape _ _ c.run_trial.result c.run_trial.ensures bad
+
+pub returns-in-Trial-clause-asked : goal.returns-in-Trial-clause-asked
+returns-in-Trial-clause-asked g c = λ fit.
+    subst (λ (l : List Asking). AskedFor (g.O.Opener.asked c.args.opener.now c.args.opener.now) l (IsOfNoOpening c.run_trial.result)) (sym (ap line_asked c.in-Trial.is)) (asked_all (g.O.Opener.asked c.args.opener.now c.args.opener.now) _ [] (g.O.Opener.unasked c.args.opener.now))

@@ -7,7 +7,7 @@ use Rattle.craft_session.specs.declared.end.Progress.{Progress}
 use Rattle.craft_session.specs.declared.end.Progress.TheVariants.{On}
 use Rattle.craft_session.specs.declared.users.UserDesk.{UserDesk}
 use Rattle.craft_session.specs.Desks.{now, input_of, IsAnswered}
-use Rattle.craft_session.specs.Meanings.{language}
+use Rattle.craft_session.specs.Meanings.{language_for}
 use Rattle.craft_session.specs.Sessions.{Goes, Stands}
 use Rattle.craft_session.proofs.Answering.{answered, input_ended}
 use Rattle.craft_session.proofs.Ends.{on_goes}
@@ -25,13 +25,13 @@ returns-in-On g c =
       users = (ap (λ (u : UserDesk g.row.U.Denot). u.seat.opening) next.users ∙ first.users.0, ap (λ (u : UserDesk g.row.U.Denot). u.seat.place) next.users ∙ first.users.1, ap (λ (u : UserDesk g.row.U.Denot). u.seat.places) next.users ∙ first.users.2);
       reader = next.reader ∙ first.reader;
       link = writes_more _ _ _ _ first.link next.link;
-      goes = λ k c1 b ahead at s.
+      goes = λ user k c1 b ahead at s.
           let desk = c.args.desk.now in
-          let ended = input_ended (language (arc_value desk.shelf)) g.K.Link.told g.C.Clock.told k (g.K.Link.state c.args.link.now) c1 (g.C.Clock.coming c.args.clock.now) b (now desk) desk.reader ahead c.args.kind s c.requires.ended in
-          let x = answered (arc_value desk.shelf) g.K.Link.told g.C.Clock.told k (g.K.Link.state c.args.link.now) c1 (g.C.Clock.coming c.args.clock.now) b (now desk) c.args.kind desk.reader ahead s desk.seat desk.users.seat at (g.K.Link.state c.answer.new.link) (g.C.Clock.coming c.answer.new.clock) (now c.answer.new.desk) refl (input_of c.args.kind desk.reader) ended On
+          let ended = input_ended (language_for user (arc_value desk.shelf)) g.K.Link.told g.C.Clock.told k (g.K.Link.state c.args.link.now) c1 (g.C.Clock.coming c.args.clock.now) b (now desk) desk.reader ahead c.args.kind s c.requires.ended in
+          let x = answered (arc_value desk.shelf) user g.K.Link.told g.C.Clock.told k (g.K.Link.state c.args.link.now) c1 (g.C.Clock.coming c.args.clock.now) b (now desk) c.args.kind desk.reader ahead s desk.seat desk.users.seat at (g.K.Link.state c.answer.new.link) (g.C.Clock.coming c.answer.new.clock) (now c.answer.new.desk) refl (input_of c.args.kind desk.reader) ended On
           (subst (λ (y : Progress). IsAnswered (arc_value desk.shelf) g.K.Link.told g.C.Clock.told (g.K.Link.state c.args.link.now) (g.K.Link.state c.answer.new.link) (g.C.Clock.coming c.args.clock.now) (g.C.Clock.coming c.answer.new.clock) (input_of c.args.kind desk.reader) desk.seat desk.users.seat (now desk) (now c.answer.new.desk) y) c.in-On.is c.answer.ensures.answered) in
-          let goes = subst (λ (y : Contents). Stands (language y) g.K.Link.told g.C.Clock.told k (g.K.Link.state c.answer.new.link) c1 (g.C.Clock.coming c.answer.new.clock) b (now c.answer.new.desk) (is_some c.answer.new.desk.attending.watch) More desk.reader ahead → Goes (language y) g.K.Link.told g.C.Clock.told k (g.K.Link.state c.report.new.link) c1 (g.C.Clock.coming c.report.new.clock) b (now c.report.new.desk) c.report.result false desk.reader ahead) (ap arc_value c.answer.ensures.shelf)
-          (c.report.ensures.goes k c1 b desk.reader ahead (c.answer.ensures.seat.0 ∙ at.0, c.answer.ensures.seat.1 ∙ at.1, c.answer.ensures.users.0 ∙ at.2, c.answer.ensures.users.1 ∙ at.3)) in
+          let goes = subst (λ (y : Contents). Stands (language_for user y) g.K.Link.told g.C.Clock.told k (g.K.Link.state c.answer.new.link) c1 (g.C.Clock.coming c.answer.new.clock) b (now c.answer.new.desk) (is_some c.answer.new.desk.attending.watch) More desk.reader ahead → Goes (language_for user y) g.K.Link.told g.C.Clock.told k (g.K.Link.state c.report.new.link) c1 (g.C.Clock.coming c.report.new.clock) b (now c.report.new.desk) c.report.result false desk.reader ahead) (ap arc_value c.answer.ensures.shelf)
+          (c.report.ensures.goes user k c1 b desk.reader ahead (c.answer.ensures.seat.0 ∙ at.0, c.answer.ensures.seat.1 ∙ at.1, c.answer.ensures.users.0 ∙ at.2, c.answer.ensures.users.1 ∙ at.3)) in
           goes x;
       stopped = λ is. absurd (next.unstopped is);
       unstopped = λ is. first.unstopped (on_goes _ c.in-On.is);
@@ -43,17 +43,17 @@ pub returns-in_default : goal.returns-in_default
 returns-in_default g c =
     let first = c.answer.ensures in
     let desk = c.args.desk.now in
-    let s = language (arc_value desk.shelf) in
     record {
       shelf = first.shelf;
       seat = first.seat;
       users = first.users;
       reader = first.reader;
       link = first.link;
-      goes = λ k c1 b ahead at stands.
+      goes = λ user k c1 b ahead at stands.
+          let s = language_for user (arc_value desk.shelf) in
           let ended = input_ended s g.K.Link.told g.C.Clock.told k (g.K.Link.state c.args.link.now) c1 (g.C.Clock.coming c.args.clock.now) b (now desk) desk.reader ahead c.args.kind stands c.requires.ended in
           goes_ended_is s g.K.Link.told g.C.Clock.told k c1 b (g.K.Link.state c.answer.new.link) (g.C.Clock.coming c.answer.new.clock) (now c.answer.new.desk) desk.reader c.answer.result _ false desk.reader ahead ahead (λ is. c.in_default.not-On is)
-          (answered (arc_value desk.shelf) g.K.Link.told g.C.Clock.told k (g.K.Link.state c.args.link.now) c1 (g.C.Clock.coming c.args.clock.now) b (now desk) c.args.kind desk.reader ahead stands desk.seat desk.users.seat at (g.K.Link.state c.answer.new.link) (g.C.Clock.coming c.answer.new.clock) (now c.answer.new.desk) refl (input_of c.args.kind desk.reader) ended c.answer.result first.answered);
+          (answered (arc_value desk.shelf) user g.K.Link.told g.C.Clock.told k (g.K.Link.state c.args.link.now) c1 (g.C.Clock.coming c.args.clock.now) b (now desk) c.args.kind desk.reader ahead stands desk.seat desk.users.seat at (g.K.Link.state c.answer.new.link) (g.C.Clock.coming c.answer.new.clock) (now c.answer.new.desk) refl (input_of c.args.kind desk.reader) ended c.answer.result first.answered);
       stopped = first.stopped;
       unstopped = first.unstopped;
       later = first.later;

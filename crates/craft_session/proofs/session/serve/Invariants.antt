@@ -6,7 +6,7 @@ use Rattle.user_admin.specs.Turns.{Saw as SawUsers}
 use Rattle.xc_core.specs.Seeing.{Saw}
 use Rattle.craft_session.specs.Desks.{now}
 use Rattle.craft_session.specs.Gated.{AreEntered}
-use Rattle.craft_session.specs.Meanings.{language}
+use Rattle.craft_session.specs.Meanings.{language_for}
 use Rattle.craft_session.specs.Seats.{IsSameSeat, IsSameUserSeat}
 use Rattle.craft_session.specs.Sessions.{Beginning, IsAt, IsPrompt, Stands}
 use Rattle.craft_session.proofs.session.serve.Given as goal
@@ -19,8 +19,8 @@ invariant-loop g l =
       shelf : l.desk.shelf ≡ l.fn.desk.shelf;
       seat : IsSameSeat l.fn.desk.seat l.desk.seat;
       users : IsSameUserSeat l.fn.desk.users.seat l.desk.users.seat;
-      stands : (b : Beginning) → IsAt b l.fn.desk.seat l.fn.desk.users.seat → Saw b.opening l.fn.desk.seat.seen b.before → SawUsers b.users l.fn.desk.users.seat.seen b.users_before → Stands (language (arc_value l.fn.desk.shelf)) g.K.Link.told g.C.Clock.told (state l.fn.link) (state l.link) (coming l.fn.clock) (coming l.clock) b (now l.desk) false More l.desk.reader [];
-      prompt : IsPrompt (language (arc_value l.fn.desk.shelf)) g.K.Link.begun g.K.Link.told g.C.Clock.told (state l.fn.link) (state l.link) (coming l.fn.clock) l.fn.desk.seat l.fn.desk.users.seat;
+      stands : (b : Beginning) → IsAt b l.fn.desk.seat l.fn.desk.users.seat → Saw b.opening l.fn.desk.seat.seen b.before → SawUsers b.users l.fn.desk.users.seat.seen b.users_before → Stands (language_for l.fn.desk.attending.user (arc_value l.fn.desk.shelf)) g.K.Link.told g.C.Clock.told (state l.fn.link) (state l.link) (coming l.fn.clock) (coming l.clock) b (now l.desk) false More l.desk.reader [];
+      prompt : IsPrompt (language_for l.fn.desk.attending.user (arc_value l.fn.desk.shelf)) g.K.Link.begun g.K.Link.told g.C.Clock.told (state l.fn.link) (state l.link) (coming l.fn.clock) l.fn.desk.seat l.fn.desk.users.seat;
       gate : g.G.Gate.stops l.gate ≡ g.G.Gate.stops l.fn.gate;
       counted : Counted (state l.fn.link).reads (state l.link).reads l.counter;
       faults : (state l.link).read_faults ≡ (state l.fn.link).read_faults;

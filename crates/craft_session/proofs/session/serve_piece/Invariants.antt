@@ -2,10 +2,11 @@ use Rattle.std.proofs.Common.{◌≡◌, ◌≤◌, ◌-◌, false, List, drop, 
 use Rattle.std.specs.Arc.{arc_value}
 use Rattle.dxc_outside.specs.declared.clock.Moment.{Moment}
 use Rattle.dxc_outside.specs.Links.{LinkState}
+use Rattle.dxc_model.specs.declared.user.SessionUser.{SessionUser}
 use Rattle.tl1_text.specs.declared.reader.UnitKind.TheVariants.{More}
 use Rattle.craft_session.specs.Desks.{now}
 use Rattle.craft_session.specs.Gated.{AreEntered}
-use Rattle.craft_session.specs.Meanings.{language}
+use Rattle.craft_session.specs.Meanings.{language_for}
 use Rattle.craft_session.specs.Seats.{IsSameSeat, IsSameUserSeat}
 use Rattle.craft_session.specs.Sessions.{Beginning, IsAt, Stands, Writes}
 use Rattle.craft_session.proofs.session.serve_piece.Given as goal
@@ -14,7 +15,7 @@ abbrev pub invariant-loop-at : goal.invariant-loop-at
 invariant-loop-at g l =
     let state = g.K.Link.state in
     let coming = g.C.Clock.coming in
-    let tongue = language (arc_value l.fn.desk.shelf) in
+    let tongue = λ (user : SessionUser). language_for user (arc_value l.fn.desk.shelf) in
     record {
       shelf : l.desk.shelf ≡ l.fn.desk.shelf;
       seat : IsSameSeat l.fn.desk.seat l.desk.seat;
@@ -23,8 +24,8 @@ invariant-loop-at g l =
       gate : g.G.Gate.stops l.gate ≡ g.G.Gate.stops l.fn.gate;
       within : l.at ≤ length l.piece;
       asked : AreEntered l.fn.desk.seat l.fn.desk.users.seat (g.G.Gate.asked l.fn.gate l.gate) l.desk.seat.seen l.desk.users.seat.seen;
-      stands : (k : LinkState) (c : List Moment) (b : Beginning) → IsAt b l.fn.desk.seat l.fn.desk.users.seat → Stands tongue g.K.Link.told g.C.Clock.told k (state l.fn.link) c (coming l.fn.clock) b (now l.fn.desk) false More l.fn.desk.reader l.piece
-          → Stands tongue g.K.Link.told g.C.Clock.told k (state l.link) c (coming l.clock) b (now l.desk) false More l.desk.reader (drop l.at l.piece);
+      stands : (user : SessionUser) → (k : LinkState) (c : List Moment) (b : Beginning) → IsAt b l.fn.desk.seat l.fn.desk.users.seat → Stands (tongue user) g.K.Link.told g.C.Clock.told k (state l.fn.link) c (coming l.fn.clock) b (now l.fn.desk) false More l.fn.desk.reader l.piece
+          → Stands (tongue user) g.K.Link.told g.C.Clock.told k (state l.link) c (coming l.clock) b (now l.desk) false More l.desk.reader (drop l.at l.piece);
     }
 
 abbrev pub decreases-loop-at : goal.decreases-loop-at

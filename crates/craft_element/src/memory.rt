@@ -1,0 +1,70 @@
+//! An element on new journals in memory.
+ghost use Rattle.std.specs.Prelude.{◌≡◌, ◌≤◌, IfOk, MatchResult};
+ghost use Rattle.dxc_disk.specs.MemView.{mem_state};
+ghost use Rattle.craft_element.specs.Loads.{IsInMemory, IsNewDisk, IsNewUsersDisk, IsNewController, NotLoaded};
+
+use crate::opening::{Controller, Element, start, start_users};
+use craft_words::Status;
+use dxc_causes::NoMemory;
+use dxc_disk::MemDisk;
+use dxc_outside::Gate;
+use shelf_file::Shelf;
+use std::alloc::Global;
+
+/// How many calls and bytes the journal's disk has room for.
+const DISK_ROOM: usize = 1 << 21;
+
+// A new disk, none of whose calls is to fail.
+fn new_disk(alloc: Global) -> Result<MemDisk, NoMemory>
+    ensures { IfOk result (λ d. IsNewDisk (mem_state d)) }
+{
+    MemDisk::with_room(alloc, Vec::new(alloc), Vec::new(alloc), DISK_ROOM)
+}
+
+/// The same of the users' disk, which few commands call.
+const USERS_ROOM: usize = 1 << 18;
+
+// Such a disk for the users.
+fn new_users_disk(alloc: Global) -> Result<MemDisk, NoMemory>
+    ensures { IfOk result (λ d. IsNewUsersDisk (mem_state d)) }
+{
+    MemDisk::with_room(alloc, Vec::new(alloc), Vec::new(alloc), USERS_ROOM)
+}
+
+// The controller of the shelf, with one worker.
+fn memory_controller<G: Gate>(
+    alloc: Global,
+    shelf: Shelf,
+    gate: &mut G,
+) -> Result<Controller<MemDisk>, Status>
+    ensures started { MatchResult result (IsNewController shelf)
+        (NotLoaded (G.stops gate.old) (G.stops gate.new)) }
+    ensures unstopped { MatchResult result (λ x. G.stops gate.new ≡ G.stops gate.old)
+        (λ s. G.stops gate.old ≤ G.stops gate.new) }
+{
+    let Ok(disk) = new_disk(alloc) else {
+        return Err(Status::NoMemory);
+    };
+    start(alloc, shelf, disk, 1, gate)
+}
+
+/// The element of the shelf: a controller with one worker, and its users, on new disks in memory.
+pub fn memory_element<G: Gate>(
+    alloc: Global,
+    shelf: Shelf,
+    gate: &mut G,
+) -> Result<Element<MemDisk, MemDisk>, Status>
+    ensures started { MatchResult result (IsInMemory shelf)
+        (NotLoaded (G.stops gate.old) (G.stops gate.new)) }
+    ensures unstopped { MatchResult result (λ x. G.stops gate.new ≡ G.stops gate.old)
+        (λ s. G.stops gate.old ≤ G.stops gate.new) }
+{
+    let controller = memory_controller(alloc, shelf, gate)?;
+    let Ok(disk) = new_users_disk(alloc) else {
+        return Err(Status::NoMemory);
+    };
+    match start_users(alloc, &controller.shelf, disk) {
+        Ok(users) => Ok(Element { controller, users }),
+        Err(status) => Err(status),
+    }
+}
