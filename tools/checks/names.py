@@ -28,7 +28,7 @@ OURS = re.compile(r"(?<![\w./$])(?:bench|tools|docs|dist|examples|man)/[\w./-]*\
 COMMAND_OF_MAN = re.compile(r"^\.(?:It )?Cm (\w+)", re.MULTILINE)
 LINK = re.compile(r"\]\(([^)\s]+)\)")
 COMMENTS = {".rt": re.compile(r"//.*"), ".antt": re.compile(r"(?:^|(?<=\s))--.*", re.MULTILINE), ".py": re.compile(r"#.*"), ".sh": re.compile(r"#.*")}
-PLACES = ("src", "specs", "proofs", "data", "must-fail", "further-edits")
+PLACES = ("src", "specs", "proofs", "data", "must-fail", "further-edits", "accepted-edits")
 
 
 class Sources:
