@@ -30,7 +30,7 @@ BENCH = re.compile(r"\bbench/run (oracle|rows|stress|measure|docs) (\w+)")
 COMMAND_OF_MAN = re.compile(r"^\.(?:It )?Cm (\w+)", re.MULTILINE)
 LINK = re.compile(r"\]\(([^)\s]+)\)")
 COMMENTS = {".rt": re.compile(r"//.*"), ".antt": re.compile(r"(?:^|(?<=\s))--.*", re.MULTILINE), ".py": re.compile(r"#.*"), ".sh": re.compile(r"#.*")}
-PLACES = ("src", "specs", "proofs", "data", "must-fail", "further-edits")
+PLACES = ("src", "specs", "proofs", "data", "must-fail", "further-edits", "accepted-edits")
 
 
 class Sources:

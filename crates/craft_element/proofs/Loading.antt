@@ -84,7 +84,7 @@ module _ (disk : MemDisk) (s : Contents) (status : Status) (fresh : IsFresh (mem
       users_by_why j.why (n.is ∙ ap (λ (x : UserOpenFault MemDisk). status_of_users_fault x) is) (λ bytes bad. (fails bytes bad).0 users_new)
   users_by_fault (users_fault.BadRecord i d) is = absurd ((subst (λ (x : UserOpenFault MemDisk). UsersFail mem_state (mem_state disk) s x) is (n.why tt)).0 users_new)
   users_by_fault (users_fault.Disk d) is = absurd (no_users_fault (n.is ∙ ap (λ (x : UserOpenFault MemDisk). status_of_users_fault x) is))
-  users_by_fault users_fault.NoMemory is = n.is ∙ ap (λ (x : UserOpenFault MemDisk). status_of_users_fault x) is
+  users_by_fault (users_fault.NoMemory d) is = n.is ∙ ap (λ (x : UserOpenFault MemDisk). status_of_users_fault x) is
 
   pub users_not_loaded : (stops later : ℕ) → NotLoaded stops later status
   users_not_loaded stops later = inl (users_by_fault n.fault refl)

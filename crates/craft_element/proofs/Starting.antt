@@ -14,7 +14,7 @@ use Rattle.user_admin.specs.declared.fault.UserOpenFault.{UserOpenFault}
 use Rattle.user_admin.specs.declared.fault.UserOpenFault.TheVariants as users_fault
 use Rattle.user_admin.specs.declared.state.UserState.{UserState}
 use Rattle.user_admin.specs.Histories.{Opening as UsersOpening}
-use Rattle.user_admin.specs.Openings.{Begins as UsersBegin, Fails as UsersFail, IsDiskErr, IsOpening as IsUsersOpening, disk_of as users_disk_of}
+use Rattle.user_admin.specs.Openings.{Begins as UsersBegin, Fails as UsersFail, IsDiskErr, IsOpening as IsUsersOpening, disk_left as users_disk_left}
 use Rattle.user_admin.specs.States.{opening_of as users_opening}
 use Rattle.xc_core.specs.declared.fault.OpenFault.{OpenFault}
 use Rattle.xc_core.specs.declared.fault.OpenFault.TheVariants as fault_of
@@ -38,7 +38,7 @@ disk_error : {D : Type 0} (f : UserOpenFault D) → status_of_users_fault f ≡ 
 disk_error (users_fault.Journal f) was = why_disk f.why was
 disk_error (users_fault.BadRecord i d) was = cc
 disk_error (users_fault.Disk d) was = tt
-disk_error users_fault.NoMemory was = cc
+disk_error (users_fault.NoMemory d) was = cc
 
 -- the journal's disk stood against it
 why_journal : (w : JournalWhy) → status_of_why w ≡ Disk → w ≡ why_of.Disk
@@ -123,13 +123,13 @@ module _ {D : Type 0} (disk_told : Type 0) (state : D → DiskState) where
 
   -- the users were taken up, on what their opening came to
   pub users_started : (failed : Type 0) → ((x : D) → CountsOn (state x)) → (disk : D) (s : Contents) (x : UserState D) (r : Result (UserState D) (UserOpenFault D)) → r ≡ Ok x → IsUsersOpening disk_told (state disk).reads_as s (users_opening state x) → UsersBegin disk_told state x
-      → IfSome (users_disk_of r) (λ d. HasCause (state disk).faults (state d).faults failed) → IfSome (users_disk_of r) (λ d. Spends opening_room (state disk) (state d)) → AreUsersStarted disk_told state disk s x
+      → HasCause (state disk).faults (state (users_disk_left r)).faults failed → Spends opening_room (state disk) (state (users_disk_left r)) → AreUsersStarted disk_told state disk s x
   users_started failed counts disk s x r is opening begins cause spends = record {
     opening = opening;
     begins = begins;
     taken = taken_of failed (state disk) (state x.journal.0) _ _ _ begins.faults begins.room begins.margin (counts x.journal.0)
-        (subst (λ (y : Result (UserState D) (UserOpenFault D)). IfSome (users_disk_of y) (λ d. HasCause (state disk).faults (state d).faults failed)) is cause)
-        (subst (λ (y : Result (UserState D) (UserOpenFault D)). IfSome (users_disk_of y) (λ d. Spends opening_room (state disk) (state d))) is spends);
+        (subst (λ (y : Result (UserState D) (UserOpenFault D)). HasCause (state disk).faults (state (users_disk_left y)).faults failed) is cause)
+        (subst (λ (y : Result (UserState D) (UserOpenFault D)). Spends opening_room (state disk) (state (users_disk_left y))) is spends);
   }
 
   -- or why they weren't
@@ -144,7 +144,7 @@ module _ {D : Type 0} (disk_told : Type 0) (state : D → DiskState) where
 
   -- memory was wanting
   pub users_no_memory : (disk : D) (s : Contents) → AreUsersNotStarted disk_told state disk s NoMemory
-  users_no_memory disk s = record { fault = users_fault.NoMemory; is = refl; why = λ _. tt; disk_failed = λ is. cc }
+  users_no_memory disk s = record { fault = users_fault.NoMemory disk; is = refl; why = λ _. tt; disk_failed = λ is. cc }
 
   -- the users beside a controller, by what a later call tells
   pub with_users : (opener_told : Type 0) (names : Named) (before mid after : Sources D) (s lent : Contents) (r : Result (UserState D) Status) → lent ≡ s → (opener_told → (n : List ℕ) → n ≢ names.journal → mid.journal_at n ≡ before.journal_at n) → before.opener.faults ≤ mid.opener.faults

@@ -41,7 +41,7 @@ users_fault_ends : {D : Type 0} (f : UserOpenFault D) → IsOfNoOpening (status_
 users_fault_ends (users_fault.Journal f) is = users_why_ends f.why is
 users_fault_ends (users_fault.BadRecord i d) is = is
 users_fault_ends (users_fault.Disk d) is = is
-users_fault_ends users_fault.NoMemory is = is
+users_fault_ends (users_fault.NoMemory d) is = is
 
 no_shelf_ends : (told : Type 0) (before after : OpenerState) (name : List ℕ) (s : Status) → NoShelf told before after name s → IsOfNoOpening s → ⊥
 no_shelf_ends told before after name Done not is = not

@@ -30,4 +30,4 @@ abbrev pub status_of_users_fault : {D : Type 0} → UserOpenFault D → Status
 status_of_users_fault (users.Journal f) = status_of_users_why f.why
 status_of_users_fault (users.BadRecord i d) = BadJournal (UsersRecord i)
 status_of_users_fault (users.Disk d) = Disk
-status_of_users_fault users.NoMemory = NoMemory
+status_of_users_fault (users.NoMemory d) = NoMemory

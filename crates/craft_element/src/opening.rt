@@ -211,6 +211,6 @@ fn users_not_started<D: Disk + Drop>(fault: UserOpenFault<D>) -> Status
         },
         UserOpenFault::BadRecord(number, _) => Status::BadJournal(JournalBad::UsersRecord(number)),
         UserOpenFault::Disk(_) => Status::Disk,
-        UserOpenFault::NoMemory => Status::NoMemory,
+        UserOpenFault::NoMemory(_) => Status::NoMemory,
     }
 }

@@ -21,6 +21,7 @@ use Rattle.journal_core.specs.Opens.{Finds, Founds, IsOpened, IsRefused, OpensNe
 use Rattle.journal_core.proofs.AreaSteps.{most_most}
 use Rattle.journal_core.proofs.BookMends.{kept_stands}
 use Rattle.journal_core.proofs.HeaderSteps.{never}
+use Rattle.journal_core.proofs.KeepSteps.{none_only}
 use Rattle.journal_core.proofs.StandSteps.{stands_once}
 use Rattle.shelf_file.specs.Contents.{Contents}
 use Rattle.user_admin.specs.declared.state.UserState.{UserState}
@@ -112,6 +113,13 @@ pub leaves_opened : (shelf : Contents) (a b c : DiskState) (result : Result Book
 leaves_opened shelf a b c result disk old new looks = record {
   found = λ not. looked_on a b c (λ x. a.may_leave x ⊎ StandsAlike shelf.shape a.reads_as x) disk (old not).any_moment looks;
   made = λ n settled. looked_on a b c (IsFresh (header shelf.shape (made_head shelf.equipped))) disk ((new n).any_moment settled) looks;
+}
+
+-- where none was called
+pub none_opened : (shelf : Contents) (a : DiskState) → IsDisk a → LeavesOpened shelf a a
+none_opened shelf a disk = record {
+  found = λ not. none_only a (λ x. a.may_leave x ⊎ StandsAlike shelf.shape a.reads_as x) disk (λ x image. inl image);
+  made = λ n settled. none_only a (IsFresh (header shelf.shape (made_head shelf.equipped))) disk (λ x image. inl (subst IsNew (sym (settled x image)) n));
 }
 
 listed_few : (at : Area) (n : ℕ) (file : List ℕ) → length (listed_in at n file) ≤ n

@@ -1,5 +1,5 @@
 -- A journal that was opened and whose records couldn't be taken: what holds of either fault.
-use Rattle.std.specs.Prelude.{IfSome, IsErrOf}
+use Rattle.std.specs.Prelude.{IsErrOf}
 use Rattle.std.proofs.Common.{◌≡◌, ◌≤◌, ℕ, arith, false, Result, Ok, Err, refl}
 use Rattle.dxc_causes.specs.Causes.{HasCause, Rose}
 use Rattle.dxc_disk.specs.Disks.{DiskState, IsDisk}
@@ -14,7 +14,7 @@ use Rattle.user_admin.specs.declared.fold.FoldFault.{FoldFault}
 use Rattle.user_admin.specs.declared.fold.FoldFault.TheVariants.{BadRecord, Disk}
 use Rattle.user_admin.specs.declared.state.UserState.{UserState}
 use Rattle.user_admin.specs.Journals.{Replays}
-use Rattle.user_admin.specs.Openings.{Fails, IsDiskErr, disk_of, read_fault}
+use Rattle.user_admin.specs.Openings.{Fails, IsDiskErr, disk_left, read_fault}
 use Rattle.user_admin.specs.Users.{Users, shelf_users}
 use Rattle.user_admin.proofs.Opened.{bad_record}
 
@@ -32,7 +32,7 @@ unread_fails state shelf head a b book users left looked disk whole mended still
 unread_fails state shelf head a b book users left looked disk whole mended still old new Disk bad = tt
 
 -- what holds of the disk holds of the one that is handed back
-pub unread_disk : {D : Type 0} (fault : FoldFault) (d : D) (P : D → Type 0) → P d → IfSome (disk_of (as_opened (read_fault fault d))) P
+pub unread_disk : {D : Type 0} (fault : FoldFault) (d : D) (P : D → Type 0) → P d → P (disk_left (as_opened (read_fault fault d)))
 unread_disk (BadRecord i) d P is = is
 unread_disk Disk d P is = is
 
@@ -40,7 +40,7 @@ unread_disk Disk d P is = is
 fault_on : (a b c : ℕ) (failed : Type 0) → a ≤ b → b ≤ c → (failed → Rose b c) → HasCause a c failed
 fault_on a b c failed called looked rose = record { later = omega (arith, called, looked); cause = λ f. let r = rose f in omega (arith, called, r) }
 
-pub unread_cause : {D : Type 0} (state : D → DiskState) (fault : FoldFault) (d : D) (a b : ℕ) → a ≤ b → b ≤ (state d).faults → (IsErrOf (as_taken fault) Disk → Rose b (state d).faults) → IfSome (disk_of (as_opened (read_fault fault d))) (λ x. HasCause a (state x).faults (IsDiskErr (as_opened (read_fault fault d))))
+pub unread_cause : {D : Type 0} (state : D → DiskState) (fault : FoldFault) (d : D) (a b : ℕ) → a ≤ b → b ≤ (state d).faults → (IsErrOf (as_taken fault) Disk → Rose b (state d).faults) → HasCause a (state (disk_left (as_opened (read_fault fault d)))).faults (IsDiskErr (as_opened (read_fault fault d)))
 unread_cause state (BadRecord i) d a b called looked rose = fault_on a b (state d).faults ⊥ called looked (λ none. absurd none)
 unread_cause state Disk d a b called looked rose = fault_on a b (state d).faults (Unit {0}) called looked (λ _. rose refl)
 

@@ -1,5 +1,5 @@
 -- What an opening of the users finds on its disk, and where a change asks the gate.
-use Rattle.std.specs.Prelude.{◌≡◌, ◌⊎◌, ℕ, List, [], ◌∷◌, length, Option, Some, None, Result, Ok, Err}
+use Rattle.std.specs.Prelude.{◌≡◌, ◌⊎◌, ℕ, List, [], ◌∷◌, length, Result, Ok, Err}
 use Rattle.dxc_disk.specs.Disks.{DiskState, IsSettled, LeavesOnly}
 use Rattle.dxc_model.specs.declared.cause.Cause.{Cause}
 use Rattle.dxc_model.specs.declared.cause.Cause.TheVariants.{DiskFault}
@@ -54,7 +54,7 @@ abbrev pub Fails : {D : Type 0} → (D → DiskState) → DiskState → Contents
 Fails state a shelf (Journal fault) = (bytes : List ℕ) → fault.why ≡ why.BadHeader bytes → ¬ IsNew a.reads_as × IsRefused shelf.shape a (state fault.disk) bytes
 Fails state a shelf (BadRecord i d) = ¬ IsNew a.reads_as × HasBadRecord a.reads_as (state d).reads_as shelf i
 Fails state a shelf (Disk d) = Unit {0}
-Fails state a shelf NoMemory = Unit {0}
+Fails state a shelf (NoMemory d) = Unit {0}
 
 -- why the records of a journal on this disk couldn't be taken
 abbrev pub read_fault : {D : Type 0} → FoldFault → D → UserOpenFault D
@@ -67,15 +67,15 @@ IsDiskErr (Ok s) = ⊥
 IsDiskErr (Err (Journal fault)) = fault.why ≡ why.Disk
 IsDiskErr (Err (BadRecord i d)) = ⊥
 IsDiskErr (Err (Disk d)) = Unit {0}
-IsDiskErr (Err NoMemory) = ⊥
+IsDiskErr (Err (NoMemory d)) = ⊥
 
--- the disk, where it is handed back
-abbrev pub disk_of : {D : Type 0} → Result (UserState D) (UserOpenFault D) → Option D
-disk_of (Ok s) = Some s.journal.0
-disk_of (Err (Journal fault)) = Some fault.disk
-disk_of (Err (BadRecord i d)) = Some d
-disk_of (Err (Disk d)) = Some d
-disk_of (Err NoMemory) = None
+-- the disk that an opening leaves: the one of the state's journal, or the one that is handed back
+abbrev pub disk_left : {D : Type 0} → Result (UserState D) (UserOpenFault D) → D
+disk_left (Ok s) = s.journal.0
+disk_left (Err (Journal fault)) = fault.disk
+disk_left (Err (BadRecord i d)) = d
+disk_left (Err (Disk d)) = d
+disk_left (Err (NoMemory d)) = d
 
 -- the state begins with the opening that it keeps, which is that of its disk, and no crash takes anything back
 pub record Begins {D : Type 0} (told : Type 0) (state : D → DiskState) (s : UserState D) : Type 0 where

@@ -10,5 +10,6 @@ pub enum UserOpenFault<D: Disk> {
     BadRecord(u32, D),
     /// The disk failed while the records were read. Only where its count of faults rose.
     Disk(D),
-    NoMemory,
+    /// Memory was wanting. The disk comes back.
+    NoMemory(D),
 }

@@ -6,7 +6,7 @@ ghost use Rattle.dxc_disk.specs.Disks.{IsSound, LeavesOnly, Spends};
 ghost use Rattle.journal_core.specs.Books.{IsReady};
 ghost use Rattle.user_admin.specs.declared.op.UserEntry.{UserEntry as Entry};
 ghost use Rattle.user_admin.specs.Histories.{Opening};
-ghost use Rattle.user_admin.specs.Openings.{Begins, Fails, IsDiskErr, IsOpening, LeavesOpened, asked_at, disk_of, read_fault};
+ghost use Rattle.user_admin.specs.Openings.{Begins, Fails, IsDiskErr, IsOpening, LeavesOpened, asked_at, disk_left, read_fault};
 ghost use Rattle.user_admin.specs.Spellable.{NamesUid};
 ghost use Rattle.user_admin.specs.Users.{shelf_users};
 ghost use Rattle.user_admin.specs.States.{ChangedIs, IsFileAfter, IsFileWithChange, StandsFor, opening_of};
@@ -129,13 +129,16 @@ impl<D: Disk + Drop> UserState<D> {
     pub fn open(alloc: Global, shelf: &Shelf, disk: D) -> Result<UserState<D>, UserOpenFault<D>>
         ensures ok { IfOk result (λ s. IsOpening D.told (D.state disk).reads_as shelf.now (opening_of D.state s) × Begins D.told D.state s) }
         ensures fails { D.told → IfErr result (Fails D.state (D.state disk) shelf.now) }
-        ensures any_moment { D.told → IfSome (disk_of result) (λ d. LeavesOpened shelf.now (D.state disk) (D.state d)) }
-        ensures cause { IfSome (disk_of result) (λ d. HasCause (D.state disk).faults (D.state d).faults (IsDiskErr result)) }
-        ensures room { IfSome (disk_of result) (λ d. Spends 131_081 (D.state disk) (D.state d)) }
+        // Of whatever disk is left, where memory was wanting too.
+        ensures any_moment { D.told
+            → LeavesOpened shelf.now (D.state disk) (D.state (disk_left result)) }
+        ensures cause { HasCause (D.state disk).faults (D.state (disk_left result)).faults
+            (IsDiskErr result) }
+        ensures room { Spends 131_081 (D.state disk) (D.state (disk_left result)) }
         ensures sound { IsSound 131_081 (D.state disk) → IsDiskErr result → ⊥ }
     {
         let Ok(mut lists) = lists_of(alloc, shelf) else {
-            return Err(UserOpenFault::NoMemory);
+            return Err(UserOpenFault::NoMemory(disk));
         };
         let sid = copy_of(shelf.sid());
         let mut journal = match Journal::open(disk, shelf.shape(), shelf.equipped()) {

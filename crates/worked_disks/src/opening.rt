@@ -34,7 +34,7 @@ fn refusal_text<D: Disk>(alloc: Global, fault: &UserOpenFault<D>) -> Result<Vec<
         }
         UserOpenFault::Journal(fault) => add_texts(&[word_of(&fault.why)], &mut text)?,
         UserOpenFault::Disk(_) => add_texts(&["disk"], &mut text)?,
-        UserOpenFault::NoMemory => add_texts(&["memory"], &mut text)?,
+        UserOpenFault::NoMemory(_) => add_texts(&["memory"], &mut text)?,
     }
     Ok(text)
 }

@@ -1,9 +1,8 @@
 use Rattle.std.proofs.Common.{ℕ, ◌≤◌, Err, Ok, sym, ◌∙◌, ap, subst, arith}
 use Rattle.std.specs.FinMap.{len}
-use Rattle.std.specs.Prelude.{IfSome}
 use Rattle.dxc_causes.specs.Causes.{HasCause}
 use Rattle.dxc_disk.specs.Disks.{Spends}
-use Rattle.dxc_disk.proofs.DiskSteps.{spends_more}
+use Rattle.dxc_disk.proofs.DiskSteps.{spends_more, spends_none}
 use Rattle.dxc_disk.proofs.LookSteps.{looks_same}
 use Rattle.dxc_num.specs.Dimensions.{Dimensions}
 use Rattle.journal_core.specs.Books.{listed}
@@ -14,10 +13,10 @@ use Rattle.user_admin.specs.Users.{Users, shelf_users}
 use Rattle.user_admin.specs.Changes.{most_users}
 use Rattle.user_admin.specs.Files.{FoldsTo}
 use Rattle.user_admin.specs.Journals.{Replays}
-use Rattle.user_admin.specs.Openings.{Fails, IsDiskErr, LeavesOpened, disk_of}
+use Rattle.user_admin.specs.Openings.{Fails, IsDiskErr, LeavesOpened, disk_left}
 use Rattle.user_admin.proofs.Described.{few_described}
 use Rattle.user_admin.proofs.FromFile.{described_users}
-use Rattle.user_admin.proofs.Opened.{bad_header, fold_room, fold_sound, leaves_opened, opened}
+use Rattle.user_admin.proofs.Opened.{bad_header, fold_room, fold_sound, leaves_opened, none_opened, opened}
 use Rattle.user_admin.proofs.Unread.{as_opened, as_taken, unread_cause, unread_disk, unread_fails, unread_sound}
 use Rattle.user_admin.proofs.state.UserState.open.Goals as goal
 
@@ -66,7 +65,7 @@ returns-in-Err-fold-clause-any_moment g c told =
     let a = g.D.Disk.state c.args.disk in
     let j = c.in-Ok-open.journal in
     let b = g.D.Disk.state j.0 in
-    subst (λ (e : UserOpenFault g.row.D.Denot). IfSome (disk_of (as_opened e)) (λ d. LeavesOpened c.args.shelf.now a (g.D.Disk.state d))) (sym c.unread.ensures)
+    subst (λ (e : UserOpenFault g.row.D.Denot). LeavesOpened c.args.shelf.now a (g.D.Disk.state (disk_left (as_opened e)))) (sym c.unread.ensures)
     (unread_disk c.in-Err-fold.fault c.fold.new.journal.0 (λ d. LeavesOpened c.args.shelf.now a (g.D.Disk.state d)) (leaves_opened c.args.shelf.now a b (g.D.Disk.state c.fold.new.journal.0) (Ok j.1) (g.met.D.Disk.is_disk j.0 told)
     (λ old. subst (λ (d : Dimensions). OpensOld d a b (Ok j.1)) c.shape.ensures (c.in-Ok-open.ensures.old told old))
     (λ new. subst (λ (w : Dimensions × ℕ). OpensNew w.0 (made_head w.1) a b (Ok j.1)) (λ k. (c.shape.ensures k, c.equipped.ensures.value k)) (c.in-Ok-open.ensures.is_new told new))
@@ -76,7 +75,7 @@ pub returns-in-Err-fold-clause-room : goal.returns-in-Err-fold-clause-room
 returns-in-Err-fold-clause-room g c =
     let a = g.D.Disk.state c.args.disk in
     let j = c.in-Ok-open.journal in
-    subst (λ (e : UserOpenFault g.row.D.Denot). IfSome (disk_of (as_opened e)) (λ d. Spends 131_081 a (g.D.Disk.state d))) (sym c.unread.ensures)
+    subst (λ (e : UserOpenFault g.row.D.Denot). Spends 131_081 a (g.D.Disk.state (disk_left (as_opened e)))) (sym c.unread.ensures)
     (unread_disk c.in-Err-fold.fault c.fold.new.journal.0 (λ d. Spends 131_081 a (g.D.Disk.state d)) (fold_room 65_545 a (g.D.Disk.state j.0) (g.D.Disk.state c.fold.new.journal.0) j.1 c.in-Ok-open.ensures.whole.0 c.in-Ok-open.ensures.room c.fold.ensures.room))
 
 pub returns-in-Err-fold-clause-sound : goal.returns-in-Err-fold-clause-sound
@@ -87,7 +86,7 @@ returns-in-Err-fold-clause-sound g c = λ sound.
 
 pub returns-in-Err-fold-clause-cause : goal.returns-in-Err-fold-clause-cause
 returns-in-Err-fold-clause-cause g c =
-    subst (λ (e : UserOpenFault g.row.D.Denot). IfSome (disk_of (as_opened e)) (λ d. HasCause (g.D.Disk.state c.args.disk).faults (g.D.Disk.state d).faults (IsDiskErr (as_opened e)))) (sym c.unread.ensures)
+    subst (λ (e : UserOpenFault g.row.D.Denot). HasCause (g.D.Disk.state c.args.disk).faults (g.D.Disk.state (disk_left (as_opened e))).faults (IsDiskErr (as_opened e))) (sym c.unread.ensures)
     (unread_cause g.D.Disk.state c.in-Err-fold.fault c.fold.new.journal.0 (g.D.Disk.state c.args.disk).faults (g.D.Disk.state c.in-Ok-open.journal.0).faults c.in-Ok-open.ensures.cause.later c.in-Err-fold.ensures.cause.later c.in-Err-fold.ensures.cause.cause)
 
 pub returns-clause-ok : goal.returns-clause-ok
@@ -125,3 +124,13 @@ pub returns-clause-room : goal.returns-clause-room
 returns-clause-room g c =
     let j = c.in-Ok-open.journal in
     fold_room 65_545 (g.D.Disk.state c.args.disk) (g.D.Disk.state j.0) (g.D.Disk.state c.fold.new.journal.0) j.1 c.in-Ok-open.ensures.whole.0 c.in-Ok-open.ensures.room c.fold.ensures.room
+
+-- before the journal was opened the disk is as it was
+pub returns-in_default-clause-any_moment : goal.returns-in_default-clause-any_moment
+returns-in_default-clause-any_moment g c told = none_opened c.args.shelf.now (g.D.Disk.state c.args.disk) (g.met.D.Disk.is_disk c.args.disk told)
+
+pub returns-in_default-clause-room : goal.returns-in_default-clause-room
+returns-in_default-clause-room g c = spends_none 131_081 (g.D.Disk.state c.args.disk)
+
+pub returns-in_default-clause-cause : goal.returns-in_default-clause-cause
+returns-in_default-clause-cause g c = record { later = omega arith; cause = λ failed. absurd failed }
