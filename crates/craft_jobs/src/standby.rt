@@ -25,7 +25,8 @@ pub fn run_standby<O: Opener, R: Wait>(
     rt: &R,
 ) -> Status
     ensures stands_by { StandsBy O.told O.Journal.told O.Listener.told O.Listener.Link.told O.Journal.state O.Listener.state O.Listener.Link.state O.Listener.Link.begun (O.journal_at opener.old) (O.listener_at opener.old) (O.state opener.old).faults (O.state opener.new).faults journal.now address.now result }
-    ensures asked { AskedFor (O.asked opener.old opener.new) (copy_named journal.now ∷ listener_named address.now ∷ []) (IsOfNoOpening result) }
+    ensures asked { AskedFor (O.asked opener.old opener.new)
+        (copy_named journal.now ∷ listener_named address.now ∷ []) (IsOfNoOpening result) }
 {
     let mut disk = match opener.copy(alloc, journal) {
         Opened::Open(disk) => disk,

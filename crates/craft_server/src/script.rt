@@ -24,7 +24,15 @@ pub(crate) fn run_script<O: Opener, K: Link, C: Clock, G: Gate, R: Wait>(
     gate: &mut G,
     rt: &R,
 ) -> Status
-    ensures opens { Opens O.told O.Journal.told O.Journal.state (named names.entry.shelf.now names.entry.journal.now) (sources (O.state opener.old) (O.journal_at opener.old) (G.stops gate.old)) (sources (O.state opener.new) (O.journal_at opener.new) (G.stops gate.new)) ((K.state terminal.new ≡ K.state terminal.old) × (C.coming clock.new ≡ C.coming clock.old)) (λ f o u. RanSession O.Journal.told K.told C.told K.begun (O.Journal.state f.disk) (O.Journal.state u.found.disk) SessionUser.Nobody f.shelf o u.opening (K.state terminal.old) (K.state terminal.new) (C.coming clock.old) (C.coming clock.new) (G.stops gate.old) (G.stops gate.new) result) result }
+    ensures opens { Opens O.told O.Journal.told O.Journal.state
+        (named names.entry.shelf.now names.entry.journal.now)
+        (sources (O.state opener.old) (O.journal_at opener.old) (G.stops gate.old))
+        (sources (O.state opener.new) (O.journal_at opener.new) (G.stops gate.new))
+        ((K.state terminal.new ≡ K.state terminal.old) × (C.coming clock.new ≡ C.coming clock.old))
+        (λ f o u. RanSession O.Journal.told K.told C.told K.begun (O.Journal.state f.disk)
+        (O.Journal.state u.found.disk) SessionUser.Nobody f.shelf o u.opening (K.state terminal.old)
+        (K.state terminal.new) (C.coming clock.old) (C.coming clock.new) (G.stops gate.old)
+        (G.stops gate.new) result) result }
     ensures asked { AskedFor (O.asked opener.old opener.new) (files_asked (named names.entry.shelf.now names.entry.journal.now)) (IsOfNoOpening result) }
 {
     let Element { controller, users } = match open(alloc, opener, names, WORKERS, gate) {

@@ -43,7 +43,10 @@ pub fn report<K: Link, C: Clock, D: Disk + Drop, U: Disk + Drop, R: Wait>(
     ensures users { desk.new.users ≡ desk.old.users }
     ensures reader { desk.new.reader ≡ desk.old.reader }
     ensures link { Writes K.told (K.state link.old) (K.state link.new) }
-    ensures goes { (first : AUser) → (k : LinkState) → (c : List Moment) → (b : Beginning) → (r : Reader) → (ahead : List ℕ) → IsAt b desk.old.seat desk.old.users.seat → Stands (language_for first (arc_value desk.old.shelf)) K.told C.told k (K.state link.old) c (C.coming clock.old) b (now desk.old) (is_some desk.old.attending.watch) More r ahead
+    ensures goes { (first : AUser) → (k : LinkState) → (c : List Moment) → (b : Beginning) →
+        (r : Reader) → (ahead : List ℕ) → IsAt b desk.old.seat desk.old.users.seat → Stands
+        (language_for first (arc_value desk.old.shelf)) K.told C.told k (K.state link.old) c
+        (C.coming clock.old) b (now desk.old) (is_some desk.old.attending.watch) More r ahead
         → Goes (language_for first (arc_value desk.old.shelf)) K.told C.told k (K.state link.new) c (C.coming clock.new) b (now desk.new) result false r ahead }
     ensures unstopped { result ≢ Progress.Stopped }
     ensures entered { (h : List Entry) → Saw desk.old.seat.opening desk.old.seat.seen h → Entered desk.old.seat.opening desk.old.seat.place NothingAsked false false h desk.new.seat.seen }
@@ -70,7 +73,10 @@ fn report_since<K: Link, C: Clock, D: Disk + Drop, U: Disk + Drop, R: Wait>(
     ensures users { desk.new.users ≡ desk.old.users }
     ensures reader { desk.new.reader ≡ desk.old.reader }
     ensures link { Writes K.told (K.state link.old) (K.state link.new) }
-    ensures goes { (first : AUser) → (k : LinkState) → (c : List Moment) → (b : Beginning) → (r : Reader) → (ahead : List ℕ) → IsAt b desk.old.seat desk.old.users.seat → Stands (language_for first (arc_value desk.old.shelf)) K.told C.told k (K.state link.old) c (C.coming clock.old) b (now desk.old) (is_some desk.old.attending.watch) More r ahead
+    ensures goes { (first : AUser) → (k : LinkState) → (c : List Moment) → (b : Beginning) →
+        (r : Reader) → (ahead : List ℕ) → IsAt b desk.old.seat desk.old.users.seat → Stands
+        (language_for first (arc_value desk.old.shelf)) K.told C.told k (K.state link.old) c
+        (C.coming clock.old) b (now desk.old) (is_some desk.old.attending.watch) More r ahead
         → Goes (language_for first (arc_value desk.old.shelf)) K.told C.told k (K.state link.new) c (C.coming clock.new) b (now desk.new) result false r ahead }
     ensures unstopped { result ≢ Progress.Stopped }
     ensures entered { (h : List Entry) → Saw desk.old.seat.opening desk.old.seat.seen h → Entered desk.old.seat.opening desk.old.seat.place NothingAsked false false h desk.new.seat.seen }

@@ -45,7 +45,10 @@ fn serve_piece<K: Link, C: Clock, G: Gate, D: Disk + Drop, U: Disk + Drop, R: Wa
     ensures seat { IsSameSeat desk.old.seat desk.new.seat }
     ensures users { IsSameUserSeat desk.old.users.seat desk.new.users.seat }
     ensures link { Writes K.told (K.state link.old) (K.state link.new) }
-    ensures goes { (first : AUser) → (k : LinkState) → (c : List Moment) → (b : Beginning) → IsAt b desk.old.seat desk.old.users.seat → Stands (language_for first (arc_value desk.old.shelf)) K.told C.told k (K.state link.old) c (C.coming clock.old) b (now desk.old) false More desk.old.reader piece.now
+    ensures goes { (first : AUser) → (k : LinkState) → (c : List Moment) → (b : Beginning) → IsAt b
+        desk.old.seat desk.old.users.seat → Stands (language_for first (arc_value desk.old.shelf))
+        K.told C.told k (K.state link.old) c (C.coming clock.old) b (now desk.old) false More
+        desk.old.reader piece.now
         → Goes (language_for first (arc_value desk.old.shelf)) K.told C.told k (K.state link.new) c (C.coming clock.new) b (now desk.new) result false desk.new.reader [] }
     ensures stopped { result ≡ Progress.Stopped → Rose (G.stops gate.old) (G.stops gate.new) }
     ensures unstopped { result ≢ Progress.Stopped → G.stops gate.new ≡ G.stops gate.old }
@@ -79,7 +82,10 @@ fn serve_unit<K: Link, C: Clock, G: Gate, D: Disk + Drop, U: Disk + Drop, R: Wai
     ensures users { IsSameUserSeat desk.old.users.seat desk.new.users.seat }
     ensures reader { desk.new.reader ≡ desk.old.reader }
     ensures link { Writes K.told (K.state link.old) (K.state link.new) }
-    ensures goes { (first : AUser) → (k : LinkState) → (c : List Moment) → (b : Beginning) → (ahead : List ℕ) → IsAt b desk.old.seat desk.old.users.seat → Stands (language_for first (arc_value desk.old.shelf)) K.told C.told k (K.state link.old) c (C.coming clock.old) b (now desk.old) false kind desk.old.reader ahead
+    ensures goes { (first : AUser) → (k : LinkState) → (c : List Moment) → (b : Beginning) →
+        (ahead : List ℕ) → IsAt b desk.old.seat desk.old.users.seat → Stands
+        (language_for first (arc_value desk.old.shelf)) K.told C.told k (K.state link.old) c
+        (C.coming clock.old) b (now desk.old) false kind desk.old.reader ahead
         → Goes (language_for first (arc_value desk.old.shelf)) K.told C.told k (K.state link.new) c (C.coming clock.new) b (now desk.new) result false desk.old.reader ahead }
     ensures stopped { result ≡ Progress.Stopped → Rose (G.stops gate.old) (G.stops gate.new) }
     ensures unstopped { result ≢ Progress.Stopped → G.stops gate.new ≡ G.stops gate.old }
@@ -108,7 +114,10 @@ fn attend<K: Link, C: Clock, G: Gate, D: Disk + Drop, U: Disk + Drop, R: Wait>(
     ensures users { IsSameUserSeat desk.old.users.seat desk.new.users.seat }
     ensures reader { desk.new.reader ≡ desk.old.reader }
     ensures link { Writes K.told (K.state link.old) (K.state link.new) }
-    ensures goes { (first : AUser) → (k : LinkState) → (c : List Moment) → (b : Beginning) → (ahead : List ℕ) → IsAt b desk.old.seat desk.old.users.seat → Stands (language_for first (arc_value desk.old.shelf)) K.told C.told k (K.state link.old) c (C.coming clock.old) b (now desk.old) false kind desk.old.reader ahead
+    ensures goes { (first : AUser) → (k : LinkState) → (c : List Moment) → (b : Beginning) →
+        (ahead : List ℕ) → IsAt b desk.old.seat desk.old.users.seat → Stands
+        (language_for first (arc_value desk.old.shelf)) K.told C.told k (K.state link.old) c
+        (C.coming clock.old) b (now desk.old) false kind desk.old.reader ahead
         → Goes (language_for first (arc_value desk.old.shelf)) K.told C.told k (K.state link.new) c (C.coming clock.new) b (now desk.new) result false desk.old.reader ahead }
     ensures stopped { result ≡ Progress.Stopped → Rose (G.stops gate.old) (G.stops gate.new) }
     ensures unstopped { result ≢ Progress.Stopped → G.stops gate.new ≡ G.stops gate.old }
@@ -253,8 +262,13 @@ fn serve<K: Link, C: Clock, G: Gate, D: Disk + Drop, U: Disk + Drop, R: Wait>(
     ensures shelf { desk.new.shelf ≡ desk.old.shelf }
     ensures seat { IsSameSeat desk.old.seat desk.new.seat }
     ensures users { IsSameUserSeat desk.old.users.seat desk.new.users.seat }
-    ensures session { IsServed (language_for desk.old.attending.user (arc_value desk.old.shelf)) K.told C.told (K.state link.old) (K.state link.new) (C.coming clock.old) (C.coming clock.new) desk.old.seat desk.new.seat desk.old.users.seat desk.new.users.seat result }
-    ensures prompt { IsPrompt (language_for desk.old.attending.user (arc_value desk.old.shelf)) K.begun K.told C.told (K.state link.old) (K.state link.new) (C.coming clock.old) desk.old.seat desk.old.users.seat }
+    ensures session { IsServed (language_for desk.old.attending.user (arc_value desk.old.shelf))
+        K.told C.told (K.state link.old) (K.state link.new) (C.coming clock.old)
+        (C.coming clock.new) desk.old.seat desk.new.seat desk.old.users.seat desk.new.users.seat
+        result }
+    ensures prompt { IsPrompt (language_for desk.old.attending.user (arc_value desk.old.shelf))
+        K.begun K.told C.told (K.state link.old) (K.state link.new) (C.coming clock.old)
+        desk.old.seat desk.old.users.seat }
     ensures end { (result ≡ SessionEnd.End) ↔ IsTrue (K.state link.new).ended }
     ensures all_read { K.told → result ≡ SessionEnd.End → (K.state link.new).left ≡ [] }
     ensures read_fault { result ≡ SessionEnd.ReadFault → Rose (K.state link.old).read_faults (K.state link.new).read_faults }
