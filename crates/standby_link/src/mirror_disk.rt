@@ -38,8 +38,7 @@ impl<D: Disk, K: Link> MirrorDisk<D, K> {
         ensures line { IsSomeAnd result.line (λ l. Joins D.told K.told (D.state disk) (D.state result.disk) (K.state link) (line_at K.state l)) }
         ensures step { D.told → IsSmall 0 0 (D.state disk).reads_as → length (pieces 0 (D.state disk).reads_as) + 1 < 2 ^ 64
             → IsSomeAnd result.line (λ l. TookHaves D.told K.told (first_line (K.state link)) (mirrored (D.state result.disk) (line_at K.state l)) (joining (D.state disk).reads_as)) }
-        ensures hung_up { IsSomeAnd result.line (λ l. IsHungUp None l.lost (K.hung_up link)
-            (K.hung_up l.link)) }
+        ensures hung_up { IsSomeAnd result.line (λ l. IsHungUp None l.lost (K.hung_up link) (K.hung_up l.link)) }
     {
         let mut disk = disk;
         let mut line = Line::new(link);
@@ -103,8 +102,7 @@ impl<D: Disk, K: Link> Disk for MirrorDisk<D, K> {
         ensures write { IsWrite D.told (D.state self.old.disk) (D.state self.new.disk) result at from.now }
         ensures tells { Both self.old.line self.new.line (λ l m. TellsWrite K.told (line_at K.state l) (line_at K.state m) at from.now result) }
         ensures steps { Both self.old.line self.new.line (λ l m. StepsByWrite D.told (mirrored (D.state self.old.disk) (line_at K.state l)) (mirrored (D.state self.new.disk) (line_at K.state m)) at from.now result) }
-        ensures hung_up { Both self.old.line self.new.line
-            (λ l m. IsHungUp l.lost m.lost (K.hung_up l.link) (K.hung_up m.link)) }
+        ensures hung_up { Both self.old.line self.new.line (λ l m. IsHungUp l.lost m.lost (K.hung_up l.link) (K.hung_up m.link)) }
     {
         let written = self.disk.write_at(at, from);
         tell_write(&mut self.line, written, at, from);
@@ -115,8 +113,7 @@ impl<D: Disk, K: Link> Disk for MirrorDisk<D, K> {
         ensures sync { IsSync D.told (D.state self.old.disk) (D.state self.new.disk) result }
         ensures tells { Both self.old.line self.new.line (λ l m. TellsSync K.told (line_at K.state l) (line_at K.state m) result) }
         ensures steps { Both self.old.line self.new.line (λ l m. StepsBySync D.told K.told (mirrored (D.state self.old.disk) (line_at K.state l)) (mirrored (D.state self.new.disk) (line_at K.state m)) result) }
-        ensures hung_up { Both self.old.line self.new.line
-            (λ l m. IsHungUp l.lost m.lost (K.hung_up l.link) (K.hung_up m.link)) }
+        ensures hung_up { Both self.old.line self.new.line (λ l m. IsHungUp l.lost m.lost (K.hung_up l.link) (K.hung_up m.link)) }
     {
         let synced = self.disk.sync();
         tell_sync(&mut self.line, synced);
@@ -131,10 +128,8 @@ fn tell_write<K: Link>(
     at: u64,
     from: &[u8],
 )
-    ensures tells { Both line.old line.new (λ l m. TellsWrite K.told (line_at K.state l)
-        (line_at K.state m) at from.now written) }
-    ensures hung_up { Both line.old line.new (λ l m. IsHungUp l.lost m.lost (K.hung_up l.link)
-        (K.hung_up m.link)) }
+    ensures tells { Both line.old line.new (λ l m. TellsWrite K.told (line_at K.state l) (line_at K.state m) at from.now written) }
+    ensures hung_up { Both line.old line.new (λ l m. IsHungUp l.lost m.lost (K.hung_up l.link) (K.hung_up m.link)) }
 {
     let Some(line) = line else { return };
     match written {
@@ -145,10 +140,8 @@ fn tell_write<K: Link>(
 
 // Sends a sync and waits for its Have, if there is a standby.
 fn tell_sync<K: Link>(line: &mut Option<Line<K>>, synced: Result<(), DiskFault>)
-    ensures tells { Both line.old line.new (λ l m. TellsSync K.told (line_at K.state l)
-        (line_at K.state m) synced) }
-    ensures hung_up { Both line.old line.new (λ l m. IsHungUp l.lost m.lost (K.hung_up l.link)
-        (K.hung_up m.link)) }
+    ensures tells { Both line.old line.new (λ l m. TellsSync K.told (line_at K.state l) (line_at K.state m) synced) }
+    ensures hung_up { Both line.old line.new (λ l m. IsHungUp l.lost m.lost (K.hung_up l.link) (K.hung_up m.link)) }
 {
     let Some(line) = line else { return };
     match synced {
@@ -166,8 +159,7 @@ fn send_file<D: Disk, K: Link>(disk: &mut D, line: &mut Line<K>)
     ensures room { D.told → Spends (1 + length (D.state disk.old).reads_as)
         (D.state disk.old) (D.state disk.new) }
     ensures ear { line.new.ear ≡ line.old.ear }
-    ensures hung_up { IsHungUp line.old.lost line.new.lost (K.hung_up line.old.link)
-        (K.hung_up line.new.link) }
+    ensures hung_up { IsHungUp line.old.lost line.new.lost (K.hung_up line.old.link) (K.hung_up line.new.link) }
     ensures sends { D.told → IsSmall 0 0 (D.state disk.old).reads_as → SendsFile K.told (D.state disk.old) (D.state disk.new) (K.state line.old.link) (line_at K.state line.new) }
 {
     let Ok(length) = disk.length() else {
