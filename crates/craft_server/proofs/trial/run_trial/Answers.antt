@@ -5,7 +5,7 @@ use Rattle.craft_server.proofs.Trying.{if_in_memory, tried_by}
 use Rattle.craft_server.proofs.trial.run_trial.Goals as goal
 
 pub trial_opened-requires : goal.trial_opened-requires
-trial_opened-requires g c = if_in_memory c.args.shape c.in-Ok.shelf c.memory_element-opened.result (g.G.Gate.stops c.args.gate.now) (g.G.Gate.stops c.memory_element-opened.new.gate) c.in-Ok.ensures c.memory_element-opened.ensures.started
+trial_opened-requires g c = record { element = if_in_memory c.args.shape c.in-Ok.shelf c.memory_element-opened.result (g.G.Gate.stops c.args.gate.now) (g.G.Gate.stops c.memory_element-opened.new.gate) c.in-Ok.ensures c.memory_element-opened.ensures.started }
 
 pub returns-in_default : goal.returns-in_default
 returns-in_default g c = inl (record { terminal = refl; clock = refl; why = inl refl })

@@ -7,7 +7,7 @@ use Rattle.craft_server.proofs.Loading.{on_started}
 use Rattle.craft_server.proofs.trial.trial_opened.Goals as goal
 
 pub trial_on-requires : goal.trial_on-requires
-trial_on-requires g c = on_started (IsTrialElement g.D.Disk.told g.D.Disk.state c.args.shape) c.args.opened c.in-Ok.element c.in-Ok.is c.requires.element
+trial_on-requires g c = record { element = on_started (IsTrialElement g.D.Disk.told g.D.Disk.state c.args.shape) c.args.opened c.in-Ok.element c.in-Ok.is c.requires.element }
 
 pub returns-in-Ok : goal.returns-in-Ok
 returns-in-Ok g c =
