@@ -1,6 +1,7 @@
 -- What a file stands for that a primary's disk read at a moment of its commands.
-use Rattle.std.proofs.Common.{◌≡◌, ◌⊎◌, inl, inr, ⊎_elim, ℕ, zero, suc, ◌-◌, ◌≤◌, ◌<◌, true, false, List, [], ◌∷◌, ◌++◌, length, take, Option, Some, None, IfSome, nat_eq, if◌then◌else◌, slice_get, refl, sym, ◌∙◌, ap, subst, arith, length-append}
+use Rattle.std.proofs.Common.{Bool, ◌≡◌, ◌⊎◌, inl, inr, ⊎_elim, ℕ, zero, suc, ◌-◌, ◌≤◌, ◌<◌, true, false, List, [], ◌∷◌, ◌++◌, length, take, Option, Some, None, IfSome, nat_eq, if◌then◌else◌, slice_get, refl, sym, ◌∙◌, ap, subst, arith, length-append}
 use Rattle.std.proofs.lemmas.Bool.{cases_lt}
+use Rattle.std.proofs.Math.Dec.{eqb-suc-zero}
 use Rattle.dxc_disk.specs.Disks.{DiskState, IsDisk, LeavesOnly}
 use Rattle.dxc_num.specs.Dimensions.{Dimensions}
 use Rattle.dxc_model.specs.declared.op.Op.{Op}
@@ -169,15 +170,15 @@ module _ {D : Type 0} (told : Type 0) (state : D → DiskState) (t : told) (disk
 
 pub standbys_stand : {D : Type 0} (told : Type 0) (state : D → DiskState) → ((d : D) → told → IsDisk (state d)) → StandbysStand told state
 standbys_stand told state disk t d b cs p are pair unseen keeps is = find told state t (λ x. disk x t) d b cs p are pair.primary.answered keeps.moment pair.standby.file keeps.not_before
+    (ap (λ (l : List (List ℕ)). slice_get l keeps.moment) (sym is) ∙ get_more (moments pair.primary) unseen keeps.moment pair.standby.file keeps.read)
 
 stands_by : {A : Type 0} (P : A → Type 0) (x : A) (n : ℕ) → (0 < n → P x) → IfSome (if nat_eq n 0 then None else Some x) P
 stands_by P x zero holds = tt
-stands_by P x (suc n) holds = holds (omega arith)
+stands_by P x (suc n) holds = subst (λ (b : Bool). IfSome (if b then None else Some x) P) (sym (eqb-suc-zero n)) (holds (omega arith))
 
 pub copies_stand : {D : Type 0} (told : Type 0) (state : D → DiskState) → ((d : D) → told → IsDisk (state d)) → CopiesStand told state
 copies_stand told state disk t d b cs p are pair unseen keeps is =
     stands_by (StandsForFirst state b cs p.doubt pair.primary.answered) pair.standby.file pair.standby.synced (λ some. standbys_stand told state disk t d b cs p are pair unseen (keeps some) is)
-    (ap (λ (l : List (List ℕ)). slice_get l keeps.moment) (sym is) ∙ get_more (moments pair.primary) unseen keeps.moment pair.standby.file keeps.read)
 
 -- what a start says of its state
 module _ {D : Type 0} (told : Type 0) (state : D → DiskState) (s : State D) (begins : Begins told state s) where
