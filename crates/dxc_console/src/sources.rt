@@ -1,2 +1,2 @@
 /// SHA-256 of the sources that the program is proved from, this file left out, in hexadecimal. `tools/release` writes it.
-pub const SOURCES: &str = "0aeab3f396bb88a93293264e374587228483ba8574e0ab62aa19f11b7c292e06";
+pub const SOURCES: &str = "ea846e84a274f08811ba7d3f18bb8f64601c26a802e416e7b19040774ff45572";
