@@ -172,6 +172,8 @@ impl<
 
     ghost listener_for = { λ _ _. Unit {0} };
 
+    ghost gone = { λ _. Unit {0} };
+
     fn shelf(&mut self, alloc: Global, name: &str, into: &mut Vec<u8>) -> Opened<()> {
         match append_file(&self.system, name, into) {
             Ok(()) => Opened::Open(()),
@@ -243,4 +245,6 @@ impl<
         };
         HostGate::new(changes)
     }
+
+    fn let_go<T: Drop>(&self, _left: T) {}
 }

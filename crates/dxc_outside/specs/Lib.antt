@@ -14,3 +14,4 @@ pub mod Openings
 pub mod Pieces
 pub mod Spawners
 pub mod Threads
+pub mod Values

@@ -114,6 +114,8 @@ impl Opener for RowOpener {
 
     ghost listener_for = { λ _ _. Unit {0} };
 
+    ghost gone = { λ _. Unit {0} };
+
     fn shelf(&mut self, _alloc: Global, _name: &str, into: &mut Vec<u8>) -> Opened<()> {
         match self.opened(Some(())) {
             Opened::Open(()) => {}
@@ -162,4 +164,6 @@ impl Opener for RowOpener {
             None => MemGate::new(Vec::new(self.alloc)),
         }
     }
+
+    fn let_go<T: Drop>(&self, _left: T) {}
 }

@@ -78,6 +78,8 @@ impl Opener for SessionsOpener {
 
     ghost listener_for = { λ _ _. Unit {0} };
 
+    ghost gone = { λ _. Unit {0} };
+
     fn shelf(&mut self, _alloc: Global, _name: &str, into: &mut Vec<u8>) -> Opened<()> {
         match into.extend_from_slice(read_part(&self.shelf)) {
             Ok(()) => Opened::Open(()),
@@ -108,4 +110,6 @@ impl Opener for SessionsOpener {
     fn gate(&mut self) -> CuedGate {
         self.gates.pop().unwrap_or(CuedGate::new(None))
     }
+
+    fn let_go<T: Drop>(&self, _left: T) {}
 }
