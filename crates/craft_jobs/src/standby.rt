@@ -2,9 +2,10 @@
 ghost use Rattle.std.specs.Prelude.{◌≡◌, ◌∷◌, []};
 ghost use Rattle.dxc_outside.specs.Asked.{AskedFor, journal_named, listener_named};
 ghost use Rattle.craft_jobs.specs.Missing.{IsOfNoOpening};
-ghost use Rattle.craft_jobs.specs.Standbys.{IsFirst, RanStandby, StandsBy, status_of_standby};
+ghost use Rattle.craft_jobs.specs.Standbys.{IsFirst, RanStandby, Stands, status_of_standby, status_of_stood};
 ghost use Rattle.standby_link.specs.Serves.{IsPrompt};
 
+use crate::stood::Stood;
 use craft_words::Status;
 use dxc_disk::Disk;
 use dxc_outside::{Came, Link, Listener, Opened, Opener};
@@ -23,24 +24,41 @@ pub fn run_standby<O: Opener, R: Wait>(
     journal: &str,
     address: &str,
     rt: &R,
-) -> Status
-    ensures stands_by { StandsBy O.told O.Journal.told O.Listener.told O.Listener.Link.told O.Journal.state O.Listener.state O.Listener.Link.state O.Listener.Link.begun (O.journal_at opener.old) (O.listener_at opener.old) (O.state opener.old).faults (O.state opener.new).faults journal.now address.now result }
-    ensures asked { AskedFor (O.asked opener.old opener.new) (journal_named journal.now ∷ listener_named address.now ∷ []) (IsOfNoOpening result) }
+) -> Stood<O::Journal, O::Listener, <O::Listener as Listener>::Link>
+    ensures stands { Stands O.told O.Journal.told O.Listener.told O.Listener.Link.told O.Journal.state O.Listener.state O.Listener.Link.state O.Listener.Link.begun (O.journal_at opener.old) (O.listener_at opener.old) (O.state opener.old).faults (O.state opener.new).faults journal.now address.now result }
+    ensures asked { AskedFor (O.asked opener.old opener.new) (journal_named journal.now ∷ listener_named address.now ∷ []) (IsOfNoOpening (status_of_stood result)) }
 {
     let mut disk = match opener.journal(alloc, journal) {
         Opened::Open(disk) => disk,
-        Opened::Failed => return Status::CannotOpen,
-        Opened::NoMemory => return Status::NoMemory,
+        Opened::Failed => return Stood::NoJournal(Status::CannotOpen),
+        Opened::NoMemory => return Stood::NoJournal(Status::NoMemory),
     };
     let mut listener = match opener.listener(alloc, address) {
         Opened::Open(listener) => listener,
-        Opened::Failed => return Status::CannotOpen,
-        Opened::NoMemory => return Status::NoMemory,
+        Opened::Failed => return Stood::NoListener(disk, Status::CannotOpen),
+        Opened::NoMemory => return Stood::NoListener(disk, Status::NoMemory),
     };
     match first_link(&mut listener, rt) {
-        Came::Link(mut link) => after_standby(stand_by(&mut link, &mut disk)),
-        Came::End => Status::Done,
-        Came::Failed => Status::CannotOpen,
+        Came::Link(mut link) => {
+            let end = stand_by(&mut link, &mut disk);
+            Stood::Served(disk, listener, link, end)
+        }
+        Came::End => Stood::Unmet(disk, listener),
+        Came::Failed => Stood::Unheard(disk, listener),
+    }
+}
+
+impl<D: Drop, L: Drop, K: Drop> Stood<D, L, K> {
+    /// The status that the program ends with.
+    pub fn status(self) -> Status
+        ensures { result ≡ status_of_stood self }
+    {
+        match self {
+            Stood::NoJournal(status) | Stood::NoListener(_, status) => status,
+            Stood::Unmet(_, _) => Status::Done,
+            Stood::Unheard(_, _) => Status::CannotOpen,
+            Stood::Served(_, _, _, end) => after_standby(end),
+        }
     }
 }
 

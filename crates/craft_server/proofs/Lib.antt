@@ -6,3 +6,4 @@ pub mod Scripting
 pub mod Loading
 pub mod Mirroring
 pub mod Wording
+pub mod Running

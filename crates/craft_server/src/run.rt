@@ -79,7 +79,7 @@ where
         }
         Line::Serve { .. } => serve_line(alloc, opener, line, gate, spawner, rt),
         Line::Standby { journal, address } => {
-            run_standby(alloc, opener, journal.text(), address.text(), rt)
+            run_standby(alloc, opener, journal.text(), address.text(), rt).status()
         }
         Line::Load { number } => run_load(alloc, *number, terminal, gate, rt),
     }

@@ -1,5 +1,5 @@
 //! Sessions and frame workers, side by side.
-ghost use Rattle.std.specs.Prelude.{◌≡◌, ◌↔◌, ◌≤◌, IsTrue, ◌+◌, ◌++◌, ℕ, length, vec_len, None, IsSome};
+ghost use Rattle.std.specs.Prelude.{◌≡◌, ◌↔◌, ◌≤◌, IsTrue, ◌+◌, ◌++◌, ℕ, List, length, vec_len, None, IsSome};
 ghost use Rattle.std.specs.Arc.{arc_value};
 ghost use Rattle.dxc_outside.specs.Asked.{AskedFor};
 ghost use Rattle.dxc_outside.specs.Jobs.{any_jobs};
@@ -10,10 +10,17 @@ ghost use Rattle.user_admin.specs.States.{opening_of as users_opening};
 ghost use Rattle.xc_core.specs.Openings.{Begins};
 ghost use Rattle.xc_core.specs.States.{opening_of};
 ghost use Rattle.craft_session.specs.Places.{IsAtOpening};
+ghost use Rattle.craft_session.specs.Seats.{PlaceAt};
+ghost use Rattle.craft_jobs.specs.Begun.{AreRan};
+ghost use Rattle.craft_jobs.specs.Framed.{RanFrames};
+ghost use Rattle.craft_jobs.specs.Leaves.{left_by};
 ghost use Rattle.craft_jobs.specs.Missing.{IsOfNoOpening};
+ghost use Rattle.craft_jobs.specs.declared.frames_left.FramesLeft.{FramesLeft};
 ghost use Rattle.craft_element.specs.Openings.{Opens, files_asked, named, sources};
 ghost use Rattle.craft_element.specs.Peers.{Mirrors};
 ghost use Rattle.craft_server.specs.Askings.{line_asked, site_asked};
+ghost use Rattle.craft_server.specs.Callers.{RanSessions};
+ghost use Rattle.craft_server.specs.Served.{RanAt};
 ghost use Rattle.craft_server.specs.Serving.{HandedJobs, IsServe, IsServing, ServedSite, jobs_told, named_in, peer_of, site_at, site_in};
 
 use crate::jobs::session_jobs;
@@ -43,6 +50,7 @@ fn run_jobs<
     P: Spawner,
     R: Wait,
 >(
+    alloc: Global,
     spawner: &mut P,
     workers: Vec<FrameJob<N, G>>,
     sessions: Vec<SessionJob<D, U, L, C, G>>,
@@ -52,8 +60,11 @@ where
     L::Link: Send + 'static,
     ensures serving { (faults : ℕ) → (later : ℕ) → IsServing (vec_len workers + vec_len sessions) faults later (P.state spawner.old) (P.state spawner.new) result }
     ensures handed { result ≡ Status.Done → P.handed spawner.old spawner.new (any_jobs workers.items ++ any_jobs sessions.items) }
+    // Each worker has carried its frames in its seat, and each session's place is left as its sessions left it.
+    ensures carried { result ≡ Status.Done → (lefts : List FramesLeft) × AreRan (left_by (RanFrames N.told N.state G.stops G.asked)) workers.items lefts }
+    ensures served { result ≡ Status.Done → (places : List PlaceAt) × AreRan (left_by (RanAt (C.coming) (RanSessions D.told C.told L.Link.told L.Link.state L.Link.begun G.stops G.asked L.told L.state))) sessions.items places }
 {
-    match run_all(spawner, workers, sessions, rt) {
+    match run_all(alloc, spawner, workers, sessions, rt).started {
         Started::Running => Status::Done,
         Started::Failed => Status::NoThread,
     }
@@ -111,7 +122,7 @@ where
         Ok(jobs) => jobs,
         Err(status) => return status,
     };
-    run_jobs(spawner, workers, sessions, rt)
+    run_jobs(alloc, spawner, workers, sessions, rt)
 }
 
 // Serves the site with the controller that is opened on these names.

@@ -101,10 +101,10 @@ returns-in-Standby-clause-run g c = λ fit.
     let at = λ (opener : OpenerState) (disks : List ℕ → Option g.row.O-Journal.Denot). lent (sources opener disks (g.G.Gate.stops c.args.gate.now)) (g.K.Link.state c.args.terminal.now) (g.C.Clock.coming c.args.clock.now) (g.P.Spawner.state c.args.spawner.now) in
     let before = at (g.O.Opener.state c.args.opener.now) (g.O.Opener.journal_at c.args.opener.now) in
     let after = at (g.O.Opener.state c.run_standby.new.opener) (g.O.Opener.journal_at c.run_standby.new.opener) in
-    let status = c.run_standby.result in
+    let status = c.status.result in
     let listeners = g.O.Opener.listener_at c.args.opener.now in
     let by = λ (journal address : List ℕ). StandsBy told.opener told.disk told.listener told.link state listener link told.link_begun before.sources.journal_at listeners before.sources.opener.faults after.sources.opener.faults journal address status in
-    let stands : by c.in-Standby.journal c.in-Standby.address = subst (λ (n : List ℕ). by n c.in-Standby.address) c.text.ensures (subst (λ (n : List ℕ). by c.text.result.now n) c.text-in-Standby.ensures c.run_standby.ensures.stands_by) in
+    let stands : by c.in-Standby.journal c.in-Standby.address = subst (λ (n : List ℕ). by n c.in-Standby.address) c.text.ensures (subst (λ (n : List ℕ). by c.text.result.now n) c.text-in-Standby.ensures (c.run_standby.result, c.status.ensures, c.run_standby.ensures.stands)) in
     subst (λ (l : Line). IsRunOf told jobs state g.O.Peer.Link.state listener link listeners l before after status) (sym c.in-Standby.is) (record { stands_by = stands; untouched = record { terminal = refl; clock = refl; spawner = refl }; gate = refl })
 
 pub returns-in-Script-clause-words : goal.returns-in-Script-clause-words
@@ -138,7 +138,7 @@ returns-in-Serve-clause-words g c = λ fit bad.
     (λ some. mirrors_words g.O.Journal.Disk.told g.O.Peer.Link.told g.O.Journal.Disk.state g.O.Peer.Link.state g.O.Opener.told (named_in line) before after (q ≡ p) M status (λ s o u ran. other ran.serving) (c.serve_line.ensures.mirrored (subst IsServe (sym c.in-Serve.is) (subst IsInRange c.in-Serve.is fit)) (subst IsSome (sym (ap peer_of c.in-Serve.is)) some)) bad)
 
 pub returns-in-Standby-clause-words : goal.returns-in-Standby-clause-words
-returns-in-Standby-clause-words g c = λ fit bad. stands_words _ _ _ _ _ _ _ _ _ _ _ _ _ _ _ c.run_standby.ensures.stands_by bad
+returns-in-Standby-clause-words g c = λ fit bad. stands_words _ _ _ _ _ _ _ _ _ _ _ _ _ _ _ (c.run_standby.result, c.status.ensures, c.run_standby.ensures.stands) bad
 
 pub returns-in-Load-clause-run : goal.returns-in-Load-clause-run
 returns-in-Load-clause-run g c = λ fit.
@@ -167,7 +167,7 @@ returns-in-Serve-clause-asked g c = λ fit. c.serve_line.ensures.asked (subst Is
 pub returns-in-Standby-clause-asked : goal.returns-in-Standby-clause-asked
 returns-in-Standby-clause-asked g c = λ fit.
     let list : journal_named c.text.result.now ∷ listener_named c.text-in-Standby.result.now ∷ [] ≡ journal_named c.in-Standby.journal ∷ listener_named c.in-Standby.address ∷ [] = λ i. journal_named (c.text.ensures i) ∷ listener_named (c.text-in-Standby.ensures i) ∷ [] in
-    subst (λ (l : List Asking). AskedFor (g.O.Opener.asked c.args.opener.now c.run_standby.new.opener) l (IsOfNoOpening c.run_standby.result)) (list ∙ sym (ap line_asked c.in-Standby.is)) c.run_standby.ensures.asked
+    subst (λ (l : List Asking). AskedFor (g.O.Opener.asked c.args.opener.now c.run_standby.new.opener) l (IsOfNoOpening c.status.result)) (list ∙ sym (ap line_asked c.in-Standby.is)) c.run_standby.ensures.asked
 
 pub returns-in-Load-clause-asked : goal.returns-in-Load-clause-asked
 returns-in-Load-clause-asked g c = λ fit.
