@@ -1,8 +1,10 @@
 -- What a standby came to, by what it was lent.
-use Rattle.std.proofs.Common.{◌≡◌, ◌+◌, ◌≤◌, ◌<◌, ◌∙◌, ℕ, arith, inl, inr, refl, subst}
+use Rattle.std.proofs.Common.{◌≡◌, ◌+◌, ◌≤◌, ◌<◌, ◌∙◌, [], ◌∷◌, ℕ, arith, List, Option, inl, inr, refl, subst}
 use Rattle.std.specs.Prelude.{IsTrue, length}
 use Rattle.dxc_causes.specs.Causes.{Rose, last}
 use Rattle.dxc_disk.specs.Disks.{CountsOn, DiskState, IsSound}
+use Rattle.dxc_outside.specs.Asked.{Asking, AskedFor, journal_named, listener_named}
+use Rattle.dxc_outside.proofs.Asking.{asked_all, asked_part}
 use Rattle.dxc_outside.specs.Callers.{IsAccept, ListenerState}
 use Rattle.dxc_outside.specs.Links.{LinkState}
 use Rattle.dxc_outside.specs.declared.listener.Came.{Came}
@@ -10,7 +12,11 @@ use Rattle.dxc_outside.specs.declared.listener.Came.TheVariants.{Link, End, Fail
 use Rattle.standby_link.specs.declared.end.StandbyEnd.{StandbyEnd}
 use Rattle.standby_link.specs.Serves.{IsPrompt, bytes_in}
 use Rattle.craft_jobs.specs.Counts.{RoseBy}
-use Rattle.craft_jobs.specs.Standbys.{Ends, IsFirst, NobodyCame, NoneAccepted, RanStandby, ServedOne, read_in}
+use Rattle.craft_words.specs.declared.status.Status.{Status}
+use Rattle.craft_jobs.specs.Missing.{IsOfNoOpening}
+use Rattle.craft_jobs.specs.Standbys.{Ends, IsFirst, IsUnopened, NobodyCame, NoneAccepted, RanStandby, ServedOne, Stands, read_in, status_of_stood, stood_asked}
+use Rattle.craft_jobs.specs.declared.stood.Stood.{Stood}
+use Rattle.craft_jobs.specs.declared.stood.Stood.TheVariants.{NoJournal, NoListener, Unmet, Unheard, Served}
 use Rattle.craft_jobs.proofs.Counting.{rose_more}
 
 -- a count of faults doesn't rise on a disk that is sound for what is taken
@@ -41,6 +47,23 @@ module _ (opener_told disk_told listener_told link_told : Type 0) {D L K : Type 
   none_accepted first is came =
       let one = subst (λ (f : Came K). IsFirst listener_told link (listener door) (listener new_door) f) is came in
       record { risen = one.risen refl; unsound = one.sound; nobody = one.coming }
+
+-- no listener was asked for only where the status is one of an opening
+unopened_ends : (faults later : ℕ) (status : Status) → IsUnopened faults later status → IsOfNoOpening status → ⊥
+unopened_ends faults later status closed ends = elim closed [
+  | inl memory ↦ subst IsOfNoOpening memory ends
+  | inr cannot ↦ subst IsOfNoOpening cannot.0 ends
+]
+
+module _ (opener_told disk_told listener_told link_told : Type 0) {D L K : Type 0} (disk : D → DiskState) (listener : L → ListenerState K) (link : K → LinkState) (begun : LinkState → Type 0) (journal_at : List ℕ → Option D) (listener_at : List ℕ → Option L) (faults later : ℕ) (journal address : List ℕ) (asked : List Asking → Type 0) (status : Status) where
+  -- what was asked for, by what is left
+  pub asked_by : (stood : Stood D L K) → status ≡ status_of_stood stood → Stands opener_told disk_told listener_told link_told disk listener link begun journal_at listener_at faults later journal address stood → asked (stood_asked journal address stood)
+      → AskedFor asked (journal_named journal ∷ listener_named address ∷ []) (IsOfNoOpening status)
+  asked_by (NoJournal s) is stands made = asked_part asked _ (journal_named journal ∷ []) (listener_named address ∷ []) made (λ ends. unopened_ends faults later s stands (subst IsOfNoOpening is ends))
+  asked_by (NoListener copy s) is stands made = asked_all asked _ (journal_named journal ∷ listener_named address ∷ []) made
+  asked_by (Unmet copy door) is stands made = asked_all asked _ (journal_named journal ∷ listener_named address ∷ []) made
+  asked_by (Unheard copy door) is stands made = asked_all asked _ (journal_named journal ∷ listener_named address ∷ []) made
+  asked_by (Served copy door caller end) is stands made = asked_all asked _ (journal_named journal ∷ listener_named address ∷ []) made
 
 module _ {K : Type 0} (told : Type 0) (state : K → LinkState) (old mid new : ListenerState K) (failures : ℕ) (coming : told → old.coming ≡ mid.coming) (risen : RoseBy failures old.faults mid.faults) (sound : IsTrue old.sound → (failures ≡ 0) × IsTrue mid.sound) (answer : Came K) (accepted : IsAccept told state mid new answer) where
   -- one more accept that failed

@@ -1,8 +1,10 @@
 -- A standby doesn't end with the status of words that are no line.
 use Rattle.std.proofs.Common.{◌≡◌, ℕ, List, Option, inl, inr, sym, ◌∙◌}
 use Rattle.dxc_disk.specs.Disks.{DiskState}
+use Rattle.dxc_outside.specs.Asked.{Asking}
 use Rattle.dxc_outside.specs.Callers.{ListenerState}
 use Rattle.dxc_outside.specs.Links.{LinkState}
+use Rattle.dxc_outside.specs.Values.{AnyValue}
 use Rattle.standby_link.specs.declared.end.StandbyEnd.{StandbyEnd}
 use Rattle.standby_link.specs.declared.end.StandbyEnd.TheVariants as standby
 use Rattle.craft_words.specs.declared.status.Status.{Status}
@@ -34,5 +36,5 @@ module _ (opener_told told listener_told link_told : Type 0) {D L K : Type 0} (s
   stood_words (Unheard copy door) stands is = cc
   stood_words (Served copy door caller end) stands is = standby_words end is
 
-  pub stands_words : (status : Status) → StandsBy opener_told told listener_told link_told state listener link begun journal_at listener_at faults later journal address status → status ≡ BadWords → ⊥
-  stands_words status stands is = stood_words stands.0 stands.2 (sym stands.1 ∙ is)
+  pub stands_words : (gone : AnyValue → Type 0) (asked : List Asking → Type 0) (status : Status) → StandsBy opener_told told listener_told link_told state listener link begun journal_at listener_at faults later journal address gone asked status → status ≡ BadWords → ⊥
+  stands_words gone asked status stands is = stood_words stands.stood stands.stands (sym stands.status_is ∙ is)

@@ -3,8 +3,10 @@ use mathlib.Core.Logic.{inl, inr}
 use Rattle.std.specs.Prelude.{◌≡◌, ◌≢◌, ◌⊎◌, ◌↔◌, ◌+◌, ◌^◌, ℕ, false, true, List, [], ◌∷◌, ◌++◌, length, Option, Some, IsTrue}
 use Rattle.dxc_causes.specs.Causes.{Rose, Counted}
 use Rattle.dxc_disk.specs.Disks.{DiskState, IsSound}
+use Rattle.dxc_outside.specs.Asked.{Asking, journal_named, listener_named}
 use Rattle.dxc_outside.specs.Callers.{ListenerState, IsSoundCame, came}
 use Rattle.dxc_outside.specs.Links.{IsSoundLink, LinkState}
+use Rattle.dxc_outside.specs.Values.{AnyValue, any_value}
 use Rattle.dxc_outside.specs.declared.listener.Came.{Came}
 use Rattle.dxc_outside.specs.declared.listener.Came.TheVariants as answer
 use Rattle.standby_link.specs.declared.end.StandbyEnd.{StandbyEnd}
@@ -33,6 +35,14 @@ status_of_stood (NoListener copy status) = status
 status_of_stood (Unmet copy door) = Done
 status_of_stood (Unheard copy door) = CannotOpen
 status_of_stood (ServedStood copy door caller end) = status_of_standby end
+
+-- what was asked for: without a journal no listener, so nobody was let in
+abbrev pub stood_asked : {D L K : Type 0} → (journal address : List ℕ) → Stood D L K → List Asking
+stood_asked journal address (NoJournal status) = journal_named journal ∷ []
+stood_asked journal address (NoListener copy status) = journal_named journal ∷ listener_named address ∷ []
+stood_asked journal address (Unmet copy door) = journal_named journal ∷ listener_named address ∷ []
+stood_asked journal address (Unheard copy door) = journal_named journal ∷ listener_named address ∷ []
+stood_asked journal address (ServedStood copy door caller end) = journal_named journal ∷ listener_named address ∷ []
 
 -- what came of the accepts up to the first link, the listener's End, or 16 faults
 pub record IsFirst {K : Type 0} (told : Type 0) (state : K → LinkState) (old new : ListenerState K) (first : Came K) : Type 0 where
@@ -107,6 +117,10 @@ module _ (opener_told disk_told listener_told link_told : Type 0) {D L K : Type 
   Stands journal_at listener_at faults later journal address (Unheard copy door) = (b : HasBoth journal_at listener_at journal address) × (copy ≡ b.copy) × NoneAccepted (listener b.door) door
   Stands journal_at listener_at faults later journal address (ServedStood copy door caller end) = (b : HasBoth journal_at listener_at journal address) × ServedOne b.copy (listener b.door) copy door caller end
 
-  -- the status of a standby, by what is left of it
-  abbrev pub StandsBy : (journal_at : List ℕ → Option D) (listener_at : List ℕ → Option L) (faults later : ℕ) (journal address : List ℕ) → Status → Type 0
-  StandsBy journal_at listener_at faults later journal address status = (stood : Stood D L K) × (status ≡ status_of_stood stood) × Stands journal_at listener_at faults later journal address stood
+  -- What a standby came to: its status is that of what is left of it, which was let go so.
+  pub record StandsBy (journal_at : List ℕ → Option D) (listener_at : List ℕ → Option L) (faults later : ℕ) (journal address : List ℕ) (gone : AnyValue → Type 0) (asked : List Asking → Type 0) (status : Status) : Type 0 where
+    pub stood : Stood D L K
+    pub status_is : status ≡ status_of_stood stood
+    pub stands : Stands journal_at listener_at faults later journal address stood
+    pub let_go : gone (any_value stood)
+    pub asked_for : asked (stood_asked journal address stood)

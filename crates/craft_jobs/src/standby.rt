@@ -2,7 +2,7 @@
 ghost use Rattle.std.specs.Prelude.{◌≡◌, ◌∷◌, []};
 ghost use Rattle.dxc_outside.specs.Asked.{AskedFor, journal_named, listener_named};
 ghost use Rattle.craft_jobs.specs.Missing.{IsOfNoOpening};
-ghost use Rattle.craft_jobs.specs.Standbys.{IsFirst, RanStandby, Stands, status_of_standby, status_of_stood};
+ghost use Rattle.craft_jobs.specs.Standbys.{IsFirst, RanStandby, Stands, StandsBy, status_of_standby, status_of_stood, stood_asked};
 ghost use Rattle.standby_link.specs.Serves.{IsPrompt};
 
 use crate::stood::Stood;
@@ -17,8 +17,25 @@ use std::sync::Wait;
 const FAILURES: u8 = 16;
 
 /// Makes on the journal of that name, which is to be new, what a primary sends over the first link that comes at the address. Nobody
-/// else is let in.
+/// else is let in. What is left is let go.
 pub fn run_standby<O: Opener, R: Wait>(
+    alloc: Global,
+    opener: &mut O,
+    journal: &str,
+    address: &str,
+    rt: &R,
+) -> Status
+    ensures stands_by { StandsBy O.told O.Journal.told O.Listener.told O.Listener.Link.told O.Journal.state O.Listener.state O.Listener.Link.state O.Listener.Link.begun (O.journal_at opener.old) (O.listener_at opener.old) (O.state opener.old).faults (O.state opener.new).faults journal.now address.now O.gone (O.asked opener.old opener.new) result }
+    ensures asked { AskedFor (O.asked opener.old opener.new) (journal_named journal.now ∷ listener_named address.now ∷ []) (IsOfNoOpening result) }
+{
+    let stood = meet_primary(alloc, opener, journal, address, rt);
+    let status = stood.status();
+    opener.let_go(stood);
+    status
+}
+
+// The same, and what is left of it.
+fn meet_primary<O: Opener, R: Wait>(
     alloc: Global,
     opener: &mut O,
     journal: &str,
@@ -26,7 +43,7 @@ pub fn run_standby<O: Opener, R: Wait>(
     rt: &R,
 ) -> Stood<O::Journal, O::Listener, <O::Listener as Listener>::Link>
     ensures stands { Stands O.told O.Journal.told O.Listener.told O.Listener.Link.told O.Journal.state O.Listener.state O.Listener.Link.state O.Listener.Link.begun (O.journal_at opener.old) (O.listener_at opener.old) (O.state opener.old).faults (O.state opener.new).faults journal.now address.now result }
-    ensures asked { AskedFor (O.asked opener.old opener.new) (journal_named journal.now ∷ listener_named address.now ∷ []) (IsOfNoOpening (status_of_stood result)) }
+    ensures asked { O.asked opener.old opener.new (stood_asked journal.now address.now result) }
 {
     let mut disk = match opener.journal(alloc, journal) {
         Opened::Open(disk) => disk,
@@ -48,16 +65,16 @@ pub fn run_standby<O: Opener, R: Wait>(
     }
 }
 
-impl<D: Drop, L: Drop, K: Drop> Stood<D, L, K> {
-    /// The status that the program ends with.
-    pub fn status(self) -> Status
-        ensures { result ≡ status_of_stood self }
+impl<D, L, K> Stood<D, L, K> {
+    // The status that the program ends with.
+    fn status(&self) -> Status
+        ensures { result ≡ status_of_stood self.now }
     {
         match self {
-            Stood::NoJournal(status) | Stood::NoListener(_, status) => status,
+            Stood::NoJournal(status) | Stood::NoListener(_, status) => *status,
             Stood::Unmet(_, _) => Status::Done,
             Stood::Unheard(_, _) => Status::CannotOpen,
-            Stood::Served(_, _, _, end) => after_standby(end),
+            Stood::Served(_, _, _, end) => after_standby(*end),
         }
     }
 }

@@ -220,7 +220,7 @@ pub fn run_all<
     ) = start_all(alloc, spawner, workers, sessions, rt);
     let workers = wait_each::<J, P::Threads>(begun, lefts);
     let sessions = wait_each::<K, P::Threads>(more_begun, more_lefts);
-    spawner.wait_all(rt);
+    spawner.all_ended();
     RanAll {
         started,
         workers,

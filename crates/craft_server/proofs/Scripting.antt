@@ -5,6 +5,7 @@ use Rattle.dxc_causes.specs.Causes.{Rose, Counted}
 use Rattle.dxc_disk.specs.Disks.{DiskState}
 use Rattle.dxc_outside.specs.declared.clock.Moment.{Moment}
 use Rattle.dxc_outside.specs.Links.{LinkState}
+use Rattle.dxc_outside.specs.Values.{AnyValue, any_value}
 use Rattle.shelf_file.specs.Contents.{Contents}
 use Rattle.user_admin.specs.declared.state.UserState.{UserState}
 use Rattle.user_admin.specs.Histories.{Opening as UsersOpening}
@@ -64,12 +65,12 @@ spent_at WriteFault is = cc
 spent_at Stopped is = cc
 spent_at Spent is = refl
 
-module _ {D : Type 0} (disk_told : Type 0) (state : D → DiskState) (told clock_told : Type 0) (begun : LinkState → Type 0) (k l : LinkState) (c d : List Moment) (stops later : ℕ) (s : Contents) (disk users_disk : D) where
+module _ {D : Type 0} (disk_told : Type 0) (state : D → DiskState) (told clock_told : Type 0) (begun : LinkState → Type 0) (gone : AnyValue → Type 0) (k l : LinkState) (c d : List Moment) (stops later : ℕ) (s : Contents) (disk users_disk : D) where
   -- what the session at its one place did
   pub ran_session : (workers : ℕ) (x : Controller D) (u : UserState D) (old new : PlaceAt) (end : SessionEnd) (status : Status) → IsStarted disk_told state disk s workers x → AreUsersStarted disk_told state users_disk s u → old ≡ place_at (arc_value x.shelf) (opening_of state x.state) (users_opening state u) 1 0
       → IsSameSeat old.seat new.seat → IsSameUserSeat old.users new.users → AreNumbered new.seat.places new.seat.seen → AreUsersNumbered new.users.places new.users.seen → SawNoneAstray disk_told new.seat.seen
-      → IsServed (language old.shelf) told clock_told k l c d old.seat new.seat old.users new.users end → IsPrompt (language old.shelf) begun told clock_told k l c old.seat old.users → IsEnd k l stops later end → status ≡ status_of end → RanSession disk_told told clock_told begun (state disk) (state users_disk) s (opening_of state x.state) (users_opening state u) k l c d stops later status
-  ran_session workers x u old new end status started users_started is same users_same numbers users_numbers astray served prompt e status_is =
+      → IsServed (language old.shelf) told clock_told k l c d old.seat new.seat old.users new.users end → IsPrompt (language old.shelf) begun told clock_told k l c old.seat old.users → IsEnd k l stops later end → status ≡ status_of end → gone (any_value new) → RanSession disk_told told clock_told begun gone (state disk) (state users_disk) s (opening_of state x.state) (users_opening state u) k l c d stops later status
+  ran_session workers x u old new end status started users_started is same users_same numbers users_numbers astray served prompt e status_is let_go =
       let o : Opening = opening_of state x.state in
       let p : UsersOpening = users_opening state u in
       let at : old ≡ place_at s o p 1 0 = is ∙ ap (λ (y : Contents). place_at y o p 1 0) started.shelf in
@@ -79,6 +80,11 @@ module _ {D : Type 0} (disk_told : Type 0) (state : D → DiskState) (told clock
       record {
         end = end;
         status_is = status_is;
+        left = new;
+        let_go = let_go;
+        session = ran;
+        seat = subst (λ (q : PlaceAt). IsSameSeat q.seat new.seat) at same;
+        users = subst (λ (q : PlaceAt). IsSameUserSeat q.users new.users) at users_same;
         wrote = script_of disk_told told clock_told (state disk) (state users_disk) k l c d s (place_at s o p 1 0).seat new.seat (place_at s o p 1 0).users new.users end (of_disk disk_told state disk s workers x started) (users_of_disk disk_told state users_disk s u users_started) refl refl refl refl one users_one numbers users_numbers astray ran;
         prompt = subst (λ (q : PlaceAt). IsPrompt (language q.shelf) begun told clock_told k l c q.seat q.users) at prompt;
         ended = (λ done. e.ended.0 (done_at end (sym status_is ∙ done)), λ ended. status_is ∙ ap status_of (e.ended.1 ended));

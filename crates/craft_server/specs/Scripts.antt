@@ -4,6 +4,7 @@ use Rattle.dxc_causes.specs.Causes.{Rose, Counted}
 use Rattle.dxc_disk.specs.Disks.{DiskState}
 use Rattle.dxc_outside.specs.declared.clock.Moment.{Moment}
 use Rattle.dxc_outside.specs.Links.{LinkState}
+use Rattle.dxc_outside.specs.Values.{AnyValue, any_value}
 use Rattle.shelf_file.specs.Contents.{Contents}
 use Rattle.user_admin.specs.Histories.{Opening as UsersOpening}
 use Rattle.xc_core.specs.States.{Opening}
@@ -11,15 +12,22 @@ use Rattle.craft_session.specs.declared.end.SessionEnd.{SessionEnd}
 use Rattle.craft_session.specs.Meanings.{language}
 use Rattle.craft_session.specs.Places.{place_at}
 use Rattle.craft_session.specs.Scripts.{IsScript}
-use Rattle.craft_session.specs.Sessions.{IsPrompt}
+use Rattle.craft_session.specs.Seats.{IsSameSeat, IsSameUserSeat, PlaceAt}
+use Rattle.craft_session.specs.Sessions.{IsPrompt, IsServed}
 use Rattle.craft_words.specs.declared.status.Status.{Status}
 use Rattle.craft_words.specs.declared.status.Status.TheVariants.{Done, Link, Stopped, Spent}
 use Rattle.craft_server.specs.Statuses.{status_of}
 
 -- one session from the opening on, by its end, and the status; so many stops were before and after it
-pub record RanSession (disk_told told clock_told : Type 0) (begun : LinkState → Type 0) (disk users_disk : DiskState) (s : Contents) (o : Opening) (p : UsersOpening) (k l : LinkState) (c d : List Moment) (stops later : ℕ) (status : Status) : Type 0 where
+pub record RanSession (disk_told told clock_told : Type 0) (begun : LinkState → Type 0) (gone : AnyValue → Type 0) (disk users_disk : DiskState) (s : Contents) (o : Opening) (p : UsersOpening) (k l : LinkState) (c d : List Moment) (stops later : ℕ) (status : Status) : Type 0 where
   pub end : SessionEnd
   pub status_is : status ≡ status_of end
+  -- the place, as its one session left it, was let go
+  pub left : PlaceAt
+  pub let_go : gone (any_value left)
+  pub session : IsServed (language s) told clock_told k l c d (place_at s o p 1 0).seat left.seat (place_at s o p 1 0).users left.users end
+  pub seat : IsSameSeat (place_at s o p 1 0).seat left.seat
+  pub users : IsSameUserSeat (place_at s o p 1 0).users left.users
   pub wrote : IsScript disk_told disk users_disk 0 o p clock_told c d s told k l end
   -- each read began where all that was read before had been answered
   pub prompt : IsPrompt (language s) begun told clock_told k l c (place_at s o p 1 0).seat (place_at s o p 1 0).users

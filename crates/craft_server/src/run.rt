@@ -41,7 +41,7 @@ pub fn dxc_run<O: Opener, K: Link, C: Clock, G: Gate, P: Spawner, R: Wait>(
 where
     <O::Listener as Listener>::Link: Send + 'static,
     ensures words { result ≡ Status.BadWords → (l : ALine) → IsLine words.now l → ⊥ }
-    ensures run { IsRun (told_by O.told O.Journal.told K.told C.told O.Peer.told O.Listener.told O.Listener.Link.told K.begun O.Listener.Link.begun) (jobs_told O.Clock O.Gate O.lines_for O.listener_for (P.handed spawner.old spawner.new)) O.Journal.state O.Peer.state O.Listener.state O.Listener.Link.state (O.listener_at opener.old) words.now (lent (sources (O.state opener.old) (O.journal_at opener.old) (G.stops gate.old)) (K.state terminal.old) (C.coming clock.old) (P.state spawner.old)) (lent (sources (O.state opener.new) (O.journal_at opener.new) (G.stops gate.new)) (K.state terminal.new) (C.coming clock.new) (P.state spawner.new)) result }
+    ensures run { IsRun (told_by O.told O.Journal.told K.told C.told O.Peer.told O.Listener.told O.Listener.Link.told K.begun O.Listener.Link.begun O.gone (O.asked opener.old opener.new)) (jobs_told O.Journal.told O.Opener O.Lines.Lines O.Listener.Listener O.Listener.Link.Link O.Clock.Clock O.Gate.Gate (P.handed spawner.old spawner.new)) O.Journal.state O.Peer.state O.Listener.state O.Listener.Link.state (O.listener_at opener.old) words.now (lent (sources (O.state opener.old) (O.journal_at opener.old) (G.stops gate.old)) (K.state terminal.old) (C.coming clock.old) (P.state spawner.old)) (lent (sources (O.state opener.new) (O.journal_at opener.new) (G.stops gate.new)) (K.state terminal.new) (C.coming clock.new) (P.state spawner.new)) result }
     ensures asked { AskedBy (O.asked opener.old opener.new) words.now result }
 {
     match line_of(alloc, words) {
@@ -65,7 +65,7 @@ fn run_line<O: Opener, K: Link, C: Clock, G: Gate, P: Spawner, R: Wait>(
 where
     <O::Listener as Listener>::Link: Send + 'static,
     ensures words { IsInRange line.now → result ≢ Status.BadWords }
-    ensures run { IsInRange line.now → IsRunOf (told_by O.told O.Journal.told K.told C.told O.Peer.told O.Listener.told O.Listener.Link.told K.begun O.Listener.Link.begun) (jobs_told O.Clock O.Gate O.lines_for O.listener_for (P.handed spawner.old spawner.new)) O.Journal.state O.Peer.state O.Listener.state O.Listener.Link.state (O.listener_at opener.old) line.now (lent (sources (O.state opener.old) (O.journal_at opener.old) (G.stops gate.old)) (K.state terminal.old) (C.coming clock.old) (P.state spawner.old)) (lent (sources (O.state opener.new) (O.journal_at opener.new) (G.stops gate.new)) (K.state terminal.new) (C.coming clock.new) (P.state spawner.new)) result }
+    ensures run { IsInRange line.now → IsRunOf (told_by O.told O.Journal.told K.told C.told O.Peer.told O.Listener.told O.Listener.Link.told K.begun O.Listener.Link.begun O.gone (O.asked opener.old opener.new)) (jobs_told O.Journal.told O.Opener O.Lines.Lines O.Listener.Listener O.Listener.Link.Link O.Clock.Clock O.Gate.Gate (P.handed spawner.old spawner.new)) O.Journal.state O.Peer.state O.Listener.state O.Listener.Link.state (O.listener_at opener.old) line.now (lent (sources (O.state opener.old) (O.journal_at opener.old) (G.stops gate.old)) (K.state terminal.old) (C.coming clock.old) (P.state spawner.old)) (lent (sources (O.state opener.new) (O.journal_at opener.new) (G.stops gate.new)) (K.state terminal.new) (C.coming clock.new) (P.state spawner.new)) result }
     ensures asked { IsInRange line.now → AskedFor (O.asked opener.old opener.new) (line_asked line.now) (IsOfNoOpening result) }
 {
     match line {
@@ -79,7 +79,7 @@ where
         }
         Line::Serve { .. } => serve_line(alloc, opener, line, gate, spawner, rt),
         Line::Standby { journal, address } => {
-            run_standby(alloc, opener, journal.text(), address.text(), rt).status()
+            run_standby(alloc, opener, journal.text(), address.text(), rt)
         }
         Line::Load { number } => run_load(alloc, *number, terminal, gate, rt),
     }

@@ -13,7 +13,8 @@ use dxc_outside::{Clock, Gate, Link, Opener};
 use std::alloc::Global;
 use std::sync::Wait;
 
-/// Serves one session over the terminal, at the one place of a controller that is opened on these names.
+/// Serves one session over the terminal, at the one place of a controller that is opened on these names. The place is let go as the
+/// session left it.
 pub(crate) fn run_script<O: Opener, K: Link, C: Clock, G: Gate, R: Wait>(
     alloc: Global,
     opener: &mut O,
@@ -23,7 +24,7 @@ pub(crate) fn run_script<O: Opener, K: Link, C: Clock, G: Gate, R: Wait>(
     gate: &mut G,
     rt: &R,
 ) -> Status
-    ensures opens { Opens O.told O.Journal.told O.Journal.state (named names.entry.shelf.now names.entry.journal.now) (sources (O.state opener.old) (O.journal_at opener.old) (G.stops gate.old)) (sources (O.state opener.new) (O.journal_at opener.new) (G.stops gate.new)) ((K.state terminal.new ≡ K.state terminal.old) × (C.coming clock.new ≡ C.coming clock.old)) (λ f o u. RanSession O.Journal.told K.told C.told K.begun (O.Journal.state f.disk) (O.Journal.state u.found.disk) f.shelf o u.opening (K.state terminal.old) (K.state terminal.new) (C.coming clock.old) (C.coming clock.new) (G.stops gate.old) (G.stops gate.new) result) result }
+    ensures opens { Opens O.told O.Journal.told O.Journal.state (named names.entry.shelf.now names.entry.journal.now) (sources (O.state opener.old) (O.journal_at opener.old) (G.stops gate.old)) (sources (O.state opener.new) (O.journal_at opener.new) (G.stops gate.new)) ((K.state terminal.new ≡ K.state terminal.old) × (C.coming clock.new ≡ C.coming clock.old)) (λ f o u. RanSession O.Journal.told K.told C.told K.begun O.gone (O.Journal.state f.disk) (O.Journal.state u.found.disk) f.shelf o u.opening (K.state terminal.old) (K.state terminal.new) (C.coming clock.old) (C.coming clock.new) (G.stops gate.old) (G.stops gate.new) result) result }
     ensures asked { AskedFor (O.asked opener.old opener.new) (files_asked (named names.entry.shelf.now names.entry.journal.now)) (IsOfNoOpening result) }
 {
     let Element { controller, users } = match open(alloc, opener, names, WORKERS, gate) {
@@ -39,7 +40,9 @@ pub(crate) fn run_script<O: Opener, K: Link, C: Clock, G: Gate, R: Wait>(
     let Ok(mut place) = lone_place(alloc, &shelf, &fabric, state, users) else {
         return Status::NoMemory;
     };
-    after_session(serve_session(&mut place, terminal, clock, gate, rt))
+    let status = after_session(serve_session(&mut place, terminal, clock, gate, rt));
+    opener.let_go(place);
+    status
 }
 
 fn after_session(end: SessionEnd) -> Status
