@@ -19,7 +19,6 @@ ghost use Rattle.craft_jobs.specs.declared.frames_left.FramesLeft.{FramesLeft};
 ghost use Rattle.craft_element.specs.Openings.{Opens, files_asked, named, sources};
 ghost use Rattle.craft_element.specs.Peers.{Mirrors};
 ghost use Rattle.craft_server.specs.Askings.{line_asked, site_asked};
-ghost use Rattle.craft_server.specs.Callers.{RanSessions};
 ghost use Rattle.craft_server.specs.Served.{RanAt};
 ghost use Rattle.craft_server.specs.Serving.{HandedJobs, IsServe, IsServing, ServedSite, jobs_told, named_in, peer_of, site_at, site_in};
 
@@ -61,8 +60,10 @@ where
     ensures serving { (faults : ℕ) → (later : ℕ) → IsServing (vec_len workers + vec_len sessions) faults later (P.state spawner.old) (P.state spawner.new) result }
     ensures handed { result ≡ Status.Done → P.handed spawner.old spawner.new (any_jobs workers.items ++ any_jobs sessions.items) }
     // Each worker has carried its frames in its seat, and each session's place is left as its sessions left it.
-    ensures carried { result ≡ Status.Done → (lefts : List FramesLeft) × AreRan (left_by (RanFrames N.told N.state G.stops G.asked)) workers.items lefts }
-    ensures served { result ≡ Status.Done → (places : List PlaceAt) × AreRan (left_by (RanAt (C.coming) (RanSessions D.told C.told L.Link.told L.Link.state L.Link.begun G.stops G.asked L.told L.state))) sessions.items places }
+    ensures carried { result ≡ Status.Done → (lefts : List FramesLeft)
+        × AreRan (left_by (RanFrames N.Lines G.Gate)) workers.items lefts }
+    ensures served { result ≡ Status.Done → (places : List PlaceAt)
+        × AreRan (left_by (RanAt D.told L.Listener L.Link.Link C.Clock G.Gate)) sessions.items places }
 {
     match run_all(alloc, spawner, workers, sessions, rt).started {
         Started::Running => Status::Done,
