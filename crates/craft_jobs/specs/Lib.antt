@@ -4,5 +4,6 @@ pub mod Framed
 pub mod Handed
 pub mod Leaves
 pub mod Missing
+pub mod Offices
 pub mod Standbys
 pub mod Starts

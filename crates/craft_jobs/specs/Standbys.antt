@@ -17,6 +17,7 @@ use Rattle.craft_words.specs.declared.status.Status.TheVariants.{Done, Disk, Can
 use Rattle.craft_jobs.specs.declared.stood.Stood.{Stood}
 use Rattle.craft_jobs.specs.declared.stood.Stood.TheVariants.{NoJournal, NoListener, Unmet, Unheard, Served as ServedStood}
 use Rattle.craft_jobs.specs.Counts.{RoseBy}
+use Rattle.craft_jobs.specs.Offices.{Across, Office}
 
 -- the status of a standby, by the end of its run
 abbrev pub status_of_standby : StandbyEnd → Status
@@ -124,3 +125,10 @@ module _ (opener_told disk_told listener_told link_told : Type 0) {D L K : Type 
     pub stands : Stands journal_at listener_at faults later journal address stood
     pub let_go : gone (any_value stood)
     pub asked_for : asked (stood_asked journal address stood)
+
+-- by an opener, across the call
+abbrev pub StoodBy : {O : Type 0} (w : Office O) → Across O → (journal address : List ℕ) → Status → Type 0
+StoodBy w opener journal address status = StandsBy w.opener.told w.disk.told w.listener.told w.link.told w.disk.state w.listener.state w.link.state w.link.begun (w.opener.journal_at opener.entry.now) (w.opener.listener_at opener.entry.now) (w.opener.state opener.entry.now).faults (w.opener.state opener.exit.now).faults journal address w.opener.gone (w.opener.asked opener.entry.now opener.exit.now) status
+
+abbrev pub IsLeft : {O : Type 0} (w : Office O) → Across O → (journal address : List ℕ) → Stood w.Disk w.Listener w.Link → Type 0
+IsLeft w opener journal address stood = Stands w.opener.told w.disk.told w.listener.told w.link.told w.disk.state w.listener.state w.link.state w.link.begun (w.opener.journal_at opener.entry.now) (w.opener.listener_at opener.entry.now) (w.opener.state opener.entry.now).faults (w.opener.state opener.exit.now).faults journal address stood

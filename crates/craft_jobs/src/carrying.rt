@@ -13,7 +13,7 @@ impl<N: Lines + Send + Drop + 'static, G: Gate + Send + Drop + 'static> Task for
 
     type Left = FramesLeft;
 
-    ghost ran = { λ job done left. RanFrames N.told N.state G.stops G.asked job done left };
+    ghost ran = { RanFrames N.Lines G.Gate };
 
     /// Carries frames until its lines end or fail, or the gate stops.
     fn run<R: Wait>(self, _rt: &R) -> (FramesDone<N, G>, FramesLeft) {

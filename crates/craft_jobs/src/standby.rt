@@ -2,7 +2,8 @@
 ghost use Rattle.std.specs.Prelude.{◌≡◌, ◌∷◌, []};
 ghost use Rattle.dxc_outside.specs.Asked.{AskedFor, journal_named, listener_named};
 ghost use Rattle.craft_jobs.specs.Missing.{IsOfNoOpening};
-ghost use Rattle.craft_jobs.specs.Standbys.{IsFirst, RanStandby, Stands, StandsBy, status_of_standby, status_of_stood, stood_asked};
+ghost use Rattle.craft_jobs.specs.Offices.{office};
+ghost use Rattle.craft_jobs.specs.Standbys.{IsFirst, IsLeft, RanStandby, StoodBy, status_of_standby, status_of_stood, stood_asked};
 ghost use Rattle.standby_link.specs.Serves.{IsPrompt};
 
 use crate::stood::Stood;
@@ -25,7 +26,9 @@ pub fn run_standby<O: Opener, R: Wait>(
     address: &str,
     rt: &R,
 ) -> Status
-    ensures stands_by { StandsBy O.told O.Journal.told O.Listener.told O.Listener.Link.told O.Journal.state O.Listener.state O.Listener.Link.state O.Listener.Link.begun (O.journal_at opener.old) (O.listener_at opener.old) (O.state opener.old).faults (O.state opener.new).faults journal.now address.now O.gone (O.asked opener.old opener.new) result }
+    ensures stands_by { StoodBy
+        (office O.Opener O.Journal.Disk O.Listener.Listener O.Listener.Link.Link)
+        opener journal.now address.now result }
     ensures asked { AskedFor (O.asked opener.old opener.new) (journal_named journal.now ∷ listener_named address.now ∷ []) (IsOfNoOpening result) }
 {
     let stood = meet_primary(alloc, opener, journal, address, rt);
@@ -42,7 +45,9 @@ fn meet_primary<O: Opener, R: Wait>(
     address: &str,
     rt: &R,
 ) -> Stood<O::Journal, O::Listener, <O::Listener as Listener>::Link>
-    ensures stands { Stands O.told O.Journal.told O.Listener.told O.Listener.Link.told O.Journal.state O.Listener.state O.Listener.Link.state O.Listener.Link.begun (O.journal_at opener.old) (O.listener_at opener.old) (O.state opener.old).faults (O.state opener.new).faults journal.now address.now result }
+    ensures stands { IsLeft
+        (office O.Opener O.Journal.Disk O.Listener.Listener O.Listener.Link.Link)
+        opener journal.now address.now result }
     ensures asked { O.asked opener.old opener.new (stood_asked journal.now address.now result) }
 {
     let mut disk = match opener.journal(alloc, journal) {

@@ -66,8 +66,10 @@ fn start_next<J: Task + Send + Drop + 'static, P: Spawner, R: Wait>(
     rt: &R,
 ) -> Started
     ensures started { IsStart (P.state spawner.old) (P.state spawner.new) result }
-    ensures handed { result ≡ Started.Running → P.handed spawner.old spawner.new (any_job job ∷ []) }
-    ensures begun { IfStarted result (NextBegun (left_by J.ran) job begun.old.items begun.new.items) (begun.new.items ≡ begun.old.items) }
+    ensures handed { result ≡ Started.Running →
+        P.handed spawner.old spawner.new (any_job job ∷ []) }
+    ensures begun { IfStarted result (NextBegun (left_by J.ran) job begun.old.items begun.new.items)
+        (begun.new.items ≡ begun.old.items) }
 {
     if begun.reserve(1).is_err() {
         spawner.refused();
@@ -91,7 +93,8 @@ fn start_each<J: Task + Send + Drop + 'static, P: Spawner, R: Wait>(
 ) -> Started
     requires { begun.old.items ≡ [] }
     ensures starts { AreStarts (vec_len jobs) (P.state spawner.old) (P.state spawner.new) result }
-    ensures handed { result ≡ Started.Running → P.handed spawner.old spawner.new (any_jobs jobs.items) }
+    ensures handed { result ≡ Started.Running → P.handed spawner.old spawner.new
+        (any_jobs jobs.items) }
     ensures begun { BegunOf (left_by J.ran) jobs.items result begun.new.items }
 {
     for job in jobs {
@@ -109,7 +112,8 @@ fn wait_each<J: Task, T: Threads + Copy>(
 ) -> Vec<J::Left>
     requires none_yet { lefts.items ≡ [] }
     requires room { vec_len begun ≤ vec_capacity lefts }
-    ensures { (jobs : List J) → AreBegun (left_by J.ran) jobs begun.items → AreRan (left_by J.ran) jobs result.items }
+    ensures { (jobs : List J) → AreBegun (left_by J.ran) jobs begun.items
+        → AreRan (left_by J.ran) jobs result.items }
 {
     for one in begun {
         let Ok(()) = lefts.push(wait::<J, T>(one)) else {
@@ -126,8 +130,10 @@ fn begin_each<J: Task + Send + Drop + 'static, P: Spawner, R: Wait>(
     jobs: Vec<J>,
     rt: &R,
 ) -> Row<Begun<J::Left, P::Threads, PromisedHandle<J::Left, RanOf<J>>>, J::Left>
-    ensures starts { AreStarts (vec_len jobs) (P.state spawner.old) (P.state spawner.new) result.started }
-    ensures handed { result.started ≡ Started.Running → P.handed spawner.old spawner.new (any_jobs jobs.items) }
+    ensures starts { AreStarts (vec_len jobs) (P.state spawner.old) (P.state spawner.new)
+        result.started }
+    ensures handed { result.started ≡ Started.Running → P.handed spawner.old spawner.new
+        (any_jobs jobs.items) }
     ensures begun { BegunOf (left_by J.ran) jobs.items result.started result.begun.items }
     ensures none_yet { result.lefts.items ≡ [] }
     ensures room { vec_len result.begun ≤ vec_capacity result.lefts }
@@ -160,12 +166,16 @@ fn start_all<J: Task + Send + Drop + 'static, K: Task + Send + Drop + 'static, P
     Row<Begun<J::Left, P::Threads, PromisedHandle<J::Left, RanOf<J>>>, J::Left>,
     Row<Begun<K::Left, P::Threads, PromisedHandle<K::Left, RanOf<K>>>, K::Left>,
 )
-    ensures starts { AreStarts (vec_len workers + vec_len sessions) (P.state spawner.old) (P.state spawner.new) result.1.started }
-    ensures handed { result.1.started ≡ Started.Running → P.handed spawner.old spawner.new (any_jobs workers.items ++ any_jobs sessions.items) }
+    ensures starts { AreStarts (vec_len workers + vec_len sessions) (P.state spawner.old)
+        (P.state spawner.new) result.1.started }
+    ensures handed { result.1.started ≡ Started.Running → P.handed spawner.old spawner.new
+        (any_jobs workers.items ++ any_jobs sessions.items) }
     ensures workers { BegunOf (left_by J.ran) workers.items result.1.started result.0.begun.items }
-    ensures sessions { BegunOf (left_by K.ran) sessions.items result.1.started result.1.begun.items }
+    ensures sessions { BegunOf (left_by K.ran) sessions.items
+        result.1.started result.1.begun.items }
     ensures none_yet { (result.0.lefts.items ≡ []) × (result.1.lefts.items ≡ []) }
-    ensures room { (vec_len result.0.begun ≤ vec_capacity result.0.lefts) × (vec_len result.1.begun ≤ vec_capacity result.1.lefts) }
+    ensures room { (vec_len result.0.begun ≤ vec_capacity result.0.lefts)
+        × (vec_len result.1.begun ≤ vec_capacity result.1.lefts) }
 {
     let first = begin_each(alloc, spawner, workers, rt);
     match first.started {
@@ -198,10 +208,12 @@ pub fn run_all<
     sessions: Vec<K>,
     rt: &R,
 ) -> RanAll<J::Left, K::Left>
-    ensures starts { AreStarts (vec_len workers + vec_len sessions) (P.state spawner.old) (P.state spawner.new) result.started }
+    ensures starts { AreStarts (vec_len workers + vec_len sessions) (P.state spawner.old)
+        (P.state spawner.new) result.started }
     ensures waited { (P.state spawner.new).waited ≡ true }
     // Where all run, the spawner was handed these jobs, in this order and no other.
-    ensures handed { result.started ≡ Started.Running → P.handed spawner.old spawner.new (any_jobs workers.items ++ any_jobs sessions.items) }
+    ensures handed { result.started ≡ Started.Running → P.handed spawner.old spawner.new
+        (any_jobs workers.items ++ any_jobs sessions.items) }
     // Each of them has run, and left what its run made of it.
     ensures workers { RanTo (left_by J.ran) workers.items result.started result.workers.items }
     ensures sessions { RanTo (left_by K.ran) sessions.items result.started result.sessions.items }

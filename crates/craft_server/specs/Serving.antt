@@ -2,7 +2,6 @@
 use Rattle.std.specs.Prelude.{◌≡◌, ◌≢◌, ℕ, ◌+◌, ◌≤◌, ◌⊎◌, true, All, List, [], ◌++◌, length, map, Option, None}
 use Rattle.dxc_causes.specs.Causes.{Rose}
 use Rattle.dxc_outside.specs.declared.clock.Clock.{Ghosts as ClockOf}
-use Rattle.dxc_outside.specs.declared.clock.Moment.{Moment}
 use Rattle.dxc_outside.specs.declared.gate.Gate.{Ghosts as GateOf}
 use Rattle.dxc_outside.specs.declared.lines.Lines.{Ghosts as LinesOf}
 use Rattle.dxc_outside.specs.declared.link.Link.{Ghosts as LinkOf}
@@ -15,6 +14,7 @@ use Rattle.shelf_file.specs.Contents.{Contents}
 use Rattle.user_admin.specs.Histories.{Opening as UsersOpening}
 use Rattle.xc_core.specs.States.{Opening}
 use Rattle.craft_session.specs.Places.{ArePlaces}
+use Rattle.craft_session.specs.Seats.{PlaceAt}
 use Rattle.craft_words.specs.declared.line.Line.{Line}
 use Rattle.craft_words.specs.declared.line.Line.TheVariants.{Script, Check, Serve, Standby, Load}
 use Rattle.craft_words.specs.declared.status.Status.{Status}
@@ -30,8 +30,8 @@ use Rattle.craft_jobs.specs.Handed.{AreJobsOf}
 use Rattle.craft_jobs.specs.Leaves.{left_by}
 use Rattle.craft_jobs.specs.Starts.{IsLastFailed}
 use Rattle.craft_element.specs.Openings.{Named, Sources, named}
+use Rattle.craft_server.specs.declared.sessions.SessionDone.{SessionDone}
 use Rattle.craft_server.specs.declared.sessions.SessionJob.{SessionJob}
-use Rattle.craft_server.specs.Callers.{RanSessions, Standing}
 use Rattle.craft_server.specs.Served.{RanAt}
 
 -- a line of the mode serve, with 1 to 8 workers
@@ -89,14 +89,13 @@ pub record IsServing (jobs faults later : ℕ) (old new : SpawnerState) (status 
   pub only : status ≢ Done → status ≢ NoThread → status ≢ CannotOpen → status ≡ NoMemory
 
 -- What tells of jobs: for which worker lines were handed out, and at which address a listener, and which jobs the spawner was handed; what a worker's frames
--- come to, and a place's sessions, by the moments that their clock has to come; and what was let go.
+-- came to, and the sessions of a place; and what was let go.
 pub record JobsTold (N L C G : Type 0) : Type 1 where
   pub lines_for : N → List ℕ → ℕ → Type 0
   pub listener_for : L → List ℕ → Type 0
   pub handed : List AnyJob → Type 0
   pub carried : FrameJob N G → FramesDone N G → FramesLeft → Type 0
-  pub moments : C → List Moment
-  pub served : L → L → Standing G → Standing G → Type 0
+  pub served : (D U : Type 0) → SessionJob D U L C G → SessionDone L C G → PlaceAt → Type 0
   pub gone : AnyValue → Type 0
 
 abbrev pub jobs_told : (disk_told : Type 0) {O D N L C G E K : Type 0} → OpenerOf O D N L C G E K → LinesOf N → ListenerOf L K → LinkOf K → ClockOf C → GateOf G → (List AnyJob → Type 0) → JobsTold N L C G
@@ -104,9 +103,8 @@ jobs_told disk_told o n l k c g handed = record {
   lines_for = o.lines_for;
   listener_for = o.listener_for;
   handed = handed;
-  carried = RanFrames n.told n.state g.stops g.asked;
-  moments = c.coming;
-  served = RanSessions disk_told c.told k.told k.state k.begun g.stops g.asked l.told l.state;
+  carried = RanFrames n g;
+  served = λ D U. RanAt {D = D} {U = U} disk_told l k c g;
   gone = o.gone;
 }
 
@@ -131,7 +129,7 @@ module _ (D U : Type 0) {N L C G : Type 0} (told : JobsTold N L C G) (site : Sit
     pub places : ArePlaces s o p 16 0 (map (λ (job : SessionJob D U L C G). job.place) sessions)
     pub listeners : All (λ (job : SessionJob D U L C G). told.listener_for job.listener site.address) sessions
     pub handed : told.handed (any_jobs workers ++ any_jobs sessions)
-    pub left : AreLeft told.gone (left_by told.carried) (left_by (RanAt told.moments told.served)) workers sessions
+    pub left : AreLeft told.gone (left_by told.carried) (left_by (told.served D U)) workers sessions
 
   -- What came of serving the site on what was opened. The gate is asked no more once that is so; where the status is Done, these jobs were started.
   pub record ServedSite {J : Type 0} (before after : Sources J) (old new : SpawnerState) (s : Contents) (o : Opening) (p : UsersOpening) (status : Status) : Type 0 where

@@ -16,7 +16,6 @@ ghost use Rattle.craft_jobs.specs.Missing.{IsOfNoOpening};
 ghost use Rattle.craft_element.specs.Openings.{Opens, files_asked, named, sources};
 ghost use Rattle.craft_element.specs.Peers.{Mirrors};
 ghost use Rattle.craft_server.specs.Askings.{line_asked, site_asked};
-ghost use Rattle.craft_server.specs.Callers.{RanSessions};
 ghost use Rattle.craft_server.specs.Served.{RanAt};
 ghost use Rattle.craft_server.specs.Serving.{AreLeft, HandedJobs, IsServe, IsServing, ServedSite, jobs_told, named_in, peer_of, site_at, site_in};
 
@@ -60,7 +59,8 @@ where
     ensures serving { (faults : ℕ) → (later : ℕ) → IsServing (vec_len workers + vec_len sessions) faults later (P.state spawner.old) (P.state spawner.new) result }
     ensures handed { result ≡ Status.Done → P.handed spawner.old spawner.new (any_jobs workers.items ++ any_jobs sessions.items) }
     // Each worker has carried its frames in its seat, and each session's place is left as its sessions left it.
-    ensures left { result ≡ Status.Done → AreLeft O.gone (left_by (RanFrames N.told N.state G.stops G.asked)) (left_by (RanAt C.coming (RanSessions D.told C.told L.Link.told L.Link.state L.Link.begun G.stops G.asked L.told L.state))) workers.items sessions.items }
+    ensures left { result ≡ Status.Done → AreLeft O.gone (left_by (RanFrames N.Lines G.Gate))
+        (left_by (RanAt D.told L.Listener L.Link.Link C.Clock G.Gate)) workers.items sessions.items }
 {
     let ran = run_all(alloc, spawner, workers, sessions, rt);
     let started = ran.started;
@@ -105,7 +105,8 @@ where
     <O::Listener as Listener>::Link: Send + 'static,
     requires seats { AreNew (arc_value fabric.now) 0 seats.items }
     requires each { length seats.items ≡ site.workers }
-    requires sized { (arc_value fabric.now).size ≡ record { shape = (arc_value shelf.now).shape; workers = site.workers } }
+    requires sized { (arc_value fabric.now).size
+        ≡ record { shape = (arc_value shelf.now).shape; workers = site.workers } }
     requires begins { Begins D.told D.state state }
     requires users_begin { UsersBegin U.told U.state users }
     requires opening { IsAtOpening (opening_of D.state state) (arc_value shelf.now) (arc_value fabric.now) }
