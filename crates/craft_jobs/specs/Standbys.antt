@@ -130,5 +130,6 @@ module _ (opener_told disk_told listener_told link_told : Type 0) {D L K : Type 
 abbrev pub StoodBy : {O : Type 0} (w : Office O) → Across O → (journal address : List ℕ) → Status → Type 0
 StoodBy w opener journal address status = StandsBy w.opener.told w.disk.told w.listener.told w.link.told w.disk.state w.listener.state w.link.state w.link.begun (w.opener.journal_at opener.entry.now) (w.opener.listener_at opener.entry.now) (w.opener.state opener.entry.now).faults (w.opener.state opener.exit.now).faults journal address w.opener.gone (w.opener.asked opener.entry.now opener.exit.now) status
 
-abbrev pub IsLeft : {O : Type 0} (w : Office O) → Across O → (journal address : List ℕ) → Stood w.Disk w.Listener w.Link → Type 0
-IsLeft w opener journal address stood = Stands w.opener.told w.disk.told w.listener.told w.link.told w.disk.state w.listener.state w.link.state w.link.begun (w.opener.journal_at opener.entry.now) (w.opener.listener_at opener.entry.now) (w.opener.state opener.entry.now).faults (w.opener.state opener.exit.now).faults journal address stood
+-- and what is left of it
+abbrev pub MetBy : {O : Type 0} (w : Office O) → Across O → (journal address : List ℕ) → Stood w.Disk w.Listener w.Link → Type 0
+MetBy w opener journal address stood = Stands w.opener.told w.disk.told w.listener.told w.link.told w.disk.state w.listener.state w.link.state w.link.begun (w.opener.journal_at opener.entry.now) (w.opener.listener_at opener.entry.now) (w.opener.state opener.entry.now).faults (w.opener.state opener.exit.now).faults journal address stood

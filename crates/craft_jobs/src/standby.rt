@@ -3,7 +3,7 @@ ghost use Rattle.std.specs.Prelude.{◌≡◌, ◌∷◌, []};
 ghost use Rattle.dxc_outside.specs.Asked.{AskedFor, journal_named, listener_named};
 ghost use Rattle.craft_jobs.specs.Missing.{IsOfNoOpening};
 ghost use Rattle.craft_jobs.specs.Offices.{office};
-ghost use Rattle.craft_jobs.specs.Standbys.{IsFirst, IsLeft, RanStandby, StoodBy, status_of_standby, status_of_stood, stood_asked};
+ghost use Rattle.craft_jobs.specs.Standbys.{IsFirst, MetBy, RanStandby, StoodBy, status_of_standby, status_of_stood, stood_asked};
 ghost use Rattle.standby_link.specs.Serves.{IsPrompt};
 
 use crate::stood::Stood;
@@ -45,7 +45,7 @@ fn meet_primary<O: Opener, R: Wait>(
     address: &str,
     rt: &R,
 ) -> Stood<O::Journal, O::Listener, <O::Listener as Listener>::Link>
-    ensures stands { IsLeft
+    ensures stands { MetBy
         (office O.Opener O.Journal.Disk O.Listener.Listener O.Listener.Link.Link)
         opener journal.now address.now result }
     ensures asked { O.asked opener.old opener.new (stood_asked journal.now address.now result) }
