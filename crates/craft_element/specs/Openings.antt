@@ -5,7 +5,7 @@ use Rattle.dxc_causes.specs.Causes.{Rose, last}
 use Rattle.dxc_disk.specs.Disks.{DiskState, IsSound}
 use Rattle.dxc_outside.specs.Asked.{Asking, shelf_named, journal_named}
 use Rattle.dxc_outside.specs.Openings.{OpenerState, IsShelfPart}
-use Rattle.dxc_outside.specs.Values.{AnyValue, any_value}
+use Rattle.dxc_leaving.specs.Values.{AnyValue, any_value}
 use Rattle.fabric_words.specs.New.{AreNew}
 use Rattle.fabric_words.specs.Seats.{FabricId}
 use Rattle.journal_core.specs.Rooms.{opening_room}

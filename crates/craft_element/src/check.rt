@@ -16,6 +16,7 @@ use crate::opening::{Element, Names, open};
 use arrayvec::ArrayVec;
 use craft_words::Status;
 use dxc_disk::Disk;
+use dxc_leaving::LetGo;
 use dxc_model::{Conn, Selection, Table};
 use dxc_num::Shape;
 use dxc_outside::{Gate, Link, Opener, Sent, write_all};
@@ -28,7 +29,7 @@ pub const WORKERS: u16 = 1;
 
 /// Writes to the terminal what the journal of a controller came to that is opened on these names. The controller and its users are let
 /// go as they were opened.
-pub fn run_check<O: Opener, K: Link, G: Gate>(
+pub fn run_check<O: Opener + LetGo, K: Link, G: Gate>(
     alloc: Global,
     opener: &mut O,
     names: Names<'_>,

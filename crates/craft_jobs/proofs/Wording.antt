@@ -4,7 +4,7 @@ use Rattle.dxc_disk.specs.Disks.{DiskState}
 use Rattle.dxc_outside.specs.Asked.{Asking}
 use Rattle.dxc_outside.specs.Callers.{ListenerState}
 use Rattle.dxc_outside.specs.Links.{LinkState}
-use Rattle.dxc_outside.specs.Values.{AnyValue}
+use Rattle.dxc_leaving.specs.Values.{AnyValue}
 use Rattle.standby_link.specs.declared.end.StandbyEnd.{StandbyEnd}
 use Rattle.standby_link.specs.declared.end.StandbyEnd.TheVariants as standby
 use Rattle.craft_words.specs.declared.status.Status.{Status}

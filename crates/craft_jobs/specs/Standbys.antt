@@ -6,7 +6,7 @@ use Rattle.dxc_disk.specs.Disks.{DiskState, IsSound}
 use Rattle.dxc_outside.specs.Asked.{Asking, journal_named, listener_named}
 use Rattle.dxc_outside.specs.Callers.{ListenerState, IsSoundCame, came}
 use Rattle.dxc_outside.specs.Links.{IsSoundLink, LinkState}
-use Rattle.dxc_outside.specs.Values.{AnyValue, any_value}
+use Rattle.dxc_leaving.specs.Values.{AnyValue, any_value}
 use Rattle.dxc_outside.specs.declared.listener.Came.{Came}
 use Rattle.dxc_outside.specs.declared.listener.Came.TheVariants as answer
 use Rattle.standby_link.specs.declared.end.StandbyEnd.{StandbyEnd}
@@ -126,9 +126,9 @@ module _ (opener_told disk_told listener_told link_told : Type 0) {D L K : Type 
     pub let_go : gone (any_value stood)
     pub asked_for : asked (stood_asked journal address stood)
 
--- by an opener, across the call
-abbrev pub StoodBy : {O : Type 0} (w : Office O) → Across O → (journal address : List ℕ) → Status → Type 0
-StoodBy w opener journal address status = StandsBy w.opener.told w.disk.told w.listener.told w.link.told w.disk.state w.listener.state w.link.state w.link.begun (w.opener.journal_at opener.entry.now) (w.opener.listener_at opener.entry.now) (w.opener.state opener.entry.now).faults (w.opener.state opener.exit.now).faults journal address w.opener.gone (w.opener.asked opener.entry.now opener.exit.now) status
+-- by an opener, across the call, with the names of the journal and of the address
+abbrev pub StoodBy : {O : Type 0} (w : Office O) → (gone : AnyValue → Type 0) → Across O → (names : List ℕ × List ℕ) → Status → Type 0
+StoodBy w gone opener names status = StandsBy w.opener.told w.disk.told w.listener.told w.link.told w.disk.state w.listener.state w.link.state w.link.begun (w.opener.journal_at opener.entry.now) (w.opener.listener_at opener.entry.now) (w.opener.state opener.entry.now).faults (w.opener.state opener.exit.now).faults names.0 names.1 gone (w.opener.asked opener.entry.now opener.exit.now) status
 
 -- and what is left of it
 abbrev pub MetBy : {O : Type 0} (w : Office O) → Across O → (journal address : List ℕ) → Stood w.Disk w.Listener w.Link → Type 0

@@ -9,6 +9,7 @@ ghost use Rattle.standby_link.specs.Serves.{IsPrompt};
 use crate::stood::Stood;
 use craft_words::Status;
 use dxc_disk::Disk;
+use dxc_leaving::LetGo;
 use dxc_outside::{Came, Link, Listener, Opened, Opener};
 use standby_link::{StandbyEnd, serve_standby};
 use std::alloc::Global;
@@ -19,7 +20,7 @@ const FAILURES: u8 = 16;
 
 /// Makes on the journal of that name, which is to be new, what a primary sends over the first link that comes at the address. Nobody
 /// else is let in. What is left is let go.
-pub fn run_standby<O: Opener, R: Wait>(
+pub fn run_standby<O: Opener + LetGo, R: Wait>(
     alloc: Global,
     opener: &mut O,
     journal: &str,
@@ -28,7 +29,7 @@ pub fn run_standby<O: Opener, R: Wait>(
 ) -> Status
     ensures stands_by { StoodBy
         (office O.Opener O.Journal.Disk O.Listener.Listener O.Listener.Link.Link)
-        opener journal.now address.now result }
+        O.gone opener (journal.now, address.now) result }
     ensures asked { AskedFor (O.asked opener.old opener.new) (journal_named journal.now ∷ listener_named address.now ∷ []) (IsOfNoOpening result) }
 {
     let stood = meet_primary(alloc, opener, journal, address, rt);

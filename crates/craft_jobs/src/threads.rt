@@ -232,7 +232,7 @@ pub fn run_all<
     ) = start_all(alloc, spawner, workers, sessions, rt);
     let workers = wait_each::<J, P::Threads>(begun, lefts);
     let sessions = wait_each::<K, P::Threads>(more_begun, more_lefts);
-    spawner.all_ended();
+    spawner.wait_all(rt);
     RanAll {
         started,
         workers,

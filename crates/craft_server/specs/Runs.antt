@@ -6,7 +6,7 @@ use Rattle.dxc_outside.specs.Asked.{Asking}
 use Rattle.dxc_outside.specs.Callers.{ListenerState}
 use Rattle.dxc_outside.specs.Links.{LinkState}
 use Rattle.dxc_outside.specs.Threads.{SpawnerState}
-use Rattle.dxc_outside.specs.Values.{AnyValue}
+use Rattle.dxc_leaving.specs.Values.{AnyValue}
 use Rattle.shelf_file.specs.Contents.{Contents}
 use Rattle.standby_link.specs.declared.mirror_disk.MirrorDisk.{MirrorDisk}
 use Rattle.user_admin.specs.Histories.{Opening as UsersOpening}

@@ -9,7 +9,7 @@ use Rattle.dxc_outside.specs.declared.listener.Listener.{Ghosts as ListenerOf}
 use Rattle.dxc_outside.specs.declared.opener.Opener.{Ghosts as OpenerOf}
 use Rattle.dxc_outside.specs.Jobs.{AnyJob, any_jobs}
 use Rattle.dxc_outside.specs.Threads.{SpawnerState}
-use Rattle.dxc_outside.specs.Values.{AnyValue, any_value}
+use Rattle.dxc_leaving.specs.Values.{AnyValue, any_value}
 use Rattle.shelf_file.specs.Contents.{Contents}
 use Rattle.user_admin.specs.Histories.{Opening as UsersOpening}
 use Rattle.xc_core.specs.States.{Opening}
@@ -98,14 +98,14 @@ pub record JobsTold (N L C G : Type 0) : Type 1 where
   pub served : (D U : Type 0) → SessionJob D U L C G → SessionDone L C G → PlaceAt → Type 0
   pub gone : AnyValue → Type 0
 
-abbrev pub jobs_told : (disk_told : Type 0) {O D N L C G E K : Type 0} → OpenerOf O D N L C G E K → LinesOf N → ListenerOf L K → LinkOf K → ClockOf C → GateOf G → (List AnyJob → Type 0) → JobsTold N L C G
-jobs_told disk_told o n l k c g handed = record {
+abbrev pub jobs_told : (disk_told : Type 0) {O D N L C G E K : Type 0} → OpenerOf O D N L C G E K → LinesOf N → ListenerOf L K → LinkOf K → ClockOf C → GateOf G → (gone : AnyValue → Type 0) → (List AnyJob → Type 0) → JobsTold N L C G
+jobs_told disk_told o n l k c g gone handed = record {
   lines_for = o.lines_for;
   listener_for = o.listener_for;
   handed = handed;
   carried = RanFrames n g;
   served = λ D U. RanAt {D = D} {U = U} disk_told l k c g;
-  gone = o.gone;
+  gone = gone;
 }
 
 -- What these jobs left, which was let go: each has run, and left this.

@@ -9,13 +9,14 @@ use craft_element::{Controller, Element, Names, WORKERS, open};
 use craft_session::places::lone_place;
 use craft_session::{SessionEnd, serve_session};
 use craft_words::Status;
+use dxc_leaving::LetGo;
 use dxc_outside::{Clock, Gate, Link, Opener};
 use std::alloc::Global;
 use std::sync::Wait;
 
 /// Serves one session over the terminal, at the one place of a controller that is opened on these names. The place is let go as the
 /// session left it.
-pub(crate) fn run_script<O: Opener, K: Link, C: Clock, G: Gate, R: Wait>(
+pub(crate) fn run_script<O: Opener + LetGo, K: Link, C: Clock, G: Gate, R: Wait>(
     alloc: Global,
     opener: &mut O,
     names: Names<'_>,

@@ -27,6 +27,7 @@ use craft_jobs::{FrameJob, frame_jobs, run_all};
 use craft_session::places::open_places;
 use craft_words::{Line, Status};
 use dxc_disk::Disk;
+use dxc_leaving::LetGo;
 use dxc_outside::{Clock, Gate, Lines, Listener, Opener, Spawner, Started};
 use fabric_words::{Fabric, WorkerSeat};
 use shelf_file::Shelf;
@@ -43,7 +44,7 @@ fn run_jobs<
     C: Clock + Send + Drop + 'static,
     G: Gate + Send + Drop + 'static,
     N: Lines + Send + Drop + 'static,
-    O: Opener,
+    O: LetGo,
     P: Spawner,
     R: Wait,
 >(
@@ -84,7 +85,7 @@ pub(crate) struct Site<'a> {
 
 /// Opens the lines of each worker and a listener for each of 16 places at the state and the users, and runs their jobs to their ends.
 pub(crate) fn serve_on<
-    O: Opener,
+    O: Opener + LetGo,
     D: Disk + Send + Drop + 'static,
     U: Disk + Send + Drop + 'static,
     P: Spawner,
@@ -111,7 +112,7 @@ where
     requires users_begin { UsersBegin U.told U.state users }
     requires opening { IsAtOpening (opening_of D.state state) (arc_value shelf.now) (arc_value fabric.now) }
     ensures serving { IsServing (site.entry.workers + 16) (O.state opener.old).faults (O.state opener.new).faults (P.state spawner.old) (P.state spawner.new) result }
-    ensures jobs { result ≡ Status.Done → HandedJobs D U (jobs_told D.told O.Opener O.Lines.Lines O.Listener.Listener O.Listener.Link.Link O.Clock.Clock O.Gate.Gate (P.handed spawner.old spawner.new)) (site_at site.entry.address.now site.entry.lines.now site.entry.workers) (arc_value shelf.now) (opening_of D.state state) (users_opening U.state users) }
+    ensures jobs { result ≡ Status.Done → HandedJobs D U (jobs_told D.told O.Opener O.Lines.Lines O.Listener.Listener O.Listener.Link.Link O.Clock.Clock O.Gate.Gate O.gone (P.handed spawner.old spawner.new)) (site_at site.entry.address.now site.entry.lines.now site.entry.workers) (arc_value shelf.now) (opening_of D.state state) (users_opening U.state users) }
     ensures asked { AskedFor (O.asked opener.old opener.new) (site_asked site.entry.lines.now site.entry.address.now site.entry.workers) (IsOfNoOpening result) }
 {
     let Ok(places) = open_places(alloc, shelf, fabric, state, users, SESSIONS) else {
@@ -129,7 +130,7 @@ where
 }
 
 // Serves the site with the controller that is opened on these names.
-fn serve_alone<O: Opener, G: Gate, P: Spawner, R: Wait>(
+fn serve_alone<O: Opener + LetGo, G: Gate, P: Spawner, R: Wait>(
     alloc: Global,
     opener: &mut O,
     names: Names<'_>,
@@ -141,7 +142,7 @@ fn serve_alone<O: Opener, G: Gate, P: Spawner, R: Wait>(
 where
     <O::Listener as Listener>::Link: Send + 'static,
     requires { (1 ≤ site.workers) × (site.workers ≤ 8) }
-    ensures opens { Opens O.told O.Journal.told O.Journal.state (named names.entry.shelf.now names.entry.journal.now) (sources (O.state opener.old) (O.journal_at opener.old) (G.stops gate.old)) (sources (O.state opener.new) (O.journal_at opener.new) (G.stops gate.new)) (P.state spawner.new ≡ P.state spawner.old) (λ f o u. ServedSite O.Journal O.Journal (jobs_told O.Journal.told O.Opener O.Lines.Lines O.Listener.Listener O.Listener.Link.Link O.Clock.Clock O.Gate.Gate (P.handed spawner.old spawner.new)) (site_at site.entry.address.now site.entry.lines.now site.entry.workers) (sources (O.state opener.old) (O.journal_at opener.old) (G.stops gate.old)) (sources (O.state opener.new) (O.journal_at opener.new) (G.stops gate.new)) (P.state spawner.old) (P.state spawner.new) f.shelf o u.opening result) result }
+    ensures opens { Opens O.told O.Journal.told O.Journal.state (named names.entry.shelf.now names.entry.journal.now) (sources (O.state opener.old) (O.journal_at opener.old) (G.stops gate.old)) (sources (O.state opener.new) (O.journal_at opener.new) (G.stops gate.new)) (P.state spawner.new ≡ P.state spawner.old) (λ f o u. ServedSite O.Journal O.Journal (jobs_told O.Journal.told O.Opener O.Lines.Lines O.Listener.Listener O.Listener.Link.Link O.Clock.Clock O.Gate.Gate O.gone (P.handed spawner.old spawner.new)) (site_at site.entry.address.now site.entry.lines.now site.entry.workers) (sources (O.state opener.old) (O.journal_at opener.old) (G.stops gate.old)) (sources (O.state opener.new) (O.journal_at opener.new) (G.stops gate.new)) (P.state spawner.old) (P.state spawner.new) f.shelf o u.opening result) result }
     ensures asked { AskedFor (O.asked opener.old opener.new) (files_asked (named names.entry.shelf.now names.entry.journal.now) ++ site_asked site.entry.lines.now site.entry.address.now site.entry.workers) (IsOfNoOpening result) }
 {
     let Element { controller, users } = match open(alloc, opener, names, site.workers, gate) {
@@ -164,7 +165,7 @@ where
 /// The controller is opened first, and the gate asked meanwhile; then the lines of each worker and a listener for each session.
 /// The frame workers are started before the sessions. It ends when all of them have ended. Where the line has a peer, the standby there
 /// is joined before the controller is opened.
-pub fn serve_all<O: Opener, G: Gate, P: Spawner, R: Wait>(
+pub fn serve_all<O: Opener + LetGo, G: Gate, P: Spawner, R: Wait>(
     alloc: Global,
     opener: &mut O,
     line: &Line,
@@ -175,8 +176,8 @@ pub fn serve_all<O: Opener, G: Gate, P: Spawner, R: Wait>(
 where
     <O::Listener as Listener>::Link: Send + 'static,
     requires { IsServe line.now }
-    ensures alone { peer_of line.now ≡ None → Opens O.told O.Journal.told O.Journal.state (named_in line.now) (sources (O.state opener.old) (O.journal_at opener.old) (G.stops gate.old)) (sources (O.state opener.new) (O.journal_at opener.new) (G.stops gate.new)) (P.state spawner.new ≡ P.state spawner.old) (λ f o u. ServedSite O.Journal O.Journal (jobs_told O.Journal.told O.Opener O.Lines.Lines O.Listener.Listener O.Listener.Link.Link O.Clock.Clock O.Gate.Gate (P.handed spawner.old spawner.new)) (site_in line.now) (sources (O.state opener.old) (O.journal_at opener.old) (G.stops gate.old)) (sources (O.state opener.new) (O.journal_at opener.new) (G.stops gate.new)) (P.state spawner.old) (P.state spawner.new) f.shelf o u.opening result) result }
-    ensures mirrored { IsSome (peer_of line.now) → Mirrors O.Journal.told O.Peer.told O.Journal.state O.Peer.state O.told (named_in line.now) (sources (O.state opener.old) (O.journal_at opener.old) (G.stops gate.old)) (sources (O.state opener.new) (O.journal_at opener.new) (G.stops gate.new)) (P.state spawner.new ≡ P.state spawner.old) (λ f o u. ServedSite (MirrorDisk O.Journal O.Peer) O.Journal (jobs_told O.Journal.told O.Opener O.Lines.Lines O.Listener.Listener O.Listener.Link.Link O.Clock.Clock O.Gate.Gate (P.handed spawner.old spawner.new)) (site_in line.now) (sources (O.state opener.old) (O.journal_at opener.old) (G.stops gate.old)) (sources (O.state opener.new) (O.journal_at opener.new) (G.stops gate.new)) (P.state spawner.old) (P.state spawner.new) f.shelf o u.opening result) result }
+    ensures alone { peer_of line.now ≡ None → Opens O.told O.Journal.told O.Journal.state (named_in line.now) (sources (O.state opener.old) (O.journal_at opener.old) (G.stops gate.old)) (sources (O.state opener.new) (O.journal_at opener.new) (G.stops gate.new)) (P.state spawner.new ≡ P.state spawner.old) (λ f o u. ServedSite O.Journal O.Journal (jobs_told O.Journal.told O.Opener O.Lines.Lines O.Listener.Listener O.Listener.Link.Link O.Clock.Clock O.Gate.Gate O.gone (P.handed spawner.old spawner.new)) (site_in line.now) (sources (O.state opener.old) (O.journal_at opener.old) (G.stops gate.old)) (sources (O.state opener.new) (O.journal_at opener.new) (G.stops gate.new)) (P.state spawner.old) (P.state spawner.new) f.shelf o u.opening result) result }
+    ensures mirrored { IsSome (peer_of line.now) → Mirrors O.Journal.told O.Peer.told O.Journal.state O.Peer.state O.told (named_in line.now) (sources (O.state opener.old) (O.journal_at opener.old) (G.stops gate.old)) (sources (O.state opener.new) (O.journal_at opener.new) (G.stops gate.new)) (P.state spawner.new ≡ P.state spawner.old) (λ f o u. ServedSite (MirrorDisk O.Journal O.Peer) O.Journal (jobs_told O.Journal.told O.Opener O.Lines.Lines O.Listener.Listener O.Listener.Link.Link O.Clock.Clock O.Gate.Gate O.gone (P.handed spawner.old spawner.new)) (site_in line.now) (sources (O.state opener.old) (O.journal_at opener.old) (G.stops gate.old)) (sources (O.state opener.new) (O.journal_at opener.new) (G.stops gate.new)) (P.state spawner.old) (P.state spawner.new) f.shelf o u.opening result) result }
     ensures asked { AskedFor (O.asked opener.old opener.new) (line_asked line.now) (IsOfNoOpening result) }
 {
     let Line::Serve {
@@ -207,7 +208,7 @@ where
 
 /// Serves a line of `serve`, as each is that words spell. BadWords: it is none.
 // Without a `requires`, which costs a caller that holds the whole program more than this test.
-pub(crate) fn serve_line<O: Opener, G: Gate, P: Spawner, R: Wait>(
+pub(crate) fn serve_line<O: Opener + LetGo, G: Gate, P: Spawner, R: Wait>(
     alloc: Global,
     opener: &mut O,
     line: &Line,
@@ -217,8 +218,8 @@ pub(crate) fn serve_line<O: Opener, G: Gate, P: Spawner, R: Wait>(
 ) -> Status
 where
     <O::Listener as Listener>::Link: Send + 'static,
-    ensures alone { IsServe line.now → peer_of line.now ≡ None → Opens O.told O.Journal.told O.Journal.state (named_in line.now) (sources (O.state opener.old) (O.journal_at opener.old) (G.stops gate.old)) (sources (O.state opener.new) (O.journal_at opener.new) (G.stops gate.new)) (P.state spawner.new ≡ P.state spawner.old) (λ f o u. ServedSite O.Journal O.Journal (jobs_told O.Journal.told O.Opener O.Lines.Lines O.Listener.Listener O.Listener.Link.Link O.Clock.Clock O.Gate.Gate (P.handed spawner.old spawner.new)) (site_in line.now) (sources (O.state opener.old) (O.journal_at opener.old) (G.stops gate.old)) (sources (O.state opener.new) (O.journal_at opener.new) (G.stops gate.new)) (P.state spawner.old) (P.state spawner.new) f.shelf o u.opening result) result }
-    ensures mirrored { IsServe line.now → IsSome (peer_of line.now) → Mirrors O.Journal.told O.Peer.told O.Journal.state O.Peer.state O.told (named_in line.now) (sources (O.state opener.old) (O.journal_at opener.old) (G.stops gate.old)) (sources (O.state opener.new) (O.journal_at opener.new) (G.stops gate.new)) (P.state spawner.new ≡ P.state spawner.old) (λ f o u. ServedSite (MirrorDisk O.Journal O.Peer) O.Journal (jobs_told O.Journal.told O.Opener O.Lines.Lines O.Listener.Listener O.Listener.Link.Link O.Clock.Clock O.Gate.Gate (P.handed spawner.old spawner.new)) (site_in line.now) (sources (O.state opener.old) (O.journal_at opener.old) (G.stops gate.old)) (sources (O.state opener.new) (O.journal_at opener.new) (G.stops gate.new)) (P.state spawner.old) (P.state spawner.new) f.shelf o u.opening result) result }
+    ensures alone { IsServe line.now → peer_of line.now ≡ None → Opens O.told O.Journal.told O.Journal.state (named_in line.now) (sources (O.state opener.old) (O.journal_at opener.old) (G.stops gate.old)) (sources (O.state opener.new) (O.journal_at opener.new) (G.stops gate.new)) (P.state spawner.new ≡ P.state spawner.old) (λ f o u. ServedSite O.Journal O.Journal (jobs_told O.Journal.told O.Opener O.Lines.Lines O.Listener.Listener O.Listener.Link.Link O.Clock.Clock O.Gate.Gate O.gone (P.handed spawner.old spawner.new)) (site_in line.now) (sources (O.state opener.old) (O.journal_at opener.old) (G.stops gate.old)) (sources (O.state opener.new) (O.journal_at opener.new) (G.stops gate.new)) (P.state spawner.old) (P.state spawner.new) f.shelf o u.opening result) result }
+    ensures mirrored { IsServe line.now → IsSome (peer_of line.now) → Mirrors O.Journal.told O.Peer.told O.Journal.state O.Peer.state O.told (named_in line.now) (sources (O.state opener.old) (O.journal_at opener.old) (G.stops gate.old)) (sources (O.state opener.new) (O.journal_at opener.new) (G.stops gate.new)) (P.state spawner.new ≡ P.state spawner.old) (λ f o u. ServedSite (MirrorDisk O.Journal O.Peer) O.Journal (jobs_told O.Journal.told O.Opener O.Lines.Lines O.Listener.Listener O.Listener.Link.Link O.Clock.Clock O.Gate.Gate O.gone (P.handed spawner.old spawner.new)) (site_in line.now) (sources (O.state opener.old) (O.journal_at opener.old) (G.stops gate.old)) (sources (O.state opener.new) (O.journal_at opener.new) (G.stops gate.new)) (P.state spawner.old) (P.state spawner.new) f.shelf o u.opening result) result }
     ensures asked { IsServe line.now → AskedFor (O.asked opener.old opener.new) (line_asked line.now) (IsOfNoOpening result) }
 {
     if is_serve(line) {

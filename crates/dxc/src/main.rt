@@ -35,7 +35,7 @@ fn main(rt: HostRuntime) -> ExitCode {
                     &mut terminal,
                     &mut HostClock::new(),
                     &mut gate,
-                    &mut ThreadSpawner::new(rt),
+                    &mut ThreadSpawner::new(rt, Vec::new(alloc)),
                     &rt,
                 );
                 match terminal.finish() {

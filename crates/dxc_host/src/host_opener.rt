@@ -6,6 +6,7 @@ use crate::changes::Changes;
 use crate::entrance::Entrance;
 use crate::lines_files::{open_input, open_output};
 use crate::{FileLines, HostClock, HostDisk, HostGate, Refusal, TcpDoor, TcpLink};
+use dxc_leaving::LetGo;
 use dxc_outside::{Opened, Opener, most_shelf_bytes};
 use std::alloc::{AllocError, Global};
 use std::fs::File;
@@ -172,8 +173,6 @@ impl<
 
     ghost listener_for = { λ _ _. Unit {0} };
 
-    ghost gone = { λ _. Unit {0} };
-
     fn shelf(&mut self, alloc: Global, name: &str, into: &mut Vec<u8>) -> Opened<()> {
         match append_file(&self.system, name, into) {
             Ok(()) => Opened::Open(()),
@@ -245,6 +244,18 @@ impl<
         };
         HostGate::new(changes)
     }
+}
 
-    fn let_go<T: Drop>(&self, _left: T) {}
+impl<
+    T: Files<File = File>
+        + Net<Listener = TcpListener, Stream = TcpStream>
+        + SystemClock
+        + Copy
+        + Send
+        + Drop
+        + 'static,
+> LetGo for HostOpener<T> {
+    ghost gone = { λ _. Unit {0} };
+
+    fn let_go<X: Drop>(&self, _left: X) {}
 }

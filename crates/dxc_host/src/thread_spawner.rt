@@ -1,31 +1,35 @@
-ghost use Rattle.std.specs.Prelude.{◌≡◌, true, false};
+ghost use Rattle.std.specs.Prelude.{◌≡◌, [], true, false};
 
 use dxc_outside::{Spawner, Way};
 use std::sync::Wait;
-use std::thread::Threads;
+use std::thread::{JoinHandle, Threads};
 
-/// Has each job run on a thread of its own.
+/// Runs each job on a thread of its own.
 #[derive(Drop)]
 pub struct ThreadSpawner<T> {
     threads: T,
+    running: Vec<JoinHandle<()>>,
     starts: u64,
     waited: bool,
     faults: u64,
     last_failed: bool,
+    // Where it says that it was waited for, no thread is left to be joined.
+    ghost joined: { waited ≡ true → running.items ≡ [] },
 }
 
 impl<T: Threads + Wait + Copy + Send + Drop + 'static> ThreadSpawner<T> {
-    /// Nothing was started yet.
-    pub fn new(threads: T) -> ThreadSpawner<T>
+    /// The threads that run are kept behind what `running` holds.
+    pub fn new(threads: T, running: Vec<JoinHandle<()>>) -> ThreadSpawner<T>
         ensures starts { result.starts ≡ 0 }
         ensures faults { result.faults ≡ 0 }
-        ensures waited { result.waited ≡ true }
+        ensures waited { running.items ≡ [] → result.waited ≡ true }
         ensures last_failed { result.last_failed ≡ false }
     {
         ThreadSpawner {
+            waited: running.is_empty(),
             threads,
+            running,
             starts: 0,
-            waited: true,
             faults: 0,
             last_failed: false,
         }
@@ -43,7 +47,13 @@ impl<T: Threads + Wait + Copy + Send + Drop + 'static> Spawner for ThreadSpawner
 
     ghost handed_on = { λ _ _ _ _ _ _ _. tt };
 
+    /// The place for the thread's handle is taken before the thread is started, so that no job is lost for want of it.
     fn way<J>(&mut self, _job: &J) -> Way<T> {
+        if self.running.reserve(1).is_err() {
+            self.faults = self.faults.saturating_add(1);
+            self.last_failed = true;
+            return Way::Refused;
+        }
         Way::Thread(self.threads)
     }
 
@@ -53,12 +63,24 @@ impl<T: Threads + Wait + Copy + Send + Drop + 'static> Spawner for ThreadSpawner
         self.last_failed = false;
     }
 
+    fn keep(&mut self, handle: JoinHandle<()>) {
+        self.starts = self.starts.saturating_add(1);
+        self.waited = false;
+        self.last_failed = false;
+        if let Err(refused) = self.running.push(handle) {
+            refused.value.join(&self.threads);
+        }
+    }
+
     fn refused(&mut self) {
         self.faults = self.faults.saturating_add(1);
         self.last_failed = true;
     }
 
-    fn all_ended(&mut self) {
+    fn wait_all<R: Wait>(&mut self, _rt: &R) {
+        while let Some(handle) = self.running.pop() {
+            handle.join(&self.threads);
+        }
         self.waited = true;
     }
 }

@@ -14,4 +14,3 @@ pub mod Openings
 pub mod Pieces
 pub mod Spawners
 pub mod Threads
-pub mod Values

@@ -7,6 +7,7 @@ use crate::link::RowLink;
 use crate::listener::RowListener;
 use crate::noon::NOON;
 use crate::shelf::read_part;
+use dxc_leaving::LetGo;
 use dxc_outside::{MemClock, MemGate, Opened, Opener};
 use std::alloc::Global;
 
@@ -114,8 +115,6 @@ impl Opener for RowOpener {
 
     ghost listener_for = { λ _ _. Unit {0} };
 
-    ghost gone = { λ _. Unit {0} };
-
     fn shelf(&mut self, _alloc: Global, _name: &str, into: &mut Vec<u8>) -> Opened<()> {
         match self.opened(Some(())) {
             Opened::Open(()) => {}
@@ -164,6 +163,10 @@ impl Opener for RowOpener {
             None => MemGate::new(Vec::new(self.alloc)),
         }
     }
+}
+
+impl LetGo for RowOpener {
+    ghost gone = { λ _. Unit {0} };
 
     fn let_go<T: Drop>(&self, _left: T) {}
 }

@@ -6,6 +6,7 @@ use crate::lines::WatchedLines;
 use crate::link::CueLink;
 use crate::listener::OneCaller;
 use dxc_disk::MemDisk;
+use dxc_leaving::LetGo;
 use dxc_outside::{MemClock, MemLink, Opened, Opener};
 use std::alloc::Global;
 use worked_common::read_part;
@@ -78,8 +79,6 @@ impl Opener for SessionsOpener {
 
     ghost listener_for = { λ _ _. Unit {0} };
 
-    ghost gone = { λ _. Unit {0} };
-
     fn shelf(&mut self, _alloc: Global, _name: &str, into: &mut Vec<u8>) -> Opened<()> {
         match into.extend_from_slice(read_part(&self.shelf)) {
             Ok(()) => Opened::Open(()),
@@ -110,6 +109,10 @@ impl Opener for SessionsOpener {
     fn gate(&mut self) -> CuedGate {
         self.gates.pop().unwrap_or(CuedGate::new(None))
     }
+}
+
+impl LetGo for SessionsOpener {
+    ghost gone = { λ _. Unit {0} };
 
     fn let_go<T: Drop>(&self, _left: T) {}
 }

@@ -101,7 +101,7 @@ fn beside_of<R: Threads + Wait + Copy + Send + Drop + 'static>(
         ),
         clock: standing(alloc),
         gate: MemGate::new(Vec::new(alloc)),
-        spawner: ThreadSpawner::new(threads),
+        spawner: ThreadSpawner::new(threads, Vec::new(alloc)),
     }
 }
 

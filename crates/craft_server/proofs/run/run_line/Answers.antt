@@ -31,14 +31,14 @@ use Rattle.craft_server.proofs.run.run_line.Goals as goal
 
 pub returns-in-Script-clause-run : goal.returns-in-Script-clause-run
 returns-in-Script-clause-run g c = λ fit.
-    let told = told_by g.O.Opener.told g.O.Journal.Disk.told g.K.Link.told g.C.Clock.told g.O.Peer.Link.told g.O.Listener.Listener.told g.O.Listener.Link.Link.told g.K.Link.begun g.O.Listener.Link.Link.begun g.O.Opener.gone (g.O.Opener.asked c.args.opener.now c.run_script.new.opener) in
-    let jobs = jobs_told g.O.Journal.Disk.told g.O.Opener g.O.Lines.Lines g.O.Listener.Listener g.O.Listener.Link.Link g.O.Clock.Clock g.O.Gate.Gate (g.P.Spawner.handed c.args.spawner.now c.args.spawner.now) in
+    let told = told_by g.O.Opener.told g.O.Journal.Disk.told g.K.Link.told g.C.Clock.told g.O.Peer.Link.told g.O.Listener.Listener.told g.O.Listener.Link.Link.told g.K.Link.begun g.O.Listener.Link.Link.begun g.O.LetGo.gone (g.O.Opener.asked c.args.opener.now c.run_script.new.opener) in
+    let jobs = jobs_told g.O.Journal.Disk.told g.O.Opener g.O.Lines.Lines g.O.Listener.Listener g.O.Listener.Link.Link g.O.Clock.Clock g.O.Gate.Gate g.O.LetGo.gone (g.P.Spawner.handed c.args.spawner.now c.args.spawner.now) in
     let state = g.O.Journal.Disk.state in
     let p = g.P.Spawner.state c.args.spawner.now in
     let before = lent (sources (g.O.Opener.state c.args.opener.now) (g.O.Opener.journal_at c.args.opener.now) (g.G.Gate.stops c.args.gate.now)) (g.K.Link.state c.args.terminal.now) (g.C.Clock.coming c.args.clock.now) p in
     let after = lent (sources (g.O.Opener.state c.run_script.new.opener) (g.O.Opener.journal_at c.run_script.new.opener) (g.G.Gate.stops c.run_script.new.gate)) (g.K.Link.state c.run_script.new.terminal) (g.C.Clock.coming c.run_script.new.clock) p in
     let status = c.run_script.result in
-    let P : Contents → g.row.O-Journal.Denot → Opening → g.row.O-Journal.Denot → UsersOpening → Type 0 = λ s d o e u. RanSession g.O.Journal.Disk.told g.K.Link.told g.C.Clock.told g.K.Link.begun g.O.Opener.gone (state d) (state e) s o u before.terminal after.terminal before.clock after.clock before.sources.stops after.sources.stops status in
+    let P : Contents → g.row.O-Journal.Denot → Opening → g.row.O-Journal.Denot → UsersOpening → Type 0 = λ s d o e u. RanSession g.O.Journal.Disk.told g.K.Link.told g.C.Clock.told g.K.Link.begun g.O.LetGo.gone (state d) (state e) s o u before.terminal after.terminal before.clock after.clock before.sources.stops after.sources.stops status in
     let Q : Contents → g.row.O-Journal.Denot → Opening → g.row.O-Journal.Denot → UsersOpening → Type 0 = λ s d o e u. RanScript told state before after s o u d e status in
     let ran = opens_for told.disk state told.opener _ (named c.in-Script.shelf c.in-Script.journal) c.names_of-names.ensures before.sources after.sources ((after.terminal ≡ before.terminal) × (after.clock ≡ before.clock)) (IsUntouched before after) P Q status
     (λ u. record { terminal = u.0; clock = u.1; spawner = refl }) (λ s d o e u one. record { session = one; spawner = refl }) c.run_script.ensures.opens in
@@ -46,8 +46,8 @@ returns-in-Script-clause-run g c = λ fit.
 
 pub returns-in-Check-clause-run : goal.returns-in-Check-clause-run
 returns-in-Check-clause-run g c = λ fit.
-    let told = told_by g.O.Opener.told g.O.Journal.Disk.told g.K.Link.told g.C.Clock.told g.O.Peer.Link.told g.O.Listener.Listener.told g.O.Listener.Link.Link.told g.K.Link.begun g.O.Listener.Link.Link.begun g.O.Opener.gone (g.O.Opener.asked c.args.opener.now c.run_check.new.opener) in
-    let jobs = jobs_told g.O.Journal.Disk.told g.O.Opener g.O.Lines.Lines g.O.Listener.Listener g.O.Listener.Link.Link g.O.Clock.Clock g.O.Gate.Gate (g.P.Spawner.handed c.args.spawner.now c.args.spawner.now) in
+    let told = told_by g.O.Opener.told g.O.Journal.Disk.told g.K.Link.told g.C.Clock.told g.O.Peer.Link.told g.O.Listener.Listener.told g.O.Listener.Link.Link.told g.K.Link.begun g.O.Listener.Link.Link.begun g.O.LetGo.gone (g.O.Opener.asked c.args.opener.now c.run_check.new.opener) in
+    let jobs = jobs_told g.O.Journal.Disk.told g.O.Opener g.O.Lines.Lines g.O.Listener.Listener g.O.Listener.Link.Link g.O.Clock.Clock g.O.Gate.Gate g.O.LetGo.gone (g.P.Spawner.handed c.args.spawner.now c.args.spawner.now) in
     let state = g.O.Journal.Disk.state in
     let p = g.P.Spawner.state c.args.spawner.now in
     let moments = g.C.Clock.coming c.args.clock.now in
@@ -62,8 +62,8 @@ returns-in-Check-clause-run g c = λ fit.
 
 pub returns-in-Serve-clause-run : goal.returns-in-Serve-clause-run
 returns-in-Serve-clause-run g c = λ fit.
-    let told = told_by g.O.Opener.told g.O.Journal.Disk.told g.K.Link.told g.C.Clock.told g.O.Peer.Link.told g.O.Listener.Listener.told g.O.Listener.Link.Link.told g.K.Link.begun g.O.Listener.Link.Link.begun g.O.Opener.gone (g.O.Opener.asked c.args.opener.now c.serve_line.new.opener) in
-    let jobs = jobs_told g.O.Journal.Disk.told g.O.Opener g.O.Lines.Lines g.O.Listener.Listener g.O.Listener.Link.Link g.O.Clock.Clock g.O.Gate.Gate (g.P.Spawner.handed c.args.spawner.now c.serve_line.new.spawner) in
+    let told = told_by g.O.Opener.told g.O.Journal.Disk.told g.K.Link.told g.C.Clock.told g.O.Peer.Link.told g.O.Listener.Listener.told g.O.Listener.Link.Link.told g.K.Link.begun g.O.Listener.Link.Link.begun g.O.LetGo.gone (g.O.Opener.asked c.args.opener.now c.serve_line.new.opener) in
+    let jobs = jobs_told g.O.Journal.Disk.told g.O.Opener g.O.Lines.Lines g.O.Listener.Listener g.O.Listener.Link.Link g.O.Clock.Clock g.O.Gate.Gate g.O.LetGo.gone (g.P.Spawner.handed c.args.spawner.now c.serve_line.new.spawner) in
     let state = g.O.Journal.Disk.state in
     let peer_state = g.O.Peer.Link.state in
     let terminal = g.K.Link.state c.args.terminal.now in
@@ -93,8 +93,8 @@ returns-in-Serve-clause-run g c = λ fit.
 
 pub returns-in-Standby-clause-run : goal.returns-in-Standby-clause-run
 returns-in-Standby-clause-run g c = λ fit.
-    let told = told_by g.O.Opener.told g.O.Journal.Disk.told g.K.Link.told g.C.Clock.told g.O.Peer.Link.told g.O.Listener.Listener.told g.O.Listener.Link.Link.told g.K.Link.begun g.O.Listener.Link.Link.begun g.O.Opener.gone (g.O.Opener.asked c.args.opener.now c.run_standby.new.opener) in
-    let jobs = jobs_told g.O.Journal.Disk.told g.O.Opener g.O.Lines.Lines g.O.Listener.Listener g.O.Listener.Link.Link g.O.Clock.Clock g.O.Gate.Gate (g.P.Spawner.handed c.args.spawner.now c.args.spawner.now) in
+    let told = told_by g.O.Opener.told g.O.Journal.Disk.told g.K.Link.told g.C.Clock.told g.O.Peer.Link.told g.O.Listener.Listener.told g.O.Listener.Link.Link.told g.K.Link.begun g.O.Listener.Link.Link.begun g.O.LetGo.gone (g.O.Opener.asked c.args.opener.now c.run_standby.new.opener) in
+    let jobs = jobs_told g.O.Journal.Disk.told g.O.Opener g.O.Lines.Lines g.O.Listener.Listener g.O.Listener.Link.Link g.O.Clock.Clock g.O.Gate.Gate g.O.LetGo.gone (g.P.Spawner.handed c.args.spawner.now c.args.spawner.now) in
     let state = g.O.Journal.Disk.state in
     let listener = g.O.Listener.Listener.state in
     let link = g.O.Listener.Link.Link.state in
@@ -127,7 +127,7 @@ returns-in-Serve-clause-words g c = λ fit bad.
     let q = g.P.Spawner.state c.serve_line.new.spawner in
     let line = c.args.line.now in
     let status = c.serve_line.result in
-    let jobs = jobs_told g.O.Journal.Disk.told g.O.Opener g.O.Lines.Lines g.O.Listener.Listener g.O.Listener.Link.Link g.O.Clock.Clock g.O.Gate.Gate (g.P.Spawner.handed c.args.spawner.now c.serve_line.new.spawner) in
+    let jobs = jobs_told g.O.Journal.Disk.told g.O.Opener g.O.Lines.Lines g.O.Listener.Listener g.O.Listener.Link.Link g.O.Clock.Clock g.O.Gate.Gate g.O.LetGo.gone (g.P.Spawner.handed c.args.spawner.now c.serve_line.new.spawner) in
     let disk : Type 0 = g.row.O-Journal.Denot in
     let mirror : Type 0 = MirrorDisk disk g.row.O-Peer.Denot in
     let S : Contents → Opening → UsersOpening → Type 0 = λ s o u. ServedSite disk disk jobs (site_in line) before after p q s o u status in
@@ -142,8 +142,8 @@ returns-in-Standby-clause-words g c = λ fit bad. stands_words _ _ _ _ _ _ _ _ _
 
 pub returns-in-Load-clause-run : goal.returns-in-Load-clause-run
 returns-in-Load-clause-run g c = λ fit.
-    let told = told_by g.O.Opener.told g.O.Journal.Disk.told g.K.Link.told g.C.Clock.told g.O.Peer.Link.told g.O.Listener.Listener.told g.O.Listener.Link.Link.told g.K.Link.begun g.O.Listener.Link.Link.begun g.O.Opener.gone (g.O.Opener.asked c.args.opener.now c.args.opener.now) in
-    let jobs = jobs_told g.O.Journal.Disk.told g.O.Opener g.O.Lines.Lines g.O.Listener.Listener g.O.Listener.Link.Link g.O.Clock.Clock g.O.Gate.Gate (g.P.Spawner.handed c.args.spawner.now c.args.spawner.now) in
+    let told = told_by g.O.Opener.told g.O.Journal.Disk.told g.K.Link.told g.C.Clock.told g.O.Peer.Link.told g.O.Listener.Listener.told g.O.Listener.Link.Link.told g.K.Link.begun g.O.Listener.Link.Link.begun g.O.LetGo.gone (g.O.Opener.asked c.args.opener.now c.args.opener.now) in
+    let jobs = jobs_told g.O.Journal.Disk.told g.O.Opener g.O.Lines.Lines g.O.Listener.Listener g.O.Listener.Link.Link g.O.Clock.Clock g.O.Gate.Gate g.O.LetGo.gone (g.P.Spawner.handed c.args.spawner.now c.args.spawner.now) in
     let state = g.O.Journal.Disk.state in
     let at = λ (stops : ℕ) (terminal : LinkState). lent (sources (g.O.Opener.state c.args.opener.now) (g.O.Opener.journal_at c.args.opener.now) stops) terminal (g.C.Clock.coming c.args.clock.now) (g.P.Spawner.state c.args.spawner.now) in
     let before = at (g.G.Gate.stops c.args.gate.now) (g.K.Link.state c.args.terminal.now) in
