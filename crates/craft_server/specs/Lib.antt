@@ -5,4 +5,6 @@ pub mod Loads
 pub mod Served
 pub mod Serving
 pub mod Scripts
+pub mod Worlds
+pub mod Sites
 pub mod Runs
