@@ -12,11 +12,11 @@ mod task;
 mod threads;
 mod workers;
 
+pub use begun::RanAll;
 pub use frames::FrameJob;
 pub use frames_left::{FramesDone, FramesLeft};
 pub use standby::run_standby;
 pub use stood::Stood;
 pub use task::Task;
 pub use threads::run_all;
-pub use begun::RanAll;
 pub use workers::frame_jobs;

@@ -19,28 +19,39 @@ pub returns-in-NoMemory-listener-clause-stands : goal.returns-in-NoMemory-listen
 returns-in-NoMemory-listener-clause-stands g c = ((λ t. handed g.O.Opener.told (g.O.Opener.journal_at c.args.opener.now) (g.O.Opener.journal_at c.args.opener.now) (g.O.Opener.journal_at c.journal.new.self) c.journal.result c.in-Open.disk c.args.journal.now (λ t n. refl) c.in-Open.is c.journal.ensures.opening.hands t), inl refl)
 
 pub returns-in-Link-clause-stands : goal.returns-in-Link-clause-stands
-returns-in-Link-clause-stands g c = (record {
-  copy = c.in-Open.disk;
-  handed = λ t. handed g.O.Opener.told (g.O.Opener.journal_at c.args.opener.now) (g.O.Opener.journal_at c.args.opener.now) (g.O.Opener.journal_at c.journal.new.self) c.journal.result c.in-Open.disk c.args.journal.now (λ t n. refl) c.in-Open.is c.journal.ensures.opening.hands t;
-  door = c.in-Open-listener.listener;
-  opened = λ t. handed g.O.Opener.told (g.O.Opener.listener_at c.args.opener.now) (g.O.Opener.listener_at c.journal.new.self) (g.O.Opener.listener_at c.listener.new.self) c.listener.result c.in-Open-listener.listener c.args.address.now c.journal.ensures.listeners c.in-Open-listener.is c.listener.ensures.hands t;
-}, served_one g.O.Opener.told g.O.Journal.Disk.told g.O.Listener.Listener.told g.O.Listener.Link.Link.told g.O.Journal.Disk.state g.O.Listener.Listener.state g.O.Listener.Link.Link.state g.O.Listener.Link.Link.begun c.in-Open-listener.listener c.first_link.new.listener c.first_link.result c.in-Link.link c.stand_by-end.new.link c.in-Open.disk c.stand_by-end.new.disk c.stand_by-end.result c.in-Link.is c.first_link.ensures c.stand_by-end.ensures.ran c.stand_by-end.ensures.prompt)
+returns-in-Link-clause-stands g c = (
+  record {
+    copy = c.in-Open.disk;
+    handed = λ t. handed g.O.Opener.told (g.O.Opener.journal_at c.args.opener.now) (g.O.Opener.journal_at c.args.opener.now) (g.O.Opener.journal_at c.journal.new.self) c.journal.result c.in-Open.disk c.args.journal.now (λ t n. refl) c.in-Open.is c.journal.ensures.opening.hands t;
+    door = c.in-Open-listener.listener;
+    opened = λ t. handed g.O.Opener.told (g.O.Opener.listener_at c.args.opener.now) (g.O.Opener.listener_at c.journal.new.self) (g.O.Opener.listener_at c.listener.new.self) c.listener.result c.in-Open-listener.listener c.args.address.now c.journal.ensures.listeners c.in-Open-listener.is c.listener.ensures.hands t;
+  },
+  served_one g.O.Opener.told g.O.Journal.Disk.told g.O.Listener.Listener.told g.O.Listener.Link.Link.told g.O.Journal.Disk.state g.O.Listener.Listener.state g.O.Listener.Link.Link.state g.O.Listener.Link.Link.begun c.in-Open-listener.listener c.first_link.new.listener c.first_link.result c.in-Link.link c.stand_by-end.new.link c.in-Open.disk c.stand_by-end.new.disk c.stand_by-end.result c.in-Link.is c.first_link.ensures c.stand_by-end.ensures.ran c.stand_by-end.ensures.prompt,
+)
 
 pub returns-in-End-clause-stands : goal.returns-in-End-clause-stands
-returns-in-End-clause-stands g c = (record {
-  copy = c.in-Open.disk;
-  handed = λ t. handed g.O.Opener.told (g.O.Opener.journal_at c.args.opener.now) (g.O.Opener.journal_at c.args.opener.now) (g.O.Opener.journal_at c.journal.new.self) c.journal.result c.in-Open.disk c.args.journal.now (λ t n. refl) c.in-Open.is c.journal.ensures.opening.hands t;
-  door = c.in-Open-listener.listener;
-  opened = λ t. handed g.O.Opener.told (g.O.Opener.listener_at c.args.opener.now) (g.O.Opener.listener_at c.journal.new.self) (g.O.Opener.listener_at c.listener.new.self) c.listener.result c.in-Open-listener.listener c.args.address.now c.journal.ensures.listeners c.in-Open-listener.is c.listener.ensures.hands t;
-}, refl, nobody_came g.O.Opener.told g.O.Journal.Disk.told g.O.Listener.Listener.told g.O.Listener.Link.Link.told g.O.Journal.Disk.state g.O.Listener.Listener.state g.O.Listener.Link.Link.state g.O.Listener.Link.Link.begun c.in-Open-listener.listener c.first_link.new.listener c.first_link.result c.in-End.is c.first_link.ensures)
+returns-in-End-clause-stands g c = (
+  record {
+    copy = c.in-Open.disk;
+    handed = λ t. handed g.O.Opener.told (g.O.Opener.journal_at c.args.opener.now) (g.O.Opener.journal_at c.args.opener.now) (g.O.Opener.journal_at c.journal.new.self) c.journal.result c.in-Open.disk c.args.journal.now (λ t n. refl) c.in-Open.is c.journal.ensures.opening.hands t;
+    door = c.in-Open-listener.listener;
+    opened = λ t. handed g.O.Opener.told (g.O.Opener.listener_at c.args.opener.now) (g.O.Opener.listener_at c.journal.new.self) (g.O.Opener.listener_at c.listener.new.self) c.listener.result c.in-Open-listener.listener c.args.address.now c.journal.ensures.listeners c.in-Open-listener.is c.listener.ensures.hands t;
+  },
+  refl,
+  nobody_came g.O.Opener.told g.O.Journal.Disk.told g.O.Listener.Listener.told g.O.Listener.Link.Link.told g.O.Journal.Disk.state g.O.Listener.Listener.state g.O.Listener.Link.Link.state g.O.Listener.Link.Link.begun c.in-Open-listener.listener c.first_link.new.listener c.first_link.result c.in-End.is c.first_link.ensures,
+)
 
 pub returns-in-Failed-first_link-clause-stands : goal.returns-in-Failed-first_link-clause-stands
-returns-in-Failed-first_link-clause-stands g c = (record {
-  copy = c.in-Open.disk;
-  handed = λ t. handed g.O.Opener.told (g.O.Opener.journal_at c.args.opener.now) (g.O.Opener.journal_at c.args.opener.now) (g.O.Opener.journal_at c.journal.new.self) c.journal.result c.in-Open.disk c.args.journal.now (λ t n. refl) c.in-Open.is c.journal.ensures.opening.hands t;
-  door = c.in-Open-listener.listener;
-  opened = λ t. handed g.O.Opener.told (g.O.Opener.listener_at c.args.opener.now) (g.O.Opener.listener_at c.journal.new.self) (g.O.Opener.listener_at c.listener.new.self) c.listener.result c.in-Open-listener.listener c.args.address.now c.journal.ensures.listeners c.in-Open-listener.is c.listener.ensures.hands t;
-}, refl, none_accepted g.O.Opener.told g.O.Journal.Disk.told g.O.Listener.Listener.told g.O.Listener.Link.Link.told g.O.Journal.Disk.state g.O.Listener.Listener.state g.O.Listener.Link.Link.state g.O.Listener.Link.Link.begun c.in-Open-listener.listener c.first_link.new.listener c.first_link.result c.in-Failed-first_link.is c.first_link.ensures)
+returns-in-Failed-first_link-clause-stands g c = (
+  record {
+    copy = c.in-Open.disk;
+    handed = λ t. handed g.O.Opener.told (g.O.Opener.journal_at c.args.opener.now) (g.O.Opener.journal_at c.args.opener.now) (g.O.Opener.journal_at c.journal.new.self) c.journal.result c.in-Open.disk c.args.journal.now (λ t n. refl) c.in-Open.is c.journal.ensures.opening.hands t;
+    door = c.in-Open-listener.listener;
+    opened = λ t. handed g.O.Opener.told (g.O.Opener.listener_at c.args.opener.now) (g.O.Opener.listener_at c.journal.new.self) (g.O.Opener.listener_at c.listener.new.self) c.listener.result c.in-Open-listener.listener c.args.address.now c.journal.ensures.listeners c.in-Open-listener.is c.listener.ensures.hands t;
+  },
+  refl,
+  none_accepted g.O.Opener.told g.O.Journal.Disk.told g.O.Listener.Listener.told g.O.Listener.Link.Link.told g.O.Journal.Disk.state g.O.Listener.Listener.state g.O.Listener.Link.Link.state g.O.Listener.Link.Link.begun c.in-Open-listener.listener c.first_link.new.listener c.first_link.result c.in-Failed-first_link.is c.first_link.ensures,
+)
 
 pub returns-in-Failed-clause-asked : goal.returns-in-Failed-clause-asked
 returns-in-Failed-clause-asked g c = c.journal.ensures.asked

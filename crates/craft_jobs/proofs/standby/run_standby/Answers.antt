@@ -10,5 +10,72 @@ returns-clause-stands_by g c = record {
   asked_for = c.meet_primary-stood.ensures.asked;
 }
 
+<<<<<<< HEAD
 pub returns-clause-asked : goal.returns-clause-asked
 returns-clause-asked g c = asked_by g.O.Opener.told g.O.Journal.Disk.told g.O.Listener.Listener.told g.O.Listener.Link.Link.told g.O.Journal.Disk.state g.O.Listener.Listener.state g.O.Listener.Link.Link.state g.O.Listener.Link.Link.begun (g.O.Opener.journal_at c.args.opener.now) (g.O.Opener.listener_at c.args.opener.now) _ _ c.args.journal.now c.args.address.now (g.O.Opener.asked c.args.opener.now c.meet_primary-stood.new.opener) c.status-status.result c.meet_primary-stood.result c.status-status.ensures c.meet_primary-stood.ensures.stands c.meet_primary-stood.ensures.asked
+=======
+pub returns-in-NoMemory-clause-stands : goal.returns-in-NoMemory-clause-stands
+returns-in-NoMemory-clause-stands g c = inl refl
+
+pub returns-in-Failed-listener-clause-stands : goal.returns-in-Failed-listener-clause-stands
+returns-in-Failed-listener-clause-stands g c = ((λ t. handed g.O.Opener.told (g.O.Opener.journal_at c.args.opener.now) (g.O.Opener.journal_at c.args.opener.now) (g.O.Opener.journal_at c.journal.new.self) c.journal.result c.in-Open.disk c.args.journal.now (λ t n. refl) c.in-Open.is c.journal.ensures.opening.hands t), inr (refl, rose_behind _ _ _ c.journal.ensures.opening.cause.later (c.listener.ensures.cause.cause c.in-Failed-listener.is)))
+
+pub returns-in-NoMemory-listener-clause-stands : goal.returns-in-NoMemory-listener-clause-stands
+returns-in-NoMemory-listener-clause-stands g c = ((λ t. handed g.O.Opener.told (g.O.Opener.journal_at c.args.opener.now) (g.O.Opener.journal_at c.args.opener.now) (g.O.Opener.journal_at c.journal.new.self) c.journal.result c.in-Open.disk c.args.journal.now (λ t n. refl) c.in-Open.is c.journal.ensures.opening.hands t), inl refl)
+
+pub returns-in-Link-clause-stands : goal.returns-in-Link-clause-stands
+returns-in-Link-clause-stands g c = (
+  record {
+    copy = c.in-Open.disk;
+    handed = λ t. handed g.O.Opener.told (g.O.Opener.journal_at c.args.opener.now) (g.O.Opener.journal_at c.args.opener.now) (g.O.Opener.journal_at c.journal.new.self) c.journal.result c.in-Open.disk c.args.journal.now (λ t n. refl) c.in-Open.is c.journal.ensures.opening.hands t;
+    door = c.in-Open-listener.listener;
+    opened = λ t. handed g.O.Opener.told (g.O.Opener.listener_at c.args.opener.now) (g.O.Opener.listener_at c.journal.new.self) (g.O.Opener.listener_at c.listener.new.self) c.listener.result c.in-Open-listener.listener c.args.address.now c.journal.ensures.listeners c.in-Open-listener.is c.listener.ensures.hands t;
+  },
+  served_one g.O.Opener.told g.O.Journal.Disk.told g.O.Listener.Listener.told g.O.Listener.Link.Link.told g.O.Journal.Disk.state g.O.Listener.Listener.state g.O.Listener.Link.Link.state g.O.Listener.Link.Link.begun c.in-Open-listener.listener c.first_link.new.listener c.first_link.result c.in-Link.link c.stand_by-end.new.link c.in-Open.disk c.stand_by-end.new.disk c.stand_by-end.result c.in-Link.is c.first_link.ensures c.stand_by-end.ensures.ran c.stand_by-end.ensures.prompt,
+)
+
+pub returns-in-End-clause-stands : goal.returns-in-End-clause-stands
+returns-in-End-clause-stands g c = (
+  record {
+    copy = c.in-Open.disk;
+    handed = λ t. handed g.O.Opener.told (g.O.Opener.journal_at c.args.opener.now) (g.O.Opener.journal_at c.args.opener.now) (g.O.Opener.journal_at c.journal.new.self) c.journal.result c.in-Open.disk c.args.journal.now (λ t n. refl) c.in-Open.is c.journal.ensures.opening.hands t;
+    door = c.in-Open-listener.listener;
+    opened = λ t. handed g.O.Opener.told (g.O.Opener.listener_at c.args.opener.now) (g.O.Opener.listener_at c.journal.new.self) (g.O.Opener.listener_at c.listener.new.self) c.listener.result c.in-Open-listener.listener c.args.address.now c.journal.ensures.listeners c.in-Open-listener.is c.listener.ensures.hands t;
+  },
+  refl,
+  nobody_came g.O.Opener.told g.O.Journal.Disk.told g.O.Listener.Listener.told g.O.Listener.Link.Link.told g.O.Journal.Disk.state g.O.Listener.Listener.state g.O.Listener.Link.Link.state g.O.Listener.Link.Link.begun c.in-Open-listener.listener c.first_link.new.listener c.first_link.result c.in-End.is c.first_link.ensures,
+)
+
+pub returns-in-Failed-first_link-clause-stands : goal.returns-in-Failed-first_link-clause-stands
+returns-in-Failed-first_link-clause-stands g c = (
+  record {
+    copy = c.in-Open.disk;
+    handed = λ t. handed g.O.Opener.told (g.O.Opener.journal_at c.args.opener.now) (g.O.Opener.journal_at c.args.opener.now) (g.O.Opener.journal_at c.journal.new.self) c.journal.result c.in-Open.disk c.args.journal.now (λ t n. refl) c.in-Open.is c.journal.ensures.opening.hands t;
+    door = c.in-Open-listener.listener;
+    opened = λ t. handed g.O.Opener.told (g.O.Opener.listener_at c.args.opener.now) (g.O.Opener.listener_at c.journal.new.self) (g.O.Opener.listener_at c.listener.new.self) c.listener.result c.in-Open-listener.listener c.args.address.now c.journal.ensures.listeners c.in-Open-listener.is c.listener.ensures.hands t;
+  },
+  refl,
+  none_accepted g.O.Opener.told g.O.Journal.Disk.told g.O.Listener.Listener.told g.O.Listener.Link.Link.told g.O.Journal.Disk.state g.O.Listener.Listener.state g.O.Listener.Link.Link.state g.O.Listener.Link.Link.begun c.in-Open-listener.listener c.first_link.new.listener c.first_link.result c.in-Failed-first_link.is c.first_link.ensures,
+)
+
+pub returns-in-Failed-clause-asked : goal.returns-in-Failed-clause-asked
+returns-in-Failed-clause-asked g c = asked_part (g.O.Opener.asked c.args.opener.now c.journal.new.self) _ (journal_named c.args.journal.now ∷ []) (listener_named c.args.address.now ∷ []) c.journal.ensures.asked (λ ends. ends)
+
+pub returns-in-NoMemory-clause-asked : goal.returns-in-NoMemory-clause-asked
+returns-in-NoMemory-clause-asked g c = asked_part (g.O.Opener.asked c.args.opener.now c.journal.new.self) _ (journal_named c.args.journal.now ∷ []) (listener_named c.args.address.now ∷ []) c.journal.ensures.asked (λ ends. ends)
+
+pub returns-in-Failed-listener-clause-asked : goal.returns-in-Failed-listener-clause-asked
+returns-in-Failed-listener-clause-asked g c = asked_all (g.O.Opener.asked c.args.opener.now c.listener.new.self) _ (journal_named c.args.journal.now ∷ listener_named c.args.address.now ∷ []) (g.O.Opener.asked_on c.args.opener.now c.journal.new.self c.listener.new.self (journal_named c.args.journal.now ∷ []) (listener_named c.args.address.now ∷ []) c.journal.ensures.asked c.listener.ensures.asked)
+
+pub returns-in-NoMemory-listener-clause-asked : goal.returns-in-NoMemory-listener-clause-asked
+returns-in-NoMemory-listener-clause-asked g c = asked_all (g.O.Opener.asked c.args.opener.now c.listener.new.self) _ (journal_named c.args.journal.now ∷ listener_named c.args.address.now ∷ []) (g.O.Opener.asked_on c.args.opener.now c.journal.new.self c.listener.new.self (journal_named c.args.journal.now ∷ []) (listener_named c.args.address.now ∷ []) c.journal.ensures.asked c.listener.ensures.asked)
+
+pub returns-in-Link-clause-asked : goal.returns-in-Link-clause-asked
+returns-in-Link-clause-asked g c = asked_all (g.O.Opener.asked c.args.opener.now c.listener.new.self) _ (journal_named c.args.journal.now ∷ listener_named c.args.address.now ∷ []) (g.O.Opener.asked_on c.args.opener.now c.journal.new.self c.listener.new.self (journal_named c.args.journal.now ∷ []) (listener_named c.args.address.now ∷ []) c.journal.ensures.asked c.listener.ensures.asked)
+
+pub returns-in-End-clause-asked : goal.returns-in-End-clause-asked
+returns-in-End-clause-asked g c = asked_all (g.O.Opener.asked c.args.opener.now c.listener.new.self) _ (journal_named c.args.journal.now ∷ listener_named c.args.address.now ∷ []) (g.O.Opener.asked_on c.args.opener.now c.journal.new.self c.listener.new.self (journal_named c.args.journal.now ∷ []) (listener_named c.args.address.now ∷ []) c.journal.ensures.asked c.listener.ensures.asked)
+
+pub returns-in-Failed-first_link-clause-asked : goal.returns-in-Failed-first_link-clause-asked
+returns-in-Failed-first_link-clause-asked g c = asked_all (g.O.Opener.asked c.args.opener.now c.listener.new.self) _ (journal_named c.args.journal.now ∷ listener_named c.args.address.now ∷ []) (g.O.Opener.asked_on c.args.opener.now c.journal.new.self c.listener.new.self (journal_named c.args.journal.now ∷ []) (listener_named c.args.address.now ∷ []) c.journal.ensures.asked c.listener.ensures.asked)
+>>>>>>> 676519ad19d554b2d217b2adff0e9db3677ec380
