@@ -20,11 +20,12 @@ use Rattle.craft_session.specs.declared.ask.Ask.TheVariants.{Refused, LogsIn, Lo
 use Rattle.craft_session.specs.declared.attending.Attending.{Attending}
 use Rattle.craft_session.specs.Asks.{Reply, denied}
 use Rattle.craft_session.specs.Plain.{Decides, Excuse, Judges, Replies, TakesUp, standing}
-use Rattle.craft_session.specs.Walks.{ChangeReply, Mends, RestartReply, Serves, attending_after}
+use Rattle.craft_session.specs.Walks.{ChangeReply, IsChangeAt, Mends, RestartReply, Serves, attending_after}
 use Rattle.craft_session.proofs.Playing.{apart, each_front, each_last, fits_last}
-use Rattle.switch_laws.specs.Element.{Recalls, RecallsFor, doubted_after}
-use Rattle.switch_laws.specs.Laws.{IsExcused, doubted_by_entry, doubted_in}
+use Rattle.switch_laws.specs.Element.{MayReply, Recalls, RecallsFor, Standing, doubted_after, ready, standing_after}
+use Rattle.switch_laws.specs.Laws.{IsExcused, doubted_by_entry, doubted_in, standing_by_entry, standing_in}
 use Rattle.switch_laws.proofs.Doubting.{in_doubt}
+use Rattle.switch_laws.proofs.Standings.{is_stopped}
 
 module _ (r : Rules) (own : ℕ) (excused : Excuse) where
   abbrev Ex : Entry → Type 0
@@ -118,12 +119,37 @@ module _ (r : Rules) (own : ℕ) (excused : Excuse) where
   doubted_change op Cut reply ops is = absurd is
   doubted_change op Taken reply ops is = absurd is
 
+  -- What a stop has left then.
+  standing_restart : (o : Outcome) (reply : Reply) (s : Standing) → RestartReply o reply → standing_after s Restarts reply ≡ standing_by_entry s Restart o
+  standing_restart (Done c) reply s is = absurd is
+  standing_restart (Denied q) reply s is = absurd is
+  standing_restart (Failed q) reply s is = ap (standing_after s Restarts) is
+  standing_restart Answered reply s is = absurd is
+  standing_restart (Restarted c) reply s is = ap (standing_after s Restarts) is
+  standing_restart Cut reply s is = absurd is
+  standing_restart Taken reply s is = absurd is
+
+  standing_change : (op : Op) (o : Outcome) (reply : Reply) (s : Standing) → ChangeReply o reply → standing_after s (Changes op) reply ≡ standing_by_entry s op o
+  standing_change op (Done c) reply s is = ap (standing_after s (Changes op)) is
+  standing_change op (Denied q) reply s is = ap (standing_after s (Changes op)) is
+  standing_change op (Failed q) reply s is = ap (standing_after s (Changes op)) is
+  standing_change op Answered reply s is = absurd is
+  standing_change op (Restarted c) reply s is = absurd is
+  standing_change op Cut reply s is = absurd is
+  standing_change op Taken reply s is = absurd is
+
+  -- A change that was asked while a stop stands failed.
+  fails : (h : List Entry) (op : Op) (o : Outcome) (reply : Reply) → IsChangeAt h o → ChangeReply o reply → MayReply (standing_in ready h) (Changes op) reply
+  fails h op o reply at is = λ on. (let f = at.stopped (is_stopped h on) in (f.0, f.1.0, subst (λ (x : Outcome). ChangeReply x reply) f.1.1 is))
+
   -- What is asked takes no entry
   pub record Free (h es : List Entry) (s : Attending) (k : Ask) (reply : Reply) : Type 0 where
     pub no_entry : es ≡ []
     pub replies : Replies r.limit excused (standing r.table h s) k reply None
     pub recalls_none : RecallsFor k (doubted_in [] h) (tab h) None
     pub doubted : doubted_after (doubted_in [] h) k reply ≡ doubted_in [] h
+    pub stands : standing_after (standing_in ready h) k reply ≡ standing_in ready h
+    pub may : MayReply (standing_in ready h) k reply
 
   -- or one of its own, behind those that need no reply
   pub record Takes (h es : List Entry) (s : Attending) (k : Ask) (reply : Reply) : Type 0 where
@@ -136,6 +162,8 @@ module _ (r : Rules) (own : ℕ) (excused : Excuse) where
     pub replies : IsLegal r ((h ++ front) ++ last ∷ []) → AllByRecursion Ex ((h ++ front) ++ last ∷ []) → Replies r.limit excused (standing r.table (h ++ front) s) k reply (made last.outcome)
     pub recalls_it : IsLegal r ((h ++ front) ++ last ∷ []) → RecallsFor k (doubted_in [] (h ++ front)) (tab (h ++ front)) (made last.outcome)
     pub doubted : (ops : List Op) → doubted_after ops k reply ≡ doubted_by_entry ops last.op last.outcome
+    pub leaves : (x : Standing) → standing_after x k reply ≡ standing_by_entry x last.op last.outcome
+    pub may : MayReply (standing_in ready (h ++ front)) k reply
     pub attends : attending_after s (length (changes_of (h ++ front))) k ≡ attending_after s (length (changes_of h)) k
 
   no_taken_restart : (o : Outcome) (reply : Reply) → RestartReply o reply → o ≡ Taken → ⊥
@@ -148,8 +176,9 @@ module _ (r : Rules) (own : ℕ) (excused : Excuse) where
   alone_of : (h es : List Entry) (s : Attending) (k : Ask) (reply : Reply) (op : Op) (o : Outcome) → es ≡ entry own op o ∷ [] → (o ≡ Taken → ⊥)
       → (IsLegal r (h ++ entry own op o ∷ []) → AllByRecursion Ex (h ++ entry own op o ∷ []) → Replies r.limit excused (standing r.table h s) k reply (made o))
       → (IsLegal r (h ++ entry own op o ∷ []) → RecallsFor k (doubted_in [] h) (tab h) (made o))
-      → ((ops : List Op) → doubted_after ops k reply ≡ doubted_by_entry ops op o) → Takes h es s k reply
-  alone_of h es s k reply op o is does replies recalls doubted =
+      → ((ops : List Op) → doubted_after ops k reply ≡ doubted_by_entry ops op o)
+      → ((x : Standing) → standing_after x k reply ≡ standing_by_entry x op o) → MayReply (standing_in ready h) k reply → Takes h es s k reply
+  alone_of h es s k reply op o is does replies recalls doubted leaves may =
       let there : h ≡ h ++ [] = sym (append-nil h) in
       record {
         front = [];
@@ -161,20 +190,22 @@ module _ (r : Rules) (own : ℕ) (excused : Excuse) where
         replies = subst (λ (g : List Entry). IsLegal r (g ++ entry own op o ∷ []) → AllByRecursion Ex (g ++ entry own op o ∷ []) → Replies r.limit excused (standing r.table g s) k reply (made o)) there replies;
         recalls_it = subst (λ (g : List Entry). IsLegal r (g ++ entry own op o ∷ []) → RecallsFor k (doubted_in [] g) (tab g) (made o)) there recalls;
         doubted = doubted;
+        leaves = leaves;
+        may = subst (λ (g : List Entry). MayReply (standing_in ready g) k reply) there may;
         attends = ap (λ (g : List Entry). attending_after s (length (changes_of g)) k) (append-nil h);
       }
 
   pub uses : (h es : List Entry) (s : Attending) (k : Ask) (reply : Reply) → Serves own r.table h k es reply → Free h es s k reply ⊎ Takes h es s k reply
-  uses h es s (Refused q) reply x = inl (record { no_entry = x.0; replies = (x.1, refl); recalls_none = tt; doubted = refl })
-  uses h es s (LogsIn u) reply x = inl (record { no_entry = x.0; replies = (x.1, refl); recalls_none = tt; doubted = refl })
-  uses h es s LogsOut reply x = inl (record { no_entry = x.0; replies = (x.1, refl); recalls_none = tt; doubted = refl })
-  uses h es s Completes reply x = inl (record { no_entry = x.0; replies = (x.1, refl); recalls_none = tt; doubted = refl })
-  uses h es s Allows reply x = inr (alone_of h es s Allows reply (Look (length (changes_of h))) Answered x.0 (λ is. let e : Answered ≡ Taken = is in cc) (λ _ _. (x.1, refl)) (λ _. tt) (λ ops. refl))
-  uses h es s Inhibits reply x = inl (record { no_entry = x.0; replies = (x.1, refl); recalls_none = tt; doubted = refl })
-  uses h es s (Lists which) reply x = inr (alone_of h es s (Lists which) reply (Rows which) Answered x.0 (λ is. let e : Answered ≡ Taken = is in cc) (λ _ _. (x.1, refl)) (λ _. tt) (λ ops. refl))
+  uses h es s (Refused q) reply x = inl (record { no_entry = x.0; replies = (x.1, refl); recalls_none = tt; doubted = refl; stands = refl; may = tt })
+  uses h es s (LogsIn u) reply x = inl (record { no_entry = x.0; replies = (x.1, refl); recalls_none = tt; doubted = refl; stands = refl; may = tt })
+  uses h es s LogsOut reply x = inl (record { no_entry = x.0; replies = (x.1, refl); recalls_none = tt; doubted = refl; stands = refl; may = tt })
+  uses h es s Completes reply x = inl (record { no_entry = x.0; replies = (x.1, refl); recalls_none = tt; doubted = refl; stands = refl; may = tt })
+  uses h es s Allows reply x = inr (alone_of h es s Allows reply (Look (length (changes_of h))) Answered x.0 (λ is. let e : Answered ≡ Taken = is in cc) (λ _ _. (x.1, refl)) (λ _. tt) (λ ops. refl) (λ st. refl) tt)
+  uses h es s Inhibits reply x = inl (record { no_entry = x.0; replies = (x.1, refl); recalls_none = tt; doubted = refl; stands = refl; may = tt })
+  uses h es s (Lists which) reply x = inr (alone_of h es s (Lists which) reply (Rows which) Answered x.0 (λ is. let e : Answered ≡ Taken = is in cc) (λ _ _. (x.1, refl)) (λ _. tt) (λ ops. refl) (λ st. refl) tt)
   uses h es s Restarts reply x = inr (alone_of h es s Restarts reply Restart x.0 x.1 (no_taken_restart x.0 reply x.2)
       (λ legal all. restarts h x.0 s reply x.2 (each_front Ex h (entry own Restart x.0 ∷ []) all) (each_last Ex h (entry own Restart x.0) all) (fits_last r h (entry own Restart x.0) legal))
-      (λ legal. recalls h x.0 reply x.2 (fits_last r h (entry own Restart x.0) legal)) (λ ops. doubted_restart x.0 reply ops x.2))
+      (λ legal. recalls h x.0 reply x.2 (fits_last r h (entry own Restart x.0) legal)) (λ ops. doubted_restart x.0 reply ops x.2) (λ st. standing_restart x.0 reply st x.2) tt)
   uses h es s (Changes op) reply x = inr (record {
     front = x.front;
     last = entry own op x.outcome;
@@ -185,5 +216,7 @@ module _ (r : Rules) (own : ℕ) (excused : Excuse) where
     replies = λ legal all. judged (h ++ x.front) op reply x.outcome x.reply (each_last Ex (h ++ x.front) (entry own op x.outcome) all) (fits_last r (h ++ x.front) (entry own op x.outcome) legal);
     recalls_it = λ legal. tt;
     doubted = λ ops. doubted_change op x.outcome reply ops x.reply;
+    leaves = λ st. standing_change op x.outcome reply st x.reply;
+    may = fails (h ++ x.front) op x.outcome reply x.fits x.reply;
     attends = refl;
   })

@@ -26,7 +26,7 @@ use Rattle.craft_session.specs.Hearing.{to_do}
 use Rattle.craft_session.specs.Plain.{Excuse, said_in}
 use Rattle.craft_session.specs.Runs.{Run, Walk}
 use Rattle.craft_session.specs.Walks.{CutsAt, FrontOf, IsUnused}
-use Rattle.switch_laws.specs.Element.{ComesTo, Element, IsPlayed, Session, Turn, doubted_by, unanswered}
+use Rattle.switch_laws.specs.Element.{ComesTo, Element, IsPlayed, Session, Standing, Turn, doubted_by, halted, ready, refused_by, unanswered}
 
 -- the same run, where the history goes on by these entries
 abbrev pub gone_on : {U M : Type 0} → List Entry → Walk U M → Walk U M
@@ -45,7 +45,7 @@ HearingsGoOn = (l : Language Request Moment) (place : ℕ) (o : UsersOpening) (p
 
 -- what a run leaves of its session
 abbrev pub session_in : {U M : Type 0} → Walk U M → Session U M
-session_in w = record { happenings = w.happenings; attending = w.attending; due = w.due; said = said_in w }
+session_in w = record { happenings = w.happenings; attending = w.attending; due = w.due; said = said_in w; ended = false }
 
 -- What the sessions of a place did over a history, the newest first: each began where the one before it had ended, and some were ended
 -- by a stop, in the middle of a command at the table or before one at the users.
@@ -85,10 +85,22 @@ abbrev pub doubted_in : List Op → List Entry → List Op
 doubted_in ops [] = ops
 doubted_in ops (e ∷ es) = doubted_in (doubted_by_entry ops e.op e.outcome) es
 
+-- what a stop has left after an entry, and after several
+abbrev pub standing_by_entry : Standing → Op → Outcome → Standing
+standing_by_entry s op (Denied q) = refused_by op s
+standing_by_entry s op (Failed q) = refused_by op s
+standing_by_entry s op (Restarted c) = ready
+standing_by_entry s op Cut = halted
+standing_by_entry s op o = s
+
+abbrev pub standing_in : Standing → List Entry → Standing
+standing_in s [] = s
+standing_in s (e ∷ es) = standing_in (standing_by_entry s e.op e.outcome) es
+
 -- the element after a history, with these sessions
 abbrev pub element : {U M : Type 0} → Board → List Entry → (ℕ → List (Session U M)) → Element U M
 element t h sessions =
-    record { table = table_after t h; changes = changes_of h; doubted = doubted_in [] h; sessions = sessions }
+    record { table = table_after t h; changes = changes_of h; doubted = doubted_in [] h; standing = standing_in ready h; sessions = sessions }
 
 -- each fault of the journal has an excuse, and a stop excuses one of the disk
 pub record IsExcused (excused : Excuse) (e : Entry) : Type 0 where
