@@ -1,3 +1,5 @@
+ghost use Rattle.std.specs.Prelude.{◌≡◌, ◌-◌, ◌≤◌, [], true, false, IfOk, length, take, drop};
+
 use std::alloc::{AllocError, Global};
 use std::marker::Model;
 
@@ -21,18 +23,21 @@ pub(crate) struct Window {
 }
 
 impl Model for Window {
-    ghost use Rattle.std.specs.Prelude.{◌≤◌, vec_len};
+    ghost use Rattle.std.specs.Prelude.{◌≤◌, take, vec_len};
+    ghost use Rattle.dxc_disk.specs.Windows.{Ahead};
 
-    ghost Value = { Unit {0} };
+    ghost Value = { Ahead };
 
-    ghost view = { λ _. tt };
+    ghost view = { λ w. record { at = w.at; bytes = take w.count w.bytes.items } };
 
     ghost invariant = { λ w. w.count ≤ vec_len w.bytes };
 }
 
 impl Window {
     /// Of a file of that length, with nothing in it.
-    pub(crate) fn new(alloc: Global, length: u64) -> Result<Window, AllocError> {
+    pub(crate) fn new(alloc: Global, length: u64) -> Result<Window, AllocError>
+        ensures { IfOk result (λ w. w.bytes ≡ []) }
+    {
         let blocks = (length / BLOCK as u64 + 1).min(MOST_BLOCKS) as usize;
         let room = blocks * BLOCK;
         let mut bytes = Vec::with_capacity(alloc, room)?;
@@ -53,7 +58,11 @@ impl Window {
 
     /// Copies these bytes, where it holds them all.
     #[inline(always)]
-    pub(crate) fn gives(&self, at: u64, into: &mut [u8]) -> bool {
+    pub(crate) fn gives(&self, at: u64, into: &mut [u8]) -> bool
+        ensures given { result ≡ true → (self.now.at ≤ at)
+            × (into.new ≡ take (length into.old) (drop (at - self.now.at) self.now.bytes)) }
+        ensures kept { result ≡ false → into.new ≡ into.old }
+    {
         let Some(from) = at.checked_sub(self.at) else {
             return false;
         };
@@ -68,7 +77,10 @@ impl Window {
     }
 
     /// Takes what one call of the system gives of the file from a place on. False where that failed; then it holds nothing.
-    pub(crate) fn fill(&mut self, file: i32, at: u64) -> bool {
+    pub(crate) fn fill(&mut self, file: i32, at: u64) -> bool
+        ensures place { result ≡ true → self.new.at ≡ at }
+        ensures nothing { result ≡ false → self.new.bytes ≡ [] }
+    {
         self.count = 0;
         let got = libc::pread(file, self.bytes.as_mut_slice(), at.cast_signed());
         let Ok(count) = usize::try_from(got) else {
@@ -81,7 +93,9 @@ impl Window {
 
     /// Drops what it holds.
     #[inline(always)]
-    pub(crate) fn clear(&mut self) {
+    pub(crate) fn clear(&mut self)
+        ensures { self.new.bytes ≡ [] }
+    {
         if self.count > 0 {
             self.drop_all();
         }
@@ -89,7 +103,9 @@ impl Window {
 
     // Apart, since it holds nothing at most writes.
     #[inline(never)]
-    fn drop_all(&mut self) {
+    fn drop_all(&mut self)
+        ensures { self.new.bytes ≡ [] }
+    {
         self.count = 0;
         self.bytes.truncate(BLOCK);
         self.bytes.shrink_to_fit();

@@ -1,2 +1,4 @@
+pub mod HostDisks
+pub mod Openers
 pub mod TcpLinks
 pub mod Utc

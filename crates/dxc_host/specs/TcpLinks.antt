@@ -1,7 +1,9 @@
--- A TCP link, as contracts of links see it.
+-- A TCP link, and a door for its callers, as contracts of links and listeners see them.
 use Rattle.std.specs.Prelude.{[], false}
 use base.Stored.{gnil}
+use Rattle.dxc_outside.specs.Callers.{ListenerState}
 use Rattle.dxc_outside.specs.Links.{LinkState}
+use Rattle.dxc_host.specs.declared.tcp_door.TcpDoor.{TcpDoor}
 use Rattle.dxc_host.specs.declared.tcp_link.TcpLink.{TcpLink}
 
 -- it tells nothing of its content
@@ -16,3 +18,7 @@ tcp_state t = record {
   sound = false;
   lasting = gnil;
 }
+
+-- nor of its callers
+abbrev pub tcp_door : {T : Type 0} → TcpDoor T → ListenerState TcpLink
+tcp_door d = record { coming = []; ended = false; faults = d.faults; sound = false }

@@ -1,3 +1,5 @@
+ghost use Rattle.std.specs.Prelude.{◌≡◌, OnOk, length, take, drop};
+
 use dxc_disk::DiskFault;
 use std::alloc::Global;
 use std::fs::{self, File};
@@ -35,11 +37,15 @@ impl FileCopy {
         Ok(FileCopy { bytes })
     }
 
-    pub(crate) fn length(&self) -> u64 {
+    pub(crate) fn length(&self) -> u64
+        ensures { result ≡ length self.now.bytes.items }
+    {
         self.bytes.len() as u64
     }
 
-    pub(crate) fn read(&self, at: u64, into: &mut [u8]) -> Result<(), DiskFault> {
+    pub(crate) fn read(&self, at: u64, into: &mut [u8]) -> Result<(), DiskFault>
+        ensures { OnOk result (into.new ≡ take (length into.old) (drop at self.now.bytes.items)) }
+    {
         let held = self.bytes.get(at as usize..).ok_or(DiskFault)?;
         let part = held.get(..into.len()).ok_or(DiskFault)?;
         into.copy_from_slice(part);

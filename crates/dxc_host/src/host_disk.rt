@@ -1,5 +1,6 @@
-ghost use Rattle.std.specs.Prelude.{◌≡◌, [], IfOk, IsErr};
+ghost use Rattle.std.specs.Prelude.{◌≡◌, [], true, false, IfOk, OnOk, IsErr};
 ghost use Rattle.dxc_causes.specs.Causes.{HasCause};
+ghost use Rattle.dxc_host.specs.HostDisks.{host_disk, is_copied};
 
 use crate::file_copy::FileCopy;
 use crate::staged_file::StagedFile;
@@ -32,7 +33,9 @@ enum Bytes {
 }
 
 impl Bytes {
-    fn length(&mut self) -> Result<u64, DiskFault> {
+    fn length(&mut self) -> Result<u64, DiskFault>
+        ensures { is_copied self.new ≡ is_copied self.old }
+    {
         match self {
             Bytes::File(file) => file.length(),
             Bytes::Copy(copy) => Ok(copy.length()),
@@ -41,7 +44,9 @@ impl Bytes {
     }
 
     #[inline(always)]
-    fn read(&mut self, at: u64, into: &mut [u8]) -> Result<(), DiskFault> {
+    fn read(&mut self, at: u64, into: &mut [u8]) -> Result<(), DiskFault>
+        ensures { is_copied self.new ≡ is_copied self.old }
+    {
         match self {
             Bytes::File(file) => file.read(at, into),
             Bytes::Copy(copy) => copy.read(at, into),
@@ -50,7 +55,9 @@ impl Bytes {
     }
 
     // A file that is too short for a journal is to be empty, or what a broken making leaves: no other becomes one.
-    fn is_of_journal(&mut self) -> Result<bool, DiskFault> {
+    fn is_of_journal(&mut self) -> Result<bool, DiskFault>
+        ensures { is_copied self.new ≡ is_copied self.old }
+    {
         let length = self.length()?;
         if length == 0 || LONGEST_BEGUN < length {
             return Ok(true);
@@ -60,7 +67,9 @@ impl Bytes {
         Ok(first[0] == SEALED || first[0] == UNSEALED)
     }
 
-    fn write_at(&mut self, at: u64, from: &[u8]) -> Result<(), DiskFault> {
+    fn write_at(&mut self, at: u64, from: &[u8]) -> Result<(), DiskFault>
+        ensures { is_copied self.new ≡ is_copied self.old }
+    {
         match self {
             Bytes::File(file) => file.write_at(at, from),
             Bytes::Copy(copy) => copy.write_at(at, from),
@@ -68,7 +77,9 @@ impl Bytes {
         }
     }
 
-    fn sync(&mut self) -> Result<(), DiskFault> {
+    fn sync(&mut self) -> Result<(), DiskFault>
+        ensures { is_copied self.new ≡ is_copied self.old }
+    {
         match self {
             Bytes::File(file) => file.sync(),
             Bytes::Copy(_) => Ok(()),
@@ -84,21 +95,24 @@ impl HostDisk {
         files: &R,
         path: &str,
     ) -> io::Result<HostDisk>
-        ensures { IfOk result (λ disk. disk.faults ≡ 0) }
+        ensures faults { IfOk result (λ disk. disk.faults ≡ 0) }
+        ensures kind { IfOk result (λ disk. is_copied disk.bytes ≡ false) }
     {
         HostDisk::of_file(FileDisk::open(alloc, files, path)?)
     }
 
     /// That file, which holds a journal or the beginning of one.
     pub(crate) fn of_file(file: FileDisk) -> io::Result<HostDisk>
-        ensures { IfOk result (λ disk. disk.faults ≡ 0) }
+        ensures faults { IfOk result (λ disk. disk.faults ≡ 0) }
+        ensures kind { IfOk result (λ disk. is_copied disk.bytes ≡ false) }
     {
         HostDisk::of_journal(Bytes::File(file))
     }
 
     /// The file of a copy that is to be made.
     pub(crate) fn staged(file: StagedFile) -> HostDisk
-        ensures { result.faults ≡ 0 }
+        ensures faults { result.faults ≡ 0 }
+        ensures kind { is_copied result.bytes ≡ false }
     {
         HostDisk {
             bytes: Bytes::Staged(file),
@@ -112,13 +126,15 @@ impl HostDisk {
         files: &R,
         path: &str,
     ) -> io::Result<HostDisk>
-        ensures { IfOk result (λ disk. disk.faults ≡ 0) }
+        ensures faults { IfOk result (λ disk. disk.faults ≡ 0) }
+        ensures kind { IfOk result (λ disk. is_copied disk.bytes ≡ true) }
     {
         HostDisk::of_journal(Bytes::Copy(FileCopy::open(alloc, files, path)?))
     }
 
     fn of_journal(mut bytes: Bytes) -> io::Result<HostDisk>
-        ensures { IfOk result (λ disk. disk.faults ≡ 0) }
+        ensures faults { IfOk result (λ disk. disk.faults ≡ 0) }
+        ensures kind { IfOk result (λ disk. is_copied disk.bytes ≡ is_copied bytes) }
     {
         match bytes.is_of_journal() {
             Ok(true) => Ok(HostDisk { bytes, faults: 0 }),
@@ -134,6 +150,8 @@ impl HostDisk {
     fn counted<T>(&mut self, answer: Result<T, DiskFault>) -> Result<T, DiskFault>
         ensures same { result ≡ answer }
         ensures cause { HasCause self.old.faults self.new.faults (IsErr result) }
+        ensures no_fault { OnOk result (self.new.faults ≡ self.old.faults) }
+        ensures bytes { self.new.bytes ≡ self.old.bytes }
     {
         if answer.is_err() {
             self.faults = self.faults.saturating_add(1);
@@ -147,37 +165,45 @@ impl Disk for HostDisk {
 
     ghost told = { ⊥ };
 
-    ghost state = { λ d. record {
-      reads_as = [];
-      may_leave = λ _. Unit {0};
-      moment = 0;
-      left_since = λ _ _. Unit {0};
-      faults = d.faults;
-      margin = 0;
-      room = 0;
-    } };
+    ghost state = { host_disk };
 
     ghost is_disk = { λ d told. absurd told };
 
     ghost counts_on = { λ d. no_room d.faults };
 
-    fn length(&mut self) -> Result<u64, DiskFault> {
+    fn length(&mut self) -> Result<u64, DiskFault>
+        ensures cause { HasCause self.old.faults self.new.faults (IsErr result) }
+        ensures no_fault { OnOk result (self.new.faults ≡ self.old.faults) }
+        ensures kind { is_copied self.new.bytes ≡ is_copied self.old.bytes }
+    {
         let length = self.bytes.length();
         self.counted(length)
     }
 
     #[inline(always)]
-    fn read(&mut self, at: u64, into: &mut [u8]) -> Result<(), DiskFault> {
+    fn read(&mut self, at: u64, into: &mut [u8]) -> Result<(), DiskFault>
+        ensures cause { HasCause self.old.faults self.new.faults (IsErr result) }
+        ensures no_fault { OnOk result (self.new.faults ≡ self.old.faults) }
+        ensures kind { is_copied self.new.bytes ≡ is_copied self.old.bytes }
+    {
         let read = self.bytes.read(at, into);
         self.counted(read)
     }
 
-    fn write_at(&mut self, at: u64, from: &[u8]) -> Result<(), DiskFault> {
+    fn write_at(&mut self, at: u64, from: &[u8]) -> Result<(), DiskFault>
+        ensures cause { HasCause self.old.faults self.new.faults (IsErr result) }
+        ensures no_fault { OnOk result (self.new.faults ≡ self.old.faults) }
+        ensures kind { is_copied self.new.bytes ≡ is_copied self.old.bytes }
+    {
         let written = self.bytes.write_at(at, from);
         self.counted(written)
     }
 
-    fn sync(&mut self) -> Result<(), DiskFault> {
+    fn sync(&mut self) -> Result<(), DiskFault>
+        ensures cause { HasCause self.old.faults self.new.faults (IsErr result) }
+        ensures no_fault { OnOk result (self.new.faults ≡ self.old.faults) }
+        ensures kind { is_copied self.new.bytes ≡ is_copied self.old.bytes }
+    {
         let synced = self.bytes.sync();
         self.counted(synced)
     }

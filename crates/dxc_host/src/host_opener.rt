@@ -1,4 +1,5 @@
-ghost use Rattle.std.specs.Prelude.{◌≡◌, ◌≤◌, ◌+◌, ◌++◌, List, ℕ, OnOk, OnErr, length};
+ghost use Rattle.std.specs.Prelude.{◌≡◌, ◌≢◌, ◌≤◌, ◌+◌, ◌++◌, true, false, List, ℕ, OnOk, OnErr, IfOk, length};
+ghost use Rattle.dxc_host.specs.HostDisks.{is_copied};
 ghost use Rattle.dxc_causes.specs.Causes.{HasCause};
 ghost use Rattle.dxc_outside.specs.Openings.{IsClosed, most_shelf_bytes};
 
@@ -40,7 +41,8 @@ pub struct HostOpener<T> {
 impl<T: Drop> HostOpener<T> {
     /// The listeners that it binds are kept after what `bound` holds.
     pub fn new(system: T, bound: Vec<(String, Entrance)>) -> HostOpener<T>
-        ensures { result.faults ≡ 0 }
+        ensures faults { result.faults ≡ 0 }
+        ensures looks { result.only_looks ≡ false }
     {
         HostOpener {
             system,
@@ -55,7 +57,8 @@ impl<T: Drop> HostOpener<T> {
 
     /// From here on a journal that it opens is a copy of the file, which isn't locked, made or changed.
     pub fn only_look(&mut self)
-        ensures { self.new.faults ≡ self.old.faults }
+        ensures faults { self.new.faults ≡ self.old.faults }
+        ensures looks { self.new.only_looks ≡ true }
     {
         self.only_looks = true;
     }
@@ -74,6 +77,8 @@ impl<T: Drop> HostOpener<T> {
     fn not_opened<X>(&mut self, alloc: Global, name: &str, error: &io::Error) -> Opened<X>
         ensures closed { IsClosed result }
         ensures cause { HasCause self.old.faults self.new.faults (result ≡ Opened.Failed) }
+        ensures no_fault { result ≢ Opened.Failed → self.new.faults ≡ self.old.faults }
+        ensures looks { self.new.only_looks ≡ self.old.only_looks }
     {
         if error.kind() == ErrorKind::OutOfMemory {
             return Opened::NoMemory;
@@ -87,7 +92,9 @@ impl<T: Drop> HostOpener<T> {
 impl<T: Files<File = File>> HostOpener<T> {
     // The disk of a copy, which is kept in mind where it is begun.
     fn stage(&mut self, alloc: Global, name: &str) -> io::Result<HostDisk>
-        ensures { self.new.faults ≡ self.old.faults }
+        ensures kind { IfOk result (λ disk. is_copied disk.bytes ≡ false) }
+        ensures faults { self.new.faults ≡ self.old.faults }
+        ensures looks { self.new.only_looks ≡ self.old.only_looks }
     {
         let mut place = FileDisk::open(alloc, &self.system, name)?;
         if !is_free(&mut place)? {
@@ -170,6 +177,9 @@ impl<
         + 'static,
 > Opener for HostOpener<T> {
     ghost use Rattle.std.specs.Prelude.{None};
+    ghost use Rattle.dxc_outside.specs.Openings.{Appended};
+    ghost use Rattle.dxc_host.specs.HostDisks.{is_copied};
+    ghost use Rattle.dxc_host.specs.Openers.{host_opener};
 
     type Journal = HostDisk;
 
@@ -185,7 +195,7 @@ impl<
 
     ghost told = { ⊥ };
 
-    ghost state = { λ o. record { shelf_at = λ _. None; faults = o.faults } };
+    ghost state = { λ o. host_opener o };
 
     ghost journal_at = { λ _ _. None };
 
@@ -201,7 +211,14 @@ impl<
 
     ghost listener_for = { λ _ _. Unit {0} };
 
-    fn shelf(&mut self, alloc: Global, name: &str, into: &mut Vec<u8>) -> Opened<()> {
+    fn shelf(&mut self, alloc: Global, name: &str, into: &mut Vec<u8>) -> Opened<()>
+        ensures opens { result ≡ Opened.Open tt → Appended ⊥
+            (host_opener self.old) name.now into.old.items into.new.items }
+        ensures keeps { result ≢ Opened.Open tt → into.new.items ≡ into.old.items }
+        ensures cause { HasCause self.old.faults self.new.faults (result ≡ Opened.Failed) }
+        ensures no_fault { result ≢ Opened.Failed → self.new.faults ≡ self.old.faults }
+        ensures looks { self.new.only_looks ≡ self.old.only_looks }
+    {
         match append_file(&self.system, name, into) {
             Ok(()) => Opened::Open(()),
             Err(error) => self.not_opened(alloc, name, &error),
@@ -210,7 +227,13 @@ impl<
 
     /// A file that isn't there is made. A journal has one owner: another that is opened while the first is held is a fault. Who only looks
     /// gets a copy.
-    fn journal(&mut self, alloc: Global, name: &str) -> Opened<HostDisk> {
+    fn journal(&mut self, alloc: Global, name: &str) -> Opened<HostDisk>
+        ensures cause { HasCause self.old.faults self.new.faults (result ≡ Opened.Failed) }
+        ensures kind { (d : HostDisk) → result ≡ Opened.Open d
+            → is_copied d.bytes ≡ self.old.only_looks }
+        ensures no_fault { result ≢ Opened.Failed → self.new.faults ≡ self.old.faults }
+        ensures looks { self.new.only_looks ≡ self.old.only_looks }
+    {
         let opened = if self.only_looks {
             HostDisk::copy(alloc, &self.system, name)
         } else {
@@ -224,7 +247,12 @@ impl<
 
     /// The file is made beside its name, as NAME`.joining`, and takes the name with its first sync. A name whose file holds bytes already, but
     /// for what a copy leaves that was never whole, gets the disk of that file.
-    fn copy(&mut self, alloc: Global, name: &str) -> Opened<HostDisk> {
+    fn copy(&mut self, alloc: Global, name: &str) -> Opened<HostDisk>
+        ensures cause { HasCause self.old.faults self.new.faults (result ≡ Opened.Failed) }
+        ensures kind { (d : HostDisk) → result ≡ Opened.Open d → is_copied d.bytes ≡ false }
+        ensures no_fault { result ≢ Opened.Failed → self.new.faults ≡ self.old.faults }
+        ensures looks { self.new.only_looks ≡ self.old.only_looks }
+    {
         match self.stage(alloc, name) {
             Ok(disk) => Opened::Open(disk),
             Err(error) => self.not_opened(alloc, name, &error),
@@ -232,7 +260,11 @@ impl<
     }
 
     /// Worker `w` of the name `L` reads `L.in` and writes `L.w.out`, which is made where it isn't there.
-    fn lines(&mut self, alloc: Global, name: &str, worker: u16) -> Opened<FileLines> {
+    fn lines(&mut self, alloc: Global, name: &str, worker: u16) -> Opened<FileLines>
+        ensures cause { HasCause self.old.faults self.new.faults (result ≡ Opened.Failed) }
+        ensures no_fault { result ≢ Opened.Failed → self.new.faults ≡ self.old.faults }
+        ensures looks { self.new.only_looks ≡ self.old.only_looks }
+    {
         let (Ok(from), Ok(to)) = (
             format!(in alloc; "{name}.in"),
             format!(in alloc; "{name}.{worker}.out"),
@@ -253,7 +285,11 @@ impl<
         }
     }
 
-    fn listener(&mut self, alloc: Global, address: &str) -> Opened<TcpDoor<T>> {
+    fn listener(&mut self, alloc: Global, address: &str) -> Opened<TcpDoor<T>>
+        ensures cause { HasCause self.old.faults self.new.faults (result ≡ Opened.Failed) }
+        ensures no_fault { result ≢ Opened.Failed → self.new.faults ≡ self.old.faults }
+        ensures looks { self.new.only_looks ≡ self.old.only_looks }
+    {
         let Ok(changes) = share(alloc, &mut self.changes) else {
             return Opened::NoMemory;
         };
@@ -263,7 +299,11 @@ impl<
         }
     }
 
-    fn peer(&mut self, alloc: Global, address: &str) -> Opened<PeerLink> {
+    fn peer(&mut self, alloc: Global, address: &str) -> Opened<PeerLink>
+        ensures cause { HasCause self.old.faults self.new.faults (result ≡ Opened.Failed) }
+        ensures no_fault { result ≢ Opened.Failed → self.new.faults ≡ self.old.faults }
+        ensures looks { self.new.only_looks ≡ self.old.only_looks }
+    {
         match call(alloc, &self.system, address) {
             Ok(link) => Opened::Open(PeerLink::new(alloc, link)),
             Err(error) => self.not_opened(alloc, address, &error),

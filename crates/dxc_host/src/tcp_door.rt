@@ -1,4 +1,4 @@
-ghost use Rattle.std.specs.Prelude.{[], ◌≡◌};
+ghost use Rattle.std.specs.Prelude.{[], ◌≡◌, ◌≢◌};
 
 use crate::TcpLink;
 use crate::changes::Changes;
@@ -89,15 +89,19 @@ fn stays(error: &io::Error) -> bool {
 }
 
 impl<T: SystemClock + Drop> Listener for TcpDoor<T> {
-    ghost use Rattle.std.specs.Prelude.{false};
+    ghost use Rattle.dxc_outside.specs.Callers.{IsAccept};
+    ghost use Rattle.dxc_host.specs.TcpLinks.{tcp_door, tcp_state};
 
     type Link = TcpLink;
 
     ghost told = { ⊥ };
 
-    ghost state = { λ d. record { coming = []; ended = false; faults = d.faults; sound = false } };
+    ghost state = { λ d. tcp_door d };
 
-    fn accept<R: Wait>(&mut self, rt: &R) -> Came<TcpLink> {
+    fn accept<R: Wait>(&mut self, rt: &R) -> Came<TcpLink>
+        ensures accept { IsAccept ⊥ tcp_state (tcp_door self.old) (tcp_door self.new) result }
+        ensures no_fault { result ≢ Came.Failed → self.new.faults ≡ self.old.faults }
+    {
         match self.next(rt) {
             Ok(link) => Came::Link(link),
             Err(_) => {
