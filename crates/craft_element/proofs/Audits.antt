@@ -30,7 +30,7 @@ module _ {D : Type 0} (told : Type 0) (state : D → DiskState) where
     abbrev o : Opening
     o = opening_of state x
 
-    table_first : x.table ≡ o.first.fold.table
+    pub table_first : x.table ≡ o.first.fold.table
     table_first = b.stands.table ∙ ap (λ (p : Past). p.fold.table) (subst (λ (cs : List Change). ReckonsTo o.first cs b.stands.now) (began_changes o.due) b.stands.reckoned)
 
     -- its table is of the shelf's shape

@@ -1,6 +1,7 @@
 pub mod Starting
 pub mod Checking
 pub mod Audits
+pub mod Exporting
 pub mod Loading
 pub mod Stocking
 pub mod Mirroring

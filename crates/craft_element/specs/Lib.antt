@@ -4,3 +4,4 @@ pub mod Peers
 pub mod Loads
 pub mod Listings
 pub mod Stocks
+pub mod Exports

@@ -3,6 +3,7 @@
 #![tactic(auto)]
 
 mod check;
+mod export;
 mod load;
 mod memory;
 mod opening;
@@ -10,6 +11,7 @@ mod peer;
 mod stock;
 
 pub use check::{WORKERS, run_check};
+pub use export::run_export;
 pub use load::load_element;
 pub use memory::memory_element;
 pub use opening::{Controller, Element, Names, open};

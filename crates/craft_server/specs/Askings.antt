@@ -2,7 +2,7 @@
 use Rattle.std.specs.Prelude.{ℕ, List, [], ◌∷◌, ◌++◌, ◌⊎◌, Option, Some, None}
 use Rattle.dxc_outside.specs.Asked.{Asking, AskedFor, asked_each, copy_named, lines_named, listener_named}
 use Rattle.craft_words.specs.declared.line.Line.{Line}
-use Rattle.craft_words.specs.declared.line.Line.TheVariants.{Script, Trial, Check, Serve, Standby, Load}
+use Rattle.craft_words.specs.declared.line.Line.TheVariants.{Script, Trial, Check, Export, Serve, Standby, Load}
 use Rattle.craft_words.specs.declared.status.Status.{Status}
 use Rattle.craft_words.specs.Lines.{IsLine}
 use Rattle.craft_jobs.specs.Missing.{IsOfNoOpening}
@@ -24,6 +24,7 @@ abbrev pub line_asked : Line → List Asking
 line_asked (Script shelf journal) = files_asked (named shelf journal)
 line_asked (Trial shape) = []
 line_asked (Check shelf journal) = files_asked (named shelf journal)
+line_asked (Export shelf journal) = files_asked (named shelf journal)
 line_asked (Serve shelf journal address lines workers peer) = opened_asked (named shelf journal) peer ++ site_asked lines address workers
 line_asked (Standby journal address) = copy_named journal ∷ listener_named address ∷ []
 line_asked (Load number) = []

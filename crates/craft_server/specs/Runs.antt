@@ -12,10 +12,11 @@ use Rattle.standby_link.specs.declared.mirror_disk.MirrorDisk.{MirrorDisk}
 use Rattle.user_admin.specs.Histories.{Opening as UsersOpening}
 use Rattle.xc_core.specs.States.{Opening}
 use Rattle.craft_words.specs.declared.line.Line.{Line}
-use Rattle.craft_words.specs.declared.line.Line.TheVariants.{Script, Trial, Check, Serve, Standby, Load}
+use Rattle.craft_words.specs.declared.line.Line.TheVariants.{Script, Trial, Check, Export, Serve, Standby, Load}
 use Rattle.craft_words.specs.declared.status.Status.{Status}
 use Rattle.craft_words.specs.declared.status.Status.TheVariants.{BadWords, NoMemory}
 use Rattle.craft_words.specs.Lines.{IsLine}
+use Rattle.craft_element.specs.Exports.{IsExport}
 use Rattle.craft_element.specs.Listings.{IsCheck}
 use Rattle.craft_server.specs.Loads.{IsLoad}
 use Rattle.craft_element.specs.Openings.{Began, Found, Named, Opens, Sources, named}
@@ -69,6 +70,13 @@ module _ (told : Told) {D : Type 0} (state : D → DiskState) where
     pub spawner : after.spawner ≡ before.spawner
     pub gate : after.sources.stops ≡ before.sources.stops
 
+  -- the commands that make the table were written to the terminal
+  pub record RanExport (before after : Lent D) (s : Contents) (o : Opening) (status : Status) : Type 0 where
+    pub export : IsExport told.terminal s o before.terminal after.terminal status
+    pub clock : after.clock ≡ before.clock
+    pub spawner : after.spawner ≡ before.spawner
+    pub gate : after.sources.stops ≡ before.sources.stops
+
   -- the load was run, with opener, clock and spawner untouched
   pub record RanLoad (number : ℕ) (before after : Lent D) (status : Status) : Type 0 where
     pub load : IsLoad number told.terminal before.terminal after.terminal before.sources.stops after.sources.stops status
@@ -96,6 +104,7 @@ module _ (told : Told) {N L C G : Type 0} (jobs : JobsTold N L C G) {D : Type 0}
   Ran (Script shelf journal) before after status f o u = RanScript told state before after f.shelf o u.opening f.disk u.found.disk status
   Ran (Trial shape) before after status f o u = ⊥
   Ran (Check shelf journal) before after status f o u = RanCheck told state before after f.shelf o status
+  Ran (Export shelf journal) before after status f o u = RanExport told state before after f.shelf o status
   Ran (Serve shelf journal address lines workers peer) before after status f o u = RanServe D jobs (site_at address lines workers) before after f.shelf o u.opening status
   Ran (Standby journal address) before after status f o u = ⊥
   Ran (Load number) before after status f o u = ⊥
@@ -125,6 +134,7 @@ module _ (told : Told) {N L C G : Type 0} (jobs : JobsTold N L C G) {D K J : Typ
   IsRunOf (Trial shape) before after status = RanNew told state shape before after status
   IsRunOf (Script shelf journal) before after status = OpensFor told jobs state (Script shelf journal) before after status
   IsRunOf (Check shelf journal) before after status = OpensFor told jobs state (Check shelf journal) before after status
+  IsRunOf (Export shelf journal) before after status = OpensFor told jobs state (Export shelf journal) before after status
   IsRunOf (Serve shelf journal address lines workers None) before after status = OpensFor told jobs state (Serve shelf journal address lines workers None) before after status
   IsRunOf (Serve shelf journal address lines workers (Some name)) before after status = MirrorsFor (named shelf journal) (site_at address lines workers) before after status
   IsRunOf (Standby journal address) before after status = RanBy journal address before after status

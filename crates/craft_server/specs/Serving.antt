@@ -8,7 +8,7 @@ use Rattle.user_admin.specs.Histories.{Opening as UsersOpening}
 use Rattle.xc_core.specs.States.{Opening}
 use Rattle.craft_session.specs.Places.{ArePlaces}
 use Rattle.craft_words.specs.declared.line.Line.{Line}
-use Rattle.craft_words.specs.declared.line.Line.TheVariants.{Script, Trial, Check, Serve, Standby, Load}
+use Rattle.craft_words.specs.declared.line.Line.TheVariants.{Script, Trial, Check, Export, Serve, Standby, Load}
 use Rattle.craft_words.specs.declared.status.Status.{Status}
 use Rattle.craft_words.specs.declared.status.Status.TheVariants.{Done, CannotOpen, NoThread, NoMemory}
 use Rattle.craft_jobs.specs.declared.frames.FrameJob.{FrameJob}
@@ -23,6 +23,7 @@ abbrev pub IsServe : Line → Type 0
 IsServe (Script shelf journal) = ⊥
 IsServe (Trial shape) = ⊥
 IsServe (Check shelf journal) = ⊥
+IsServe (Export shelf journal) = ⊥
 IsServe (Serve shelf journal address lines workers peer) = (1 ≤ workers) × (workers ≤ 8)
 IsServe (Standby journal address) = ⊥
 IsServe (Load number) = ⊥
@@ -41,6 +42,7 @@ abbrev pub site_in : Line → SiteAt
 site_in (Script shelf journal) = site_at [] [] 0
 site_in (Trial shape) = site_at [] [] 0
 site_in (Check shelf journal) = site_at [] [] 0
+site_in (Export shelf journal) = site_at [] [] 0
 site_in (Serve shelf journal address lines workers peer) = site_at address lines workers
 site_in (Standby journal address) = site_at [] [] 0
 site_in (Load number) = site_at [] [] 0
@@ -50,6 +52,7 @@ abbrev pub named_in : Line → Named
 named_in (Script shelf journal) = named shelf journal
 named_in (Trial shape) = named [] []
 named_in (Check shelf journal) = named shelf journal
+named_in (Export shelf journal) = named shelf journal
 named_in (Serve shelf journal address lines workers peer) = named shelf journal
 named_in (Standby journal address) = named [] journal
 named_in (Load number) = named [] []
@@ -59,6 +62,7 @@ abbrev pub peer_of : Line → Option (List ℕ)
 peer_of (Script shelf journal) = None
 peer_of (Trial shape) = None
 peer_of (Check shelf journal) = None
+peer_of (Export shelf journal) = None
 peer_of (Serve shelf journal address lines workers peer) = peer
 peer_of (Standby journal address) = None
 peer_of (Load number) = None

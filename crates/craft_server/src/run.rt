@@ -12,19 +12,20 @@ use crate::load::run_load;
 use crate::script::run_script;
 use crate::serve::serve_line;
 use crate::trial::run_trial;
-use craft_element::{Names, run_check};
+use craft_element::{Names, run_check, run_export};
 use craft_jobs::run_standby;
 use craft_words::{Line, Status, WordsFault, line_of};
 use dxc_outside::{Clock, Gate, Link, Listener, Name, Opener, Spawner};
 use std::alloc::Global;
 use std::sync::Wait;
 
-/// Runs a line of words: `script SHELF JOURNAL`, `check SHELF JOURNAL` or `serve SHELF JOURNAL ADDRESS LINES WORKERS`, by the names of
+/// Runs a line of words: `script SHELF JOURNAL`, `check SHELF JOURNAL`, `export SHELF JOURNAL` or `serve SHELF JOURNAL ADDRESS LINES WORKERS`, by the names of
 /// a shelf file, which is read in the form that `shelf_of` tells, and of a journal, which is made where it is new; or `script MODULES SLOTS`,
 /// `standby JOURNAL ADDRESS`, or `load NUMBER`. The controller starts on what the journal stands for; that of `load` on a new journal in memory.
 ///
 /// `script` serves one session over the terminal, and with the two numbers of a shape one on a new element of it, whose user is logged in and
-/// whose journals are in memory; `check` writes each row of the table and the number of records to it; `serve`
+/// whose journals are in memory; `check` writes each row of the table and the number of records to it, `export` the commands that make
+/// that table on an element without connections; `serve`
 /// serves 16 callers of the address at a time, and carries the frames of the lines with 1 to 8 workers. With one word more, PEER, it first
 /// joins the standby there, which gets a copy of the journal and of each change; where that is lost it goes on alone. `standby` waits for one
 /// primary at the address, and makes on the journal, which is to be new, what it sends, to the end of the link. `load` serves one session
@@ -79,6 +80,10 @@ where
         Line::Check { shelf, journal } => {
             let names = names_of(shelf, journal);
             run_check(alloc, opener, names, terminal, gate)
+        }
+        Line::Export { shelf, journal } => {
+            let names = names_of(shelf, journal);
+            run_export(alloc, opener, names, terminal, gate)
         }
         Line::Serve { .. } => serve_line(alloc, opener, line, gate, spawner, rt),
         Line::Standby { journal, address } => {

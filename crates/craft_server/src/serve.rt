@@ -222,6 +222,7 @@ fn is_serve(line: &Line) -> bool
         Line::Script { .. }
         | Line::Trial { .. }
         | Line::Check { .. }
+        | Line::Export { .. }
         | Line::Standby { .. }
         | Line::Load { .. } => { false }
     }

@@ -6,9 +6,9 @@ use Rattle.std.specs.Char.{is_ascii_digit}
 use Rattle.std.specs.List.{list_all, list_any}
 use Rattle.dxc_num.specs.Dimensions.{IsInLimits}
 use Rattle.craft_words.specs.declared.line.Line.{Line}
-use Rattle.craft_words.specs.declared.line.Line.TheVariants.{Script, Trial, Check, Serve, Standby, Load}
+use Rattle.craft_words.specs.declared.line.Line.TheVariants.{Script, Trial, Check, Export, Serve, Standby, Load}
 use Rattle.craft_words.specs.declared.line.Mode.{Mode}
-use Rattle.craft_words.specs.declared.line.Mode.TheVariants.{Script as ScriptMode, Check as CheckMode, Serve as ServeMode, Standby as StandbyMode, Load as LoadMode}
+use Rattle.craft_words.specs.declared.line.Mode.TheVariants.{Script as ScriptMode, Check as CheckMode, Export as ExportMode, Serve as ServeMode, Standby as StandbyMode, Load as LoadMode}
 
 -- a word that begins with a dash
 abbrev pub is_dashed : List ℕ → Bool
@@ -29,9 +29,10 @@ abbrev pub mode_in : List ℕ → Option Mode
 mode_in word =
     if bytes_eq word (codes "script") then Some ScriptMode
     else (if bytes_eq word (codes "check") then Some CheckMode
+    else (if bytes_eq word (codes "export") then Some ExportMode
     else (if bytes_eq word (codes "serve") then Some ServeMode
     else (if bytes_eq word (codes "standby") then Some StandbyMode
-    else (if bytes_eq word (codes "load") then Some LoadMode else None))))
+    else (if bytes_eq word (codes "load") then Some LoadMode else None)))))
 
 -- the word for a peer, where there is one
 abbrev pub peer_words : Option (List ℕ) → List (List ℕ)
@@ -43,6 +44,7 @@ abbrev pub words_of : Line → List (List ℕ)
 words_of (Script shelf journal) = codes "script" ∷ shelf ∷ journal ∷ []
 words_of (Trial shape) = codes "script" ∷ decimal shape.modules ∷ decimal shape.slots ∷ []
 words_of (Check shelf journal) = codes "check" ∷ shelf ∷ journal ∷ []
+words_of (Export shelf journal) = codes "export" ∷ shelf ∷ journal ∷ []
 words_of (Serve shelf journal address lines workers peer) = codes "serve" ∷ shelf ∷ journal ∷ address ∷ lines ∷ decimal workers ∷ peer_words peer
 words_of (Standby journal address) = codes "standby" ∷ journal ∷ address ∷ []
 words_of (Load number) = codes "load" ∷ decimal number ∷ []
@@ -52,6 +54,7 @@ abbrev pub IsInRange : Line → Type 0
 IsInRange (Script shelf journal) = are_numbers shelf journal ≡ false
 IsInRange (Trial shape) = IsInLimits shape
 IsInRange (Check shelf journal) = Unit {0}
+IsInRange (Export shelf journal) = Unit {0}
 IsInRange (Serve shelf journal address lines workers peer) = (1 ≤ workers) × (workers ≤ 8)
 IsInRange (Standby journal address) = Unit {0}
 IsInRange (Load number) = number < 2 ^ 64

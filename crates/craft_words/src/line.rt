@@ -25,6 +25,11 @@ pub enum Line {
         shelf: Name,
         journal: Name,
     },
+    /// The commands that make the same table on an element without connections.
+    Export {
+        shelf: Name,
+        journal: Name,
+    },
     /// Sessions over TCP, and workers that carry frames; with a peer, its standby gets a copy of the journal.
     Serve {
         shelf: Name,
@@ -57,7 +62,7 @@ pub enum WordsFault {
 const MOST_WORDS: usize = 7;
 
 /// The line that the words spell: `script SHELF JOURNAL`, `script MODULES SLOTS` with the numbers of a shape, `check SHELF JOURNAL`,
-/// `serve SHELF JOURNAL ADDRESS LINES WORKERS` with 1 to 8 workers, and the same with PEER behind it, `standby JOURNAL ADDRESS`, or
+/// `export SHELF JOURNAL`, `serve SHELF JOURNAL ADDRESS LINES WORKERS` with 1 to 8 workers, and the same with PEER behind it, `standby JOURNAL ADDRESS`, or
 /// `load NUMBER` with a number of 64 bits. Behind `script` two words of digits alone are no names. No word begins with a dash.
 pub fn line_of(alloc: Global, words: &[Name]) -> Result<Line, WordsFault>
     ensures line { IfOk result (λ l. IsLine words.now l) }
@@ -93,6 +98,7 @@ fn is_dashed(word: &[u8]) -> bool
 enum Mode {
     Script,
     Check,
+    Export,
     Serve,
     Standby,
     Load,
@@ -104,6 +110,7 @@ fn mode_of(word: &str) -> Option<Mode>
     match word {
         "script" => Some(Mode::Script),
         "check" => Some(Mode::Check),
+        "export" => Some(Mode::Export),
         "serve" => Some(Mode::Serve),
         "standby" => Some(Mode::Standby),
         "load" => Some(Mode::Load),
@@ -121,6 +128,10 @@ fn line_with(alloc: Global, mode: &str, rest: &[&str]) -> Result<Line, WordsFaul
         Some(Mode::Check) => {
             let (shelf, journal) = two_names(alloc, rest)?;
             Ok(Line::Check { shelf, journal })
+        }
+        Some(Mode::Export) => {
+            let (shelf, journal) = two_names(alloc, rest)?;
+            Ok(Line::Export { shelf, journal })
         }
         Some(Mode::Serve) => serve_line(alloc, rest),
         Some(Mode::Standby) => {

@@ -7,6 +7,7 @@ const HELP: &str = "dxc: the controller of a digital cross-connect
   dxc script SHELF JOURNAL    one session: TL1 on standard input, answers on standard output
   dxc script MODULES SLOTS    the same, to try it: on a new element in memory, whose user is logged in
   dxc check SHELF JOURNAL     the connections that the journal comes to, and how many records it has
+  dxc export SHELF JOURNAL    the commands that make what the journal comes to on a new element, also of a larger shelf
   dxc serve SHELF JOURNAL ADDRESS LINES WORKERS
                               sessions over TCP, 16 at a time, and 1 to 8 workers that carry frames
   dxc serve SHELF JOURNAL ADDRESS LINES WORKERS PEER
@@ -30,6 +31,7 @@ PEER is an address too. A change is answered once the standby there has it; wher
   printf 'ENT-CRS-T0::DS0-1-1,DS0-2-1:1;' | dxc script 2 1
   printf 'ACT-USER::ANNA:1::bc;ENT-CRS-T0::DS0-1-1,DS0-2-1:2;' | dxc script office.toml office.journal
   dxc check office.toml office.journal
+  dxc export office.toml office.journal >office.tl1
   dxc serve office.toml office.journal 127.0.0.1:3083 office 2
   dxc standby copy.journal 127.0.0.1:3084
   dxc serve office.toml office.journal 127.0.0.1:3083 office 2 127.0.0.1:3084

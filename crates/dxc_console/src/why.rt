@@ -100,7 +100,7 @@ impl<E: Display> Display for Why<'_, E> {
 // How many words a line of the mode has with the mode itself, at least and at most; None: there is no such mode.
 fn words_of(mode: &str) -> Option<(usize, usize)> {
     match mode {
-        "script" | "check" | "standby" => Some((3, 3)),
+        "script" | "check" | "export" | "standby" => Some((3, 3)),
         "serve" => Some((6, 7)),
         "load" => Some((2, 2)),
         _ => None,

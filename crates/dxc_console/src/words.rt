@@ -20,5 +20,8 @@ pub fn words_given<R: Env + AllocGlobal>(rt: &R, words: &mut Vec<Name>) -> Resul
 
 /// Whether the words are of a mode that changes no file.
 pub fn only_look(words: &[Name]) -> bool {
-    matches!(words.first(), Some(mode) if mode.text() == "check")
+    match words.first() {
+        Some(mode) => matches!(mode.text(), "check" | "export"),
+        None => false,
+    }
 }

@@ -11,8 +11,9 @@ use Rattle.xc_core.specs.States.{Opening}
 use Rattle.craft_words.specs.declared.line.Line.{Line}
 use Rattle.craft_words.specs.Lines.{IsInRange}
 use Rattle.craft_element.specs.Openings.{named, sources}
+use Rattle.craft_element.specs.Exports.{IsExport}
 use Rattle.craft_element.specs.Listings.{IsCheck}
-use Rattle.craft_server.specs.Runs.{IsRunOf, IsUntouched, RanCheck, RanScript, RanServe, lent, told_by}
+use Rattle.craft_server.specs.Runs.{IsRunOf, IsUntouched, RanCheck, RanExport, RanScript, RanServe, lent, told_by}
 use Rattle.craft_server.specs.Scripts.{RanSession}
 use Rattle.craft_jobs.specs.Standbys.{StandsBy}
 use Rattle.craft_server.specs.Serving.{IsServe, ServedSite, jobs_told, named_in, peer_of, site_at, site_in}
@@ -62,6 +63,22 @@ returns-in-Check-clause-run g c = λ fit.
     let ran = opens_for told.disk state told.opener _ (named c.in-Check.shelf c.in-Check.journal) c.names_of-names-in-Check.ensures before.sources after.sources (after.terminal ≡ before.terminal) (IsUntouched before after) P Q status
     (λ u. record { terminal = u; clock = refl; spawner = refl }) (λ s d o e u one. record { check = one.1; clock = refl; spawner = refl; gate = one.0 }) c.run_check.ensures.opens in
     subst (λ (l : Line). IsRunOf told jobs state g.O.Peer.Link.state g.O.Listener.Listener.state g.O.Listener.Link.Link.state (g.O.Opener.listener_at c.args.opener.now) l before after status) (sym c.in-Check.is) ran
+
+pub returns-in-Export-clause-run : goal.returns-in-Export-clause-run
+returns-in-Export-clause-run g c = λ fit.
+    let told = told_by g.O.Opener.told g.O.Journal.Disk.told g.K.Link.told g.C.Clock.told g.O.Peer.Link.told g.O.Listener.Listener.told g.O.Listener.Link.Link.told g.K.Link.begun g.O.Listener.Link.Link.begun in
+    let jobs = jobs_told g.row.O-Clock.Denot g.row.O-Gate.Denot g.O.Opener.lines_for g.O.Opener.listener_for (g.P.Spawner.handed c.args.spawner.now c.args.spawner.now) in
+    let state = g.O.Journal.Disk.state in
+    let p = g.P.Spawner.state c.args.spawner.now in
+    let moments = g.C.Clock.coming c.args.clock.now in
+    let before = lent (sources (g.O.Opener.state c.args.opener.now) (g.O.Opener.journal_at c.args.opener.now) (g.G.Gate.stops c.args.gate.now)) (g.K.Link.state c.args.terminal.now) moments p in
+    let after = lent (sources (g.O.Opener.state c.run_export.new.opener) (g.O.Opener.journal_at c.run_export.new.opener) (g.G.Gate.stops c.run_export.new.gate)) (g.K.Link.state c.run_export.new.terminal) moments p in
+    let status = c.run_export.result in
+    let P : Contents → g.row.O-Journal.Denot → Opening → g.row.O-Journal.Denot → UsersOpening → Type 0 = λ s d o e u. (after.sources.stops ≡ before.sources.stops) × IsExport g.K.Link.told s o before.terminal after.terminal status in
+    let Q : Contents → g.row.O-Journal.Denot → Opening → g.row.O-Journal.Denot → UsersOpening → Type 0 = λ s d o e u. RanExport told state before after s o status in
+    let ran = opens_for told.disk state told.opener _ (named c.in-Export.shelf c.in-Export.journal) c.names_of-names-in-Export.ensures before.sources after.sources (after.terminal ≡ before.terminal) (IsUntouched before after) P Q status
+    (λ u. record { terminal = u; clock = refl; spawner = refl }) (λ s d o e u one. record { export = one.1; clock = refl; spawner = refl; gate = one.0 }) c.run_export.ensures.opens in
+    subst (λ (l : Line). IsRunOf told jobs state g.O.Peer.Link.state g.O.Listener.Listener.state g.O.Listener.Link.Link.state (g.O.Opener.listener_at c.args.opener.now) l before after status) (sym c.in-Export.is) ran
 
 pub returns-in-Serve-clause-run : goal.returns-in-Serve-clause-run
 returns-in-Serve-clause-run g c = λ fit.
@@ -122,6 +139,12 @@ returns-in-Check-clause-words g c = λ fit bad.
     let after = sources (g.O.Opener.state c.run_check.new.opener) (g.O.Opener.journal_at c.run_check.new.opener) (g.G.Gate.stops c.run_check.new.gate) in
     opens_words g.O.Opener.told g.O.Journal.Disk.told g.O.Journal.Disk.state _ before after _ _ c.run_check.result (λ f o u ran no. sent_words ran.1.sent (sym ran.1.status_is ∙ no)) c.run_check.ensures.opens bad
 
+pub returns-in-Export-clause-words : goal.returns-in-Export-clause-words
+returns-in-Export-clause-words g c = λ fit bad.
+    let before = sources (g.O.Opener.state c.args.opener.now) (g.O.Opener.journal_at c.args.opener.now) (g.G.Gate.stops c.args.gate.now) in
+    let after = sources (g.O.Opener.state c.run_export.new.opener) (g.O.Opener.journal_at c.run_export.new.opener) (g.G.Gate.stops c.run_export.new.gate) in
+    opens_words g.O.Opener.told g.O.Journal.Disk.told g.O.Journal.Disk.state _ before after _ _ c.run_export.result (λ f o u ran no. sent_words ran.1.sent (sym ran.1.status_is ∙ no)) c.run_export.ensures.opens bad
+
 pub returns-in-Serve-clause-words : goal.returns-in-Serve-clause-words
 returns-in-Serve-clause-words g c = λ fit bad.
     let before = sources (g.O.Opener.state c.args.opener.now) (g.O.Opener.journal_at c.args.opener.now) (g.G.Gate.stops c.args.gate.now) in
@@ -163,6 +186,10 @@ returns-in-Script-clause-asked g c = λ fit.
 pub returns-in-Check-clause-asked : goal.returns-in-Check-clause-asked
 returns-in-Check-clause-asked g c = λ fit.
     subst (λ (l : List Asking). AskedFor (g.O.Opener.asked c.args.opener.now c.run_check.new.opener) l (IsOfNoOpening c.run_check.result)) (ap files_asked c.names_of-names-in-Check.ensures ∙ sym (ap line_asked c.in-Check.is)) c.run_check.ensures.asked
+
+pub returns-in-Export-clause-asked : goal.returns-in-Export-clause-asked
+returns-in-Export-clause-asked g c = λ fit.
+    subst (λ (l : List Asking). AskedFor (g.O.Opener.asked c.args.opener.now c.run_export.new.opener) l (IsOfNoOpening c.run_export.result)) (ap files_asked c.names_of-names-in-Export.ensures ∙ sym (ap line_asked c.in-Export.is)) c.run_export.ensures.asked
 
 pub returns-in-Serve-clause-asked : goal.returns-in-Serve-clause-asked
 returns-in-Serve-clause-asked g c = λ fit. c.serve_line.ensures.asked (subst IsServe (sym c.in-Serve.is) (subst IsInRange c.in-Serve.is fit))

@@ -1,0 +1,45 @@
+-- What an export of a journal writes.
+use Rattle.std.specs.Prelude.{◌≡◌, List, ℕ}
+use Rattle.dxc_disk.specs.Disks.{DiskState}
+use Rattle.dxc_outside.specs.declared.send.Sent.{Sent}
+use Rattle.dxc_outside.specs.Links.{LinkState, IsSent}
+use Rattle.shelf_file.specs.Contents.{Contents}
+use Rattle.tl1_script.specs.Commands.{lines_from}
+use Rattle.tl1_script.specs.Scripts.{changes_to}
+use Rattle.xc_core.specs.States.{Opening}
+use Rattle.craft_words.specs.declared.status.Status.{Status}
+use Rattle.craft_words.specs.Statuses.{status_of_sent}
+use Rattle.craft_element.specs.Openings.{Named, Opens, Sources}
+
+-- the commands that come to the opening's table from no connection and what the shelf equips
+abbrev pub script : Contents → Opening → List ℕ
+script s o = lines_from s.shape 1 (changes_to s.equipped o.first.fold.table)
+
+-- they were written, or a part of them where a write failed
+pub record IsExport (told : Type 0) (s : Contents) (o : Opening) (k l : LinkState) (status : Status) : Type 0 where
+  pub sent : Sent
+  pub wrote : IsSent told k l sent (script s o)
+  pub status_is : status ≡ status_of_sent sent
+
+-- whether opener, disk and link tell what they hold, and what a disk holds
+pub record Told (D : Type 0) : Type 1 where
+  pub opener : Type 0
+  pub disk : Type 0
+  pub state : D → DiskState
+  pub link : Type 0
+
+abbrev pub told_by : {D : Type 0} → (opener disk : Type 0) → (D → DiskState) → Type 0 → Told D
+told_by opener disk state link = record { opener = opener; disk = disk; state = state; link = link }
+
+-- what an export is lent, at a moment
+pub record Lent (D : Type 0) : Type 0 where
+  pub sources : Sources D
+  pub terminal : LinkState
+
+abbrev pub lent : {D : Type 0} → Sources D → LinkState → Lent D
+lent sources terminal = record { sources = sources; terminal = terminal }
+
+-- nothing was opened and written, and why; or the commands of what was opened were written
+abbrev pub Exports : {D : Type 0} → Told D → Named → (before after : Lent D) → Status → Type 0
+Exports told names before after status = Opens told.opener told.disk told.state names before.sources after.sources (after.terminal ≡ before.terminal)
+    (λ f o u. (after.sources.stops ≡ before.sources.stops) × IsExport told.link f.shelf o before.terminal after.terminal status) status

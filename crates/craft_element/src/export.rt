@@ -1,0 +1,68 @@
+//! What a journal came to, as the commands that make it on another element.
+ghost use Rattle.std.specs.List.{AllByRecursion};
+ghost use Rattle.dxc_outside.specs.Asked.{AskedFor};
+ghost use Rattle.dxc_outside.specs.Links.{IsSent};
+ghost use Rattle.craft_jobs.specs.Missing.{IsOfNoOpening};
+ghost use Rattle.tl1_answer.specs.Texts.{IsChangeOf};
+ghost use Rattle.tl1_script.specs.Commands.{lines_from};
+ghost use Rattle.craft_element.specs.Exports.{Exports, lent, told_by};
+ghost use Rattle.craft_element.specs.Openings.{files_asked, named, sources};
+
+use crate::check::WORKERS;
+use crate::opening::{Element, Names, open};
+use arrayvec::ArrayVec;
+use craft_words::Status;
+use dxc_model::Change;
+use dxc_num::Shape;
+use dxc_outside::{Gate, Link, Opener, Sent, write_all};
+use std::alloc::Global;
+use tl1_script::{changes_to, command_line};
+
+/// Writes to the terminal the commands that make, on an element without connections that equips what the shelf file equips, what the journal
+/// of a controller came to that is opened on these names.
+pub fn run_export<O: Opener, K: Link, G: Gate>(
+    alloc: Global,
+    opener: &mut O,
+    names: Names<'_>,
+    terminal: &mut K,
+    gate: &mut G,
+) -> Status
+    ensures opens { Exports (told_by O.told O.Journal.told O.Journal.state K.told)
+        (named names.entry.shelf.now names.entry.journal.now)
+        (lent (sources (O.state opener.old) (O.journal_at opener.old) (G.stops gate.old))
+        (K.state terminal.old))
+        (lent (sources (O.state opener.new) (O.journal_at opener.new) (G.stops gate.new))
+        (K.state terminal.new)) result }
+    ensures asked { AskedFor (O.asked opener.old opener.new)
+        (files_asked (named names.entry.shelf.now names.entry.journal.now))
+        (IsOfNoOpening result) }
+{
+    let Element {
+        controller,
+        users: _,
+    } = match open(alloc, opener, names, WORKERS, gate) {
+        Ok(element) => element,
+        Err(status) => return status,
+    };
+    let Ok(changes) = changes_to(alloc, controller.shelf.equipped(), &controller.state.table) else {
+        return Status::NoMemory;
+    };
+    Status::of_sent(write_commands(terminal, controller.shelf.shape(), &changes))
+}
+
+// Writes a command for each change, with the CTAGs from 1 on.
+fn write_commands<K: Link>(link: &mut K, shape: Shape, changes: &[Change]) -> Sent
+    requires { AllByRecursion (IsChangeOf shape) changes.now }
+    ensures { IsSent K.told (K.state link.old) (K.state link.new) result
+        (lines_from shape 1 changes.now) }
+{
+    let mut text = ArrayVec::new();
+    for at in 0..changes.len() {
+        command_line(shape, at as u64 + 1, &changes[at], &mut text);
+        match write_all(link, text.as_slice()) {
+            Sent::Whole => {}
+            Sent::Cut => return Sent::Cut,
+        }
+    }
+    Sent::Whole
+}

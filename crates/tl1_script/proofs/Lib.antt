@@ -1,0 +1,4 @@
+pub mod Coming
+pub mod Making
+pub mod Lines
+pub mod Asking
