@@ -1,4 +1,4 @@
-use Rattle.std.proofs.Common.{◌≡◌, ◌≤◌, List, refl, sym, ◌∙◌, ap, subst, arith}
+use Rattle.std.proofs.Common.{◌≡◌, List, refl, sym, ◌∙◌, ap, subst, arith}
 use Rattle.std.specs.Box.{with_value}
 use Rattle.dxc_disk.proofs.DiskSteps.{spends_none}
 use Rattle.dxc_model.specs.declared.cause.Cause.TheVariants.{DiskFault}

@@ -1,4 +1,4 @@
-use Rattle.std.proofs.Common.{◌≡◌, ◌≢◌, ◌+◌, false, inl, inr, ⊎_elim, List, Some, refl, sym, ap, ◌∙◌, subst}
+use Rattle.std.proofs.Common.{◌≡◌, ◌≢◌, ◌+◌, false, inl, inr, ⊎_elim, Some, refl, sym, ap, ◌∙◌, subst}
 use Rattle.dxc_causes.specs.Causes.{HasCause, Rose}
 use Rattle.dxc_disk.specs.Disks.{LeavesOnly, Spends}
 use Rattle.dxc_disk.proofs.DiskSteps.{spends_none, spends_on}
