@@ -45,7 +45,7 @@ pub fn standbys_are_adopted<D: Disk>()
 /// Before that Sync the name of the copy stands for no file at all (`named` of `standby_link`), so a copy that was cut off in its joining is never taken for
 /// a shorter journal.
 ///
-/// Each premise is what clauses give. What a crash at any moment of a command leaves: `any_moment` of `begin`, `settle` and `recover`, and of
+/// Each premise is what clauses give. What a crash at any moment of a command leaves: `any_moment` of `note`, `settle` and `recover`, and of
 /// `Core::open` and `Core::adopt` with what they found, which make a start the first command (`start`); of a command that a crash cut short, what it
 /// would have done is unseen. What stands behind the changes: `finishes` of `finish`, `ends` of `end_recovery`; all other calls leave it, and the
 /// journal too. The Provisioner between two commands: `begun`, `home`, `halted`, `rolls` and `resumes`. The calls on the disk, and the primary's

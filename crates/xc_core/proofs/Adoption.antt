@@ -1,9 +1,8 @@
 -- A start on registers that another controller has written.
-use Rattle.std.proofs.Common.{◌≡◌, ℕ, ◌+◌, ◌≤◌, arith, true, List, [], ◌++◌, length, Some, None, refl, sym, ◌∙◌, ap, subst, inr}
+use Rattle.std.proofs.Common.{◌≡◌, ℕ, arith, true, [], ◌++◌, Some, None, refl, sym, ap, subst, inr}
 use Rattle.dxc_disk.specs.Disks.{DiskState, IsDisk}
 use Rattle.dxc_num.specs.Dimensions.{IsInLimits}
 use Rattle.fabric_words.specs.Seats.{MoverAt}
-use Rattle.paull_matrix.specs.Colourings.{Colouring}
 use Rattle.roll_engine.specs.declared.rolling.Behind.TheVariants.{Nothing}
 use Rattle.roll_engine.specs.Rollings.{RollingAt}
 use Rattle.shelf_file.specs.Contents.{Contents}

@@ -1,6 +1,6 @@
 -- What an opening counts as, before any entry.
 use Rattle.std.proofs.lemmas.List.{map-append}
-use Rattle.std.proofs.Common.{◌≡◌, ◌⊎◌, ◌≢◌, ℕ, arith, Bool, true, false, List, [], ◌∷◌, ◌++◌, Option, Some, None, refl, sym, subst, inl}
+use Rattle.std.proofs.Common.{◌≡◌, ◌⊎◌, ℕ, arith, Bool, true, false, List, [], ◌++◌, Some, None, refl, sym, subst, inl}
 use Rattle.dxc_model.specs.declared.cause.Cause.TheVariants.{JournalAstray}
 use Rattle.dxc_model.specs.declared.entry.Entry.{Entry}
 use Rattle.dxc_model.specs.declared.entry.Outcome.TheVariants.{Cut, Failed}

@@ -1,5 +1,5 @@
 -- A start of the controller: the disk's journal, its replay, and the joins of all legs.
-use Rattle.std.proofs.Common.{◌≡◌, ◌⊎◌, inl, ⊎_elim, ℕ, ◌-◌, ◌<◌, ◌≤◌, ◌^◌, append-nil, Bool, true, length-append, false, List, [], ◌++◌, length, None, Some, Result, Ok, Err, refl, sym, ◌∙◌, ap, subst, arith}
+use Rattle.std.proofs.Common.{◌≡◌, ◌⊎◌, inl, ⊎_elim, ℕ, ◌-◌, ◌<◌, ◌≤◌, ◌^◌, append-nil, Bool, length-append, false, List, [], ◌++◌, length, None, Some, Result, Ok, Err, refl, sym, ◌∙◌, ap, subst, arith}
 use Rattle.std.specs.Prelude.{IfSome, replicate}
 use Rattle.std.proofs.lemmas.List.{length-replicate, length-take}
 use Rattle.dxc_num.specs.Dimensions.{Dimensions, IsInLimits, ports}
@@ -29,7 +29,6 @@ use Rattle.journal_core.proofs.OpenSteps.{new_or_not}
 use Rattle.journal_core.proofs.StandSteps.{stands_once}
 use Rattle.paull_matrix.specs.Colourings.{Colouring, IsProperColouring, no_legs}
 use Rattle.roll_plan.specs.declared.op.LegOp.{LegOp}
-use Rattle.roll_plan.specs.declared.work.Work.{Work}
 use Rattle.dbchg_reports.specs.Recent.{Recent, recent_of}
 use Rattle.roll_plan.specs.Works.{switches_in}
 use Rattle.roll_engine.specs.Rollings.{RollingAt}

@@ -52,15 +52,19 @@ module _ {D : Type 0} (told : Type 0) (state : D → DiskState) (b : Past) (p : 
   pub way_few : length m.log ≤ 2 ^ 48
   way_few = let room = h.halted.way.on_way.under_way.room in omega (arith, room)
 
-  pub beside : (t : Board) → b.fold.table ≡ t → IsBeside b p.second p.matrix t p.doubt p.spent
-  beside t same = record {
+  -- where the table is copied, all are of one shape
+  pub copy_shape : (e : Board) → e ≡ b.fold.table → e.shape ≡ p.second.expected.shape
+  copy_shape e is = ap (λ (x : Board). x.shape) is ∙ (h.halted.past.shape ∙ sym h.halted.past.room.expected)
+
+  pub beside : (e : Board) → e ≡ b.fold.table → IsBeside b (record p.second { expected = e }) p.matrix e p.doubt p.spent
+  beside e is = record {
     matrix = h.halted.past.matrix;
-    table = sym same;
+    table = is;
     placed = h.halted.past.placed;
     spent_is = h.halted.past.spent;
     few = subst (λ (n : ℕ). n ≤ 2 ^ 48) (sym h.halted.past.spent) h.halted.past.few;
     doubts = h.halted.past.doubts;
-    room = subst (λ (d : Dimensions). HasRoom d p.second) (sym h.halted.past.shape) h.halted.past.room;
+    room = let room = subst (λ (d : Dimensions). HasRoom d p.second) (sym h.halted.past.shape) h.halted.past.room in record { matrix = room.matrix; table = room.table; expected = ap (λ (x : Board). x.shape) is };
   }
 
   abbrev s : DiskState

@@ -1,5 +1,5 @@
 -- A journal that is mended.
-use Rattle.std.proofs.Common.{◌≡◌, ◌⊎◌, inl, inr, ⊎_elim, ℕ, Bool, true, false, List, Option, Some, None, refl, sym, ap, ◌∙◌, subst}
+use Rattle.std.proofs.Common.{◌≡◌, inl, inr, ⊎_elim, ℕ, Bool, true, false, List, Option, Some, None, refl, sym, ap, ◌∙◌, subst}
 use Rattle.std.specs.Prelude.{Result, Ok, Err}
 use Rattle.dxc_disk.specs.Disks.{DiskState, LeavesOnly}
 use Rattle.journal_core.specs.declared.book.Book.{Book}
@@ -9,7 +9,8 @@ use Rattle.journal_core.proofs.HeaderSteps.{never}
 use Rattle.journal_core.proofs.KeepSteps.{only_weaker}
 use Rattle.dxc_model.specs.declared.op.Op.{Op}
 use Rattle.xc_core.specs.declared.provisioner.Provisioner.{Provisioner}
-use Rattle.xc_core.specs.Provisioners.{IsHome, IsUnmended}
+use Rattle.xc_core.specs.Begins.{MayDoubt}
+use Rattle.xc_core.specs.Provisioners.{IsHome}
 use Rattle.xc_core.specs.Reckonings.{Past}
 use Rattle.xc_core.specs.Journals.{IsOldOrDoubted}
 use Rattle.xc_core.proofs.Journalling.{doubts_on, home_on, may_called, tried_on}
@@ -49,9 +50,16 @@ pub is_marked : (b : Bool) → (b ≡ false → ⊥) → b ≡ true
 is_marked true not = refl
 is_marked false not = absurd (not refl)
 
--- a mend that failed after a plan, which left the Provisioner as it was
-pub unmended_as : {D : Type 0} (old mid new : Provisioner D) → mid ≡ old → IsUnmended mid new → IsUnmended old new
-unmended_as {D} old mid new same is = subst (λ (x : Provisioner D). IsUnmended x new) same is
+-- what is in doubt after a plan that left journal and doubt as they were
+pub doubts_as : {D : Type 0} (op : Op) (old mid new : Provisioner D) → mid.journal ≡ old.journal → mid.doubt ≡ old.doubt → MayDoubt op mid new → MayDoubt op old new
+doubts_as {D} op old mid new journal doubt may = elim may [
+  | inl is ↦ inl (record {
+    doubt = is.doubt ∙ doubt;
+    book = is.book ∙ ap (λ (j : D × Book). j.1) journal;
+    marked = ap (λ (j : D × Book). j.1.to_mend) (sym journal) ∙ is.marked;
+  })
+  | inr other ↦ inr other
+]
 
 -- a journal that was ready is so after an append that failed
 pub ready_still : (before after : Book) (marked : Bool) (reach : ℕ) → after ≡ record before { to_mend = marked; reach = reach } → IsReady before → IsReady after

@@ -207,19 +207,19 @@ module _ {D : Type 0} (told : Type 0) (state : D → DiskState) where
               ]
             ]))
 
-        -- a stop came before its record was in the journal
-        pub stands_held : IsWithin st.now op → p ≡ with_halt true q → (d : Boxed D) → d.value.p ≡ p → StandsFor told state o (with_home (In d) s) (h ++ entry own op Cut ∷ [])
-        stands_held within is =
+        -- a stop came before its record was in the journal, where m is what its plan left
+        pub stands_held : IsWithin st.now op → (m : Provisioner D) → IsHome told state st.now m → m.doubt ≡ q.doubt → p ≡ with_halt true m → (d : Boxed D) → d.value.p ≡ p → StandsFor told state o (with_home (In d) s) (h ++ entry own op Cut ∷ [])
+        stands_held within m home doubt is =
             let e = entry own op Cut in
             let granted = there (λ t. Grants t op within.0) within.1 in
             home_by q p ready.is_in ground later spent counts e refl refl refl
             (fits_by (rules_of o) h e (table_after o.first.fold.table h, (inr (within.0, granted), refl)) (limit_met o h st.now st.reckoned op within.0 None Cut granted (inl within.2) refl) tt)
             (λ t x. let y : Cut ≡ Failed JournalAstray = x in cc) (no_fault q p ready.is_in ground later spent e refl)
             (inr (
-              subst (λ (x : Provisioner D). IsHalted told state st.now x) (sym is) (marked_home st.now q ready.home),
+              subst (λ (x : Provisioner D). IsHalted told state st.now x) (sym is) (marked_home st.now m home),
               lasts_now (λ x. IsCut x ⊎ IsFailedRestart x) IsRestarted h e (inl refl),
             ))
-            (doubts_cut h e p refl (λ x asked. unsettled_more h e x (cut_settles_not own op) (ready.is_in.doubt x (sym (ap (λ (y : Provisioner D). y.doubt) is) ∙ asked)).0))
+            (doubts_cut h e p refl (λ x asked. unsettled_more h e x (cut_settles_not own op) (ready.is_in.doubt x (sym doubt ∙ (sym (ap (λ (y : Provisioner D). y.doubt) is) ∙ asked))).0))
 
       -- its work is planned, and the turn ends with it
       module _ (c : Change) (r : RollingAt) (meets : HasWork st.now c None) (rolls : Rolls told state st.now op c p r) where

@@ -1,5 +1,5 @@
 -- What a turn does with the state.
-use Rattle.std.proofs.Common.{◌≡◌, ◌≢◌, ◌≤◌, ℕ, true, false, List, [], ◌∷◌, ◌++◌, refl, sym, ◌∙◌, ap, subst, inl, inr}
+use Rattle.std.proofs.Common.{◌≡◌, ◌≢◌, ◌≤◌, ◌⊎◌, ℕ, true, false, List, [], ◌∷◌, ◌++◌, refl, sym, ◌∙◌, ap, subst, inl, inr}
 use Rattle.dxc_causes.specs.Causes.{Rose}
 use Rattle.dxc_disk.specs.Disks.{CountsOn, DiskState, Spends}
 use Rattle.dxc_model.specs.declared.cause.Cause.{Cause}
@@ -14,8 +14,8 @@ use Rattle.dxc_model.specs.Verdicts.{Refuses}
 use Rattle.dxc_model.specs.Steps.{IsLimit}
 use Rattle.dxc_model.proofs.FirstCauses.{refusals_are_first}
 use Rattle.roll_engine.specs.Rollings.{RollingAt}
-use Rattle.xc_core.specs.declared.beginning.Begun.{Begun}
-use Rattle.xc_core.specs.declared.beginning.Begun.TheVariants as begun
+use Rattle.roll_engine.specs.UnderWay.{unmade}
+use Rattle.journal_core.specs.declared.book.Book.{Book}
 use Rattle.std.specs.Box.{with_value}
 use Rattle.xc_core.specs.declared.provisioner.Driver.{Driver}
 use Rattle.xc_core.specs.declared.provisioner.Provisioner.{Provisioner}
@@ -25,7 +25,7 @@ use Rattle.xc_core.specs.declared.state.State.{State}
 use Rattle.xc_core.specs.declared.turns.Took.TheVariants as took
 use Rattle.xc_core.specs.Reckonings.{Past}
 use Rattle.xc_core.specs.Provisioners.{Boxed, IsHome, ground_of, with_halt}
-use Rattle.xc_core.specs.Begins.{BegunIs}
+use Rattle.xc_core.specs.Begins.{IsCopied, IsOverLimit, IsPlanned, IsWithin, MayDoubt, MayNote, Starts, plan_of}
 use Rattle.xc_core.specs.States.{HomeIs, IsLent, Opening, StandsFor, most_room, with_home}
 use Rattle.xc_core.specs.Seeing.{entry, refused}
 use Rattle.xc_core.specs.Turns.{TakenIs}
@@ -53,10 +53,6 @@ limit_no_astray q l = elim l [ inl out ↦ (λ is. let no_limit : NoMiddle ≡ J
 -- and a limit as failed
 refused_limit : (q : Cause) → IsLimit q → refused q ≡ outcome.Failed q
 refused_limit q l = elim l [ inl is ↦ ap refused is ∙ sym (ap outcome.Failed is) | inr is ↦ ap refused is ∙ sym (ap outcome.Failed is) ]
-
--- what a change takes of the room is within what an operation takes
-pub change_room : (a b : DiskState) → Spends 4_600_114 a b → Spends most_room a b
-change_room a b spent = spent
 
 module _ {D : Type 0} (told : Type 0) (state : D → DiskState) (counts : (d : D) → CountsOn (state d)) (o : Opening) (s : State D) (h : List Entry) (st : StandsFor told state o s h) where
   -- nothing was done
@@ -92,9 +88,8 @@ module _ {D : Type 0} (told : Type 0) (state : D → DiskState) (counts : (d : D
     abbrev p : Provisioner D
     p = d.value.p
 
-    -- what the planning left of it
-    module _ (own : ℕ) (op : Op) (e : Boxed D) (ground : ground_of e.value.p ≡ ground_of p) (later : (state p.journal.0).faults ≤ (state e.value.p.journal.0).faults) (spent : Spends most_room (state p.journal.0) (state e.value.p.journal.0))
-        (how : Begun) (begins : (b : Past) → IsHome told state b p → b.fold.table ≡ s.table → BegunIs told state b op p e.value.p e.value.rolling how) where
+    -- what planning and journalling left of it
+    module _ (own : ℕ) (op : Op) (e : Boxed D) (ground : ground_of e.value.p ≡ ground_of p) (later : (state p.journal.0).faults ≤ (state e.value.p.journal.0).faults) (spent : Spends most_room (state p.journal.0) (state e.value.p.journal.0)) where
       abbrev q : Provisioner D
       q = e.value.p
 
@@ -104,13 +99,10 @@ module _ {D : Type 0} (told : Type 0) (state : D → DiskState) (counts : (d : D
       abbrev was : IsReadyAfter told state o st.now h p
       was = ready_home told state o s h st d is ready
 
-      said : BegunIs told state st.now op p q r how
-      said = begins st.now was.home (sym st.table)
-
-      -- its work is planned
-      pub was_planned : how ≡ begun.Rolling → TakenIs told state o own h op (with_home Out s) (took.Rolling e)
-      was_planned how_is =
-          let x = subst (λ (y : Begun). BegunIs told state st.now op p q r y) how_is said in (
+      -- its work is planned, and its record is in the journal
+      pub was_planned : ((b : Past) → IsHome told state b p → b.fold.table ≡ s.table → Starts told state b op q r) → TakenIs told state o own h op (with_home Out s) (took.Rolling e)
+      was_planned starts =
+          let x = starts st.now was.home (sym st.table) in (
             stands_taken told state o s h st own op p q was ground later spent x.change r x.within x.rolls,
             has_taken told state o s h st own op p q was ground later spent x.change r x.within x.rolls,
           )
@@ -118,27 +110,45 @@ module _ {D : Type 0} (told : Type 0) (state : D → DiskState) (counts : (d : D
       entered : (x y : Outcome) → x ≡ y → StandsFor told state o (with_home (In e) s) (h ++ entry own op y ∷ []) → StandsFor told state o (with_home (In e) s) (h ++ entry own op x ∷ [])
       entered x y same at = subst (λ (z : Outcome). StandsFor told state o (with_home (In e) s) (h ++ entry own op z ∷ [])) (sym same) at
 
-      -- it was denied
-      pub was_denied : (cause : Cause) → how ≡ begun.Denied cause → (how ≡ begun.Denied DiskFault → Rose (state p.journal.0).faults (state q.journal.0).faults) → TakenIs told state o own h op (with_home (In e) s) (took.Denied cause)
-      was_denied cause how_is faulty =
-          let x = subst (λ (y : Begun). BegunIs told state st.now op p q r y) how_is said in
+      -- the table or a limit denied it
+      pub was_denied : (cause : Cause) → q ≡ p → ((b : Past) → IsHome told state b p → b.fold.table ≡ s.table → Refuses b.fold.table op cause ⊎ IsOverLimit b op cause) → TakenIs told state o own h op (with_home (In e) s) (took.Denied cause)
+      was_denied cause same says =
+          let x = says st.now was.home (sym st.table) in
           let on = counts q.journal.0 in (
-            elim x.1 [
-              | inl same ↦ elim same.0 [
-                | inl refuses ↦ entered (refused cause) (outcome.Denied cause) (refused_denied st.now.fold.table op cause refuses) (stands_denied told state o s h st own op p q was ground later spent on cause refuses same.1 e refl)
-                | inr l ↦ entered (refused cause) (outcome.Failed cause) (refused_limit cause (over_limit st.now op cause l)) (stands_failed told state o s h st own op p q was ground later spent on cause l same.1 e refl)
-              ]
-              | inr fault ↦ entered (refused cause) (outcome.Failed DiskFault) (ap refused fault.0) (stands_faulted told state o s h st own op p q was ground later spent on fault.1 fault.2 (faulty (how_is ∙ ap begun.Denied fault.0)) x.0 e refl)
+            elim x [
+              | inl refuses ↦ entered (refused cause) (outcome.Denied cause) (refused_denied st.now.fold.table op cause refuses) (stands_denied told state o s h st own op p q was ground later spent on cause refuses same e refl)
+              | inr l ↦ entered (refused cause) (outcome.Failed cause) (refused_limit cause (over_limit st.now op cause l)) (stands_failed told state o s h st own op p q was ground later spent on cause l same e refl)
             ],
             was.unstopped,
-            elim x.1 [
-              | inl same ↦ elim same.0 [ inl refuses ↦ refused_not_astray st.now.fold.table op cause refuses | inr l ↦ limit_no_astray cause (over_limit st.now op cause l) ]
-              | inr fault ↦ (λ is. let no_fault : DiskFault ≡ JournalAstray = sym fault.0 ∙ is in cc)
-            ],
+            elim x [ inl refuses ↦ refused_not_astray st.now.fold.table op cause refuses | inr l ↦ limit_no_astray cause (over_limit st.now op cause l) ],
+          )
+
+      -- the disk failed
+      pub was_faulted : ((b : Past) → IsHome told state b p → b.fold.table ≡ s.table → IsHome told state b q × IsWithin b op × MayDoubt op p q) → Rose (state p.journal.0).faults (state q.journal.0).faults → TakenIs told state o own h op (with_home (In e) s) (took.Denied DiskFault)
+      was_faulted faults rose =
+          let x = faults st.now was.home (sym st.table) in (
+            stands_faulted told state o s h st own op p q was ground later spent (counts q.journal.0) x.1 x.2 rose x.0 e refl,
+            was.unstopped,
+            λ is. let no_fault : DiskFault ≡ JournalAstray = is in cc,
           )
 
       -- the gate stopped before its record was journalled
-      pub was_held : how ≡ begun.Stopped → (f : Boxed D) → f.value.p ≡ with_halt true q → TakenIs told state o own h op (with_home (In f) s) took.Stopped
-      was_held how_is f marked =
-          let x = subst (λ (y : Begun). BegunIs told state st.now op p q r y) how_is said in
-          (stands_held told state o s h st own op p (with_halt true q) was ground later spent (counts q.journal.0) x.1 (ap (λ (y : Provisioner D). with_halt true y) x.2) f marked, was.unstopped)
+      pub was_held : ((b : Past) → IsHome told state b p → b.fold.table ≡ s.table → IsHome told state b q × IsWithin b op) → q.doubt ≡ p.doubt → (f : Boxed D) → f.value.p ≡ with_halt true q → TakenIs told state o own h op (with_home (In f) s) took.Stopped
+      was_held holds doubt f marked =
+          let x = holds st.now was.home (sym st.table) in
+          (stands_held told state o s h st own op p (with_halt true q) was ground later spent (counts q.journal.0) x.1 q x.0 doubt refl f marked, was.unstopped)
+
+-- what was journalled after a plan that left the journal as it was
+module _ {D : Type 0} (state : D → DiskState) (p m q : Provisioner D) (journal : m.journal ≡ p.journal) where
+  pub later_from : (state m.journal.0).faults ≤ (state q.journal.0).faults → (state p.journal.0).faults ≤ (state q.journal.0).faults
+  later_from later = subst (λ (j : D × Book). (state j.0).faults ≤ (state q.journal.0).faults) journal later
+
+  pub rose_from : Rose (state m.journal.0).faults (state q.journal.0).faults → Rose (state p.journal.0).faults (state q.journal.0).faults
+  rose_from rose = subst (λ (j : D × Book). Rose (state j.0).faults (state q.journal.0).faults) journal rose
+
+  pub spent_from : Spends 4_600_114 (state m.journal.0) (state q.journal.0) → Spends most_room (state p.journal.0) (state q.journal.0)
+  spent_from spent = subst (λ (j : D × Book). Spends most_room (state j.0) (state q.journal.0)) journal spent
+
+-- what a plan left may be journalled
+pub may_note : {D : Type 0} (told : Type 0) (state : D → DiskState) (b : Past) (m : Provisioner D) (op : Op) (r : RollingAt) (bytes : List ℕ) → IsHome told state b m → IsCopied b m → (r ≡ unmade r.work) × IsPlanned b op r.work bytes → MayNote told state b m (plan_of op r bytes)
+may_note told state b m op r bytes home copied planned = record { home = home; copied = copied; unmade_is = planned.0; is = planned.1 }

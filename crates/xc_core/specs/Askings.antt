@@ -6,8 +6,6 @@ use Rattle.dxc_model.specs.declared.cause.Cause.TheVariants.{DiskFault}
 use Rattle.dxc_outside.specs.declared.gate.GatePlace.{GatePlace}
 use Rattle.dxc_outside.specs.declared.gate.GatePlace.TheVariants.{Journal, Register}
 use Rattle.roll_engine.specs.Cold.{joins_of}
-use Rattle.xc_core.specs.declared.beginning.Begun.{Begun}
-use Rattle.xc_core.specs.declared.beginning.Begun.TheVariants as begun
 use Rattle.xc_core.specs.declared.fault.OpenFault.{OpenFault}
 use Rattle.xc_core.specs.declared.fault.OpenFault.TheVariants as fault
 use Rattle.xc_core.specs.declared.restarts.Restarting.{Restarting}
@@ -22,13 +20,7 @@ abbrev pub asked_before : Cause → List GatePlace
 asked_before DiskFault = Journal ∷ []
 asked_before _ = []
 
--- where an operation began: before the journal is called, if it came to that
-abbrev pub asked_at_begin : Begun → List GatePlace
-asked_at_begin begun.Rolling = Journal ∷ []
-asked_at_begin (begun.Denied q) = asked_before q
-asked_at_begin begun.Stopped = Journal ∷ []
-
--- in a turn in which one was to begin
+-- in a turn in which one was to begin: before the journal is called, if it came to that
 abbrev pub asked_at_take : {D : Type 0} → Took D → List GatePlace
 asked_at_take (took.Rolling d) = Journal ∷ []
 asked_at_take (took.Denied q) = asked_before q

@@ -1,5 +1,5 @@
 -- What a start has read of its journal.
-use Rattle.std.specs.Prelude.{◌≡◌, ℕ, false, List, length, Option, Some, None, Result, Ok, Err}
+use Rattle.std.specs.Prelude.{◌≡◌, ℕ, false, List, length, None, Result, Ok, Err}
 use Rattle.dbchg_reports.specs.Recent.{no_changes}
 use Rattle.dxc_disk.specs.Disks.{DiskState, Looks}
 use Rattle.dxc_num.specs.Dimensions.{Dimensions}

@@ -11,7 +11,8 @@ ghost use Rattle.xc_core.specs.Seeing.{HasTaken, entry, refused as refused_by};
 ghost use Rattle.xc_core.specs.States.{Opening, StandsFor};
 ghost use Rattle.xc_core.specs.Turns.{TakenIs, outcome_of as outcome_for};
 
-use crate::beginning::{Begun, begin};
+use crate::beginning::plan_copied;
+use crate::noting::{Noted, note};
 use crate::provisioner::{Driver, halt};
 use crate::state::{State, finish};
 use crate::turns::Took;
@@ -38,13 +39,20 @@ pub fn take<D: Disk + Drop, G: Gate>(state: &mut State<D>, op: &Op, gate: &mut G
         state.bring_home(driver);
         return Took::Halted;
     }
-    match begin(&mut held.p, &mut held.rolling, &state.table, op, gate) {
-        Begun::Rolling => Took::Rolling(driver),
-        Begun::Denied(cause) => {
+    let bytes = match plan_copied(&mut held.p, &mut held.rolling, &state.table, op) {
+        Ok(bytes) => bytes,
+        Err(cause) => {
             state.bring_home(driver);
-            Took::Denied(cause)
+            return Took::Denied(cause);
         }
-        Begun::Stopped => {
+    };
+    match note(&mut held.p, &held.rolling, op, &bytes, gate) {
+        Noted::Rolling => Took::Rolling(driver),
+        Noted::Fault => {
+            state.bring_home(driver);
+            Took::Denied(Cause::DiskFault)
+        }
+        Noted::Stopped => {
             halt(&mut held.p);
             state.bring_home(driver);
             Took::Stopped

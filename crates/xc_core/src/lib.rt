@@ -10,6 +10,7 @@ mod granted;
 mod inside;
 mod keep;
 mod limit;
+mod noting;
 mod opening;
 mod origin;
 mod provisioner;
@@ -22,8 +23,9 @@ mod state;
 pub mod turns;
 
 pub use adopting::Adopted;
-pub use beginning::{Begun, begin};
+pub use beginning::plan_copied;
 pub use fault::OpenFault;
+pub use noting::{Noted, note};
 pub use opening::Core;
 pub use origin::Origin;
 pub use provisioner::{Driver, Provisioner, drive, halt, release, settle};

@@ -140,7 +140,8 @@ fn go_on<D: Disk>(p: &mut Provisioner<D>, table: &Table, fabric: &Fabric, work: 
     ensures warm { D.told → (r : RollingAt) → result ≢ Recovered.Cold r }
     ensures answered { (result ≢ Recovered.Fault) × (result ≢ Recovered.Stopped) }
 {
-    match compare(&mut p.second, &mut p.matrix, table, p.doubt, p.spent) {
+    p.second.expected.copy_from(table);
+    match compare(&mut p.second, &mut p.matrix, p.doubt, p.spent) {
         None => Recovered::Astray(p.journal.count()),
         Some(Given { lacking, switches }) => {
             p.second.lacking = lacking;

@@ -13,6 +13,8 @@ use Rattle.xc_journal.specs.Entries.{FitsConn}
 use Rattle.xc_core.specs.declared.provisioner.Provisioner.{Provisioner}
 use Rattle.xc_core.specs.Journals.{IsCounted, IsOldOrDoubted, StillCounts}
 use Rattle.xc_core.specs.Provisioners.{HasNoDoubt, IsUnmended}
+use Rattle.xc_core.specs.Begins.{IsCopied}
+use Rattle.xc_core.specs.Reckonings.{Past}
 use Rattle.xc_core.proofs.Counting.{counts_same, keeps_counted, left_counted, still_from}
 use Rattle.xc_core.proofs.Pasts.{home_with}
 use Rattle.xc_core.proofs.Rolling.{home_limits, placed_as}
@@ -30,33 +32,51 @@ on_err : {T E : Type 0} (r : Result T E) (P : Type 0) → P → OnErr r P
 on_err (Ok x) P here = tt
 on_err (Err e) P here = here
 
+-- where a checkpoint is due, the copy is the table
+copy_is : {D : Type 0} (b : Past) (a m : Provisioner D) → m ≡ record a { journal = m.journal; doubt = m.doubt } → m.journal.1 ≡ record a.journal.1 { to_mend = m.journal.1.to_mend } → (IsReady m.journal.1 → ⊥) → IsCopied b a → m.second.expected ≡ b.fold.table
+copy_is {D} b a m others book due copied = ap (λ (x : Provisioner D). x.second.expected) others ∙ copied (λ r. due (subst IsReady (sym book) (record { below = r.below; still = r.still; version = r.version })))
+
 pub write_checkpoint-requires-clause-placed : goal.write_checkpoint-requires-clause-placed
-write_checkpoint-requires-clause-placed g c = let w = c.requires.home in let h = c.settle.ensures.home w.0 w.1 in placed_as w.0 c.args.table.now c.settle.new.p.matrix (sym w.2) h.past.matrix h.past.placed
+write_checkpoint-requires-clause-placed g c =
+    let w = c.requires.home in
+    let h = c.settle.ensures.home w.0 w.1 in
+    let copy = copy_is w.0 c.args.p.now c.settle.new.p c.settle.ensures.others c.settle.ensures.book (λ r. let e : true ≡ false = c.if-not-due.ensures.1 r in cc) w.2 in
+    placed_as w.0 c.settle.new.p.second.expected c.settle.new.p.matrix copy h.past.matrix h.past.placed
 
 pub write_checkpoint-requires-clause-shape : goal.write_checkpoint-requires-clause-shape
-write_checkpoint-requires-clause-shape g c = let w = c.requires.home in let h = c.settle.ensures.home w.0 w.1 in ap (λ (x : Board). x.shape) (sym w.2) ∙ h.past.shape
+write_checkpoint-requires-clause-shape g c =
+    let w = c.requires.home in
+    let h = c.settle.ensures.home w.0 w.1 in
+    let copy = copy_is w.0 c.args.p.now c.settle.new.p c.settle.ensures.others c.settle.ensures.book (λ r. let e : true ≡ false = c.if-not-due.ensures.1 r in cc) w.2 in
+    ap (λ (x : Board). x.shape) copy ∙ h.past.shape
 
 pub write_checkpoint-requires-clause-of_shape : goal.write_checkpoint-requires-clause-of_shape
 write_checkpoint-requires-clause-of_shape g c =
     let w = c.requires.home in
-    (c.shape-shape.ensures.of_shape, subst (λ (t : Board). IsInLimits t.shape) w.2 (home_limits g.D.Disk.told g.D.Disk.state w.0 c.args.p.now w.1))
+    let copy = copy_is w.0 c.args.p.now c.settle.new.p c.settle.ensures.others c.settle.ensures.book (λ r. let e : true ≡ false = c.if-not-due.ensures.1 r in cc) w.2 in
+    (c.shape-shape.ensures.of_shape, subst (λ (t : Board). IsInLimits t.shape) (sym copy) (home_limits g.D.Disk.told g.D.Disk.state w.0 c.args.p.now w.1))
 
 pub write_checkpoint-requires-clause-spelled : goal.write_checkpoint-requires-clause-spelled
-write_checkpoint-requires-clause-spelled g c = let w = c.requires.home in subst (λ (t : Board). AllByRecursion FitsConn t.conns) w.2 w.1.past.spelled
+write_checkpoint-requires-clause-spelled g c =
+    let w = c.requires.home in
+    let copy = copy_is w.0 c.args.p.now c.settle.new.p c.settle.ensures.others c.settle.ensures.book (λ r. let e : true ≡ false = c.if-not-due.ensures.1 r in cc) w.2 in
+    subst (λ (t : Board). AllByRecursion FitsConn t.conns) (sym copy) w.1.past.spelled
 
 pub returns-clause-home : goal.returns-clause-home
-returns-clause-home g c = λ b home same.
+returns-clause-home g c = λ b home copied.
+    let copy = copy_is b c.args.p.now c.settle.new.p c.settle.ensures.others c.settle.ensures.book (λ r. let e : true ≡ false = c.if-not-due.ensures.1 r in cc) copied in
     let m = c.settle.new.p in
     let h = c.settle.ensures.home b home in
-    home_with g.D.Disk.told g.D.Disk.state b m h c.write_checkpoint.new.journal m.doubt c.write_checkpoint.ensures.book c.write_checkpoint.ensures.shape h.past.doubts (c.write_checkpoint.ensures.home b m.doubt h.journal (sym same, h.past.matrix))
+    home_with g.D.Disk.told g.D.Disk.state b m h c.write_checkpoint.new.journal m.doubt c.write_checkpoint.ensures.book c.write_checkpoint.ensures.shape h.past.doubts (c.write_checkpoint.ensures.home b m.doubt h.journal (copy, h.past.matrix))
 
 pub returns-clause-any_moment : goal.returns-clause-any_moment
-returns-clause-any_moment g c = λ told b home same.
+returns-clause-any_moment g c = λ told b home copied.
+    let copy = copy_is b c.args.p.now c.settle.new.p c.settle.ensures.others c.settle.ensures.book (λ r. let e : true ≡ false = c.if-not-due.ensures.1 r in cc) copied in
     let a = c.args.p.now in
     let m = c.settle.new.p in
     let h = c.settle.ensures.home b home in
     only_on (g.D.Disk.state a.journal.0) (g.D.Disk.state m.journal.0) (g.D.Disk.state c.write_checkpoint.new.journal.0) (IsOldOrDoubted b a.doubt) (c.settle.ensures.any_moment told b home)
-    (settled_left b a.doubt m.doubt (g.D.Disk.state m.journal.0) (g.D.Disk.state c.write_checkpoint.new.journal.0) c.settle.ensures.doubt (c.write_checkpoint.ensures.any_moment told b m.doubt h.journal (sym same, h.past.matrix)))
+    (settled_left b a.doubt m.doubt (g.D.Disk.state m.journal.0) (g.D.Disk.state c.write_checkpoint.new.journal.0) c.settle.ensures.doubt (c.write_checkpoint.ensures.any_moment told b m.doubt h.journal (copy, h.past.matrix)))
 
 pub returns-in-Err-clause-unready : goal.returns-in-Err-clause-unready
 returns-in-Err-clause-unready g c = inl c.in-Err.ensures.unmended
@@ -67,44 +87,47 @@ returns-clause-unready g c =
     on_err c.write_checkpoint.result (IsUnmended c.args.p.now left ⊎ HasNoDoubt left) (inr (c.write_checkpoint.ensures.whole c.in-Ok.ensures.settled.0, c.in-Ok.ensures.settled.1))
 
 pub returns-in-Err-clause-acknowledged : goal.returns-in-Err-clause-acknowledged
-returns-in-Err-clause-acknowledged g c told =
+returns-in-Err-clause-acknowledged g c = λ told b home copied.
     let a = c.args.p.now in
-    keeps_counted (g.D.Disk.state a.journal.0) a.journal.1 c.args.table.now a.matrix (g.D.Disk.state c.settle.new.p.journal.0) (c.settle.ensures.acknowledged told)
+    keeps_counted (g.D.Disk.state a.journal.0) a.journal.1 b.fold.table a.matrix (g.D.Disk.state c.settle.new.p.journal.0) (c.settle.ensures.acknowledged told)
 
 pub returns-then-not-due-clause-acknowledged : goal.returns-then-not-due-clause-acknowledged
-returns-then-not-due-clause-acknowledged g c told =
+returns-then-not-due-clause-acknowledged g c = λ told b home copied.
     let a = c.args.p.now in
-    keeps_counted (g.D.Disk.state a.journal.0) a.journal.1 c.args.table.now a.matrix (g.D.Disk.state c.settle.new.p.journal.0) (c.settle.ensures.acknowledged told)
+    keeps_counted (g.D.Disk.state a.journal.0) a.journal.1 b.fold.table a.matrix (g.D.Disk.state c.settle.new.p.journal.0) (c.settle.ensures.acknowledged told)
 
 pub returns-then-not-due-clause-counts : goal.returns-then-not-due-clause-counts
-returns-then-not-due-clause-counts g c told =
+returns-then-not-due-clause-counts g c = λ told b home copied.
     let a = c.args.p.now in
     let m = c.settle.new.p in
     let book = c.settle.ensures.book in
-    counts_same (g.D.Disk.state a.journal.0) a.journal.1 c.args.table.now a.matrix (g.D.Disk.state m.journal.0) m.journal.1 (ap (λ (x : Book). x.shape) book) (ap (λ (x : Book). x.head) book) (c.settle.ensures.same told).0
+    counts_same (g.D.Disk.state a.journal.0) a.journal.1 b.fold.table a.matrix (g.D.Disk.state m.journal.0) m.journal.1 (ap (λ (x : Book). x.shape) book) (ap (λ (x : Book). x.head) book) (c.settle.ensures.same told).0
 
 pub returns-clause-acknowledged : goal.returns-clause-acknowledged
-returns-clause-acknowledged g c told =
+returns-clause-acknowledged g c = λ told b home copied.
     let a = c.args.p.now in
     let m = c.settle.new.p in
     let n = g.D.Disk.state c.write_checkpoint.new.journal.0 in
     let book = c.settle.ensures.book in
     let same = c.settle.ensures.same told in
-    let w = c.requires.home in
-    only_on (g.D.Disk.state a.journal.0) (g.D.Disk.state m.journal.0) n (IsCounted (g.D.Disk.state a.journal.0) a.journal.1 c.args.table.now a.matrix) (keeps_counted (g.D.Disk.state a.journal.0) a.journal.1 c.args.table.now a.matrix (g.D.Disk.state m.journal.0) (c.settle.ensures.acknowledged told))
-    (left_counted (g.D.Disk.state a.journal.0) (g.D.Disk.state m.journal.0) a.journal.1 m.journal.1 c.args.table.now a.matrix (ap (λ (x : Book). x.shape) book) (ap (λ (x : Book). x.head) book) (ap (λ (x : Book). x.spare) book) same.0 same.1 (g.D.Disk.state m.journal.0) n
-    (subst (λ (x : Colouring). LeavesOnly (g.D.Disk.state m.journal.0) n (IsCounted (g.D.Disk.state m.journal.0) m.journal.1 c.args.table.now x)) (ap (λ (x : Provisioner g.row.D.Denot). x.matrix) c.settle.ensures.others)
-    (c.write_checkpoint.ensures.acknowledged told w.0 m.doubt (c.settle.ensures.home w.0 w.1).journal)))
+    let copy = copy_is b c.args.p.now c.settle.new.p c.settle.ensures.others c.settle.ensures.book (λ r. let e : true ≡ false = c.if-not-due.ensures.1 r in cc) copied in
+    let legs = ap (λ (x : Provisioner g.row.D.Denot). x.matrix) c.settle.ensures.others in
+    only_on (g.D.Disk.state a.journal.0) (g.D.Disk.state m.journal.0) n (IsCounted (g.D.Disk.state a.journal.0) a.journal.1 b.fold.table a.matrix) (keeps_counted (g.D.Disk.state a.journal.0) a.journal.1 b.fold.table a.matrix (g.D.Disk.state m.journal.0) (c.settle.ensures.acknowledged told))
+    (left_counted (g.D.Disk.state a.journal.0) (g.D.Disk.state m.journal.0) a.journal.1 m.journal.1 b.fold.table a.matrix (ap (λ (x : Book). x.shape) book) (ap (λ (x : Book). x.head) book) (ap (λ (x : Book). x.spare) book) same.0 same.1 (g.D.Disk.state m.journal.0) n
+    (subst (λ (w : Board × Colouring). LeavesOnly (g.D.Disk.state m.journal.0) n (IsCounted (g.D.Disk.state m.journal.0) m.journal.1 w.0 w.1)) (λ i. (copy i, legs i))
+    (c.write_checkpoint.ensures.acknowledged told b m.doubt (c.settle.ensures.home b home).journal)))
 
 pub returns-clause-counts : goal.returns-clause-counts
-returns-clause-counts g c told =
+returns-clause-counts g c = λ told b home copied.
     let a = c.args.p.now in
     let m = c.settle.new.p in
     let n = c.write_checkpoint.new.journal in
     let book = c.settle.ensures.book in
     let same = c.settle.ensures.same told in
-    still_from (g.D.Disk.state a.journal.0) (g.D.Disk.state m.journal.0) a.journal.1 m.journal.1 c.args.table.now a.matrix (ap (λ (x : Book). x.shape) book) (ap (λ (x : Book). x.head) book) (ap (λ (x : Book). x.spare) book) same.0 same.1 (g.D.Disk.state n.0) n.1 c.write_checkpoint.result
-    (subst (λ (x : Colouring). OnOk c.write_checkpoint.result (StillCounts (g.D.Disk.state m.journal.0) m.journal.1 (g.D.Disk.state n.0) n.1 c.args.table.now x)) (ap (λ (x : Provisioner g.row.D.Denot). x.matrix) c.settle.ensures.others) (c.write_checkpoint.ensures.counts told))
+    let copy = copy_is b c.args.p.now c.settle.new.p c.settle.ensures.others c.settle.ensures.book (λ r. let e : true ≡ false = c.if-not-due.ensures.1 r in cc) copied in
+    let legs = ap (λ (x : Provisioner g.row.D.Denot). x.matrix) c.settle.ensures.others in
+    still_from (g.D.Disk.state a.journal.0) (g.D.Disk.state m.journal.0) a.journal.1 m.journal.1 b.fold.table a.matrix (ap (λ (x : Book). x.shape) book) (ap (λ (x : Book). x.head) book) (ap (λ (x : Book). x.spare) book) same.0 same.1 (g.D.Disk.state n.0) n.1 c.write_checkpoint.result
+    (subst (λ (w : Board × Colouring). OnOk c.write_checkpoint.result (StillCounts (g.D.Disk.state m.journal.0) m.journal.1 (g.D.Disk.state n.0) n.1 w.0 w.1)) (λ i. (copy i, legs i)) (c.write_checkpoint.ensures.counts told))
 
 pub returns-clause-others : goal.returns-clause-others
 returns-clause-others g c = ap (λ (x : Provisioner g.row.D.Denot). record x { journal = c.write_checkpoint.new.journal }) c.settle.ensures.others

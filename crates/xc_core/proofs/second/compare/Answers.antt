@@ -10,4 +10,4 @@ returns-clause-given c = λ b h.
     let granted = subst (λ (t : Board). Grants t c.in_ok-op.op c.in-Ok.change) h.table c.in-Ok.ensures.verdict in
     given_more b c.args.doubt c.in_ok-op.op c.in-Ok.change c.args.second.now.table c.args.second.now.matrix asked granted
     (λ is. true≢false (sym (c.is.ensures.1 (is.0 ∙ sym h.table, is.1 ∙ sym h.matrix)) ∙ c.if-is.false))
-    c.more.result h.doubts (c.more.ensures.more b c.in_ok-op.op (beside_op b c.args.second.now c.args.matrix.now c.args.table.now c.args.doubt c.args.spent c.in_ok-op.op asked h) granted)
+    c.more.result h.doubts (c.more.ensures.more b c.in_ok-op.op (beside_op b c.args.second.now c.args.matrix.now c.args.second.now.expected c.args.doubt c.args.spent c.in_ok-op.op asked h) granted)

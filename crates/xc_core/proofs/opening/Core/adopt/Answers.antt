@@ -4,7 +4,7 @@ use Rattle.dxc_num.specs.Dimensions.{IsInLimits}
 use Rattle.dxc_causes.specs.Causes.{HasCause}
 use Rattle.dxc_disk.specs.Disks.{Spends}
 use Rattle.fabric_core.specs.declared.mover.Mover.{Mover}
-use Rattle.fabric_words.specs.Seats.{FabricId, MoverAt}
+use Rattle.fabric_words.specs.Seats.{FabricId}
 use Rattle.xc_core.specs.declared.provisioner.Provisioner.{Provisioner}
 use Rattle.xc_core.specs.declared.state.Home.TheVariants.{In}
 use Rattle.xc_core.specs.declared.state.State.{State}

@@ -1,4 +1,4 @@
-use Rattle.std.proofs.Common.{◌≡◌, ◌≤◌, false, length, None, Some, ap, subst, sym, ◌∙◌}
+use Rattle.std.proofs.Common.{◌≡◌, length, ap, subst, sym, ◌∙◌}
 use Rattle.std.specs.Prelude.{IfSome, replicate}
 use Rattle.std.specs.Box.{with_value}
 use Rattle.dxc_outside.specs.declared.gate.GatePlace.TheVariants.{Register}
