@@ -49,7 +49,8 @@ pub fn standbys_are_adopted<D: Disk>()
 /// `Core::open` and `Core::adopt` with what they found, which make a start the first command (`start`); of a command that a crash cut short, what it
 /// would have done is unseen. What stands behind the changes: `finishes` of `finish`, `ends` of `end_recovery`; all other calls leave it, and the
 /// journal too. The Provisioner between two commands: `begun`, `home`, `halted`, `rolls` and `resumes`. The calls on the disk, and the primary's
-/// moments: `moments_are_left`, `calls_are_moments` and `answers_stay` of `standby_link::laws`; that the standby keeps up from its first Sync on: `standbys_keep_up` there.
+/// moments: `moments_are_left`, `calls_are_moments` and `answers_stay` of `standby_link::laws`; that the standby keeps up from its first Sync on:
+/// `standbys_keep_up` there, and that no write is too long for it: `short` of `Disk::write_at`.
 pub fn standbys_stand_for_commands<D: Disk>()
     ensures start { StartsAreCommands D.told D.state }
     ensures stands { StandbysStand D.told D.state }

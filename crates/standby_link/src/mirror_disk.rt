@@ -98,7 +98,8 @@ impl<D: Disk, K: Link> Disk for MirrorDisk<D, K> {
     }
 
     fn write_at(&mut self, at: u64, from: &[u8]) -> Result<(), DiskFault>
-        requires { D.told → at ≤ length (D.state self.old.disk).reads_as }
+        requires within { D.told → at ≤ length (D.state self.old.disk).reads_as }
+        requires short { length from.now ≤ 4096 }
         ensures write { IsWrite D.told (D.state self.old.disk) (D.state self.new.disk) result at from.now }
         ensures tells { Both self.old.line self.new.line (λ l m. TellsWrite K.told (line_at K.state l) (line_at K.state m) at from.now result) }
         ensures steps { Both self.old.line self.new.line (λ l m. StepsByWrite D.told (mirrored (D.state self.old.disk) (line_at K.state l)) (mirrored (D.state self.new.disk) (line_at K.state m)) at from.now result) }

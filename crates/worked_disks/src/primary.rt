@@ -1,5 +1,5 @@
 use crate::standby::{disk_in, serve};
-use anyhow::Result;
+use anyhow::{Result, ensure};
 use dxc_disk::Disk;
 use dxc_outside::{Link, MemLink};
 use standby_link::{Mirror, MirrorDisk};
@@ -103,5 +103,6 @@ fn write<'a, K: Link>(
     let (digits, rest) = two(rest)?;
     let place = number_of(place)?;
     let bytes = bytes_in(alloc, digits)?;
+    ensure!(bytes.len() <= 4096, "more than one write takes");
     Ok((mirror.write_at(place, &bytes).is_ok(), rest))
 }
