@@ -80,3 +80,12 @@ pub record Filled (told : Type 0) (k j : LinkState) (old new : Draft) (lines : L
 abbrev pub Fills : (told : Type 0) (k j : LinkState) (sent : Sent) (old new : Draft) (lines : List (List ℕ)) → Type 0
 Fills told k j Whole old new lines = Filled told k j old new lines
 Fills told k j Cut old new lines = (more : List (List ℕ)) → IsSent told k j Cut (bytes_from old.head old.bytes (lines ++ more))
+
+-- what became of an answer to which lines were added
+pub record Addition : Type 0 where
+  pub sent : Sent
+  pub old : Draft
+  pub new : Draft
+
+abbrev pub Adds : (told : Type 0) (before after : LinkState) → Addition → (lines : List (List ℕ)) → Type 0
+Adds told k j a lines = Fills told k j a.sent a.old a.new lines

@@ -5,7 +5,7 @@ ghost use Rattle.dxc_model.specs.Equipment.{has_bit, modules_in};
 ghost use Rattle.tl1_answer.specs.Blocks.{IsUnended, IsBegun};
 ghost use Rattle.tl1_answer.specs.Texts.{middle_text as text_of_middle, module_text as text_of_module};
 ghost use Rattle.xc_core.specs.Turns.{IsInventoryOf, equipped_in};
-ghost use Rattle.craft_session.specs.Responses.{Fills, shown_lines};
+ghost use Rattle.craft_session.specs.Responses.{Adds, shown_lines};
 
 use crate::say::add_line;
 use arrayvec::ArrayVec;
@@ -30,7 +30,11 @@ fn add_module<K: Link>(
     requires short { length answer.old.head ≤ 64 }
     requires inside { IsModule shape number }
     requires few { number < 64 }
-    ensures { Fills K.told (K.state link.old) (K.state link.new) result answer.old answer.new (map text_of_module (filter (has_bit equipped) (number ∷ []))) }
+    ensures {
+        Adds K.told (K.state link.old) (K.state link.new)
+            (record { sent = result; old = answer.old; new = answer.new })
+            (map text_of_module (filter (has_bit equipped) (number ∷ [])))
+    }
 {
     if !equipment::has(equipped, number) {
         return Sent::Whole;
@@ -50,7 +54,11 @@ fn add_modules<K: Link>(
     requires unended { IsUnended answer.old }
     requires begun { IsBegun answer.old }
     requires short { length answer.old.head ≤ 64 }
-    ensures { Fills K.told (K.state link.old) (K.state link.new) result answer.old answer.new (map text_of_module (modules_in shape equipped)) }
+    ensures {
+        Adds K.told (K.state link.old) (K.state link.new)
+            (record { sent = result; old = answer.old; new = answer.new })
+            (map text_of_module (modules_in shape equipped))
+    }
 {
     for number in 0..shape.modules() {
         match add_module(answer, text, link, shape, equipped, number) {
@@ -73,7 +81,11 @@ fn add_middle<K: Link>(
     requires begun { IsBegun answer.old }
     requires short { length answer.old.head ≤ 64 }
     requires working { IfSome out (λ m. IsWorking shape m.0) }
-    ensures { Fills K.told (K.state link.old) (K.state link.new) result answer.old answer.new (map text_of_middle (option_to_list out)) }
+    ensures {
+        Adds K.told (K.state link.old) (K.state link.new)
+            (record { sent = result; old = answer.old; new = answer.new })
+            (map text_of_middle (option_to_list out))
+    }
 {
     match out {
         Some(middle) => {
@@ -97,7 +109,11 @@ pub fn add_inventory<K: Link>(
     requires begun { IsBegun answer.old }
     requires short { length answer.old.head ≤ 64 }
     requires of_shape { IsInventoryOf shape inventory }
-    ensures { Fills K.told (K.state link.old) (K.state link.new) result answer.old answer.new (shown_lines subject (equipped_in inventory) inventory.out) }
+    ensures {
+        Adds K.told (K.state link.old) (K.state link.new)
+            (record { sent = result; old = answer.old; new = answer.new })
+            (shown_lines subject (equipped_in inventory) inventory.out)
+    }
 {
     match subject {
         Subject::Middle => add_middle(answer, text, link, shape, inventory.out),
