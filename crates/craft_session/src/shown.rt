@@ -30,11 +30,9 @@ fn add_module<K: Link>(
     requires short { length answer.old.head ≤ 64 }
     requires inside { IsModule shape number }
     requires few { number < 64 }
-    ensures {
-        Adds K.told (K.state link.old) (K.state link.new)
-            (record { sent = result; old = answer.old; new = answer.new })
-            (map text_of_module (filter (has_bit equipped) (number ∷ [])))
-    }
+    ensures { Adds K.told (K.state link.old) (K.state link.new)
+        (record { sent = result; old = answer.old; new = answer.new })
+        (map text_of_module (filter (has_bit equipped) (number ∷ []))) }
 {
     if !equipment::has(equipped, number) {
         return Sent::Whole;
@@ -54,11 +52,9 @@ fn add_modules<K: Link>(
     requires unended { IsUnended answer.old }
     requires begun { IsBegun answer.old }
     requires short { length answer.old.head ≤ 64 }
-    ensures {
-        Adds K.told (K.state link.old) (K.state link.new)
-            (record { sent = result; old = answer.old; new = answer.new })
-            (map text_of_module (modules_in shape equipped))
-    }
+    ensures { Adds K.told (K.state link.old) (K.state link.new)
+        (record { sent = result; old = answer.old; new = answer.new })
+        (map text_of_module (modules_in shape equipped)) }
 {
     for number in 0..shape.modules() {
         match add_module(answer, text, link, shape, equipped, number) {
@@ -81,11 +77,9 @@ fn add_middle<K: Link>(
     requires begun { IsBegun answer.old }
     requires short { length answer.old.head ≤ 64 }
     requires working { IfSome out (λ m. IsWorking shape m.0) }
-    ensures {
-        Adds K.told (K.state link.old) (K.state link.new)
-            (record { sent = result; old = answer.old; new = answer.new })
-            (map text_of_middle (option_to_list out))
-    }
+    ensures { Adds K.told (K.state link.old) (K.state link.new)
+        (record { sent = result; old = answer.old; new = answer.new })
+        (map text_of_middle (option_to_list out)) }
 {
     match out {
         Some(middle) => {
@@ -109,11 +103,9 @@ pub fn add_inventory<K: Link>(
     requires begun { IsBegun answer.old }
     requires short { length answer.old.head ≤ 64 }
     requires of_shape { IsInventoryOf shape inventory }
-    ensures {
-        Adds K.told (K.state link.old) (K.state link.new)
-            (record { sent = result; old = answer.old; new = answer.new })
-            (shown_lines subject (equipped_in inventory) inventory.out)
-    }
+    ensures { Adds K.told (K.state link.old) (K.state link.new)
+        (record { sent = result; old = answer.old; new = answer.new })
+        (shown_lines subject (equipped_in inventory) inventory.out) }
 {
     match subject {
         Subject::Middle => add_middle(answer, text, link, shape, inventory.out),
