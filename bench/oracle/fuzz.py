@@ -151,6 +151,7 @@ def sound_unit():
             lambda: f"ACT-USER::{random.choice((*RANKS, 'nobody', 'anna', 'fay', 'Hal'))}:{tag}::{random.choice(('bc', 'bc', 'bc', 'cb'))}",
             lambda: f"CANC-USER::{random.choice(('', *RANKS))}:{tag}" if random.random() < 0.2 else f"RTRV-HDR:::{tag}",
             lambda: f"INIT-SYS:::{tag}",
+            lambda: f"RTRV-{random.choice(('MID', 'SYS'))}:::{tag}",
             lambda: of_users(tag),
         )
     )().encode()

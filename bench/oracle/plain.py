@@ -25,7 +25,9 @@ COMMANDS = {  # code: classes, parameters of the AID block, of the first payload
     b"DLT-EQPT": ("S", (True,), ()),
     b"RMV-MID": ("S", (True,), ()),
     b"RST-MID": ("S", (True,), ()),
+    b"RTRV-MID": ("RPS", (), ()),
     b"INIT-SYS": ("S", (), ()),
+    b"RTRV-SYS": ("RPS", (), ()),
     b"ENT-USER-SECU": ("S", (True,), (True, True)),
     b"ED-USER-SECU": ("S", (True,), (False, False)),
     b"DLT-USER-SECU": ("S", (True,), ()),
@@ -243,6 +245,11 @@ class Element:
     def rows(self, is_selected):
         return [conn.text() for pair, conn in sorted(self.connections.items()) if is_selected(pair[0]) or is_selected(pair[1])]
 
+    def inventory(self, with_modules):
+        """The rows of the equipped modules, where they are asked for, and of the middle that is out."""
+        modules = [f"MOD-{number}:IS" for number in sorted(self.equipped)] if with_modules else []
+        return modules + ([f"MID-{self.out}:OOS"] if self.out else [])
+
     def needs(self, wanted):
         if any(leg[0] in self.used(0) or leg[1] in self.used(1) for leg in wanted):
             raise Denied("SideInUse")
@@ -402,6 +409,8 @@ class Session:
             return self.on_users(code.partition("-")[0], names[0], *values)
         elif code == "RTRV-CRS-T0":
             return [f'"{text}"' for text in element.rows(element.selection(names[0]))]
+        elif code in ("RTRV-MID", "RTRV-SYS"):
+            return [f'"{text}"' for text in element.inventory(code == "RTRV-SYS")]
         elif code == "INIT-SYS":
             return ['"WARM"']
         elif code in ("ENT-EQPT", "DLT-EQPT"):

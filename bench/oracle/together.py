@@ -74,6 +74,8 @@ def unit(dice, pool, tag):
         return f"ED-CRS-T0::{pair}:{tag}::{cct}".encode()
     if drawn < 88:
         return f"{dice.choice(('ENT', 'DLT'))}-EQPT::MOD-{MODULES}:{tag}".encode()
+    if drawn < 91:
+        return f"RTRV-SYS:::{tag}".encode()
     return f"RTRV-CRS-T0::{dice.choice(('', name(dice), f'MOD-{dice.randint(1, MODULES)}'))}:{tag}".encode()
 
 

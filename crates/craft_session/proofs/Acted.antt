@@ -1,5 +1,5 @@
 -- What was asked was done: the entries of it.
-use Rattle.std.proofs.Common.{◌≡◌, ℕ, length, List, [], ◌∷◌, ◌++◌, append-nil, append_assoc, Some, inl, inr, refl, sym, ◌∙◌, ap, subst}
+use Rattle.std.proofs.Common.{◌≡◌, ℕ, length, List, [], ◌∷◌, ◌++◌, append-nil, append_assoc, Some, inl, inr, refl, sym, ◌∙◌, ap, ap₂, subst}
 use base.Stored.{Gv}
 use Rattle.dxc_model.specs.declared.cause.Cause.{Cause}
 use Rattle.dxc_model.specs.declared.cause.Cause.TheVariants.{DiskFault, NoMiddle, SwitchLimit, JournalAstray}
@@ -11,16 +11,18 @@ use Rattle.dxc_model.specs.declared.entry.Outcome.{Outcome}
 use Rattle.dxc_model.specs.declared.entry.Outcome.TheVariants.{Done, Failed, Restarted, Answered}
 use Rattle.dxc_model.specs.declared.entry.Entry.{Entry}
 use Rattle.dxc_model.specs.Histories.{changes_of}
+use Rattle.tl1_command.specs.declared.command.Subject.{Subject}
+use Rattle.xc_core.specs.declared.turns.Inventory.{Inventory}
 use Rattle.xc_core.specs.States.{Opening}
 use Rattle.xc_core.specs.Seeing.{Saw, entry, refused}
-use Rattle.xc_core.specs.Turns.{MarkIs, RowsAre}
+use Rattle.xc_core.specs.Turns.{InventoryIs, MarkIs, RowsAre, equipped_in}
 use Rattle.craft_session.specs.declared.ask.Ask.{Ask}
-use Rattle.craft_session.specs.declared.ask.Ask.TheVariants.{Allows, Lists, Restarts, Changes}
+use Rattle.craft_session.specs.declared.ask.Ask.TheVariants.{Allows, Lists, Shows, Restarts, Changes}
 use Rattle.craft_session.specs.declared.attending.Attending.{Attending}
 use Rattle.craft_session.specs.declared.change.Changed.{Changed}
 use Rattle.craft_session.specs.declared.change.Changed.TheVariants as changed
 use Rattle.craft_session.specs.Acting.{Acts, Stops}
-use Rattle.craft_session.specs.Asks.{Reply, completed, completed_rows, cursor_from, denied, restarted}
+use Rattle.craft_session.specs.Asks.{Reply, completed, completed_rows, cursor_from, denied, restarted, shown}
 use Rattle.craft_session.specs.Changing.{ChangedIs, MendedTo, Passed, WarmRestartIs}
 use Rattle.craft_session.specs.Walks.{ChangeReply, IsChangeAt, Mends, RestartReply, Serves, attending_after}
 use Rattle.craft_session.proofs.Changing.{others_unused}
@@ -63,6 +65,16 @@ module _ (o : Opening) (place : ℕ) (h : List Entry) (s : Attending) where
     serves = (ap (λ (k : ℕ). entry place (Look k) Answered ∷ []) x.1, refl);
     attending = ap (λ (k : ℕ). record { user = s.user; watch = Some (cursor_from s.watch k) }) x.1;
     saw = x.0.saw;
+  }
+
+  pub acts_shown : (what : Subject) (given : Inventory) (seen : List Gv) → InventoryIs o place h seen given → Acts o place h s (Shows what) (shown what (equipped_in given) given.out) s seen
+  acts_shown what given seen (newest, marked, tells) = record {
+    passed = marked.0.later;
+    unused = others_unused place marked.0.later marked.0.others;
+    entries = entry place (Look newest) Answered ∷ [];
+    serves = (ap (λ (k : ℕ). entry place (Look k) Answered ∷ []) marked.1, ap₂ (shown what) tells.0 tells.1);
+    attending = refl;
+    saw = marked.0.saw;
   }
 
   module _ (op : Op) (seen : List Gv) (how : Changed) (x : ChangedIs o place h op seen how) where

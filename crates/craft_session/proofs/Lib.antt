@@ -3,6 +3,7 @@ pub mod Crossing
 pub mod Streams
 pub mod Asking
 pub mod FillSteps
+pub mod Showing
 pub mod Saying
 pub mod Listing
 pub mod Changing

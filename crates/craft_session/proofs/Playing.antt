@@ -17,7 +17,7 @@ use Rattle.dxc_model.specs.Histories.{Fits, GoesOn, IsInDoubt, IsLegal, KeepsDou
 use Rattle.dxc_model.proofs.Growth.{changes_append, legal_so_far, table_more}
 use Rattle.xc_core.specs.Seeing.{entry}
 use Rattle.craft_session.specs.declared.ask.Ask.{Ask}
-use Rattle.craft_session.specs.declared.ask.Ask.TheVariants.{Refused, LogsIn, LogsOut, Completes, Allows, Inhibits, Lists, Restarts, Changes}
+use Rattle.craft_session.specs.declared.ask.Ask.TheVariants.{Refused, LogsIn, LogsOut, Completes, Allows, Inhibits, Lists, Shows, Restarts, Changes}
 use Rattle.craft_session.specs.declared.attending.Attending.{Attending}
 use Rattle.craft_session.specs.Asks.{Language, Reply, denied}
 use Rattle.craft_session.specs.Happenings.{Happening, unit, quiet}
@@ -168,6 +168,7 @@ module _ (r : Rules) (own : ℕ) (excused : Excuse) (meanwhile : Meanwhile) (P :
   served h es s Allows reply x legal all = one_entry h es s Allows reply (Look (length (changes_of h))) Answered x.0 refl (x.1, refl)
   served h es s Inhibits reply x legal all = no_entries h es s Inhibits reply x.0 refl (x.1, refl)
   served h es s (Lists which) reply x legal all = one_entry h es s (Lists which) reply (Rows which) Answered x.0 refl (x.1, refl)
+  served h es s (Shows what) reply x legal all = one_entry h es s (Shows what) reply (Look (length (changes_of h))) Answered x.0 refl (x.1, refl)
   served h es s Restarts reply x legal all =
       let e = entry own Restart x.0 in
       let all_now = subst (λ (y : List Entry). AllByRecursion P (h ++ y)) x.1 all in

@@ -29,7 +29,7 @@ use Rattle.xc_core.proofs.Began.{seen_all}
 use Rattle.xc_core.specs.States.{IsPaid, LimitBehind, Opening, cost, fault_in, faults_in, IsNeverAstray, most_room, room_in, rules_of}
 use Rattle.xc_core.specs.Turns.{AreNumbered, SawNoneAstray}
 use Rattle.craft_session.specs.declared.ask.Ask.{Ask}
-use Rattle.craft_session.specs.declared.ask.Ask.TheVariants.{Refused, LogsIn, LogsOut, Completes, Allows, Inhibits, Lists, Restarts, Changes}
+use Rattle.craft_session.specs.declared.ask.Ask.TheVariants.{Refused, LogsIn, LogsOut, Completes, Allows, Inhibits, Lists, Shows, Restarts, Changes}
 use Rattle.craft_session.specs.declared.end.SessionEnd.{SessionEnd}
 use Rattle.craft_session.specs.declared.end.SessionEnd.TheVariants.{End, ReadFault, WriteFault, Stopped, Spent}
 use Rattle.craft_session.specs.Asks.{Language, Reply, user_after}
@@ -119,6 +119,7 @@ served_allowed own t h Completes es r x = none_allowed own es x.0
 served_allowed own t h Allows es r x = one_allowed own es _ outcome.Answered x.0 tt
 served_allowed own t h Inhibits es r x = none_allowed own es x.0
 served_allowed own t h (Lists which) es r x = one_allowed own es _ outcome.Answered x.0 tt
+served_allowed own t h (Shows what) es r x = one_allowed own es _ outcome.Answered x.0 tt
 served_allowed own t h Restarts es r x = one_allowed own es Restart x.0 x.1 (restarted_allowed x.0 r x.2)
 served_allowed own t h (Changes op) es r x = subst (λ (l : List Entry). AllByRecursion (Allows_own own) l) (sym x.all) (each_join (Allows_own own) x.front (entry own op x.outcome ∷ []) (mends_allowed own h x.front x.mends) ((λ _. replied_allowed x.outcome r x.reply), tt))
 
@@ -184,6 +185,7 @@ served_costs own t h Completes es r x mine = none_costs es x.0
 served_costs own t h Allows es r x mine = one_costs own es _ outcome.Answered x.0
 served_costs own t h Inhibits es r x mine = none_costs es x.0
 served_costs own t h (Lists which) es r x mine = one_costs own es _ outcome.Answered x.0
+served_costs own t h (Shows what) es r x mine = one_costs own es _ outcome.Answered x.0
 served_costs own t h Restarts es r x mine = one_costs own es Restart x.0 x.1
 served_costs own t h (Changes op) es r x mine =
     let e = entry own op x.outcome in

@@ -11,7 +11,7 @@ use Rattle.xc_core.specs.Seeing.{entry}
 use Rattle.xc_core.specs.States.{Opening}
 use Rattle.xc_core.proofs.Turning.{changes_longer}
 use Rattle.craft_session.specs.declared.ask.Ask.{Ask}
-use Rattle.craft_session.specs.declared.ask.Ask.TheVariants.{Refused, LogsIn, LogsOut, Completes, Allows, Inhibits, Lists, Restarts, Changes}
+use Rattle.craft_session.specs.declared.ask.Ask.TheVariants.{Refused, LogsIn, LogsOut, Completes, Allows, Inhibits, Lists, Shows, Restarts, Changes}
 use Rattle.craft_session.specs.declared.attending.Attending.{Attending}
 use Rattle.craft_session.specs.Asks.{Language, Reply, watch_after}
 use Rattle.craft_session.specs.Acting.{Acts}
@@ -50,6 +50,7 @@ module _ {U M : Type 0} (l : Language U M) (place : ℕ) (t : Board) (h : List E
   watched_after (Some c) newest more cursor Allows within le is = let e : c ≡ cursor = cc in let x = within c refl in omega (arith, e, x, le)
   watched_after w newest more cursor Inhibits within le is = absurd cc
   watched_after w newest more cursor (Lists which) within le is = let x = within cursor is in omega (arith, x, le)
+  watched_after w newest more cursor (Shows what) within le is = let x = within cursor is in omega (arith, x, le)
   watched_after w newest more cursor Restarts within le is = let x = within cursor is in omega (arith, x, le)
   watched_after w newest more cursor (Changes op) within le is = let x = within cursor is in omega (arith, x, le)
 

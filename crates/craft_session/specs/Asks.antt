@@ -1,13 +1,18 @@
 -- What a session replies, and the language in which it is asked and answers.
 use Rattle.std.specs.Prelude.{ℕ, List, Option, Some, None}
+use Rattle.std.specs.List.{AllByRecursion}
 use Rattle.dxc_model.specs.declared.cause.Cause.{Cause}
 use Rattle.dxc_model.specs.declared.conn.Conn.{Conn}
 use Rattle.dxc_model.specs.declared.user.SessionUser.{SessionUser}
 use Rattle.dxc_model.specs.declared.user.SessionUser.TheVariants.{Nobody}
+use Rattle.dxc_num.specs.declared.port.Middle.{Middle}
 use Rattle.dxc_num.specs.Dimensions.{Dimensions}
 use Rattle.dxc_model.specs.Operations.{IsApt}
+use Rattle.tl1_answer.specs.Texts.{IsOfShape}
+use Rattle.tl1_command.specs.declared.command.Subject.{Subject}
+use Rattle.xc_core.specs.Turns.{IsInventoryOf, equipped_in}
 use Rattle.craft_session.specs.declared.ask.Ask.{Ask}
-use Rattle.craft_session.specs.declared.ask.Ask.TheVariants.{Refused, LogsIn, LogsOut, Completes, Allows, Inhibits, Lists, Restarts, Changes}
+use Rattle.craft_session.specs.declared.ask.Ask.TheVariants.{Refused, LogsIn, LogsOut, Completes, Allows, Inhibits, Lists, Shows, Restarts, Changes}
 use Rattle.craft_session.specs.declared.ask.Acted.{Acted}
 use Rattle.craft_session.specs.declared.ask.Acted.TheVariants as acted
 use Rattle.craft_session.specs.Hearing.{Heard, Wanted}
@@ -17,6 +22,8 @@ use Rattle.craft_session.specs.Notices.{Notice}
 pub data Reply : Type 0 where
   completed : Reply
   completed_rows : List Conn → Reply
+  -- of what is asked to be shown: the equipped modules, and the middle that is out
+  shown : Subject → (equipped : List ℕ) → (out : Option Middle) → Reply
   restarted : Reply
   denied : Cause → Reply
 
@@ -24,8 +31,17 @@ pub data Reply : Type 0 where
 abbrev pub reply_of : Acted → List Conn → Reply
 reply_of acted.Completed rows = completed
 reply_of acted.Listed rows = completed_rows rows
+reply_of (acted.Shown what i) rows = shown what (equipped_in i) i.out
 reply_of acted.Restarted rows = restarted
 reply_of (acted.Denied q) rows = denied q
+
+-- rows that were listed and an inventory that was read are of the shape
+abbrev pub IsAptActed : Dimensions → List Conn → Acted → Type 0
+IsAptActed d rows acted.Completed = Unit {0}
+IsAptActed d rows acted.Listed = AllByRecursion (IsOfShape d) rows
+IsAptActed d rows (acted.Shown what i) = IsInventoryOf d i
+IsAptActed d rows acted.Restarted = Unit {0}
+IsAptActed d rows (acted.Denied q) = Unit {0}
 
 -- an operation that is asked for is one of the shape's
 abbrev pub IsAptAsk : Dimensions → Ask → Type 0
@@ -36,6 +52,7 @@ IsAptAsk d Completes = Unit {0}
 IsAptAsk d Allows = Unit {0}
 IsAptAsk d Inhibits = Unit {0}
 IsAptAsk d (Lists which) = Unit {0}
+IsAptAsk d (Shows what) = Unit {0}
 IsAptAsk d Restarts = Unit {0}
 IsAptAsk d (Changes op) = IsApt d op
 
@@ -48,6 +65,7 @@ user_after s Completes = s
 user_after s Allows = s
 user_after s Inhibits = s
 user_after s (Lists which) = s
+user_after s (Shows what) = s
 user_after s Restarts = s
 user_after s (Changes op) = s
 
@@ -65,6 +83,7 @@ watch_after w newest Completes = w
 watch_after w newest Allows = Some (cursor_from w newest)
 watch_after w newest Inhibits = None
 watch_after w newest (Lists which) = w
+watch_after w newest (Shows what) = w
 watch_after w newest Restarts = w
 watch_after w newest (Changes op) = w
 

@@ -13,14 +13,14 @@ use Rattle.tl1_text.specs.Units.{Input, whole, too_long}
 use Rattle.tl1_text.specs.Walk.{blocks_of}
 use Rattle.tl1_command.specs.Blocks.{is_there}
 use Rattle.tl1_command.specs.Codes.{is_same_text}
-use Rattle.tl1_command.specs.Meanings.{Asked, acts, cancels, header, allows, inhibits, asks_table, meaning}
+use Rattle.tl1_command.specs.Meanings.{Asked, acts, cancels, header, allows, inhibits, shows, asks_table, meaning}
 use Rattle.shelf_file.specs.Contents.{Contents}
 use Rattle.shelf_file.specs.Keys.{upper}
 use Rattle.user_admin.specs.declared.op.UserOp.{UserOp}
 use Rattle.user_admin.specs.declared.op.UserOp.TheVariants as user
 use Rattle.user_admin.specs.Commands.{user_meaning}
 use Rattle.craft_session.specs.declared.ask.Ask.{Ask}
-use Rattle.craft_session.specs.declared.ask.Ask.TheVariants.{Refused, LogsIn, LogsOut, Completes, Allows, Inhibits, Lists, Restarts, Changes}
+use Rattle.craft_session.specs.declared.ask.Ask.TheVariants.{Refused, LogsIn, LogsOut, Completes, Allows, Inhibits, Lists, Shows, Restarts, Changes}
 use Rattle.craft_session.specs.Asks.{Language}
 use Rattle.craft_session.specs.Happenings.{Request}
 use Rattle.craft_session.specs.Hearing.{Heard, Wanted, unasked, found, refused_by, done_with, nothing, to_look, to_do, rows_heard}
@@ -65,6 +65,7 @@ session_ask user x (cancels uid) = if is_other_user user uid then Refused OtherU
 session_ask user x header = Completes
 session_ask user x allows = Allows
 session_ask user x inhibits = Inhibits
+session_ask user x (shows what) = Shows what
 session_ask user x (asks_table o) = table_ask o
 
 -- what comes of a users' command, by what was heard of it
@@ -107,6 +108,7 @@ session_wants (cancels uid) = nothing
 session_wants header = nothing
 session_wants allows = nothing
 session_wants inhibits = nothing
+session_wants (shows what) = nothing
 session_wants (asks_table o) = nothing
 
 -- a users' command wants its operation; none is a look by itself

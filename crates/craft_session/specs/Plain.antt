@@ -10,9 +10,9 @@ use Rattle.dxc_model.specs.Operations.{op_of}
 use Rattle.dxc_model.specs.Steps.{with_change}
 use Rattle.dxc_model.specs.Histories.{changes_of, table_after}
 use Rattle.craft_session.specs.declared.ask.Ask.{Ask}
-use Rattle.craft_session.specs.declared.ask.Ask.TheVariants.{Refused, LogsIn, LogsOut, Completes, Allows, Inhibits, Lists, Restarts, Changes}
+use Rattle.craft_session.specs.declared.ask.Ask.TheVariants.{Refused, LogsIn, LogsOut, Completes, Allows, Inhibits, Lists, Shows, Restarts, Changes}
 use Rattle.craft_session.specs.declared.attending.Attending.{Attending}
-use Rattle.craft_session.specs.Asks.{Reply, completed, completed_rows, restarted, denied, Language}
+use Rattle.craft_session.specs.Asks.{Reply, completed, completed_rows, shown, restarted, denied, Language}
 use Rattle.craft_session.specs.Happenings.{Happening, unit, quiet}
 use Rattle.craft_session.specs.Notices.{AreReported, notices}
 use Rattle.craft_session.specs.Runs.{Walk}
@@ -73,6 +73,7 @@ Replies limit excused a Completes r did = (r ≡ completed) × (did ≡ None)
 Replies limit excused a Allows r did = (r ≡ completed) × (did ≡ None)
 Replies limit excused a Inhibits r did = (r ≡ completed) × (did ≡ None)
 Replies limit excused a (Lists which) r did = (r ≡ completed_rows (rows a.table which)) × (did ≡ None)
+Replies limit excused a (Shows what) r did = (r ≡ shown what a.table.equipped a.table.out) × (did ≡ None)
 Replies limit excused a Restarts r did = ((r ≡ restarted) × TakesUp excused a.table did) ⊎ ((q : Cause) × excused q × (r ≡ denied q) × (did ≡ None))
 Replies limit excused a (Changes op) r did = Judges limit excused a.changes (verdict a.table op) r did
 
@@ -103,6 +104,7 @@ PreparesFor excused meanwhile Completes a b = b ≡ a
 PreparesFor excused meanwhile Allows a b = b ≡ a
 PreparesFor excused meanwhile Inhibits a b = b ≡ a
 PreparesFor excused meanwhile (Lists which) a b = b ≡ a
+PreparesFor excused meanwhile (Shows what) a b = b ≡ a
 PreparesFor excused meanwhile Restarts a b = b ≡ a
 PreparesFor excused meanwhile (Changes op) a b = Prepares excused meanwhile a b
 

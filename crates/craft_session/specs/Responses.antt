@@ -1,5 +1,6 @@
 -- The bytes of responses, cut into blocks.
-use Rattle.std.specs.Prelude.{◌≡◌, ℕ, List, [], ◌∷◌, ◌++◌, Option, map, codes, decimal}
+use Rattle.std.specs.Prelude.{◌≡◌, ℕ, List, [], ◌∷◌, ◌++◌, Option, map, option_to_list, codes, decimal}
+use Rattle.dxc_num.specs.declared.port.Middle.{Middle}
 use Rattle.dxc_num.specs.Dimensions.{Dimensions}
 use Rattle.dxc_model.specs.declared.user.Class.{Class}
 use Rattle.dxc_model.specs.declared.user.Class.TheVariants.{R, P, S}
@@ -12,15 +13,18 @@ use Rattle.tl1_answer.specs.declared.answer.Code.TheVariants.{Compld, Deny}
 use Rattle.tl1_answer.specs.Blocks.{Draft, IsUnended}
 use Rattle.tl1_answer.specs.Responses.{blocks_from, joined, response, denial}
 use Rattle.tl1_answer.specs.Messages.{report}
-use Rattle.tl1_answer.specs.Texts.{change_text, row_text}
+use Rattle.tl1_answer.specs.Texts.{change_text, middle_text, module_text, row_text}
+use Rattle.tl1_command.specs.declared.command.Subject.{Subject}
+use Rattle.tl1_command.specs.declared.command.Subject.TheVariants as subject
 use Rattle.user_admin.specs.declared.op.UserRow.{UserRow}
 use Rattle.craft_session.specs.Notices.{Notice, change, lost}
-use Rattle.craft_session.specs.Asks.{Reply, completed, completed_rows, restarted, denied}
+use Rattle.craft_session.specs.Asks.{Reply, completed, completed_rows, shown, restarted, denied}
 
 -- the completion code of a reply
 abbrev pub code_of : Reply → Code
 code_of completed = Compld
 code_of (completed_rows cs) = Compld
+code_of (shown what equipped out) = Compld
 code_of restarted = Compld
 code_of (denied q) = Deny
 
@@ -33,10 +37,16 @@ class_text S = codes "S"
 abbrev pub user_text : UserRow → List ℕ
 user_text u = codes "\"" ++ u.uid ++ codes ":" ++ class_text u.class ++ codes "\""
 
+-- the rows of what is asked to be shown
+abbrev pub shown_lines : Subject → (equipped : List ℕ) → (out : Option Middle) → List (List ℕ)
+shown_lines subject.Middle equipped out = map middle_text (option_to_list out)
+shown_lines subject.System equipped out = map module_text equipped ++ map middle_text (option_to_list out)
+
 -- its text lines; a users' command may have rows of users
 abbrev pub lines_of : Dimensions → List UserRow → Reply → List (List ℕ)
 lines_of d users completed = map user_text users
 lines_of d users (completed_rows cs) = map (row_text d) cs
+lines_of d users (shown what equipped out) = shown_lines what equipped out
 lines_of d users restarted = codes "\"WARM\"" ∷ []
 lines_of d users (denied q) = denial q
 
@@ -70,3 +80,12 @@ pub record Filled (told : Type 0) (k j : LinkState) (old new : Draft) (lines : L
 abbrev pub Fills : (told : Type 0) (k j : LinkState) (sent : Sent) (old new : Draft) (lines : List (List ℕ)) → Type 0
 Fills told k j Whole old new lines = Filled told k j old new lines
 Fills told k j Cut old new lines = (more : List (List ℕ)) → IsSent told k j Cut (bytes_from old.head old.bytes (lines ++ more))
+
+-- what became of an answer to which lines were added
+pub record Addition : Type 0 where
+  pub sent : Sent
+  pub old : Draft
+  pub new : Draft
+
+abbrev pub Adds : (told : Type 0) (before after : LinkState) → Addition → (lines : List (List ℕ)) → Type 0
+Adds told k j a lines = Fills told k j a.sent a.old a.new lines

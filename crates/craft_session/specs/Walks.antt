@@ -14,9 +14,9 @@ use Rattle.dxc_model.specs.Steps.{IsFault}
 use Rattle.dxc_model.specs.Histories.{IsRestarted, IsRestartDue, IsStopped, changes_of, table_after}
 use Rattle.xc_core.specs.Seeing.{entry}
 use Rattle.craft_session.specs.declared.ask.Ask.{Ask}
-use Rattle.craft_session.specs.declared.ask.Ask.TheVariants.{Refused, LogsIn, LogsOut, Completes, Allows, Inhibits, Lists, Restarts, Changes}
+use Rattle.craft_session.specs.declared.ask.Ask.TheVariants.{Refused, LogsIn, LogsOut, Completes, Allows, Inhibits, Lists, Shows, Restarts, Changes}
 use Rattle.craft_session.specs.declared.attending.Attending.{Attending}
-use Rattle.craft_session.specs.Asks.{Reply, completed, completed_rows, restarted, denied, user_after, watch_after}
+use Rattle.craft_session.specs.Asks.{Reply, completed, completed_rows, shown, restarted, denied, user_after, watch_after}
 
 -- a changing command's reply
 abbrev pub ChangeReply : Outcome → Reply → Type 0
@@ -86,6 +86,7 @@ Serves place t h Completes es r = (es ≡ []) × (r ≡ completed)
 Serves place t h Allows es r = (es ≡ entry place (Look (length (changes_of h))) Answered ∷ []) × (r ≡ completed)
 Serves place t h Inhibits es r = (es ≡ []) × (r ≡ completed)
 Serves place t h (Lists which) es r = (es ≡ entry place (Rows which) Answered ∷ []) × (r ≡ completed_rows (rows (table_after t h) which))
+Serves place t h (Shows what) es r = (es ≡ entry place (Look (length (changes_of h))) Answered ∷ []) × (r ≡ shown what (table_after t h).equipped (table_after t h).out)
 Serves place t h Restarts es r = (o : Outcome) × (es ≡ entry place Restart o ∷ []) × RestartReply o r
 Serves place t h (Changes op) es r = ServesChange place h op es r
 
@@ -98,6 +99,7 @@ FrontOf place h Completes front = ⊥
 FrontOf place h Allows front = ⊥
 FrontOf place h Inhibits front = ⊥
 FrontOf place h (Lists which) front = ⊥
+FrontOf place h (Shows what) front = ⊥
 FrontOf place h Restarts front = Each (IsUnused place) front
 FrontOf place h (Changes op) front = Mends place h front
 
@@ -110,5 +112,6 @@ CutsAt h Completes x = ⊥
 CutsAt h Allows x = ⊥
 CutsAt h Inhibits x = ⊥
 CutsAt h (Lists which) x = ⊥
+CutsAt h (Shows what) x = ⊥
 CutsAt h Restarts x = x ≡ Restart
 CutsAt h (Changes op) x = ((x ≡ op) × (IsStopped h → ⊥)) ⊎ ((x ≡ Restart) × IsRestartDue h)

@@ -1,11 +1,9 @@
-ghost use Rattle.std.specs.Prelude.{◌≡◌, ◌≢◌, ◌≤◌, false, List, Some, None, vec_capacity};
-ghost use Rattle.std.specs.List.{AllByRecursion};
+ghost use Rattle.std.specs.Prelude.{◌≡◌, ◌≢◌, ◌≤◌, false, List, IfSome, None, vec_capacity};
 ghost use Rattle.dxc_causes.specs.Causes.{Rose};
 ghost use Rattle.dxc_num.specs.Dimensions.{ports};
 ghost use Rattle.dxc_model.specs.declared.entry.Entry.{Entry};
-ghost use Rattle.tl1_answer.specs.Texts.{IsOfShape};
 ghost use Rattle.xc_core.specs.Seeing.{Saw};
-ghost use Rattle.craft_session.specs.Asks.{IsAptAsk, cursor_from, user_after};
+ghost use Rattle.craft_session.specs.Asks.{IsAptActed, IsAptAsk, cursor_from, user_after};
 ghost use Rattle.craft_session.specs.Acting.{ActedIs};
 ghost use Rattle.craft_session.specs.Gated.{Entered};
 ghost use Rattle.craft_session.specs.Seats.{IsSameSeat};
@@ -33,7 +31,7 @@ pub fn act<D: Disk + Drop, G: Gate, R: Wait>(
     requires apt { IsAptAsk seat.old.opening.first.fold.table.shape ask.now }
     ensures same { IsSameSeat seat.old seat.new }
     ensures acts { (h : List Entry) → Saw seat.old.opening seat.old.seen h → ActedIs seat.old.opening seat.old.place h attending.old ask.now result rows.new.items attending.new seat.new.seen }
-    ensures listed { result ≡ Some Acted.Listed → AllByRecursion (IsOfShape seat.old.opening.first.fold.table.shape) rows.new.items }
+    ensures of_shape { IfSome result (IsAptActed seat.old.opening.first.fold.table.shape rows.new.items) }
     ensures user { attending.new.user ≡ user_after attending.old.user ask.now }
     ensures room { vec_capacity rows.new ≡ vec_capacity rows.old }
     ensures acted { result ≢ None → G.stops gate.new ≡ G.stops gate.old }
@@ -65,6 +63,10 @@ pub fn act<D: Disk + Drop, G: Gate, R: Wait>(
         Ask::Lists(selection) => {
             seat.rows(*selection, rows, rt);
             Some(Acted::Listed)
+        }
+        Ask::Shows(subject) => {
+            let inventory = seat.inventory(rt);
+            Some(Acted::Shown(*subject, inventory))
         }
         Ask::Restarts => match seat.restart(gate, rt) {
             Changed::Done => Some(Acted::Restarted),

@@ -1,4 +1,6 @@
 use dxc_model::{Cause, Op, Selection, SessionUser};
+use tl1_command::Subject;
+use xc_core::turns::Inventory;
 
 /// What a unit asks of a session: a cause that unit, user and shelf alone decide, else a command.
 #[derive(Clone, Copy)]
@@ -16,6 +18,8 @@ pub enum Ask {
     Inhibits,
     /// RTRV-CRS-T0.
     Lists(Selection),
+    /// RTRV-MID, RTRV-SYS.
+    Shows(Subject),
     /// INIT-SYS.
     Restarts,
     /// A command that changes the table.
@@ -27,6 +31,7 @@ pub enum Ask {
 pub enum Acted {
     Completed,
     Listed,
+    Shown(Subject, Inventory),
     Restarted,
     Denied(Cause),
 }

@@ -16,6 +16,7 @@ mod reports;
 mod say;
 mod seat;
 mod session;
+mod shown;
 mod users;
 
 pub use end::SessionEnd;

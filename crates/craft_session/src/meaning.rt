@@ -132,6 +132,7 @@ fn served<U: Disk + Drop, R: Wait>(
         Command::Header => *ask = Ask::Completes,
         Command::Allow => *ask = Ask::Allows,
         Command::Inhibit => *ask = Ask::Inhibits,
+        Command::Show(subject) => *ask = Ask::Shows(*subject),
         Command::Table(op) => on_table(op, ask),
     }
 }

@@ -8,7 +8,7 @@ ghost use Rattle.dxc_model.specs.declared.entry.Entry.{Entry};
 ghost use Rattle.dxc_model.specs.Histories.{kept};
 ghost use Rattle.dxc_model.specs.Operations.{IsApt};
 ghost use Rattle.xc_core.specs.Seeing.{Saw};
-ghost use Rattle.xc_core.specs.Turns.{AreNumbered, HasPass, LookIs, MarkIs, RowsAre, SawNoneAstray};
+ghost use Rattle.xc_core.specs.Turns.{AreNumbered, HasPass, InventoryIs, IsInventoryOf, LookIs, MarkIs, RowsAre, SawNoneAstray};
 ghost use Rattle.craft_session.specs.Askings.{ChangeAsked, WarmAsked};
 ghost use Rattle.craft_session.specs.Changing.{ChangedIs, WarmRestartIs};
 ghost use Rattle.craft_session.specs.Gated.{Entered};
@@ -24,7 +24,7 @@ use std::marker::Model;
 use std::sync::{Arc, Wait};
 use turnstile::{Pass, Turnstile};
 use xc_core::State;
-use xc_core::turns::{self, Looked};
+use xc_core::turns::{self, Inventory, Looked};
 
 /// The right of one place to take turns at the element's state, with the fabric that its Provisioner writes. Contracts see where the history
 /// began, the number of the place, and what it has seen of the history.
@@ -115,6 +115,15 @@ impl<D: Disk + Drop> Seat<D> {
         ensures mark { (h : List Entry) → Saw self.old.opening self.old.seen h → MarkIs self.old.opening self.old.place h self.new.seen result }
     {
         turns::mark(&mut self.pass, &self.turns, rt)
+    }
+
+    /// Gives which modules are equipped, and which middle is out of service.
+    pub fn inventory<R: Wait>(&mut self, rt: &R) -> Inventory
+        ensures same { IsSameSeat self.old self.new }
+        ensures inventory { (h : List Entry) → Saw self.old.opening self.old.seen h → InventoryIs self.old.opening self.old.place h self.new.seen result }
+        ensures of_shape { IsInventoryOf self.old.opening.first.fold.table.shape result }
+    {
+        turns::read_inventory(&mut self.pass, &self.turns, rt)
     }
 
     /// Makes a restart. It waits in the line of those who change something, and for frames in the way.

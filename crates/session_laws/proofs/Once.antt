@@ -6,7 +6,7 @@ use Rattle.dxc_model.specs.declared.op.Change.{Change}
 use Rattle.dxc_model.specs.Tables.{Board}
 use Rattle.dxc_model.specs.Verdicts.{verdict}
 use Rattle.craft_session.specs.declared.ask.Ask.{Ask}
-use Rattle.craft_session.specs.declared.ask.Ask.TheVariants.{Refused, LogsIn, LogsOut, Completes, Allows, Inhibits, Lists, Restarts, Changes}
+use Rattle.craft_session.specs.declared.ask.Ask.TheVariants.{Refused, LogsIn, LogsOut, Completes, Allows, Inhibits, Lists, Shows, Restarts, Changes}
 use Rattle.craft_session.specs.Asks.{Language, Reply}
 use Rattle.craft_session.specs.Happenings.{Happening, unit, quiet}
 use Rattle.craft_session.specs.Notices.{AreReported, Notice, notices}
@@ -34,6 +34,7 @@ module _ {U M : Type 0} (l : Language U M) (limit : Limit) (F G : Excuse) (weake
   prepared_within Allows a b x = x
   prepared_within Inhibits a b x = x
   prepared_within (Lists which) a b x = x
+  prepared_within (Shows what) a b x = x
   prepared_within Restarts a b x = x
   prepared_within (Changes op) a b x = prepares_within a b x
 
@@ -45,6 +46,7 @@ module _ {U M : Type 0} (l : Language U M) (limit : Limit) (F G : Excuse) (weake
   replies_within a Allows r did x = x
   replies_within a Inhibits r did x = x
   replies_within a (Lists which) r did x = x
+  replies_within a (Shows what) r did x = x
   replies_within a Restarts r did x = elim x [ inl y ↦ inl (y.0, takes_within a.table did y.1) | inr y ↦ inr (y.0, weaker y.0 y.1, y.2, y.3) ]
   replies_within a (Changes op) r did x = judges_within a.changes (verdict a.table op) r did x
 
@@ -136,6 +138,7 @@ module _ {U M : Type 0} (l : Language U M) (limit : Limit) (once : (cs : List Ch
   prepared_once Allows a b x = x
   prepared_once Inhibits a b x = x
   prepared_once (Lists which) a b x = x
+  prepared_once (Shows what) a b x = x
   prepared_once Restarts a b x = x
   prepared_once (Changes op) a b x = stays_ready a b x
 
@@ -147,6 +150,7 @@ module _ {U M : Type 0} (l : Language U M) (limit : Limit) (once : (cs : List Ch
   replied_once a b d Allows r q x y = (x.0 ∙ sym y.0, x.1 ∙ sym y.1)
   replied_once a b d Inhibits r q x y = (x.0 ∙ sym y.0, x.1 ∙ sym y.1)
   replied_once a b d (Lists which) r q x y = (x.0 ∙ sym y.0, x.1 ∙ sym y.1)
+  replied_once a b d (Shows what) r q x y = (x.0 ∙ sym y.0, x.1 ∙ sym y.1)
   replied_once a b d Restarts r q x y = elim x [ inl i ↦ elim y [ inl j ↦ (i.0 ∙ sym j.0, none_taken a.table b i.1 ∙ sym (none_taken a.table d j.1)) | inr j ↦ absurd j.1 ] | inr i ↦ absurd i.1 ]
   replied_once a b d (Changes op) r q x y = judged_once a.changes b d (verdict a.table op) r q x y
 

@@ -15,7 +15,7 @@ use Rattle.user_admin.specs.declared.op.UserOp.{UserOp}
 use Rattle.user_admin.specs.Verdicts.{IsChanging}
 use Rattle.xc_core.specs.Seeing.{entry}
 use Rattle.craft_session.specs.declared.ask.Ask.{Ask}
-use Rattle.craft_session.specs.declared.ask.Ask.TheVariants.{Refused, LogsIn, LogsOut, Completes, Allows, Inhibits, Lists, Restarts, Changes}
+use Rattle.craft_session.specs.declared.ask.Ask.TheVariants.{Refused, LogsIn, LogsOut, Completes, Allows, Inhibits, Lists, Shows, Restarts, Changes}
 use Rattle.craft_session.specs.declared.attending.Attending.{Attending}
 use Rattle.craft_session.specs.Asks.{Language, Reply}
 use Rattle.craft_session.specs.Happenings.{quiet}
@@ -195,6 +195,7 @@ module _ {U M : Type 0} (l : Language U M) (r : Rules) (excused : Excuse) (past 
     in_front h Allows front x = absurd x
     in_front h Inhibits front x = absurd x
     in_front h (Lists which) front x = absurd x
+    in_front h (Shows what) front x = absurd x
     in_front h Restarts front x = unused_mends p h front x
     in_front h (Changes op) front x = x
 
@@ -206,6 +207,7 @@ module _ {U M : Type 0} (l : Language U M) (r : Rules) (excused : Excuse) (past 
     may_cut h Allows op x = absurd x
     may_cut h Inhibits op x = absurd x
     may_cut h (Lists which) op x = absurd x
+    may_cut h (Shows what) op x = absurd x
     may_cut h Restarts op x = x
     may_cut h (Changes asked) op x = elim x [ inl y ↦ inl (y.0, not_stopped h y.1) | inr y ↦ inr (y.0, is_due h y.1) ]
 

@@ -16,7 +16,7 @@ use Rattle.dxc_model.specs.Histories.{Fits, IsInDoubt, IsLegal, KeepsDoubt, Rule
 use Rattle.dxc_model.proofs.Lists.{each_at}
 use Rattle.xc_core.specs.Seeing.{entry}
 use Rattle.craft_session.specs.declared.ask.Ask.{Ask}
-use Rattle.craft_session.specs.declared.ask.Ask.TheVariants.{Refused, LogsIn, LogsOut, Completes, Allows, Inhibits, Lists, Restarts, Changes}
+use Rattle.craft_session.specs.declared.ask.Ask.TheVariants.{Refused, LogsIn, LogsOut, Completes, Allows, Inhibits, Lists, Shows, Restarts, Changes}
 use Rattle.craft_session.specs.declared.attending.Attending.{Attending}
 use Rattle.craft_session.specs.Asks.{Reply, denied}
 use Rattle.craft_session.specs.Plain.{Decides, Excuse, Judges, Replies, TakesUp, standing}
@@ -203,6 +203,7 @@ module _ (r : Rules) (own : ℕ) (excused : Excuse) where
   uses h es s Allows reply x = inr (alone_of h es s Allows reply (Look (length (changes_of h))) Answered x.0 (λ is. let e : Answered ≡ Taken = is in cc) (λ _ _. (x.1, refl)) (λ _. tt) (λ ops. refl) (λ st. refl) tt)
   uses h es s Inhibits reply x = inl (record { no_entry = x.0; replies = (x.1, refl); recalls_none = tt; doubted = refl; stands = refl; may = tt })
   uses h es s (Lists which) reply x = inr (alone_of h es s (Lists which) reply (Rows which) Answered x.0 (λ is. let e : Answered ≡ Taken = is in cc) (λ _ _. (x.1, refl)) (λ _. tt) (λ ops. refl) (λ st. refl) tt)
+  uses h es s (Shows what) reply x = inr (alone_of h es s (Shows what) reply (Look (length (changes_of h))) Answered x.0 (λ is. let e : Answered ≡ Taken = is in cc) (λ _ _. (x.1, refl)) (λ _. tt) (λ ops. refl) (λ st. refl) tt)
   uses h es s Restarts reply x = inr (alone_of h es s Restarts reply Restart x.0 x.1 (no_taken_restart x.0 reply x.2)
       (λ legal all. restarts h x.0 s reply x.2 (each_front Ex h (entry own Restart x.0 ∷ []) all) (each_last Ex h (entry own Restart x.0) all) (fits_last r h (entry own Restart x.0) legal))
       (λ legal. recalls h x.0 reply x.2 (fits_last r h (entry own Restart x.0) legal)) (λ ops. doubted_restart x.0 reply ops x.2) (λ st. standing_restart x.0 reply st x.2) tt)

@@ -1,5 +1,6 @@
 -- The texts of rows and changes.
 use Rattle.std.specs.Prelude.{ℕ, List, [], ◌∷◌, ◌++◌, codes}
+use Rattle.dxc_num.specs.declared.port.Middle.{Middle}
 use Rattle.dxc_num.specs.Dimensions.{Dimensions, IsModule, IsPort, IsWorking}
 use Rattle.dxc_model.specs.declared.conn.Cct.{Cct}
 use Rattle.dxc_model.specs.declared.conn.Cct.TheVariants.{OneWay, TwoWay}
@@ -29,6 +30,13 @@ with_conn front d c = with_label (front ++ port_name d c.from ++ codes "," ++ po
 -- a row, with its quotes
 abbrev pub row_text : Dimensions → Conn → List ℕ
 row_text d c = with_conn (codes "\"") d c ++ codes "\""
+
+-- the row of an equipped module, which is in service, and of a middle that is out of it
+abbrev pub module_text : ℕ → List ℕ
+module_text m = codes "\"" ++ module_name m ++ codes ":IS\""
+
+abbrev pub middle_text : Middle → List ℕ
+middle_text m = codes "\"" ++ middle_name m ++ codes ":OOS\""
 
 -- the ports, the module or the middle of a change are of the shape
 abbrev pub IsChangeOf : Dimensions → Change → Type 0

@@ -10,4 +10,4 @@ mod stamp;
 mod text;
 
 pub use answer::{Answer, Code, Fits};
-pub use text::{change_text, conn_text, row_text};
+pub use text::{change_text, conn_text, middle_text, module_text, row_text};

@@ -2,13 +2,14 @@
 ghost use Rattle.std.specs.Prelude.{◌≡◌, ◌≤◌, ◌+◌, ◌++◌, [], codes, length};
 ghost use Rattle.arrayvec.specs.ArrayVec.{array_vec_len};
 ghost use Rattle.tl1_answer.specs.Messages.{with_line};
-ghost use Rattle.tl1_answer.specs.Texts.{IsOfShape, IsChangeOf, cct_text as text_of_cct, with_conn, with_label, row_text as text_of_row, change_text as text_of_change};
+ghost use Rattle.dxc_num.specs.Dimensions.{IsModule, IsWorking};
+ghost use Rattle.tl1_answer.specs.Texts.{IsOfShape, IsChangeOf, cct_text as text_of_cct, with_conn, with_label, row_text as text_of_row, change_text as text_of_change, module_text as text_of_module, middle_text as text_of_middle};
 
 use crate::append::append;
 use arrayvec::ArrayVec;
 use dxc_aid::{Text, put_port, write_middle, write_module};
 use dxc_model::{Cct, Change, Conn, Label};
-use dxc_num::Shape;
+use dxc_num::{Middle, Shape};
 
 /// Clears `out`, and writes a connection's row: `"FROM,TO:CCT"` with the quotes, and `:` with the label behind the CCT
 /// where it has one.
@@ -33,6 +34,28 @@ pub fn put_row(shape: Shape, conn: &Conn, out: &mut Text<4096>)
     out.put(b"   \"");
     put_conn(shape, conn, out);
     out.put(b"\"\r\n");
+}
+
+/// Clears `out`, and writes the row of an equipped module, from 0, such as `"MOD-1:IS"` with the quotes.
+pub fn module_text(shape: Shape, number: u16, out: &mut ArrayVec<u8, 128>)
+    requires { IsModule shape number }
+    ensures { out.new.items ≡ text_of_module number }
+{
+    out.clear();
+    append(out, b"\"");
+    write_module(shape, number, out);
+    append(out, b":IS\"");
+}
+
+/// Clears `out`, and writes the row of a middle that is out of service, such as `"MID-1:OOS"` with the quotes.
+pub fn middle_text(shape: Shape, middle: Middle, out: &mut ArrayVec<u8, 128>)
+    requires { IsWorking shape middle.0 }
+    ensures { out.new.items ≡ text_of_middle middle }
+{
+    out.clear();
+    append(out, b"\"");
+    write_middle(shape, middle, out);
+    append(out, b":OOS\"");
 }
 
 /// Clears `out`, and writes a connection as in its row, without quotes.

@@ -3,7 +3,7 @@ use Rattle.std.specs.Prelude.{ℕ, Bool, List, if◌then◌else◌, Option, Some
 use Rattle.std.specs.Char.{to_ascii_lowercase}
 use Rattle.std.specs.Str.{bytes_eq}
 use Rattle.dxc_model.specs.declared.user.CommandCode.{CommandCode}
-use Rattle.dxc_model.specs.declared.user.CommandCode.TheVariants.{ActUser, CancUser, RtrvHdr, AlwMsgAll, InhMsgAll, RtrvCrsT0, EntCrsT0, EdCrsT0, DltCrsT0, EntEqpt, DltEqpt, RmvMid, RstMid, InitSys}
+use Rattle.dxc_model.specs.declared.user.CommandCode.TheVariants.{ActUser, CancUser, RtrvHdr, AlwMsgAll, InhMsgAll, RtrvCrsT0, EntCrsT0, EdCrsT0, DltCrsT0, EntEqpt, DltEqpt, RmvMid, RstMid, RtrvMid, InitSys, RtrvSys}
 use Rattle.tl1_command.specs.declared.form.Need.{Need}
 use Rattle.tl1_command.specs.declared.form.Need.TheVariants.{Never, Optional, Required}
 use Rattle.tl1_command.specs.declared.form.Form.{Form}
@@ -28,7 +28,9 @@ code_named text =
     else if is_same_text text (codes "DLT-EQPT") then Some DltEqpt
     else if is_same_text text (codes "RMV-MID") then Some RmvMid
     else if is_same_text text (codes "RST-MID") then Some RstMid
+    else if is_same_text text (codes "RTRV-MID") then Some RtrvMid
     else if is_same_text text (codes "INIT-SYS") then Some InitSys
+    else if is_same_text text (codes "RTRV-SYS") then Some RtrvSys
     else None
 
 abbrev pub form : ℕ → Need → Need → Need → Form
@@ -50,4 +52,6 @@ form_of EntEqpt = form 1 Required Never Never
 form_of DltEqpt = form 1 Required Never Never
 form_of RmvMid = form 1 Required Never Never
 form_of RstMid = form 1 Required Never Never
+form_of RtrvMid = form 0 Never Never Never
 form_of InitSys = form 0 Never Never Never
+form_of RtrvSys = form 0 Never Never Never

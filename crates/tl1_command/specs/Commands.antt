@@ -8,8 +8,8 @@ use Rattle.dxc_model.specs.Operations.{IsApt}
 use Rattle.tl1_text.specs.Spans.{IsIn, text_at}
 use Rattle.tl1_command.specs.declared.parts.Named.{Named as NamedSpans}
 use Rattle.tl1_command.specs.declared.command.Command.{Command}
-use Rattle.tl1_command.specs.declared.command.Command.TheVariants.{ActUser, CancUser, Header, Allow, Inhibit, Table}
-use Rattle.tl1_command.specs.Meanings.{Asked, acts, cancels, header, allows, inhibits, asks_table, Named, Ends}
+use Rattle.tl1_command.specs.declared.command.Command.TheVariants.{ActUser, CancUser, Header, Allow, Inhibit, Show, Table}
+use Rattle.tl1_command.specs.Meanings.{Asked, acts, cancels, header, allows, inhibits, shows, asks_table, Named, Ends}
 
 abbrev pub ends_by : Port × Port → Ends
 ends_by e = record { from = e.0; to = e.1 }
@@ -25,6 +25,7 @@ asked_by unit (CancUser uid) = cancels (text_at unit uid)
 asked_by unit Header = header
 asked_by unit Allow = allows
 asked_by unit Inhibit = inhibits
+asked_by unit (Show which) = shows which
 asked_by unit (Table op) = asks_table op
 
 -- an operation that changes the table is one on ports, modules and working middles of the shape; none is a look
@@ -47,4 +48,5 @@ IsAptCommand d unit (CancUser uid) = IsIn unit uid
 IsAptCommand d unit Header = Unit {0}
 IsAptCommand d unit Allow = Unit {0}
 IsAptCommand d unit Inhibit = Unit {0}
+IsAptCommand d unit (Show which) = Unit {0}
 IsAptCommand d unit (Table op) = IsAptOp d op

@@ -15,12 +15,14 @@ use Rattle.dxc_model.specs.declared.op.Selection.TheVariants.{All}
 use Rattle.dxc_model.specs.declared.user.SessionUser.{SessionUser}
 use Rattle.dxc_model.specs.declared.user.SessionUser.TheVariants.{Nobody, User}
 use Rattle.dxc_model.specs.declared.user.CommandCode.{CommandCode}
-use Rattle.dxc_model.specs.declared.user.CommandCode.TheVariants.{ActUser, CancUser, RtrvHdr, AlwMsgAll, InhMsgAll, RtrvCrsT0, EntCrsT0, EdCrsT0, DltCrsT0, EntEqpt, DltEqpt, RmvMid, RstMid, InitSys}
+use Rattle.dxc_model.specs.declared.user.CommandCode.TheVariants.{ActUser, CancUser, RtrvHdr, AlwMsgAll, InhMsgAll, RtrvCrsT0, EntCrsT0, EdCrsT0, DltCrsT0, EntEqpt, DltEqpt, RmvMid, RstMid, RtrvMid, InitSys, RtrvSys}
 use Rattle.dxc_model.specs.Entitled.{entitled}
 use Rattle.dxc_model.specs.Labels.{as_label}
 use Rattle.dxc_aid.specs.Names.{port_named, module_named, middle_named, selection_named}
 use Rattle.tl1_text.specs.Grammar.{Block}
 use Rattle.tl1_text.specs.Tags.{is_ctag}
+use Rattle.tl1_command.specs.declared.command.Subject.{Subject}
+use Rattle.tl1_command.specs.declared.command.Subject.TheVariants as subject
 use Rattle.tl1_command.specs.declared.form.Need.{Need}
 use Rattle.tl1_command.specs.declared.form.Need.TheVariants.{Never, Optional, Required}
 use Rattle.tl1_command.specs.declared.form.Form.{Form}
@@ -34,6 +36,7 @@ pub data Asked : Type 0 where
   header : Asked
   allows : Asked
   inhibits : Asked
+  shows : Subject → Asked
   asks_table : Op → Asked
 
 infixl 10 ◌>>=◌
@@ -64,7 +67,9 @@ needs_user EntEqpt = true
 needs_user DltEqpt = true
 needs_user RmvMid = true
 needs_user RstMid = true
+needs_user RtrvMid = true
 needs_user InitSys = true
+needs_user RtrvSys = true
 
 -- nobody is logged in, and the command needs it
 abbrev pub is_not_logged_in : SessionUser → CommandCode → Bool
@@ -204,7 +209,9 @@ asked d EntEqpt n = asked_of_module d n.first op.EnterModule
 asked d DltEqpt n = asked_of_module d n.first op.DeleteModule
 asked d RmvMid n = asked_of_middle d n.first op.TakeOut
 asked d RstMid n = asked_of_middle d n.first op.PutBack
+asked d RtrvMid n = Ok (shows subject.Middle)
 asked d InitSys n = Ok (asks_table op.Restart)
+asked d RtrvSys n = Ok (shows subject.System)
 
 -- the command is one on a connection
 abbrev pub IsOfConnection : CommandCode → Type 0

@@ -8,7 +8,7 @@ ghost use Rattle.tl1_command.specs.Commands.{asked_by, named_by, IsAptCommand, e
 ghost use Rattle.tl1_command.specs.Meanings.{cct_named, label_named, or_one_way as one_way_or, ends_named, selection_or_all, names_all, asked as asked_for, asked_of_ends, asks_table, Ends, IsOfConnection};
 
 use crate::code::{is_exactly, is_same};
-use crate::command::Command;
+use crate::command::{Command, Subject};
 use crate::parts::Named;
 use dxc_aid::{middle_of, module_of, port_of, selection_of};
 use dxc_model::{Cause, Cct, CommandCode, Conn, Label, Op, Selection};
@@ -145,7 +145,9 @@ pub fn asked(shape: Shape, code: CommandCode, unit: &[u8], named: Named) -> Resu
             let middle = middle_of(shape, first).ok_or(Cause::BadAid)?;
             Ok(Command::Table(Op::PutBack(middle)))
         }
+        CommandCode::RtrvMid => Ok(Command::Show(Subject::Middle)),
         CommandCode::InitSys => Ok(Command::Table(Op::Restart)),
+        CommandCode::RtrvSys => Ok(Command::Show(Subject::System)),
     }
 }
 

@@ -94,8 +94,12 @@ fn any_code_of(text: &[u8]) -> Option<CommandCode>
         Some(CommandCode::RmvMid)
     } else if is_same(text, "RST-MID") {
         Some(CommandCode::RstMid)
+    } else if is_same(text, "RTRV-MID") {
+        Some(CommandCode::RtrvMid)
     } else if is_same(text, "INIT-SYS") {
         Some(CommandCode::InitSys)
+    } else if is_same(text, "RTRV-SYS") {
+        Some(CommandCode::RtrvSys)
     } else {
         None
     }

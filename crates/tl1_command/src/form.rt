@@ -62,7 +62,8 @@ pub fn form_of(code: CommandCode) -> Form
         | CommandCode::AlwMsgAll
         | CommandCode::InhMsgAll
         | CommandCode::RtrvCrsT0 => { (1, Need::Optional, Need::Never, Need::Never) }
-        CommandCode::RtrvHdr | CommandCode::InitSys => (0, Need::Never, Need::Never, Need::Never),
+        CommandCode::RtrvHdr | CommandCode::RtrvMid | CommandCode::InitSys | CommandCode::RtrvSys =>
+            (0, Need::Never, Need::Never, Need::Never),
         CommandCode::EntCrsT0 => (2, Need::Required, Need::Optional, Need::Optional),
         CommandCode::EdCrsT0 => (2, Need::Required, Need::Required, Need::Optional),
         CommandCode::DltCrsT0 => (2, Need::Required, Need::Optional, Need::Never),

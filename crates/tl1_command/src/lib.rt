@@ -12,5 +12,5 @@ mod form;
 pub mod laws;
 pub mod parts;
 
-pub use command::Command;
+pub use command::{Command, Subject};
 pub use decide::{code_in, command_of, command_with};

@@ -1,11 +1,13 @@
 -- What a turn of a place comes to.
-use Rattle.std.specs.Prelude.{◌≡◌, ◌≢◌, ◌<◌, ◌⊎◌, ℕ, true, List, [], ◌∷◌, ◌++◌, length, min, Option, Some, None}
+use Rattle.std.specs.Prelude.{◌≡◌, ◌≢◌, ◌<◌, ◌⊎◌, ℕ, true, List, [], ◌∷◌, ◌++◌, filter, length, min, Option, Some, None, IfSome}
+use Rattle.std.specs.List.{range_with_len}
 use base.Stored.{Gv}
 use Rattle.turnstile.specs.Passing.{Gate, Token}
 use Rattle.turnstile.specs.Turning.{Each}
 use Rattle.dxc_disk.specs.Disks.{DiskState}
 use Rattle.dxc_disk.specs.declared.disk.Disk.{Ghosts as DiskOf}
 use Rattle.dbchg_reports.specs.Recent.{SinceIs, recent_of}
+use Rattle.dxc_num.specs.Dimensions.{Dimensions, IsWorking}
 use Rattle.dxc_model.specs.declared.conn.Conn.{Conn}
 use Rattle.dxc_model.specs.declared.op.Selection.{Selection}
 use Rattle.dxc_model.specs.declared.cause.Cause.TheVariants.{JournalAstray}
@@ -15,11 +17,13 @@ use Rattle.dxc_model.specs.declared.op.Change.{Change}
 use Rattle.dxc_model.specs.declared.entry.Outcome.{Outcome}
 use Rattle.dxc_model.specs.declared.entry.Outcome.TheVariants.{Answered, Cut, Done, Failed, Restarted, Taken}
 use Rattle.dxc_model.specs.declared.entry.Entry.{Entry}
-use Rattle.dxc_model.specs.Tables.{rows}
+use Rattle.dxc_model.specs.Equipment.{has_bit}
+use Rattle.dxc_model.specs.Tables.{Board, rows}
 use Rattle.dxc_model.specs.Steps.{IsFault}
 use Rattle.dxc_model.specs.Histories.{IsRestartDue, IsStopped, changes_of, table_after}
 use Rattle.xc_core.specs.declared.provisioner.Driver.{Driver}
 use Rattle.xc_core.specs.declared.state.State.{State}
+use Rattle.xc_core.specs.declared.turns.Inventory.{Inventory}
 use Rattle.xc_core.specs.declared.turns.Looked.{Looked}
 use Rattle.xc_core.specs.declared.turns.Took.{Took}
 use Rattle.xc_core.specs.declared.turns.Took.TheVariants.{Rolling, Denied, Stopped, Halted, Waits}
@@ -121,3 +125,19 @@ LookIs o own h cursor then_seen looked given = (t : Turned o own h (entry own (L
 -- the number of the newest of them
 abbrev pub MarkIs : Opening → ℕ → List Entry → List Gv → ℕ → Type 0
 MarkIs o own h then_seen n = (t : Turned o own h (entry own (Look n) Answered) then_seen) × (n ≡ length (changes_of (h ++ t.later)))
+
+-- the modules that an inventory tells as equipped
+abbrev pub equipped_in : Inventory → List ℕ
+equipped_in i = filter (has_bit i.equipped) (range_with_len 0 i.modules)
+
+-- it is one of a table of this shape
+abbrev pub IsInventoryOf : Dimensions → Inventory → Type 0
+IsInventoryOf d i = (i.modules ≡ d.modules) × IfSome i.out (λ m. IsWorking d m.0)
+
+-- it tells the equipped modules of the table, and the middle that is out
+abbrev pub Tells : Inventory → Board → Type 0
+Tells i t = (equipped_in i ≡ t.equipped) × (i.out ≡ t.out)
+
+-- what the table before the place's entry holds, which is a look at the newest change
+abbrev pub InventoryIs : Opening → ℕ → List Entry → List Gv → Inventory → Type 0
+InventoryIs o own h then_seen given = (newest : ℕ) × (m : MarkIs o own h then_seen newest) × Tells given (table_after o.first.fold.table (h ++ m.0.later))

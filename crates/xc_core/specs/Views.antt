@@ -14,11 +14,12 @@ use Rattle.dxc_model.specs.Tables.{Board, IsOfShape, rows}
 use Rattle.xc_core.specs.declared.provisioner.Driver.{Driver}
 use Rattle.xc_core.specs.declared.restarts.Restarting.{Restarting}
 use Rattle.xc_core.specs.declared.state.State.{State}
+use Rattle.xc_core.specs.declared.turns.Inventory.{Inventory}
 use Rattle.xc_core.specs.declared.turns.Looked.{Looked}
 use Rattle.xc_core.specs.declared.turns.Took.{Took}
 use Rattle.xc_core.specs.Seeing.{HasRestart, HasTaken, Rests, Saw}
 use Rattle.xc_core.specs.States.{Opening, opening_of}
-use Rattle.xc_core.specs.Turns.{CutIs, DoneIs, LookIs, MarkIs, RestartCutIs, RestartIs, RestartedIs, RowsAre, TookIs}
+use Rattle.xc_core.specs.Turns.{CutIs, DoneIs, InventoryIs, LookIs, MarkIs, RestartCutIs, RestartIs, RestartedIs, RowsAre, TookIs}
 
 -- where the history began, and whose pass it is
 pub record View : Type 0 where
@@ -83,6 +84,9 @@ Looks cursor next looked given v h = LookIs v.opening v.own h cursor next.seen l
 
 abbrev pub Marks : (next : Token) → ℕ → View → List Entry → Type 0
 Marks next n v h = MarkIs v.opening v.own h next.seen n
+
+abbrev pub ShowsInventory : (next : Token) → Inventory → View → List Entry → Type 0
+ShowsInventory next given v h = InventoryIs v.opening v.own h next.seen given
 
 -- these are rows of a table of that shape
 abbrev pub AreRowsOf : Dimensions → Selection → List Conn → Type 0

@@ -6,8 +6,8 @@ ghost use Rattle.dxc_model.specs.Histories.{kept};
 ghost use Rattle.dxc_model.specs.Operations.{IsApt};
 ghost use Rattle.roll_engine.specs.Rollings.{rest_of};
 ghost use Rattle.xc_core.specs.Askings.{asked_at_take};
-ghost use Rattle.xc_core.specs.Turns.{HasPass, SawNoneAstray};
-ghost use Rattle.xc_core.specs.Views.{After, AreApt, AreRowsOf, AtRest, Brings, Cuts, HasSeen, Looks, Marks, OutFor, ShowsRows, Takes, Upon, shape_in};
+ghost use Rattle.xc_core.specs.Turns.{HasPass, IsInventoryOf, SawNoneAstray};
+ghost use Rattle.xc_core.specs.Views.{After, AreApt, AreRowsOf, AtRest, Brings, Cuts, HasSeen, Looks, Marks, OutFor, ShowsInventory, ShowsRows, Takes, Upon, shape_in};
 
 use crate::inside;
 use crate::provisioner::Driver;
@@ -15,6 +15,7 @@ use crate::state::State;
 use dbchg_reports::Since;
 use dxc_disk::Disk;
 use dxc_model::{Cause, Change, Conn, Entry, Op, Outcome, Selection};
+use dxc_num::Middle;
 use dxc_outside::Gate;
 use std::sync::Wait;
 use turnstile::{Pass, Turnstile};
@@ -214,4 +215,44 @@ pub fn mark<D: Disk + Drop, R: Wait>(pass: &mut Pass, turns: &Turnstile<State<D>
     let outcome = Outcome::Answered;
     turns.leave(pass, turn, Entry { place, op, outcome });
     newest
+}
+
+/// What the table holds besides connections.
+#[derive(Clone, Copy)]
+pub struct Inventory {
+    /// How many modules the shape has.
+    pub modules: u16,
+    /// Which of them are equipped, bit m for module m from 0.
+    pub equipped: u64,
+    /// The middle that is out of service.
+    pub out: Option<Middle>,
+}
+
+/// Gives which modules are equipped, and which middle is out of service.
+pub fn read_inventory<D: Disk + Drop, R: Wait>(
+    pass: &mut Pass,
+    turns: &Turnstile<State<D>>,
+    rt: &R,
+) -> Inventory
+    requires pass { HasPass turns.now pass.old }
+    requires seen { Upon D.Disk turns.now pass.old AtRest }
+    ensures pass { HasPass turns.now pass.new × (pass.new.number ≡ pass.old.number) }
+    ensures inventory { After D.Disk turns.now pass.old (ShowsInventory pass.new result) }
+    ensures astray { SawNoneAstray D.told pass.new.seen }
+    ensures of_shape { IsInventoryOf (shape_in D.Disk turns.now) result }
+{
+    let turn = turns.enter(pass, rt);
+    let state = turn.state();
+    let shape = state.table.shape();
+    let inventory = Inventory {
+        modules: shape.modules(),
+        equipped: state.table.equipment(),
+        out: state.table.out(),
+    };
+    let newest = state.reports.newest();
+    let place = pass.number();
+    let op = Op::Look(newest);
+    let outcome = Outcome::Answered;
+    turns.leave(pass, turn, Entry { place, op, outcome });
+    inventory
 }

@@ -1,25 +1,18 @@
-use Rattle.std.proofs.Common.{ℕ, [], Bool, true, false, Option, Some, refl, sym, ap, subst}
+use Rattle.std.proofs.Common.{ℕ, [], false, Some, refl, sym, ap, subst}
 use Rattle.craft_session.specs.declared.ask.Ask.TheVariants.{Allows}
 use Rattle.craft_session.specs.Acting.{Acts}
-use Rattle.craft_session.specs.declared.ask.Acted.{Acted}
-use Rattle.craft_session.specs.declared.ask.Acted.TheVariants.{Completed, Listed, Restarted, Denied}
 use Rattle.craft_session.specs.Asks.{completed, user_after}
 use Rattle.craft_session.specs.Gated.{answers}
-use Rattle.craft_session.proofs.Acted.{acts_nothing, acts_listed, acts_marked, acts_cut, acts_done, acts_refused, acts_restarted, acts_stopped, acts_unrestarted}
+use Rattle.craft_session.proofs.Acted.{acts_nothing, acts_listed, acts_marked, acts_shown, acts_cut, acts_done, acts_refused, acts_restarted, acts_stopped, acts_unrestarted}
 use Rattle.craft_session.proofs.Ends.{apart, changed_goes, some_there, stayed}
 use Rattle.craft_session.proofs.Gated.{entered_at, entered_none}
 use Rattle.craft_session.proofs.act.act.Goals as goal
-
--- whether rows were listed
-abbrev lists : Option Acted → Bool
-lists (Some Listed) = true
-lists _ = false
 
 pub returns-in-Refused : goal.returns-in-Refused
 returns-in-Refused g c = record {
   same = (refl, refl, refl);
   acts = λ h saw. rw c.in-Refused.is (acts_nothing _ _ h _ _ _ _ _ saw (refl, refl) refl);
-  listed = λ is. absurd (apart lists (Some Listed) (Some Listed) (Some (Denied c.in-Refused.cause)) refl refl refl (sym is));
+  of_shape = tt;
   user = sym (ap (user_after c.args.attending.now.user) c.in-Refused.is);
   room = refl;
   acted = λ not. refl;
@@ -32,7 +25,7 @@ pub returns-in-LogsIn : goal.returns-in-LogsIn
 returns-in-LogsIn g c = record {
   same = (refl, refl, refl);
   acts = λ h saw. rw c.in-LogsIn.is (acts_nothing _ _ h _ _ _ _ _ saw (refl, refl) refl);
-  listed = λ is. absurd (apart lists (Some Listed) (Some Listed) (Some Completed) refl refl refl (sym is));
+  of_shape = tt;
   user = sym (ap (user_after c.args.attending.now.user) c.in-LogsIn.is);
   room = refl;
   acted = λ not. refl;
@@ -45,7 +38,7 @@ pub returns-in-LogsOut : goal.returns-in-LogsOut
 returns-in-LogsOut g c = record {
   same = (refl, refl, refl);
   acts = λ h saw. rw c.in-LogsOut.is (acts_nothing _ _ h _ _ _ _ _ saw (refl, refl) refl);
-  listed = λ is. absurd (apart lists (Some Listed) (Some Listed) (Some Completed) refl refl refl (sym is));
+  of_shape = tt;
   user = sym (ap (user_after c.args.attending.now.user) c.in-LogsOut.is);
   room = refl;
   acted = λ not. refl;
@@ -58,7 +51,7 @@ pub returns-in-Completes : goal.returns-in-Completes
 returns-in-Completes g c = record {
   same = (refl, refl, refl);
   acts = λ h saw. rw c.in-Completes.is (acts_nothing _ _ h _ _ _ _ _ saw (refl, refl) refl);
-  listed = λ is. absurd (apart lists (Some Listed) (Some Listed) (Some Completed) refl refl refl (sym is));
+  of_shape = tt;
   user = sym (ap (user_after c.args.attending.now.user) c.in-Completes.is);
   room = refl;
   acted = λ not. refl;
@@ -74,7 +67,7 @@ returns-in-Allows g c = record {
       let s = c.args.attending.now in
       let z = subst (λ (k : ℕ). Acts c.args.seat.now.opening c.args.seat.now.place h s Allows completed (record { user = s.user; watch = Some k }) c.mark-newest.new.self.seen) (sym c.cursor.ensures) (acts_marked c.args.seat.now.opening c.args.seat.now.place h s c.mark-newest.result c.mark-newest.new.self.seen (c.mark-newest.ensures.mark h saw)) in
       rw c.in-Allows.is z;
-  listed = λ is. absurd (apart lists (Some Listed) (Some Listed) (Some Completed) refl refl refl (sym is));
+  of_shape = tt;
   user = sym (ap (user_after c.args.attending.now.user) c.in-Allows.is);
   room = refl;
   acted = λ not. refl;
@@ -87,7 +80,7 @@ pub returns-in-Inhibits : goal.returns-in-Inhibits
 returns-in-Inhibits g c = record {
   same = (refl, refl, refl);
   acts = λ h saw. rw c.in-Inhibits.is (acts_nothing _ _ h _ _ _ _ _ saw (refl, refl) refl);
-  listed = λ is. absurd (apart lists (Some Listed) (Some Listed) (Some Completed) refl refl refl (sym is));
+  of_shape = tt;
   user = sym (ap (user_after c.args.attending.now.user) c.in-Inhibits.is);
   room = refl;
   acted = λ not. refl;
@@ -100,7 +93,7 @@ pub returns-in-Lists : goal.returns-in-Lists
 returns-in-Lists g c = record {
   same = c.rows.ensures.same;
   acts = λ h saw. rw c.in-Lists.is (acts_listed _ _ h _ c.in-Lists.selection _ _ (c.rows.ensures.rows h saw));
-  listed = λ is. c.rows.ensures.of_shape;
+  of_shape = c.rows.ensures.of_shape;
   user = sym (ap (user_after c.args.attending.now.user) c.in-Lists.is);
   room = c.rows.ensures.room;
   acted = λ not. refl;
@@ -109,11 +102,24 @@ returns-in-Lists g c = record {
   entered = λ h saw. entered_at c.args.seat.now.opening c.args.seat.now.place (g.G.Gate.asked c.args.gate.now c.args.gate.now) h c.rows.new.self.seen false false _ [] (answers _) (g.G.Gate.unasked c.args.gate.now) (c.rows.ensures.rows h saw).0;
 }
 
+pub returns-in-Shows : goal.returns-in-Shows
+returns-in-Shows g c = record {
+  same = c.inventory-inventory.ensures.same;
+  acts = λ h saw. rw c.in-Shows.is (acts_shown _ _ h _ c.in-Shows.subject c.inventory-inventory.result _ (c.inventory-inventory.ensures.inventory h saw));
+  of_shape = c.inventory-inventory.ensures.of_shape;
+  user = sym (ap (user_after c.args.attending.now.user) c.in-Shows.is);
+  room = refl;
+  acted = λ not. refl;
+  stopped = λ is. absurd (some_there _ _ refl is);
+  later = stayed _ _ refl;
+  entered = λ h saw. entered_at c.args.seat.now.opening c.args.seat.now.place (g.G.Gate.asked c.args.gate.now c.args.gate.now) h c.inventory-inventory.new.self.seen false false _ [] (answers _) (g.G.Gate.unasked c.args.gate.now) (c.inventory-inventory.ensures.inventory h saw).1.0;
+}
+
 pub returns-in-Done : goal.returns-in-Done
 returns-in-Done g c = record {
   same = c.restart.ensures.same;
   acts = λ h saw. rw c.in-Restarts.is (acts_restarted _ _ h _ _ _ (c.restart.ensures.restarted h saw) c.in-Done.is);
-  listed = λ is. absurd (apart lists (Some Listed) (Some Listed) (Some Restarted) refl refl refl (sym is));
+  of_shape = tt;
   user = sym (ap (user_after c.args.attending.now.user) c.in-Restarts.is);
   room = refl;
   acted = λ not. c.restart.ensures.done (apart changed_goes _ _ _ c.in-Done.is refl refl);
@@ -126,7 +132,7 @@ pub returns-in-Denied : goal.returns-in-Denied
 returns-in-Denied g c = record {
   same = c.restart.ensures.same;
   acts = λ h saw. rw c.in-Restarts.is (acts_unrestarted _ _ h _ _ _ (c.restart.ensures.restarted h saw) c.in-Denied.cause c.in-Denied.is);
-  listed = λ is. absurd (apart lists (Some Listed) (Some Listed) (Some (Denied c.in-Denied.cause)) refl refl refl (sym is));
+  of_shape = tt;
   user = sym (ap (user_after c.args.attending.now.user) c.in-Restarts.is);
   room = refl;
   acted = λ not. c.restart.ensures.done (apart changed_goes _ _ _ c.in-Denied.is refl refl);
@@ -139,7 +145,7 @@ pub returns-in-Stopped : goal.returns-in-Stopped
 returns-in-Stopped g c = record {
   same = c.restart.ensures.same;
   acts = λ h saw. rw c.in-Restarts.is (acts_cut _ _ h _ _ _ (c.restart.ensures.restarted h saw) c.in-Stopped.is);
-  listed = λ is. absurd (some_there _ _ refl (sym is));
+  of_shape = tt;
   user = sym (ap (user_after c.args.attending.now.user) c.in-Restarts.is);
   room = refl;
   acted = λ not. absurd (not refl);
@@ -152,7 +158,7 @@ pub returns-in-Done-change : goal.returns-in-Done-change
 returns-in-Done-change g c = record {
   same = c.change.ensures.same;
   acts = λ h saw. rw c.in-Changes.is (acts_done _ _ h _ c.in-Changes.op _ _ (c.change.ensures.changed h saw) c.in-Done-change.is);
-  listed = λ is. absurd (apart lists (Some Listed) (Some Listed) (Some Completed) refl refl refl (sym is));
+  of_shape = tt;
   user = sym (ap (user_after c.args.attending.now.user) c.in-Changes.is);
   room = refl;
   acted = λ not. c.change.ensures.done (apart changed_goes _ _ _ c.in-Done-change.is refl refl);
@@ -165,7 +171,7 @@ pub returns-in-Denied-change : goal.returns-in-Denied-change
 returns-in-Denied-change g c = record {
   same = c.change.ensures.same;
   acts = λ h saw. rw c.in-Changes.is (acts_refused _ _ h _ c.in-Changes.op _ _ (c.change.ensures.changed h saw) c.in-Denied-change.cause c.in-Denied-change.is);
-  listed = λ is. absurd (apart lists (Some Listed) (Some Listed) (Some (Denied c.in-Denied-change.cause)) refl refl refl (sym is));
+  of_shape = tt;
   user = sym (ap (user_after c.args.attending.now.user) c.in-Changes.is);
   room = refl;
   acted = λ not. c.change.ensures.done (apart changed_goes _ _ _ c.in-Denied-change.is refl refl);
@@ -178,7 +184,7 @@ pub returns-in-Stopped-change : goal.returns-in-Stopped-change
 returns-in-Stopped-change g c = record {
   same = c.change.ensures.same;
   acts = λ h saw. rw c.in-Changes.is (acts_stopped _ _ h _ c.in-Changes.op _ _ (c.change.ensures.changed h saw) c.in-Stopped-change.is);
-  listed = λ is. absurd (some_there _ _ refl (sym is));
+  of_shape = tt;
   user = sym (ap (user_after c.args.attending.now.user) c.in-Changes.is);
   room = refl;
   acted = λ not. absurd (not refl);

@@ -29,5 +29,8 @@ returns-in-Allow-clause-asked g c = asked_nothing _ _ _ _ _ NothingAsked refl (a
 pub returns-in-Inhibit-clause-asked : goal.returns-in-Inhibit-clause-asked
 returns-in-Inhibit-clause-asked g c = asked_nothing _ _ _ _ _ NothingAsked refl (ap (λ (k : Command). session_wants (asked_by c.args.unit.now k)) c.in-Inhibit.is) (sym (ap (λ (k : Command). session_ask c.args.user.now unasked (asked_by c.args.unit.now k)) c.in-Inhibit.is)) c.requires.no_rows
 
+pub returns-in-Show-clause-asked : goal.returns-in-Show-clause-asked
+returns-in-Show-clause-asked g c = asked_nothing _ _ _ _ _ NothingAsked refl (ap (λ (k : Command). session_wants (asked_by c.args.unit.now k)) c.in-Show.is) (sym (ap (λ (k : Command). session_ask c.args.user.now unasked (asked_by c.args.unit.now k)) c.in-Show.is)) c.requires.no_rows
+
 pub returns-in-Table-clause-asked : goal.returns-in-Table-clause-asked
 returns-in-Table-clause-asked g c = asked_nothing _ _ _ _ _ NothingAsked refl (ap (λ (k : Command). session_wants (asked_by c.args.unit.now k)) c.in-Table.is) (c.on_table.ensures ∙ sym (ap (λ (k : Command). session_ask c.args.user.now unasked (asked_by c.args.unit.now k)) c.in-Table.is)) c.requires.no_rows

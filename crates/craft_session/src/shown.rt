@@ -1,0 +1,117 @@
+//! The rows of what RTRV-MID and RTRV-SYS show.
+ghost use Rattle.std.specs.Prelude.{◌≡◌, ◌≤◌, ◌<◌, [], ◌∷◌, IfSome, filter, length, map, option_to_list};
+ghost use Rattle.dxc_num.specs.Dimensions.{IsModule, IsWorking};
+ghost use Rattle.dxc_model.specs.Equipment.{has_bit, modules_in};
+ghost use Rattle.tl1_answer.specs.Blocks.{IsUnended, IsBegun};
+ghost use Rattle.tl1_answer.specs.Texts.{middle_text as text_of_middle, module_text as text_of_module};
+ghost use Rattle.xc_core.specs.Turns.{IsInventoryOf, equipped_in};
+ghost use Rattle.craft_session.specs.Responses.{Adds, shown_lines};
+
+use crate::say::add_line;
+use arrayvec::ArrayVec;
+use dxc_model::equipment;
+use dxc_num::{Middle, Shape};
+use dxc_outside::{Link, Sent};
+use tl1_answer::{Answer, middle_text, module_text};
+use tl1_command::Subject;
+use xc_core::turns::Inventory;
+
+/// Adds the row of a module of this number, from 0, where it is one of the equipped.
+fn add_module<K: Link>(
+    answer: &mut Answer,
+    text: &mut ArrayVec<u8, 128>,
+    link: &mut K,
+    shape: Shape,
+    equipped: u64,
+    number: u16,
+) -> Sent
+    requires unended { IsUnended answer.old }
+    requires begun { IsBegun answer.old }
+    requires short { length answer.old.head ≤ 64 }
+    requires inside { IsModule shape number }
+    requires few { number < 64 }
+    ensures { Adds K.told (K.state link.old) (K.state link.new)
+        (record { sent = result; old = answer.old; new = answer.new })
+        (map text_of_module (filter (has_bit equipped) (number ∷ []))) }
+{
+    if !equipment::has(equipped, number) {
+        return Sent::Whole;
+    }
+    module_text(shape, number, text);
+    add_line(answer, link, text.as_slice())
+}
+
+/// Adds the row of each equipped module, of which bit m tells for module m from 0.
+fn add_modules<K: Link>(
+    answer: &mut Answer,
+    text: &mut ArrayVec<u8, 128>,
+    link: &mut K,
+    shape: Shape,
+    equipped: u64,
+) -> Sent
+    requires unended { IsUnended answer.old }
+    requires begun { IsBegun answer.old }
+    requires short { length answer.old.head ≤ 64 }
+    ensures { Adds K.told (K.state link.old) (K.state link.new)
+        (record { sent = result; old = answer.old; new = answer.new })
+        (map text_of_module (modules_in shape equipped)) }
+{
+    for number in 0..shape.modules() {
+        match add_module(answer, text, link, shape, equipped, number) {
+            Sent::Whole => {}
+            Sent::Cut => return Sent::Cut,
+        }
+    }
+    Sent::Whole
+}
+
+/// Adds the row of the middle that is out of service, if one is.
+fn add_middle<K: Link>(
+    answer: &mut Answer,
+    text: &mut ArrayVec<u8, 128>,
+    link: &mut K,
+    shape: Shape,
+    out: Option<Middle>,
+) -> Sent
+    requires unended { IsUnended answer.old }
+    requires begun { IsBegun answer.old }
+    requires short { length answer.old.head ≤ 64 }
+    requires working { IfSome out (λ m. IsWorking shape m.0) }
+    ensures { Adds K.told (K.state link.old) (K.state link.new)
+        (record { sent = result; old = answer.old; new = answer.new })
+        (map text_of_middle (option_to_list out)) }
+{
+    match out {
+        Some(middle) => {
+            middle_text(shape, middle, text);
+            add_line(answer, link, text.as_slice())
+        }
+        None => Sent::Whole,
+    }
+}
+
+/// Adds the rows of an inventory that are asked for.
+pub fn add_inventory<K: Link>(
+    answer: &mut Answer,
+    text: &mut ArrayVec<u8, 128>,
+    link: &mut K,
+    shape: Shape,
+    subject: Subject,
+    inventory: Inventory,
+) -> Sent
+    requires unended { IsUnended answer.old }
+    requires begun { IsBegun answer.old }
+    requires short { length answer.old.head ≤ 64 }
+    requires of_shape { IsInventoryOf shape inventory }
+    ensures { Adds K.told (K.state link.old) (K.state link.new)
+        (record { sent = result; old = answer.old; new = answer.new })
+        (shown_lines subject (equipped_in inventory) inventory.out) }
+{
+    match subject {
+        Subject::Middle => add_middle(answer, text, link, shape, inventory.out),
+        Subject::System => match add_modules(answer, text, link, shape, inventory.equipped) {
+            Sent::Whole => add_middle(answer, text, link, shape, inventory.out),
+            Sent::Cut => Sent::Cut,
+        },
+    }
+}
