@@ -30,14 +30,18 @@ pub fn act<D: Disk + Drop, G: Gate, R: Wait>(
     requires room { ports seat.old.opening.first.fold.table.shape ≤ vec_capacity rows.old }
     requires apt { IsAptAsk seat.old.opening.first.fold.table.shape ask.now }
     ensures same { IsSameSeat seat.old seat.new }
-    ensures acts { (h : List Entry) → Saw seat.old.opening seat.old.seen h → ActedIs seat.old.opening seat.old.place h attending.old ask.now result rows.new.items attending.new seat.new.seen }
-    ensures of_shape { IfSome result (IsAptActed seat.old.opening.first.fold.table.shape rows.new.items) }
+    ensures acts { (h : List Entry) → Saw seat.old.opening seat.old.seen h
+        → ActedIs seat.old.opening seat.old.place h attending.old ask.now result rows.new.items
+        attending.new seat.new.seen }
+    ensures of_shape { IfSome result
+        (IsAptActed seat.old.opening.first.fold.table.shape rows.new.items) }
     ensures user { attending.new.user ≡ user_after attending.old.user ask.now }
     ensures room { vec_capacity rows.new ≡ vec_capacity rows.old }
     ensures acted { result ≢ None → G.stops gate.new ≡ G.stops gate.old }
     ensures stopped { result ≡ None → Rose (G.stops gate.old) (G.stops gate.new) }
     ensures later { G.stops gate.old ≤ G.stops gate.new }
-    ensures entered { (h : List Entry) → Saw seat.old.opening seat.old.seen h → Entered seat.old.opening seat.old.place (G.asked gate.old gate.new) false false h seat.new.seen }
+    ensures entered { (h : List Entry) → Saw seat.old.opening seat.old.seen h → Entered
+        seat.old.opening seat.old.place (G.asked gate.old gate.new) false false h seat.new.seen }
 {
     match ask {
         Ask::Refused(cause) => Some(Acted::Denied(*cause)),

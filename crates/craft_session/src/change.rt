@@ -51,8 +51,12 @@ pub fn roll<D: Disk, G: Gate, R: Wait>(
     ensures ground { ground_of p.new ≡ ground_of p.old }
     ensures journal { p.new.journal ≡ p.old.journal }
     ensures doubt { p.new.doubt ≡ p.old.doubt }
-    ensures rolls { (b : Past) → (op : Op) → (c : Change) → Rolls D.told D.state b op c p.old rolling.old → Rolls D.told D.state b op c p.new rolling.new }
-    ensures resumes { (b : Past) → (lacking : Option Change) → (g : Past) → Resumes D.told D.state b lacking g p.old rolling.old → Resumes D.told D.state b lacking g p.new rolling.new }
+    ensures rolls { (b : Past) → (op : Op) → (c : Change)
+        → Rolls D.told D.state b op c p.old rolling.old
+        → Rolls D.told D.state b op c p.new rolling.new }
+    ensures resumes { (b : Past) → (lacking : Option Change) → (g : Past)
+        → Resumes D.told D.state b lacking g p.old rolling.old
+        → Resumes D.told D.state b lacking g p.new rolling.new }
     ensures work { rolling.new.work ≡ rolling.old.work }
     ensures done { result ≡ Pass1.Go → rest_of rolling.new ≡ [] }
     ensures go { result ≡ Pass1.Go → G.stops gate.new ≡ G.stops gate.old }
@@ -83,15 +87,23 @@ fn carry_out<D: Disk + Drop, G: Gate, R: Wait>(
 ) -> Changed
     requires pass { HasPass turns.now pass.old }
     requires fabric { (opening_of D.state turns.now.first).site.fabric ≡ fabric.now }
-    requires taken { (h : List Entry) × Saw (opening_of D.state turns.now.first) pass.old.seen h × HasTaken D.told D.state (opening_of D.state turns.now.first) pass.old.number op.now h driver.value.p driver.value.rolling }
+    requires taken { (h : List Entry) × Saw (opening_of D.state turns.now.first) pass.old.seen h
+        × HasTaken D.told D.state (opening_of D.state turns.now.first) pass.old.number op.now h
+        driver.value.p driver.value.rolling }
     ensures pass { HasPass turns.now pass.new × (pass.new.number ≡ pass.old.number) }
-    ensures changed { (h : List Entry) → Saw (opening_of D.state turns.now.first) pass.old.seen h → ChangedIs (opening_of D.state turns.now.first) pass.old.number h op.now pass.new.seen result }
+    ensures changed { (h : List Entry) → Saw (opening_of D.state turns.now.first) pass.old.seen h
+        → ChangedIs (opening_of D.state turns.now.first) pass.old.number h op.now pass.new.seen
+        result }
     ensures astray { SawNoneAstray D.told pass.new.seen }
     ensures done { result ≢ Changed.Stopped → G.stops gate.new ≡ G.stops gate.old }
     ensures stopped { result ≡ Changed.Stopped → Rose (G.stops gate.old) (G.stops gate.new) }
     ensures later { G.stops gate.old ≤ G.stops gate.new }
-    ensures asked { ((result ≡ Changed.Done) × RollAsked (G.asked gate.old gate.new) (length (rest_of driver.value.rolling)) Pass1.Go) ⊎ ((result ≡ Changed.Stopped) × RollAsked (G.asked gate.old gate.new) (length (rest_of driver.value.rolling)) Pass1.Stop) }
-    ensures entered { (h : List Entry) → Saw (opening_of D.state turns.now.first) pass.old.seen h → Entered (opening_of D.state turns.now.first) pass.old.number (G.asked gate.old gate.new) true false h pass.new.seen }
+    ensures asked { ((result ≡ Changed.Done) × RollAsked (G.asked gate.old gate.new)
+        (length (rest_of driver.value.rolling)) Pass1.Go) ⊎ ((result ≡ Changed.Stopped) × RollAsked
+        (G.asked gate.old gate.new) (length (rest_of driver.value.rolling)) Pass1.Stop) }
+    ensures entered { (h : List Entry) → Saw (opening_of D.state turns.now.first) pass.old.seen h
+        → Entered (opening_of D.state turns.now.first) pass.old.number (G.asked gate.old gate.new)
+        true false h pass.new.seen }
 {
     let mut driver = driver;
     let held = &mut *driver;
@@ -123,13 +135,17 @@ pub fn change<D: Disk + Drop, G: Gate, R: Wait>(
     requires apt { IsApt (opening_of D.state turns.now.first).first.fold.table.shape op.now }
     requires seen { (h : List Entry) × Saw (opening_of D.state turns.now.first) pass.old.seen h }
     ensures pass { HasPass turns.now pass.new × (pass.new.number ≡ pass.old.number) }
-    ensures changed { (h : List Entry) → Saw (opening_of D.state turns.now.first) pass.old.seen h → ChangedIs (opening_of D.state turns.now.first) pass.old.number h op.now pass.new.seen result }
+    ensures changed { (h : List Entry) → Saw (opening_of D.state turns.now.first) pass.old.seen h
+        → ChangedIs (opening_of D.state turns.now.first) pass.old.number h op.now pass.new.seen
+        result }
     ensures astray { SawNoneAstray D.told pass.new.seen }
     ensures done { result ≢ Changed.Stopped → G.stops gate.new ≡ G.stops gate.old }
     ensures stopped { result ≡ Changed.Stopped → Rose (G.stops gate.old) (G.stops gate.new) }
     ensures later { G.stops gate.old ≤ G.stops gate.new }
     ensures asked { ChangeAsked (G.asked gate.old gate.new) result }
-    ensures entered { (h : List Entry) → Saw (opening_of D.state turns.now.first) pass.old.seen h → Entered (opening_of D.state turns.now.first) pass.old.number (G.asked gate.old gate.new) false false h pass.new.seen }
+    ensures entered { (h : List Entry) → Saw (opening_of D.state turns.now.first) pass.old.seen h
+        → Entered (opening_of D.state turns.now.first) pass.old.number (G.asked gate.old gate.new)
+        false false h pass.new.seen }
 {
     let mut rest = Rest::new();
     for _ in rt.forever() {

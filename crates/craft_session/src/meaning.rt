@@ -49,7 +49,9 @@ pub fn consult<U: Disk + Drop, G: Gate, R: Wait>(
     requires short { length unit.now ≤ 2047 }
     requires no_rows { users.old.rows.items ≡ [] }
     ensures same { IsSameUserSeat users.old.seat users.new.seat }
-    ensures consulted { ConsultedIs shelf.now user.now (whole unit.now) users.old.seat users.new.rows.items users.new.seat.seen (G.asked gate.old gate.new) tag.new ask.new result }
+    ensures consulted { ConsultedIs shelf.now user.now (whole unit.now) users.old.seat
+        users.new.rows.items users.new.seat.seen (G.asked gate.old gate.new) tag.new ask.new
+        result }
     ensures apt { result ≡ Pass1.Go → IsAptAsk shelf.now.shape ask.new }
     ensures unstopped { result ≡ Pass1.Go → G.stops gate.new ≡ G.stops gate.old }
     ensures stopped { result ≡ Pass1.Stop → Rose (G.stops gate.old) (G.stops gate.new) }
@@ -82,7 +84,13 @@ fn ask_in<U: Disk + Drop, G: Gate, R: Wait>(
     requires tagged { tagged ≡ is_some (tag_in unit.now) }
     requires no_rows { users.old.rows.items ≡ [] }
     ensures same { IsSameUserSeat users.old.seat users.new.seat }
-    ensures asked { AskedIs users.old.seat (command_wants shelf.now user.now (map (block_at unit.now) found.now.block.items) (meaning shelf.now.shape shelf.now.sid user.now (map (block_at unit.now) found.now.block.items))) (λ x. command_ask shelf.now user.now x (map (block_at unit.now) found.now.block.items) (meaning shelf.now.shape shelf.now.sid user.now (map (block_at unit.now) found.now.block.items))) users.new.rows.items users.new.seat.seen (G.asked gate.old gate.new) (put_down result ask.new) }
+    ensures asked { AskedIs users.old.seat (command_wants shelf.now user.now
+        (map (block_at unit.now) found.now.block.items) (meaning shelf.now.shape shelf.now.sid
+        user.now (map (block_at unit.now) found.now.block.items))) (λ x. command_ask shelf.now
+        user.now x (map (block_at unit.now) found.now.block.items) (meaning shelf.now.shape
+        shelf.now.sid user.now (map (block_at unit.now) found.now.block.items)))
+        users.new.rows.items users.new.seat.seen (G.asked gate.old gate.new)
+        (put_down result ask.new) }
     ensures apt { result ≡ Pass1.Go → IsAptAsk shelf.now.shape ask.new }
     ensures unstopped { result ≡ Pass1.Go → G.stops gate.new ≡ G.stops gate.old }
     ensures stopped { result ≡ Pass1.Stop → Rose (G.stops gate.old) (G.stops gate.new) }
@@ -115,7 +123,9 @@ fn served<U: Disk + Drop, R: Wait>(
     requires within { (d : Dimensions) × IsAptCommand d unit.now command.now }
     requires no_rows { users.old.rows.items ≡ [] }
     ensures same { IsSameUserSeat users.old.seat users.new.seat }
-    ensures asked { IsAsked users.old.seat (session_wants (asked_by unit.now command.now)) (λ x. session_ask user.now x (asked_by unit.now command.now)) ask.new users.new.rows.items users.new.seat.seen NothingAsked }
+    ensures asked { IsAsked users.old.seat (session_wants (asked_by unit.now command.now))
+        (λ x. session_ask user.now x (asked_by unit.now command.now)) ask.new users.new.rows.items
+        users.new.seat.seen NothingAsked }
     ensures apt { (d : Dimensions) → IsAptCommand d unit.now command.now → IsAptAsk d ask.new }
 {
     match command {
@@ -150,7 +160,9 @@ fn act_user<U: Disk + Drop, R: Wait>(
 )
     requires no_rows { users.old.rows.items ≡ [] }
     ensures same { IsSameUserSeat users.old.seat users.new.seat }
-    ensures asked { IsAsked users.old.seat (login_wants uid.now pid.now) (λ x. log_in user.now (named_by uid.now x)) ask.new users.new.rows.items users.new.seat.seen NothingAsked }
+    ensures asked { IsAsked users.old.seat (login_wants uid.now pid.now)
+        (λ x. log_in user.now (named_by uid.now x)) ask.new users.new.rows.items users.new.seat.seen
+        NothingAsked }
     ensures apt { (d : Dimensions) → IsAptAsk d ask.new }
 {
     let Some(uid) = Uid::of(uid) else {
@@ -219,7 +231,11 @@ fn hear_users<U: Disk + Drop, G: Gate, R: Wait>(
     requires blocks { AreBlocksOf unit.now found.now.block.items }
     requires no_rows { users.old.rows.items ≡ [] }
     ensures same { IsSameUserSeat users.old.seat users.new.seat }
-    ensures asked { AskedIs users.old.seat (users_want (user_meaning shelf.now.sid user.now (map (block_at unit.now) found.now.block.items))) (λ x. users_ask x (user_meaning shelf.now.sid user.now (map (block_at unit.now) found.now.block.items))) users.new.rows.items users.new.seat.seen (G.asked gate.old gate.new) (put_down result ask.new) }
+    ensures asked { AskedIs users.old.seat (users_want (user_meaning shelf.now.sid user.now
+        (map (block_at unit.now) found.now.block.items))) (λ x. users_ask x
+        (user_meaning shelf.now.sid user.now (map (block_at unit.now) found.now.block.items)))
+        users.new.rows.items users.new.seat.seen (G.asked gate.old gate.new)
+        (put_down result ask.new) }
     ensures apt { (d : Dimensions) → result ≡ Pass1.Go → IsAptAsk d ask.new }
     ensures unstopped { result ≡ Pass1.Go → G.stops gate.new ≡ G.stops gate.old }
     ensures stopped { result ≡ Pass1.Stop → Rose (G.stops gate.old) (G.stops gate.new) }
@@ -241,7 +257,8 @@ fn hear_users<U: Disk + Drop, G: Gate, R: Wait>(
 /// Whether a unit's code has fewer bytes than `ED-USER-SECU`, the shortest of those that keep users.
 fn is_short(unit: &[u8], found: &Blocks) -> bool
     requires blocks { AreBlocksOf unit.now found.now.block.items }
-    ensures { result ≡ true → code_named (code_text (map (block_at unit.now) found.now.block.items)) ≡ None }
+    ensures { result ≡ true
+        → code_named (code_text (map (block_at unit.now) found.now.block.items)) ≡ None }
 {
     block_text(unit, found, 0).len() < 12
 }
@@ -262,7 +279,10 @@ fn ask_users<U: Disk + Drop, G: Gate, R: Wait>(
     requires blocks { AreBlocksOf unit.now found.now.block.items }
     requires no_rows { users.old.rows.items ≡ [] }
     ensures same { IsSameUserSeat users.old.seat users.new.seat }
-    ensures asked { AskedIs users.old.seat (users_want (user_meaning shelf.now.sid user.now (map (block_at unit.now) found.now.block.items))) (λ x. users_ask x (user_meaning shelf.now.sid user.now (map (block_at unit.now) found.now.block.items))) users.new.rows.items users.new.seat.seen (G.asked gate.old gate.new) result }
+    ensures asked { AskedIs users.old.seat (users_want (user_meaning shelf.now.sid user.now
+        (map (block_at unit.now) found.now.block.items))) (λ x. users_ask x
+        (user_meaning shelf.now.sid user.now (map (block_at unit.now) found.now.block.items)))
+        users.new.rows.items users.new.seat.seen (G.asked gate.old gate.new) result }
     ensures apt { (d : Dimensions) → IfSome result (IsAptAsk d) }
     ensures unstopped { result ≢ None → G.stops gate.new ≡ G.stops gate.old }
     ensures stopped { result ≡ None → Rose (G.stops gate.old) (G.stops gate.new) }
@@ -284,7 +304,8 @@ fn on_users<U: Disk + Drop, G: Gate, R: Wait>(
     requires named { NamesUid op }
     requires no_rows { users.old.rows.items ≡ [] }
     ensures same { IsSameUserSeat users.old.seat users.new.seat }
-    ensures asked { AskedIs users.old.seat (op_wants op) heard_ask users.new.rows.items users.new.seat.seen (G.asked gate.old gate.new) result }
+    ensures asked { AskedIs users.old.seat (op_wants op) heard_ask users.new.rows.items
+        users.new.seat.seen (G.asked gate.old gate.new) result }
     ensures apt { (d : Dimensions) → IfSome result (IsAptAsk d) }
     ensures unstopped { result ≢ None → G.stops gate.new ≡ G.stops gate.old }
     ensures stopped { result ≡ None → Rose (G.stops gate.old) (G.stops gate.new) }
@@ -301,7 +322,8 @@ fn on_users<U: Disk + Drop, G: Gate, R: Wait>(
 fn list_users<U: Disk + Drop, R: Wait>(users: &mut UserDesk<U>, which: Option<Uid>, rt: &R) -> Ask
     requires no_rows { users.old.rows.items ≡ [] }
     ensures same { IsSameUserSeat users.old.seat users.new.seat }
-    ensures asked { IsAsked users.old.seat (to_do (UserOp.Rows which)) heard_ask result users.new.rows.items users.new.seat.seen NothingAsked }
+    ensures asked { IsAsked users.old.seat (to_do (UserOp.Rows which)) heard_ask result
+        users.new.rows.items users.new.seat.seen NothingAsked }
     ensures apt { (d : Dimensions) → IsAptAsk d result }
 {
     match users.seat.rows(which, rt) {
@@ -324,7 +346,8 @@ fn change_users<U: Disk + Drop, G: Gate, R: Wait>(
     requires named { NamesUid op }
     requires no_rows { users.old.rows.items ≡ [] }
     ensures same { IsSameUserSeat users.old.seat users.new.seat }
-    ensures asked { AskedIs users.old.seat (to_do op) heard_ask users.new.rows.items users.new.seat.seen (G.asked gate.old gate.new) result }
+    ensures asked { AskedIs users.old.seat (to_do op) heard_ask users.new.rows.items
+        users.new.seat.seen (G.asked gate.old gate.new) result }
     ensures apt { (d : Dimensions) → IfSome result (IsAptAsk d) }
     ensures unstopped { result ≢ None → G.stops gate.new ≡ G.stops gate.old }
     ensures stopped { result ≡ None → Rose (G.stops gate.old) (G.stops gate.new) }

@@ -47,15 +47,23 @@ fn resume<D: Disk + Drop, G: Gate, R: Wait>(
 ) -> Mended
     requires pass { HasPass turns.now pass.old }
     requires fabric { (opening_of D.state turns.now.first).site.fabric ≡ fabric.now }
-    requires restart { (h : List Entry) × Saw (opening_of D.state turns.now.first) pass.old.seen h × HasRestart D.told D.state (opening_of D.state turns.now.first) pass.old.number asked.now h driver.value.p driver.value.rolling }
+    requires restart { (h : List Entry) × Saw (opening_of D.state turns.now.first) pass.old.seen h
+        × HasRestart D.told D.state (opening_of D.state turns.now.first) pass.old.number asked.now h
+        driver.value.p driver.value.rolling }
     ensures pass { HasPass turns.now pass.new × (pass.new.number ≡ pass.old.number) }
-    ensures mended { (h : List Entry) → Saw (opening_of D.state turns.now.first) pass.old.seen h → MendedIs (opening_of D.state turns.now.first) pass.old.number h asked.now pass.new.seen result }
+    ensures mended { (h : List Entry) → Saw (opening_of D.state turns.now.first) pass.old.seen h
+        → MendedIs (opening_of D.state turns.now.first) pass.old.number h asked.now pass.new.seen
+        result }
     ensures astray { SawNoneAstray D.told pass.new.seen }
     ensures going { result ≢ Mended.Stopped → G.stops gate.new ≡ G.stops gate.old }
     ensures stopped { result ≡ Mended.Stopped → Rose (G.stops gate.old) (G.stops gate.new) }
     ensures later { G.stops gate.old ≤ G.stops gate.new }
-    ensures asked { ((result ≡ Mended.Ready) × RollAsked (G.asked gate.old gate.new) (length (rest_of driver.value.rolling)) Pass1.Go) ⊎ ((result ≡ Mended.Stopped) × RollAsked (G.asked gate.old gate.new) (length (rest_of driver.value.rolling)) Pass1.Stop) }
-    ensures entered { (h : List Entry) → Saw (opening_of D.state turns.now.first) pass.old.seen h → Entered (opening_of D.state turns.now.first) pass.old.number (G.asked gate.old gate.new) true false h pass.new.seen }
+    ensures asked { ((result ≡ Mended.Ready) × RollAsked (G.asked gate.old gate.new)
+        (length (rest_of driver.value.rolling)) Pass1.Go) ⊎ ((result ≡ Mended.Stopped) × RollAsked
+        (G.asked gate.old gate.new) (length (rest_of driver.value.rolling)) Pass1.Stop) }
+    ensures entered { (h : List Entry) → Saw (opening_of D.state turns.now.first) pass.old.seen h
+        → Entered (opening_of D.state turns.now.first) pass.old.number (G.asked gate.old gate.new)
+        true false h pass.new.seen }
 {
     let mut driver = driver;
     let held = &mut *driver;
@@ -85,13 +93,17 @@ pub fn mend<D: Disk + Drop, G: Gate, R: Wait>(
     requires asked { IsDriven asked.now }
     requires seen { (h : List Entry) × Saw (opening_of D.state turns.now.first) pass.old.seen h }
     ensures pass { HasPass turns.now pass.new × (pass.new.number ≡ pass.old.number) }
-    ensures mended { (h : List Entry) → Saw (opening_of D.state turns.now.first) pass.old.seen h → MendedIs (opening_of D.state turns.now.first) pass.old.number h asked.now pass.new.seen result }
+    ensures mended { (h : List Entry) → Saw (opening_of D.state turns.now.first) pass.old.seen h
+        → MendedIs (opening_of D.state turns.now.first) pass.old.number h asked.now pass.new.seen
+        result }
     ensures astray { SawNoneAstray D.told pass.new.seen }
     ensures going { result ≢ Mended.Stopped → G.stops gate.new ≡ G.stops gate.old }
     ensures stopped { result ≡ Mended.Stopped → Rose (G.stops gate.old) (G.stops gate.new) }
     ensures later { G.stops gate.old ≤ G.stops gate.new }
     ensures asked { MendAsked (G.asked gate.old gate.new) result }
-    ensures entered { (h : List Entry) → Saw (opening_of D.state turns.now.first) pass.old.seen h → Entered (opening_of D.state turns.now.first) pass.old.number (G.asked gate.old gate.new) false false h pass.new.seen }
+    ensures entered { (h : List Entry) → Saw (opening_of D.state turns.now.first) pass.old.seen h
+        → Entered (opening_of D.state turns.now.first) pass.old.number (G.asked gate.old gate.new)
+        false false h pass.new.seen }
 {
     match restart(pass, turns, fabric, asked, gate, rt) {
         Restarting::Rolling(driver) => resume(pass, turns, fabric, asked, driver, gate, rt),
@@ -114,13 +126,17 @@ pub fn warm_restart<D: Disk + Drop, G: Gate, R: Wait>(
     requires fabric { (opening_of D.state turns.now.first).site.fabric ≡ fabric.now }
     requires seen { (h : List Entry) × Saw (opening_of D.state turns.now.first) pass.old.seen h }
     ensures pass { HasPass turns.now pass.new × (pass.new.number ≡ pass.old.number) }
-    ensures restarted { (h : List Entry) → Saw (opening_of D.state turns.now.first) pass.old.seen h → WarmRestartIs (opening_of D.state turns.now.first) pass.old.number h pass.new.seen result }
+    ensures restarted { (h : List Entry) → Saw (opening_of D.state turns.now.first) pass.old.seen h
+        → WarmRestartIs (opening_of D.state turns.now.first) pass.old.number h pass.new.seen
+        result }
     ensures astray { SawNoneAstray D.told pass.new.seen }
     ensures done { result ≢ Changed.Stopped → G.stops gate.new ≡ G.stops gate.old }
     ensures stopped { result ≡ Changed.Stopped → Rose (G.stops gate.old) (G.stops gate.new) }
     ensures later { G.stops gate.old ≤ G.stops gate.new }
     ensures asked { WarmAsked (G.asked gate.old gate.new) result }
-    ensures entered { (h : List Entry) → Saw (opening_of D.state turns.now.first) pass.old.seen h → Entered (opening_of D.state turns.now.first) pass.old.number (G.asked gate.old gate.new) false false h pass.new.seen }
+    ensures entered { (h : List Entry) → Saw (opening_of D.state turns.now.first) pass.old.seen h
+        → Entered (opening_of D.state turns.now.first) pass.old.number (G.asked gate.old gate.new)
+        false false h pass.new.seen }
 {
     let mut rest = Rest::new();
     for _ in rt.forever() {

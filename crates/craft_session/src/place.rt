@@ -47,7 +47,8 @@ impl<D: Disk, U: Disk> Model for Place<D, U> {
 
     ghost coded = { place_coded };
 
-    ghost view = { λ p. record { shelf = arc_value p.desk.shelf; seat = p.desk.seat; users = p.desk.users.seat } };
+    ghost view = { λ p. record
+        { shelf = arc_value p.desk.shelf; seat = p.desk.seat; users = p.desk.users.seat } };
 
     ghost invariant = { λ p. 0 < vec_len p.piece };
 }
@@ -55,7 +56,8 @@ impl<D: Disk, U: Disk> Model for Place<D, U> {
 /// Room for rows, for changes and for a read.
 // Apart, since each call that may fail here has no place's parts to drop.
 fn buffers(alloc: Global, ports: usize) -> Result<(Vec<Conn>, Vec<Change>, Vec<u8>), NoMemory>
-    ensures { IfOk result (λ b. (ports ≤ vec_capacity b.0) × (kept ≤ vec_capacity b.1) × (0 < vec_len b.2)) }
+    ensures { IfOk result
+        (λ b. (ports ≤ vec_capacity b.0) × (kept ≤ vec_capacity b.1) × (0 < vec_len b.2)) }
 {
     let rows = Vec::with_capacity(alloc, ports)?;
     let changes = Vec::with_capacity(alloc, KEPT)?;
@@ -80,8 +82,14 @@ impl<D: Disk + Drop, U: Disk + Drop> Place<D, U> {
         requires users_number { number ≡ users_pass.number }
         requires seated { IsSeated D.told D.state pass (arc_value turns) (arc_value fabric) }
         requires users_seated { IsUserSeated U.state users_pass (arc_value users) }
-        requires shape { (opening_of D.state (arc_value turns).first).first.fold.table.shape ≡ (arc_value shelf).shape }
-        ensures { IfOk result (λ p. p ≡ record { shelf = arc_value shelf; seat = seat_at D.state pass (arc_value turns); users = user_seat_at U.state users_pass (arc_value users) }) }
+        requires shape { (opening_of D.state (arc_value turns).first).first.fold.table.shape
+            ≡ (arc_value shelf).shape }
+        ensures { IfOk result (λ p. p ≡ record {
+          shelf = arc_value shelf;
+          seat = seat_at D.state
+              pass (arc_value turns);
+          users = user_seat_at U.state users_pass (arc_value users);
+        }) }
     {
         let _ = number;
         let (rows, changes, piece) = buffers(alloc, shelf.shape().ports() as usize)?;

@@ -37,9 +37,11 @@ pub fn open_places<D: Disk + Drop, U: Disk + Drop>(
     requires some { 0 < count }
     requires begins { Begins D.told D.state state }
     requires users_begin { UsersBegin U.told U.state users }
-    requires opening { IsAtOpening (opening_of D.state state) (arc_value shelf.now) (arc_value fabric.now) }
+    requires opening { IsAtOpening (opening_of D.state state) (arc_value shelf.now)
+        (arc_value fabric.now) }
     ensures each { IfOk result (λ ps. vec_len ps ≡ count) }
-    ensures places { IfOk result (λ ps. ArePlaces (arc_value shelf.now) (opening_of D.state state) (users_opening U.state users) count 0 ps.items) }
+    ensures places { IfOk result (λ ps. ArePlaces (arc_value shelf.now) (opening_of D.state state)
+        (users_opening U.state users) count 0 ps.items) }
 {
     let (turns, mut passes) = turns_of(alloc, state, count)?;
     let (users, mut users_passes) = turns_of(alloc, users, count)?;
@@ -63,7 +65,8 @@ pub fn turns_of<S: Sequential + Drop>(
 ) -> Result<(Arc<Turnstile<S>>, Vec<Pass>), NoMemory>
     requires some { 0 < count }
     requires stands { S.stands state [] }
-    ensures turns { IfOk result (λ r. ((arc_value r.0).first ≡ state) × ((arc_value r.0).passes ≡ count)) }
+    ensures turns { IfOk result
+        (λ r. ((arc_value r.0).first ≡ state) × ((arc_value r.0).passes ≡ count)) }
     ensures each { IfOk result (λ r. length r.1.items ≡ count) }
     ensures fresh { IfOk result (λ r. AreFresh (arc_value r.0).id 0 r.1.items) }
 {
@@ -77,7 +80,8 @@ pub fn turns_of<S: Sequential + Drop>(
 /// Takes the first of some passes, that with the lowest number.
 pub fn next_pass(passes: &mut Vec<Pass>) -> Pass
     requires some { 0 < length passes.old.items }
-    ensures next { (id : Ident) → (n : ℕ) → AreFresh id n passes.old.items → (result ≡ fresh_pass id n) × AreFresh id (n + 1) passes.new.items }
+    ensures next { (id : Ident) → (n : ℕ) → AreFresh id n passes.old.items
+        → (result ≡ fresh_pass id n) × AreFresh id (n + 1) passes.new.items }
     ensures fewer { length passes.new.items + 1 ≡ length passes.old.items }
 {
     passes.remove(0)
@@ -100,9 +104,12 @@ pub fn place_of<D: Disk + Drop, U: Disk + Drop>(
     requires users_within { number < (arc_value users.now).passes }
     requires begins { Begins D.told D.state (arc_value turns.now).first }
     requires users_begin { UsersBegin U.told U.state (arc_value users.now).first }
-    requires opening { IsAtOpening (opening_of D.state (arc_value turns.now).first) (arc_value shelf.now) (arc_value fabric.now) }
+    requires opening { IsAtOpening (opening_of D.state (arc_value turns.now).first)
+        (arc_value shelf.now) (arc_value fabric.now) }
     requires places { (arc_value users.now).passes ≡ (arc_value turns.now).passes }
-    ensures { IfOk result (λ p. p ≡ place_at (arc_value shelf.now) (opening_of D.state (arc_value turns.now).first) (users_opening U.state (arc_value users.now).first) (arc_value turns.now).passes number) }
+    ensures { IfOk result
+        (λ p. p ≡ place_at (arc_value shelf.now) (opening_of D.state (arc_value turns.now).first)
+        (users_opening U.state (arc_value users.now).first) (arc_value turns.now).passes number) }
 {
     let (Ok(shelf), Ok(fabric), Ok(turns), Ok(users)) = (
         Arc::try_clone(shelf),
@@ -125,8 +132,10 @@ pub fn lone_place<D: Disk + Drop, U: Disk + Drop>(
 ) -> Result<Place<D, U>, NoMemory>
     requires begins { Begins D.told D.state state }
     requires users_begin { UsersBegin U.told U.state users }
-    requires opening { IsAtOpening (opening_of D.state state) (arc_value shelf.now) (arc_value fabric.now) }
-    ensures { IfOk result (λ p. p ≡ place_at (arc_value shelf.now) (opening_of D.state state) (users_opening U.state users) 1 0) }
+    requires opening { IsAtOpening (opening_of D.state state) (arc_value shelf.now)
+        (arc_value fabric.now) }
+    ensures { IfOk result (λ p. p ≡ place_at (arc_value shelf.now) (opening_of D.state state)
+        (users_opening U.state users) 1 0) }
 {
     let mut places = open_places(alloc, shelf, fabric, state, users, 1)?;
     Ok(places.remove(0))

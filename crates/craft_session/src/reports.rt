@@ -43,13 +43,15 @@ pub fn report<K: Link, C: Clock, D: Disk + Drop, U: Disk + Drop, R: Wait>(
     ensures users { desk.new.users ≡ desk.old.users }
     ensures reader { desk.new.reader ≡ desk.old.reader }
     ensures link { Writes K.told (K.state link.old) (K.state link.new) }
-    ensures goes { (first : AUser) → (k : LinkState) → (c : List Moment) → (b : Beginning) →
-        (r : Reader) → (ahead : List ℕ) → IsAt b desk.old.seat desk.old.users.seat → Stands
-        (language_for first (arc_value desk.old.shelf)) K.told C.told k (K.state link.old) c
-        (C.coming clock.old) b (now desk.old) (is_some desk.old.attending.watch) More r ahead
-        → Goes (language_for first (arc_value desk.old.shelf)) K.told C.told k (K.state link.new) c (C.coming clock.new) b (now desk.new) result false r ahead }
+    ensures goes { (first : AUser) → (k : LinkState) → (c : List Moment) → (b : Beginning)
+        → (r : Reader) → (ahead : List ℕ) → IsAt b desk.old.seat desk.old.users.seat
+        → Stands (language_for first (arc_value desk.old.shelf)) K.told C.told k (K.state link.old)
+        c (C.coming clock.old) b (now desk.old) (is_some desk.old.attending.watch) More r ahead
+        → Goes (language_for first (arc_value desk.old.shelf)) K.told C.told k (K.state link.new) c
+        (C.coming clock.new) b (now desk.new) result false r ahead }
     ensures unstopped { result ≢ Progress.Stopped }
-    ensures entered { (h : List Entry) → Saw desk.old.seat.opening desk.old.seat.seen h → Entered desk.old.seat.opening desk.old.seat.place NothingAsked false false h desk.new.seat.seen }
+    ensures entered { (h : List Entry) → Saw desk.old.seat.opening desk.old.seat.seen h → Entered
+        desk.old.seat.opening desk.old.seat.place NothingAsked false false h desk.new.seat.seen }
 {
     match desk.attending.watch {
         Some(cursor) => report_since(desk, link, clock, cursor, rt),
@@ -73,13 +75,15 @@ fn report_since<K: Link, C: Clock, D: Disk + Drop, U: Disk + Drop, R: Wait>(
     ensures users { desk.new.users ≡ desk.old.users }
     ensures reader { desk.new.reader ≡ desk.old.reader }
     ensures link { Writes K.told (K.state link.old) (K.state link.new) }
-    ensures goes { (first : AUser) → (k : LinkState) → (c : List Moment) → (b : Beginning) →
-        (r : Reader) → (ahead : List ℕ) → IsAt b desk.old.seat desk.old.users.seat → Stands
-        (language_for first (arc_value desk.old.shelf)) K.told C.told k (K.state link.old) c
-        (C.coming clock.old) b (now desk.old) (is_some desk.old.attending.watch) More r ahead
-        → Goes (language_for first (arc_value desk.old.shelf)) K.told C.told k (K.state link.new) c (C.coming clock.new) b (now desk.new) result false r ahead }
+    ensures goes { (first : AUser) → (k : LinkState) → (c : List Moment) → (b : Beginning)
+        → (r : Reader) → (ahead : List ℕ) → IsAt b desk.old.seat desk.old.users.seat
+        → Stands (language_for first (arc_value desk.old.shelf)) K.told C.told k (K.state link.old)
+        c (C.coming clock.old) b (now desk.old) (is_some desk.old.attending.watch) More r ahead
+        → Goes (language_for first (arc_value desk.old.shelf)) K.told C.told k (K.state link.new) c
+        (C.coming clock.new) b (now desk.new) result false r ahead }
     ensures unstopped { result ≢ Progress.Stopped }
-    ensures entered { (h : List Entry) → Saw desk.old.seat.opening desk.old.seat.seen h → Entered desk.old.seat.opening desk.old.seat.place NothingAsked false false h desk.new.seat.seen }
+    ensures entered { (h : List Entry) → Saw desk.old.seat.opening desk.old.seat.seen h → Entered
+        desk.old.seat.opening desk.old.seat.place NothingAsked false false h desk.new.seat.seen }
 {
     let looked = desk.seat.look(cursor, &mut desk.changes, rt);
     desk.attending.watch = Some(looked.newest);
@@ -95,13 +99,16 @@ fn tell<K: Link, C: Clock, D: Disk + Drop, U: Disk + Drop>(
     looked: Looked,
 ) -> Sent
     requires few { length desk.old.changes.items ≤ looked.newest }
-    requires of_shape { AllByRecursion (IsChangeOf desk.old.seat.opening.first.fold.table.shape) desk.old.changes.items }
+    requires of_shape { AllByRecursion (IsChangeOf desk.old.seat.opening.first.fold.table.shape)
+        desk.old.changes.items }
     ensures shelf { desk.new.shelf ≡ desk.old.shelf }
     ensures seat { desk.new.seat ≡ desk.old.seat }
     ensures users { desk.new.users ≡ desk.old.users }
     ensures attending { desk.new.attending ≡ desk.old.attending }
     ensures reader { desk.new.reader ≡ desk.old.reader }
-    ensures told { AreTold (language (arc_value desk.old.shelf)) K.told C.told (K.state link.old) (K.state link.new) (C.coming clock.old) (C.coming clock.new) result (found_notices looked.since looked.newest desk.old.changes.items) }
+    ensures told { AreTold (language (arc_value desk.old.shelf)) K.told C.told (K.state link.old)
+        (K.state link.new) (C.coming clock.old) (C.coming clock.new) result
+        (found_notices looked.since looked.newest desk.old.changes.items) }
 {
     let before = looked.newest - desk.changes.as_slice().len() as u64;
     match tell_lost(desk, link, clock, looked.since, before) {
@@ -124,7 +131,8 @@ fn tell_lost<K: Link, C: Clock, D: Disk + Drop, U: Disk + Drop>(
     ensures attending { desk.new.attending ≡ desk.old.attending }
     ensures reader { desk.new.reader ≡ desk.old.reader }
     ensures changes { desk.new.changes ≡ desk.old.changes }
-    ensures told { AreTold (language (arc_value desk.old.shelf)) K.told C.told (K.state link.old) (K.state link.new) (C.coming clock.old) (C.coming clock.new) result (lead since before) }
+    ensures told { AreTold (language (arc_value desk.old.shelf)) K.told C.told (K.state link.old)
+        (K.state link.new) (C.coming clock.old) (C.coming clock.new) result (lead since before) }
 {
     match since {
         Since::All(_) => Sent::Whole,
@@ -143,13 +151,16 @@ fn tell_changes<K: Link, C: Clock, D: Disk + Drop, U: Disk + Drop>(
     before: u64,
 ) -> Sent
     requires few { before + length desk.old.changes.items < 2 ^ 64 }
-    requires of_shape { AllByRecursion (IsChangeOf desk.old.seat.opening.first.fold.table.shape) desk.old.changes.items }
+    requires of_shape { AllByRecursion (IsChangeOf desk.old.seat.opening.first.fold.table.shape)
+        desk.old.changes.items }
     ensures shelf { desk.new.shelf ≡ desk.old.shelf }
     ensures seat { desk.new.seat ≡ desk.old.seat }
     ensures users { desk.new.users ≡ desk.old.users }
     ensures attending { desk.new.attending ≡ desk.old.attending }
     ensures reader { desk.new.reader ≡ desk.old.reader }
-    ensures told { AreTold (language (arc_value desk.old.shelf)) K.told C.told (K.state link.old) (K.state link.new) (C.coming clock.old) (C.coming clock.new) result (numbered before desk.old.changes.items) }
+    ensures told { AreTold (language (arc_value desk.old.shelf)) K.told C.told (K.state link.old)
+        (K.state link.new) (C.coming clock.old) (C.coming clock.new) result
+        (numbered before desk.old.changes.items) }
 {
     for at in 0..desk.changes.as_slice().len() {
         match tell_change(desk, link, clock, before, at) {
@@ -170,14 +181,18 @@ fn tell_change<K: Link, C: Clock, D: Disk + Drop, U: Disk + Drop>(
 ) -> Sent
     requires within { at < length desk.old.changes.items }
     requires few { before + length desk.old.changes.items < 2 ^ 64 }
-    requires of_shape { AllByRecursion (IsChangeOf desk.old.seat.opening.first.fold.table.shape) desk.old.changes.items }
+    requires of_shape { AllByRecursion (IsChangeOf desk.old.seat.opening.first.fold.table.shape)
+        desk.old.changes.items }
     ensures shelf { desk.new.shelf ≡ desk.old.shelf }
     ensures seat { desk.new.seat ≡ desk.old.seat }
     ensures users { desk.new.users ≡ desk.old.users }
     ensures attending { desk.new.attending ≡ desk.old.attending }
     ensures reader { desk.new.reader ≡ desk.old.reader }
     ensures changes { desk.new.changes ≡ desk.old.changes }
-    ensures told { (d : Change) → IsReported K.told C.told (K.state link.old) (K.state link.new) (C.coming clock.old) (C.coming clock.new) result (λ m. (language (arc_value desk.old.shelf)).report m (change (before + at + 1) (slice_index_or desk.old.changes.items at d))) }
+    ensures told { (d : Change)
+        → IsReported K.told C.told (K.state link.old) (K.state link.new) (C.coming clock.old)
+        (C.coming clock.new) result (λ m. (language (arc_value desk.old.shelf)).report m
+        (change (before + at + 1) (slice_index_or desk.old.changes.items at d))) }
 {
     change_text(desk.shelf.shape(), &desk.changes[at], &mut desk.text);
     tell_one(desk, link, clock, before + at as u64 + 1)
@@ -196,7 +211,9 @@ fn tell_one<K: Link, C: Clock, D: Disk + Drop, U: Disk + Drop>(
     ensures attending { desk.new.attending ≡ desk.old.attending }
     ensures reader { desk.new.reader ≡ desk.old.reader }
     ensures changes { desk.new.changes ≡ desk.old.changes }
-    ensures told { IsReported K.told C.told (K.state link.old) (K.state link.new) (C.coming clock.old) (C.coming clock.new) result (λ m. whole_report (arc_value desk.old.shelf).sid m number desk.old.text.items) }
+    ensures told { IsReported K.told C.told (K.state link.old) (K.state link.new)
+        (C.coming clock.old) (C.coming clock.new) result
+        (λ m. whole_report (arc_value desk.old.shelf).sid m number desk.old.text.items) }
 {
     let moment = clock.now();
     desk.answer

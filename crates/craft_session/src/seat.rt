@@ -47,7 +47,8 @@ impl<D: Disk> Model for Seat<D> {
 
     ghost view = { λ s. seat_at D.state s.pass (arc_value s.turns) };
 
-    ghost invariant = { λ s. IsSeated D.told D.state s.pass (arc_value s.turns) (arc_value s.fabric) };
+    ghost invariant = { λ s. IsSeated D.told D.state s.pass (arc_value s.turns)
+        (arc_value s.fabric) };
 }
 
 impl<D: Disk + Drop> Seat<D> {
@@ -90,8 +91,10 @@ impl<D: Disk + Drop> Seat<D> {
     pub fn rows<R: Wait>(&mut self, selection: Selection, into: &mut Vec<Conn>, rt: &R)
         requires room { ports self.old.opening.first.fold.table.shape ≤ vec_capacity into.old }
         ensures same { IsSameSeat self.old self.new }
-        ensures rows { (h : List Entry) → Saw self.old.opening self.old.seen h → RowsAre self.old.opening self.old.place h selection self.new.seen into.new.items }
-        ensures of_shape { AllByRecursion (IsOfShape self.old.opening.first.fold.table.shape) into.new.items }
+        ensures rows { (h : List Entry) → Saw self.old.opening self.old.seen h
+            → RowsAre self.old.opening self.old.place h selection self.new.seen into.new.items }
+        ensures of_shape { AllByRecursion (IsOfShape self.old.opening.first.fold.table.shape)
+            into.new.items }
         ensures room { vec_capacity into.new ≡ vec_capacity into.old }
     {
         turns::rows(&mut self.pass, &self.turns, selection, into, rt);
@@ -101,9 +104,11 @@ impl<D: Disk + Drop> Seat<D> {
     pub fn look<R: Wait>(&mut self, cursor: u64, into: &mut Vec<Change>, rt: &R) -> Looked
         requires room { kept ≤ vec_capacity into.old }
         ensures same { IsSameSeat self.old self.new }
-        ensures look { (h : List Entry) → Saw self.old.opening self.old.seen h → LookIs self.old.opening self.old.place h cursor self.new.seen result into.new.items }
+        ensures look { (h : List Entry) → Saw self.old.opening self.old.seen h
+            → LookIs self.old.opening self.old.place h cursor self.new.seen result into.new.items }
         ensures few { length into.new.items ≤ result.newest }
-        ensures of_shape { AllByRecursion (IsChangeOf self.old.opening.first.fold.table.shape) into.new.items }
+        ensures of_shape { AllByRecursion (IsChangeOf self.old.opening.first.fold.table.shape)
+            into.new.items }
         ensures room { vec_capacity into.old ≤ vec_capacity into.new }
     {
         turns::look(&mut self.pass, &self.turns, cursor, into, rt)
@@ -112,7 +117,8 @@ impl<D: Disk + Drop> Seat<D> {
     /// Gives the number of the newest change.
     pub fn mark<R: Wait>(&mut self, rt: &R) -> u64
         ensures same { IsSameSeat self.old self.new }
-        ensures mark { (h : List Entry) → Saw self.old.opening self.old.seen h → MarkIs self.old.opening self.old.place h self.new.seen result }
+        ensures mark { (h : List Entry) → Saw self.old.opening self.old.seen h
+            → MarkIs self.old.opening self.old.place h self.new.seen result }
     {
         turns::mark(&mut self.pass, &self.turns, rt)
     }
@@ -120,7 +126,8 @@ impl<D: Disk + Drop> Seat<D> {
     /// Gives which modules are equipped, and which middle is out of service.
     pub fn inventory<R: Wait>(&mut self, rt: &R) -> Inventory
         ensures same { IsSameSeat self.old self.new }
-        ensures inventory { (h : List Entry) → Saw self.old.opening self.old.seen h → InventoryIs self.old.opening self.old.place h self.new.seen result }
+        ensures inventory { (h : List Entry) → Saw self.old.opening self.old.seen h
+            → InventoryIs self.old.opening self.old.place h self.new.seen result }
         ensures of_shape { IsInventoryOf self.old.opening.first.fold.table.shape result }
     {
         turns::read_inventory(&mut self.pass, &self.turns, rt)
@@ -129,12 +136,15 @@ impl<D: Disk + Drop> Seat<D> {
     /// Makes a restart. It waits in the line of those who change something, and for frames in the way.
     pub fn restart<G: Gate, R: Wait>(&mut self, gate: &mut G, rt: &R) -> Changed
         ensures same { IsSameSeat self.old self.new }
-        ensures restarted { (h : List Entry) → Saw self.old.opening self.old.seen h → WarmRestartIs self.old.opening self.old.place h self.new.seen result }
+        ensures restarted { (h : List Entry) → Saw self.old.opening self.old.seen h
+            → WarmRestartIs self.old.opening self.old.place h self.new.seen result }
         ensures done { result ≢ Changed.Stopped → G.stops gate.new ≡ G.stops gate.old }
         ensures stopped { result ≡ Changed.Stopped → Rose (G.stops gate.old) (G.stops gate.new) }
         ensures later { G.stops gate.old ≤ G.stops gate.new }
         ensures asked { WarmAsked (G.asked gate.old gate.new) result }
-        ensures entered { (h : List Entry) → Saw self.old.opening self.old.seen h → Entered self.old.opening self.old.place (G.asked gate.old gate.new) false false h self.new.seen }
+        ensures entered { (h : List Entry) → Saw self.old.opening self.old.seen h
+            → Entered self.old.opening self.old.place (G.asked gate.old gate.new) false false h
+            self.new.seen }
     {
         let turns: &Turnstile<State<D>> = &self.turns;
         turns.stand_in_line(rt);
@@ -147,12 +157,15 @@ impl<D: Disk + Drop> Seat<D> {
     pub fn change<G: Gate, R: Wait>(&mut self, op: &Op, gate: &mut G, rt: &R) -> Changed
         requires apt { IsApt self.old.opening.first.fold.table.shape op.now }
         ensures same { IsSameSeat self.old self.new }
-        ensures changed { (h : List Entry) → Saw self.old.opening self.old.seen h → ChangedIs self.old.opening self.old.place h op.now self.new.seen result }
+        ensures changed { (h : List Entry) → Saw self.old.opening self.old.seen h
+            → ChangedIs self.old.opening self.old.place h op.now self.new.seen result }
         ensures done { result ≢ Changed.Stopped → G.stops gate.new ≡ G.stops gate.old }
         ensures stopped { result ≡ Changed.Stopped → Rose (G.stops gate.old) (G.stops gate.new) }
         ensures later { G.stops gate.old ≤ G.stops gate.new }
         ensures asked { ChangeAsked (G.asked gate.old gate.new) result }
-        ensures entered { (h : List Entry) → Saw self.old.opening self.old.seen h → Entered self.old.opening self.old.place (G.asked gate.old gate.new) false false h self.new.seen }
+        ensures entered { (h : List Entry) → Saw self.old.opening self.old.seen h
+            → Entered self.old.opening self.old.place (G.asked gate.old gate.new) false false h
+            self.new.seen }
     {
         let turns: &Turnstile<State<D>> = &self.turns;
         turns.stand_in_line(rt);

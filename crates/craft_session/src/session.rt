@@ -45,15 +45,17 @@ fn serve_piece<K: Link, C: Clock, G: Gate, D: Disk + Drop, U: Disk + Drop, R: Wa
     ensures seat { IsSameSeat desk.old.seat desk.new.seat }
     ensures users { IsSameUserSeat desk.old.users.seat desk.new.users.seat }
     ensures link { Writes K.told (K.state link.old) (K.state link.new) }
-    ensures goes { (first : AUser) → (k : LinkState) → (c : List Moment) → (b : Beginning) → IsAt b
-        desk.old.seat desk.old.users.seat → Stands (language_for first (arc_value desk.old.shelf))
-        K.told C.told k (K.state link.old) c (C.coming clock.old) b (now desk.old) false More
-        desk.old.reader piece.now
-        → Goes (language_for first (arc_value desk.old.shelf)) K.told C.told k (K.state link.new) c (C.coming clock.new) b (now desk.new) result false desk.new.reader [] }
+    ensures goes { (first : AUser) → (k : LinkState) → (c : List Moment) → (b : Beginning)
+        → IsAt b desk.old.seat desk.old.users.seat
+        → Stands (language_for first (arc_value desk.old.shelf)) K.told C.told k (K.state link.old)
+        c (C.coming clock.old) b (now desk.old) false More desk.old.reader piece.now
+        → Goes (language_for first (arc_value desk.old.shelf)) K.told C.told k (K.state link.new) c
+        (C.coming clock.new) b (now desk.new) result false desk.new.reader [] }
     ensures stopped { result ≡ Progress.Stopped → Rose (G.stops gate.old) (G.stops gate.new) }
     ensures unstopped { result ≢ Progress.Stopped → G.stops gate.new ≡ G.stops gate.old }
     ensures later { G.stops gate.old ≤ G.stops gate.new }
-    ensures asked { AreEntered desk.old.seat desk.old.users.seat (G.asked gate.old gate.new) desk.new.seat.seen desk.new.users.seat.seen }
+    ensures asked { AreEntered desk.old.seat desk.old.users.seat (G.asked gate.old gate.new)
+        desk.new.seat.seen desk.new.users.seat.seen }
 {
     let mut at = 0;
     while at < piece.len() {
@@ -82,15 +84,17 @@ fn serve_unit<K: Link, C: Clock, G: Gate, D: Disk + Drop, U: Disk + Drop, R: Wai
     ensures users { IsSameUserSeat desk.old.users.seat desk.new.users.seat }
     ensures reader { desk.new.reader ≡ desk.old.reader }
     ensures link { Writes K.told (K.state link.old) (K.state link.new) }
-    ensures goes { (first : AUser) → (k : LinkState) → (c : List Moment) → (b : Beginning) →
-        (ahead : List ℕ) → IsAt b desk.old.seat desk.old.users.seat → Stands
-        (language_for first (arc_value desk.old.shelf)) K.told C.told k (K.state link.old) c
-        (C.coming clock.old) b (now desk.old) false kind desk.old.reader ahead
-        → Goes (language_for first (arc_value desk.old.shelf)) K.told C.told k (K.state link.new) c (C.coming clock.new) b (now desk.new) result false desk.old.reader ahead }
+    ensures goes { (first : AUser) → (k : LinkState) → (c : List Moment) → (b : Beginning)
+        → (ahead : List ℕ) → IsAt b desk.old.seat desk.old.users.seat
+        → Stands (language_for first (arc_value desk.old.shelf)) K.told C.told k (K.state link.old)
+        c (C.coming clock.old) b (now desk.old) false kind desk.old.reader ahead
+        → Goes (language_for first (arc_value desk.old.shelf)) K.told C.told k (K.state link.new) c
+        (C.coming clock.new) b (now desk.new) result false desk.old.reader ahead }
     ensures stopped { result ≡ Progress.Stopped → Rose (G.stops gate.old) (G.stops gate.new) }
     ensures unstopped { result ≢ Progress.Stopped → G.stops gate.new ≡ G.stops gate.old }
     ensures later { G.stops gate.old ≤ G.stops gate.new }
-    ensures asked { AreEntered desk.old.seat desk.old.users.seat (G.asked gate.old gate.new) desk.new.seat.seen desk.new.users.seat.seen }
+    ensures asked { AreEntered desk.old.seat desk.old.users.seat (G.asked gate.old gate.new)
+        desk.new.seat.seen desk.new.users.seat.seen }
 {
     match kind {
         UnitKind::More => Progress::On,
@@ -114,15 +118,17 @@ fn attend<K: Link, C: Clock, G: Gate, D: Disk + Drop, U: Disk + Drop, R: Wait>(
     ensures users { IsSameUserSeat desk.old.users.seat desk.new.users.seat }
     ensures reader { desk.new.reader ≡ desk.old.reader }
     ensures link { Writes K.told (K.state link.old) (K.state link.new) }
-    ensures goes { (first : AUser) → (k : LinkState) → (c : List Moment) → (b : Beginning) →
-        (ahead : List ℕ) → IsAt b desk.old.seat desk.old.users.seat → Stands
-        (language_for first (arc_value desk.old.shelf)) K.told C.told k (K.state link.old) c
-        (C.coming clock.old) b (now desk.old) false kind desk.old.reader ahead
-        → Goes (language_for first (arc_value desk.old.shelf)) K.told C.told k (K.state link.new) c (C.coming clock.new) b (now desk.new) result false desk.old.reader ahead }
+    ensures goes { (first : AUser) → (k : LinkState) → (c : List Moment) → (b : Beginning)
+        → (ahead : List ℕ) → IsAt b desk.old.seat desk.old.users.seat
+        → Stands (language_for first (arc_value desk.old.shelf)) K.told C.told k (K.state link.old)
+        c (C.coming clock.old) b (now desk.old) false kind desk.old.reader ahead
+        → Goes (language_for first (arc_value desk.old.shelf)) K.told C.told k (K.state link.new) c
+        (C.coming clock.new) b (now desk.new) result false desk.old.reader ahead }
     ensures stopped { result ≡ Progress.Stopped → Rose (G.stops gate.old) (G.stops gate.new) }
     ensures unstopped { result ≢ Progress.Stopped → G.stops gate.new ≡ G.stops gate.old }
     ensures later { G.stops gate.old ≤ G.stops gate.new }
-    ensures asked { AreEntered desk.old.seat desk.old.users.seat (G.asked gate.old gate.new) desk.new.seat.seen desk.new.users.seat.seen }
+    ensures asked { AreEntered desk.old.seat desk.old.users.seat (G.asked gate.old gate.new)
+        desk.new.seat.seen desk.new.users.seat.seen }
 {
     match answer(desk, link, clock, gate, rt, kind) {
         Progress::On => report(desk, link, clock, rt),
@@ -145,11 +151,14 @@ fn answer<K: Link, C: Clock, G: Gate, D: Disk + Drop, U: Disk + Drop, R: Wait>(
     ensures users { IsSameUserSeat desk.old.users.seat desk.new.users.seat }
     ensures reader { desk.new.reader ≡ desk.old.reader }
     ensures link { Writes K.told (K.state link.old) (K.state link.new) }
-    ensures answered { IsAnswered (arc_value desk.old.shelf) K.told C.told (K.state link.old) (K.state link.new) (C.coming clock.old) (C.coming clock.new) (input_of kind desk.old.reader) desk.old.seat desk.old.users.seat (now desk.old) (now desk.new) result }
+    ensures answered { IsAnswered (arc_value desk.old.shelf) K.told C.told (K.state link.old)
+        (K.state link.new) (C.coming clock.old) (C.coming clock.new) (input_of kind desk.old.reader)
+        desk.old.seat desk.old.users.seat (now desk.old) (now desk.new) result }
     ensures stopped { result ≡ Progress.Stopped → Rose (G.stops gate.old) (G.stops gate.new) }
     ensures unstopped { result ≢ Progress.Stopped → G.stops gate.new ≡ G.stops gate.old }
     ensures later { G.stops gate.old ≤ G.stops gate.new }
-    ensures asked { AreEntered desk.old.seat desk.old.users.seat (G.asked gate.old gate.new) desk.new.seat.seen desk.new.users.seat.seen }
+    ensures asked { AreEntered desk.old.seat desk.old.users.seat (G.asked gate.old gate.new)
+        desk.new.seat.seen desk.new.users.seat.seen }
 {
     let mut tag = None;
     let mut ask = Ask::Completes;
@@ -186,7 +195,9 @@ fn ask_of<G: Gate, D: Disk + Drop, U: Disk + Drop, R: Wait>(
     ensures users { IsSameUserSeat desk.old.users.seat desk.new.users.seat }
     ensures attending { desk.new.attending ≡ desk.old.attending }
     ensures reader { desk.new.reader ≡ desk.old.reader }
-    ensures consulted { ConsultedIs (arc_value desk.old.shelf) desk.old.attending.user (input_of kind desk.old.reader) desk.old.users.seat desk.new.users.rows.items desk.new.users.seat.seen (G.asked gate.old gate.new) tag.new ask.new result }
+    ensures consulted { ConsultedIs (arc_value desk.old.shelf) desk.old.attending.user
+        (input_of kind desk.old.reader) desk.old.users.seat desk.new.users.rows.items
+        desk.new.users.seat.seen (G.asked gate.old gate.new) tag.new ask.new result }
     ensures apt { result ≡ Pass1.Go → IsAptAsk (arc_value desk.old.shelf).shape ask.new }
     ensures unstopped { result ≡ Pass1.Go → G.stops gate.new ≡ G.stops gate.old }
     ensures stopped { result ≡ Pass1.Stop → Rose (G.stops gate.old) (G.stops gate.new) }
@@ -221,8 +232,8 @@ pub fn serve_session<K: Link, C: Clock, G: Gate, D: Disk + Drop, U: Disk + Drop,
     gate: &mut G,
     rt: &R,
 ) -> SessionEnd
-    ensures { Served ⟦<(K, C, G, D) as Lent>⟧
-        (place.old, link.old, clock.old, gate.old) (place.new, link.new, clock.new, gate.new) result }
+    ensures { Served ⟦<(K, C, G, D) as Lent>⟧ (place.old, link.old, clock.old, gate.old)
+        (place.new, link.new, clock.new, gate.new) result }
 {
     serve_session_of(place, SessionUser::Nobody, link, clock, gate, rt)
 }
@@ -271,14 +282,19 @@ fn serve<K: Link, C: Clock, G: Gate, D: Disk + Drop, U: Disk + Drop, R: Wait>(
         desk.old.seat desk.old.users.seat }
     ensures end { (result ≡ SessionEnd.End) ↔ IsTrue (K.state link.new).ended }
     ensures all_read { K.told → result ≡ SessionEnd.End → (K.state link.new).left ≡ [] }
-    ensures read_fault { result ≡ SessionEnd.ReadFault → Rose (K.state link.old).read_faults (K.state link.new).read_faults }
-    ensures no_read_fault { result ≢ SessionEnd.ReadFault → (K.state link.new).read_faults ≡ (K.state link.old).read_faults }
-    ensures write_fault { result ≡ SessionEnd.WriteFault → Rose (K.state link.old).write_faults (K.state link.new).write_faults }
+    ensures read_fault { result ≡ SessionEnd.ReadFault
+        → Rose (K.state link.old).read_faults (K.state link.new).read_faults }
+    ensures no_read_fault { result ≢ SessionEnd.ReadFault
+        → (K.state link.new).read_faults ≡ (K.state link.old).read_faults }
+    ensures write_fault { result ≡ SessionEnd.WriteFault
+        → Rose (K.state link.old).write_faults (K.state link.new).write_faults }
     ensures stopped { result ≡ SessionEnd.Stopped → Rose (G.stops gate.old) (G.stops gate.new) }
     ensures unstopped { result ≢ SessionEnd.Stopped → G.stops gate.new ≡ G.stops gate.old }
     ensures later { G.stops gate.old ≤ G.stops gate.new }
-    ensures asked { AreEntered desk.old.seat desk.old.users.seat (G.asked gate.old gate.new) desk.new.seat.seen desk.new.users.seat.seen }
-    ensures spent { result ≡ SessionEnd.Spent → Counted (K.state link.old).reads (K.state link.new).reads (2 ^ 32) }
+    ensures asked { AreEntered desk.old.seat desk.old.users.seat (G.asked gate.old gate.new)
+        desk.new.seat.seen desk.new.users.seat.seen }
+    ensures spent { result ≡ SessionEnd.Spent
+        → Counted (K.state link.old).reads (K.state link.new).reads (2 ^ 32) }
     ensures few { (K.state link.new).reads ≤ (K.state link.old).reads + 2 ^ 32 }
 {
     // Their clauses tell that the seats have seen histories.

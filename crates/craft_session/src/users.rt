@@ -61,7 +61,8 @@ impl<U: Disk + Drop> UserSeat<U> {
     /// The class of the user of a name, case aside, who has the PID, as the users stand.
     pub fn login<R: Wait>(&mut self, uid: Uid, pid: &[u8], rt: &R) -> Option<Class>
         ensures same { IsSameUserSeat self.old self.new }
-        ensures logged { (h : List Entry) → Saw self.old.opening self.old.seen h → LoggedIn self.old.opening self.old.place h uid pid.now self.new.seen result }
+        ensures logged { (h : List Entry) → Saw self.old.opening self.old.seen h
+            → LoggedIn self.old.opening self.old.place h uid pid.now self.new.seen result }
     {
         turns::login(&mut self.pass, &self.turns, uid, pid, rt)
     }
@@ -69,7 +70,9 @@ impl<U: Disk + Drop> UserSeat<U> {
     /// The names of all users with their classes, in order of names, or of one; UnknownUser is the only cause against it.
     pub fn rows<R: Wait>(&mut self, which: Option<Uid>, rt: &R) -> Result<UserRows, Cause>
         ensures same { IsSameUserSeat self.old self.new }
-        ensures rows { (h : List Entry) → Saw self.old.opening self.old.seen h → MatchResult result (λ given. RowsAre self.old.opening self.old.place h which self.new.seen given.items) (RowsDenied self.old.opening self.old.place h which self.new.seen) }
+        ensures rows { (h : List Entry) → Saw self.old.opening self.old.seen h → MatchResult result
+            (λ given. RowsAre self.old.opening self.old.place h which self.new.seen given.items)
+            (RowsDenied self.old.opening self.old.place h which self.new.seen) }
     {
         turns::rows(&mut self.pass, &self.turns, which, rt)
     }
@@ -79,7 +82,8 @@ impl<U: Disk + Drop> UserSeat<U> {
         requires changing { IsChanging op }
         requires named { NamesUid op }
         ensures same { IsSameUserSeat self.old self.new }
-        ensures took { (h : List Entry) → Saw self.old.opening self.old.seen h → TookIs self.old.opening self.old.place h op self.new.seen result }
+        ensures took { (h : List Entry) → Saw self.old.opening self.old.seen h
+            → TookIs self.old.opening self.old.place h op self.new.seen result }
         ensures stopped { result ≡ UserTook.Stopped → Rose (G.stops gate.old) (G.stops gate.new) }
         ensures unstopped { result ≢ UserTook.Stopped → G.stops gate.new ≡ G.stops gate.old }
         ensures later { G.stops gate.old ≤ G.stops gate.new }

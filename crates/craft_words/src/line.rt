@@ -121,7 +121,8 @@ fn mode_of(word: &str) -> Option<Mode>
 // The line of a mode and the words behind it.
 fn line_with(alloc: Global, mode: &str, rest: &[&str]) -> Result<Line, WordsFault>
     ensures line { IfOk result (Spells (mode.now ∷ texts rest.now)) }
-    ensures no_line { result ≡ Err WordsFault.BadWords → (l : Line) → Spells (mode.now ∷ texts rest.now) l → ⊥ }
+    ensures no_line { result ≡ Err WordsFault.BadWords → (l : Line)
+        → Spells (mode.now ∷ texts rest.now) l → ⊥ }
 {
     match mode_of(mode) {
         Some(Mode::Script) => script_line(alloc, rest),
@@ -173,7 +174,8 @@ fn trial_line(modules: &Name, slots: &Name) -> Result<Line, WordsFault>
 // The names that two words are.
 fn two_names(alloc: Global, rest: &[&str]) -> Result<(Name, Name), WordsFault>
     ensures names { IfOk result (λ p. texts rest.now ≡ p.0 ∷ p.1 ∷ []) }
-    ensures other { result ≡ Err WordsFault.BadWords → (a : List ℕ) → (b : List ℕ) → texts rest.now ≢ a ∷ b ∷ [] }
+    ensures other { result ≡ Err WordsFault.BadWords → (a : List ℕ) → (b : List ℕ)
+        → texts rest.now ≢ a ∷ b ∷ [] }
 {
     match rest {
         [first, second] => Ok((name_of(alloc, first)?, name_of(alloc, second)?)),
@@ -183,7 +185,8 @@ fn two_names(alloc: Global, rest: &[&str]) -> Result<(Name, Name), WordsFault>
 
 fn serve_line(alloc: Global, rest: &[&str]) -> Result<Line, WordsFault>
     ensures line { IfOk result (Spells (codes "serve" ∷ texts rest.now)) }
-    ensures no_line { result ≡ Err WordsFault.BadWords → (l : Line) → Spells (codes "serve" ∷ texts rest.now) l → ⊥ }
+    ensures no_line { result ≡ Err WordsFault.BadWords → (l : Line)
+        → Spells (codes "serve" ∷ texts rest.now) l → ⊥ }
 {
     match rest {
         [shelf, journal, address, lines, workers, behind @ ..] => {
@@ -207,7 +210,8 @@ fn serve_line(alloc: Global, rest: &[&str]) -> Result<Line, WordsFault>
 // The peer that the last word of `serve` names, where there is one.
 fn peer_in(alloc: Global, behind: &[&str]) -> Result<Option<Name>, WordsFault>
     ensures peer { IfOk result (λ p. texts behind.now ≡ peer_words p) }
-    ensures no_peer { result ≡ Err WordsFault.BadWords → (p : Option (List ℕ)) → texts behind.now ≢ peer_words p }
+    ensures no_peer { result ≡ Err WordsFault.BadWords → (p : Option (List ℕ))
+        → texts behind.now ≢ peer_words p }
 {
     match behind {
         [] => Ok(None),
@@ -218,7 +222,8 @@ fn peer_in(alloc: Global, behind: &[&str]) -> Result<Option<Name>, WordsFault>
 
 fn load_line(rest: &[&str]) -> Result<Line, WordsFault>
     ensures line { IfOk result (Spells (codes "load" ∷ texts rest.now)) }
-    ensures no_line { result ≡ Err WordsFault.BadWords → (l : Line) → Spells (codes "load" ∷ texts rest.now) l → ⊥ }
+    ensures no_line { result ≡ Err WordsFault.BadWords → (l : Line)
+        → Spells (codes "load" ∷ texts rest.now) l → ⊥ }
 {
     match rest {
         [number] => match number_of(number) {

@@ -155,7 +155,9 @@ fn port_of_numbers(shape: Shape, text: &[u8]) -> Option<Port>
 #[inline(always)]
 fn port_in(shape: Shape, number: u16, slot: &[u8]) -> Option<Port>
     requires least { 1 ≤ number }
-    ensures port { result ≡ option_and_then (λ m. option_map (λ s. port_at shape m s) (option_and_then (up_to shape.slots) (written_number slot.now))) (up_to shape.modules number) }
+    ensures port { result ≡ option_and_then (λ m. option_map (λ s. port_at shape m s)
+        (option_and_then (up_to shape.slots) (written_number slot.now)))
+        (up_to shape.modules number) }
     ensures inside { IfSome result (IsPort shape) }
 {
     if number > shape.modules() {

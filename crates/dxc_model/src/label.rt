@@ -20,9 +20,12 @@ impl Model for Label {
 
     ghost view = { λ l. take l.count l.bytes };
 
-    ghost invariant = { λ l. (l.count ≤ 24) × (length (take l.count l.bytes) ≡ l.count) × (take l.count l.bytes ++ replicate (24 - l.count) 0 ≡ l.bytes) × (is_label (take l.count l.bytes) ≡ true) };
+    ghost invariant = { λ l. (l.count ≤ 24) × (length (take l.count l.bytes) ≡ l.count)
+        × (take l.count l.bytes ++ replicate (24 - l.count) 0 ≡ l.bytes)
+        × (is_label (take l.count l.bytes) ≡ true) };
 
-    ghost inverse = { λ text. record { bytes = text ++ replicate (24 - length text) 0; count = length text } };
+    ghost inverse = { λ text. record
+        { bytes = text ++ replicate (24 - length text) 0; count = length text } };
 
     ghost inverse_ok = { λ l h i. record {
       bytes = (ap (λ n. take l.count l.bytes ++ replicate (24 - n) 0) h.1 ∙ h.2) i;

@@ -17,9 +17,11 @@ impl Model for Uid {
 
     ghost view = { λ u. take u.count u.bytes };
 
-    ghost invariant = { λ u. (u.count ≤ 10) × (length (take u.count u.bytes) ≡ u.count) × (take u.count u.bytes ++ replicate (10 - u.count) 0 ≡ u.bytes) };
+    ghost invariant = { λ u. (u.count ≤ 10) × (length (take u.count u.bytes) ≡ u.count)
+        × (take u.count u.bytes ++ replicate (10 - u.count) 0 ≡ u.bytes) };
 
-    ghost inverse = { λ text. record { bytes = text ++ replicate (10 - length text) 0; count = length text } };
+    ghost inverse = { λ text. record
+        { bytes = text ++ replicate (10 - length text) 0; count = length text } };
 
     ghost inverse_ok = { λ u h i. record {
       bytes = (ap (λ n. take u.count u.bytes ++ replicate (10 - n) 0) h.1 ∙ h.2) i;

@@ -33,7 +33,8 @@ impl Shape {
 
     /// None exactly where the modules are outside 2 to 64 or the slots outside 1 to 96.
     pub fn new(modules: u16, slots: u16) -> Option<Shape>
-        ensures { MatchOption result (¬ IsInLimits (record { modules = modules; slots = slots })) (λ s. (s ≡ record { modules = modules; slots = slots }) × IsInLimits s) }
+        ensures { MatchOption result (¬ IsInLimits (record { modules = modules; slots = slots }))
+            (λ s. (s ≡ record { modules = modules; slots = slots }) × IsInLimits s) }
     {
         if (2..=Self::MODULES).contains(&modules) && (1..=Self::SLOTS).contains(&slots) {
             Some(Shape { modules, slots })

@@ -25,7 +25,8 @@ fn place_of<T>(all: &[(Name, T)], name: &str) -> Option<usize>
 pub(crate) fn take_named<T>(all: &mut Vec<(Name, T)>, name: &str) -> Option<T>
     ensures taken { result ≡ held_of name.now all.old.items }
     ensures left { all.new.items ≡ without_first (λ d. bytes_eq d.0 name.now) all.old.items }
-    ensures others { (n : List ℕ) → n ≢ name.now → held_of n all.new.items ≡ held_of n all.old.items }
+    ensures others { (n : List ℕ) → n ≢ name.now
+        → held_of n all.new.items ≡ held_of n all.old.items }
     ensures none { result ≡ None → all.new.items ≡ all.old.items }
 {
     let at = place_of(all, name)?;
@@ -48,7 +49,8 @@ pub(crate) fn take_lines(
     worker: u16,
 ) -> Option<MemLines>
     ensures taken { result ≡ lines_of name.now worker lines.old.items }
-    ensures left { lines.new.items ≡ without_first (λ d. are_lines name.now worker d) lines.old.items }
+    ensures left { lines.new.items ≡ without_first (λ d. are_lines name.now worker d)
+        lines.old.items }
 {
     let at = place_for(lines, name, worker)?;
     let (_, _, taken) = lines.remove(at);

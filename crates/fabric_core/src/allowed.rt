@@ -59,7 +59,9 @@ impl Mover {
         requires sized { IsSize size }
         requires laid { IsLaidOut size self.now }
         requires inside { IsInside size.shape leg × IsMiddle size.shape middle }
-        ensures { IsTrue result ↔ ((in_word size.shape self.now.registers (module_of size.shape leg.input) middle ≡ 0) × (mid_word size.shape self.now.registers middle (module_of size.shape leg.output) ≡ 0)) }
+        ensures { IsTrue result ↔
+            ((in_word size.shape self.now.registers (module_of size.shape leg.input) middle ≡ 0) ×
+            (mid_word size.shape self.now.registers middle (module_of size.shape leg.output) ≡ 0)) }
     {
         let shape = size.shape;
         let input_module = shape.module_of(leg.input);
@@ -82,7 +84,8 @@ impl Mover {
     }
 
     fn is_new(&self, leg: Leg) -> bool
-        requires { (leg.output.0 < length self.now.legs) × (leg.output.0 < length self.now.registers.outs) }
+        requires { (leg.output.0 < length self.now.legs)
+            × (leg.output.0 < length self.now.registers.outs) }
         ensures { IsTrue result ↔ IsNew self.now leg }
     {
         self.legs.get(leg.output.0 as usize).is_none()

@@ -89,7 +89,8 @@ impl Mover {
 
     // Notes a write. After want of memory the mover is as before.
     fn note(&mut self, kind: WriteKind, leg: Leg, middle: Middle) -> Result<(), NoMemory>
-        ensures noted { OnOk result (self.new ≡ record self.old { written = written_on kind leg middle self.old }) }
+        ensures noted { OnOk result
+            (self.new ≡ record self.old { written = written_on kind leg middle self.old }) }
         ensures kept { OnErr result (self.new ≡ self.old) }
     {
         self.written.push(RegWrite { kind, leg, middle })
@@ -97,7 +98,8 @@ impl Mover {
 
     fn set_in(&mut self, shape: Shape, leg: Leg, to: Middle) -> Result<(), NoMemory>
         requires { in_cell shape (module_of shape leg.input) to < length self.old.registers.ins }
-        ensures { MatchResult result (λ _. self.new ≡ in_set shape leg to self.old) (λ _. self.new ≡ self.old) }
+        ensures { MatchResult result (λ _. self.new ≡ in_set shape leg to self.old)
+            (λ _. self.new ≡ self.old) }
     {
         self.note(WriteKind::SetIn, leg, to)?;
         let word = shape.slot_of(leg.input) as u64 + 1;
@@ -108,7 +110,8 @@ impl Mover {
 
     fn set_mid(&mut self, shape: Shape, leg: Leg, to: Middle) -> Result<(), NoMemory>
         requires { mid_cell shape to (module_of shape leg.output) < length self.old.registers.mids }
-        ensures { MatchResult result (λ _. self.new ≡ mid_set shape leg to self.old) (λ _. self.new ≡ self.old) }
+        ensures { MatchResult result (λ _. self.new ≡ mid_set shape leg to self.old)
+            (λ _. self.new ≡ self.old) }
     {
         self.note(WriteKind::SetMid, leg, to)?;
         let word = shape.module_of(leg.input) as u64 + 1;
@@ -119,7 +122,8 @@ impl Mover {
 
     // Notes a switch and its write, or neither.
     fn note_switch(&mut self, leg: Leg, to: Middle) -> Result<(), NoMemory>
-        ensures noted { OnOk result (self.new ≡ record self.old { written = written_on SwitchOut leg to self.old; log = self.old.log ++ leg ∷ [] }) }
+        ensures noted { OnOk result (self.new ≡ record self.old
+            { written = written_on SwitchOut leg to self.old; log = self.old.log ++ leg ∷ [] }) }
         ensures kept { OnErr result (self.new ≡ self.old) }
     {
         let switches = self.log.len();
@@ -133,8 +137,10 @@ impl Mover {
 
     fn switch_out(&mut self, leg: Leg, to: Middle) -> Result<(), NoMemory>
         requires room { HasSwitch self.old }
-        requires inside { (leg.output.0 < length self.old.registers.outs) × (leg.output.0 < length self.old.legs) }
-        ensures { MatchResult result (λ _. self.new ≡ switched leg to self.old) (λ _. self.new ≡ self.old) }
+        requires inside { (leg.output.0 < length self.old.registers.outs)
+            × (leg.output.0 < length self.old.legs) }
+        ensures { MatchResult result (λ _. self.new ≡ switched leg to self.old)
+            (λ _. self.new ≡ self.old) }
     {
         let number = self.log.len() as u64 + 1;
         self.note_switch(leg, to)?;
@@ -156,8 +162,10 @@ impl Mover {
 
     fn clear_out(&mut self, leg: Leg) -> Result<(), NoMemory>
         requires established { IsSome (leg_at self.old leg.output) }
-        requires inside { (leg.output.0 < length self.old.registers.outs) × (leg.output.0 < length self.old.legs) }
-        ensures cleared { OnOk result (IfSome (leg_at self.old leg.output) (λ w. self.new ≡ out_cleared leg w.middle self.old)) }
+        requires inside { (leg.output.0 < length self.old.registers.outs)
+            × (leg.output.0 < length self.old.legs) }
+        ensures cleared { OnOk result (IfSome (leg_at self.old leg.output)
+            (λ w. self.new ≡ out_cleared leg w.middle self.old)) }
         ensures kept { OnErr result (self.new ≡ self.old) }
     {
         let Some(route) = self.legs.get(leg.output.0 as usize) else {
@@ -175,14 +183,17 @@ impl Mover {
     /// Notes a look at a worker's frame word. After want of memory the mover is as before.
     pub(crate) fn look(&mut self, worker: u16, frame: u64) -> Result<(), NoMemory>
         requires { worker < length self.old.looks }
-        ensures { MatchResult result (λ _. self.new ≡ looked worker frame self.old) (λ _. self.new ≡ self.old) }
+        ensures { MatchResult result (λ _. self.new ≡ looked worker frame self.old)
+            (λ _. self.new ≡ self.old) }
     {
         self.looks.push_at(worker as usize, frame)
     }
 
     fn clear_mid(&mut self, shape: Shape, leg: Leg, old: Middle) -> Result<(), NoMemory>
-        requires { mid_cell shape old (module_of shape leg.output) < length self.old.registers.mids }
-        ensures { MatchResult result (λ _. self.new ≡ mid_cleared shape leg old self.old) (λ _. self.new ≡ self.old) }
+        requires { mid_cell shape old (module_of shape leg.output) < length
+            self.old.registers.mids }
+        ensures { MatchResult result (λ _. self.new ≡ mid_cleared shape leg old self.old)
+            (λ _. self.new ≡ self.old) }
     {
         self.note(WriteKind::ClearMid, leg, old)?;
         self.registers.set_mid(shape, leg, old, 0);
@@ -192,7 +203,8 @@ impl Mover {
 
     fn clear_in(&mut self, shape: Shape, leg: Leg, old: Middle) -> Result<(), NoMemory>
         requires { in_cell shape (module_of shape leg.input) old < length self.old.registers.ins }
-        ensures { MatchResult result (λ _. self.new ≡ in_cleared shape leg old self.old) (λ _. self.new ≡ self.old) }
+        ensures { MatchResult result (λ _. self.new ≡ in_cleared shape leg old self.old)
+            (λ _. self.new ≡ self.old) }
     {
         self.note(WriteKind::ClearIn, leg, old)?;
         self.registers.set_in(shape, leg, old, 0);

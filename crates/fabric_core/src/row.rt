@@ -35,7 +35,8 @@ impl<T: Drop> Row<T> {
 
     /// Appends an item. After want of memory the row is as before.
     pub fn push(&mut self, item: T) -> Result<(), NoMemory>
-        ensures { MatchResult result (λ _. self.new ≡ self.old ++ item ∷ []) (λ _. self.new ≡ self.old) }
+        ensures { MatchResult result (λ _. self.new ≡ self.old ++ item ∷ [])
+            (λ _. self.new ≡ self.old) }
     {
         match self.items.push(item) {
             Ok(()) => Ok(()),
@@ -45,7 +46,8 @@ impl<T: Drop> Row<T> {
 
     /// Appends two items, or none: after want of memory the row is as before.
     pub fn push_both(&mut self, first: T, second: T) -> Result<(), NoMemory>
-        ensures { MatchResult result (λ _. self.new ≡ (self.old ++ first ∷ []) ++ second ∷ []) (λ _. self.new ≡ self.old) }
+        ensures { MatchResult result (λ _. self.new ≡ (self.old ++ first ∷ []) ++ second ∷ [])
+            (λ _. self.new ≡ self.old) }
     {
         match self.items.reserve(2) {
             Ok(()) => {
@@ -124,7 +126,8 @@ impl<T: Drop> Row<Row<T>> {
     /// Appends an item to one of the rows. After want of memory all are as before.
     pub fn push_at(&mut self, place: usize, item: T) -> Result<(), NoMemory>
         requires { place < length self.old }
-        ensures { MatchResult result (λ _. self.new ≡ slice_set self.old place (slice_index_or self.old place [] ++ item ∷ [])) (λ _. self.new ≡ self.old) }
+        ensures { MatchResult result (λ _. self.new ≡ slice_set self.old place
+            (slice_index_or self.old place [] ++ item ∷ [])) (λ _. self.new ≡ self.old) }
     {
         self.items[place].push(item)
     }

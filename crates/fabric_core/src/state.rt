@@ -31,7 +31,8 @@ impl Model for CoreState {
 
     ghost view = { λ s. record { size = s.size; mover = s.mover; workers = s.workers.items } };
 
-    ghost invariant = { λ s. IsReached (record { size = s.size; mover = s.mover; workers = s.workers.items }) };
+    ghost invariant = { λ s. IsReached
+        (record { size = s.size; mover = s.mover; workers = s.workers.items }) };
 }
 
 impl CoreState {
@@ -83,7 +84,8 @@ impl CoreState {
 
     // The worker of this number may take this step.
     fn worker_may(&self, worker: u16, event: CoreEvent) -> bool
-        ensures { IsTrue result ↔ ((v : Worker) × (get_elem? self.now.workers worker ≡ some v) × MayWork self.now.size v event) }
+        ensures { IsTrue result ↔ ((v : Worker) × (get_elem? self.now.workers worker ≡ some v)
+            × MayWork self.now.size v event) }
     {
         match self.workers.get(worker as usize) {
             Some(part) => part.may(self.size, event),

@@ -108,7 +108,8 @@ impl Worker {
     }
 
     fn load_out(&mut self, output: Port, word: u64) -> Result<(), NoMemory>
-        ensures { MatchResult result (λ _. self.new ≡ out_loaded output word self.old) (λ _. self.new ≡ self.old) }
+        ensures { MatchResult result (λ _. self.new ≡ out_loaded output word self.old)
+            (λ _. self.new ≡ self.old) }
     {
         self.notes.push(Note::OutWord { output, word })?;
         self.hold = Hold::of(output, word);
@@ -118,7 +119,8 @@ impl Worker {
     fn load_mid(&mut self, word: u64) -> Result<(), NoMemory>
         requires hold { HasOutput self.old.hold }
         requires fits { word ≤ 2 ^ 16 }
-        ensures { MatchResult result (λ _. self.new ≡ mid_loaded word self.old) (λ _. self.new ≡ self.old) }
+        ensures { MatchResult result (λ _. self.new ≡ mid_loaded word self.old)
+            (λ _. self.new ≡ self.old) }
     {
         let Hold::Output {
             output,
@@ -141,7 +143,8 @@ impl Worker {
     fn load_in(&mut self, shape: Shape, word: u64) -> Result<(), NoMemory>
         requires hold { HasPath self.old.hold }
         requires fits { IsPort shape (port_of shape self.old.hold word) }
-        ensures { MatchResult result (λ _. self.new ≡ in_loaded shape word self.old) (λ _. self.new ≡ self.old) }
+        ensures { MatchResult result (λ _. self.new ≡ in_loaded shape word self.old)
+            (λ _. self.new ≡ self.old) }
     {
         let Hold::Path {
             output,

@@ -75,7 +75,8 @@ impl MoverSeat {
         requires own { self.old.fabric ≡ fabric.now }
         requires rests { self.old.mover.phase ≡ Rest }
         ensures same { self.new ≡ self.old }
-        ensures allowed { IsTrue result ↔ CanSetIn self.old.fabric.size.shape self.old.mover leg to }
+        ensures allowed { IsTrue result ↔ CanSetIn self.old.fabric.size.shape self.old.mover leg
+            to }
     {
         is_inside(fabric.shape(), leg, to)
             && self.is_free(fabric, leg, to)
@@ -85,9 +86,13 @@ impl MoverSeat {
     // The IN and MID words of the path are none.
     fn is_free(&mut self, fabric: &Fabric, leg: Leg, middle: Middle) -> bool
         requires own { self.old.fabric ≡ fabric.now }
-        requires inside { IsInside self.old.fabric.size.shape leg × IsMiddle self.old.fabric.size.shape middle }
+        requires inside { IsInside self.old.fabric.size.shape leg
+            × IsMiddle self.old.fabric.size.shape middle }
         ensures same { self.new ≡ self.old }
-        ensures none { IsTrue result ↔ ((in_word self.old.fabric.size.shape self.old.mover.registers (module_of self.old.fabric.size.shape leg.input) middle ≡ 0) × (mid_word self.old.fabric.size.shape self.old.mover.registers middle (module_of self.old.fabric.size.shape leg.output) ≡ 0)) }
+        ensures none { IsTrue result ↔ ((in_word self.old.fabric.size.shape self.old.mover.registers
+            (module_of self.old.fabric.size.shape leg.input) middle ≡ 0)
+            × (mid_word self.old.fabric.size.shape self.old.mover.registers middle
+            (module_of self.old.fabric.size.shape leg.output) ≡ 0)) }
     {
         let shape = fabric.shape();
         self.load(fabric, Reg::In(shape.module_of(leg.input), middle)) == 0

@@ -28,7 +28,8 @@ impl Model for Fabric {
 
     ghost view = { λ f. record { table = f.board.shared.table_id; size = f.size } };
 
-    ghost invariant = { λ f. (f.board.shared.key ≡ f.size) × (f.board.shared.table_id.words ≡ word_count f.size) × IsSize f.size };
+    ghost invariant = { λ f. (f.board.shared.key ≡ f.size)
+        × (f.board.shared.table_id.words ≡ word_count f.size) × IsSize f.size };
 }
 
 impl Fabric {
@@ -46,7 +47,8 @@ impl Fabric {
     ) -> Result<(Fabric, MoverSeat, Vec<WorkerSeat>), NoMemory>
         requires { (0 < workers) × (workers ≤ 8) }
         ensures fabric { IfOk result (λ t. t.0.size ≡ record { shape = shape; workers = workers }) }
-        ensures mover { IfOk result (λ t. t.1 ≡ record { fabric = t.0; mover = new_mover (record { shape = shape; workers = workers }) }) }
+        ensures mover { IfOk result (λ t. t.1 ≡ record
+            { fabric = t.0; mover = new_mover (record { shape = shape; workers = workers }) }) }
         ensures workers { IfOk result (λ t. (length t.2.items ≡ workers) × AreNew t.0 0 t.2.items) }
     {
         let mut seats = Vec::with_capacity(alloc, workers as usize)?;
@@ -63,7 +65,8 @@ impl Fabric {
     fn lay(alloc: Global, shape: Shape, workers: u16) -> Result<(Fabric, Token), NoMemory>
         requires { (0 < workers) × (workers ≤ 8) }
         ensures size { IfOk result (λ t. t.0.size ≡ record { shape = shape; workers = workers }) }
-        ensures token { IfOk result (λ t. (t.1.table_id ≡ t.0.table) × (t.1.me ≡ (AsMover t.0.size 0 (new_mover t.0.size), []))) }
+        ensures token { IfOk result (λ t. (t.1.table_id ≡ t.0.table)
+            × (t.1.me ≡ (AsMover t.0.size 0 (new_mover t.0.size), []))) }
     {
         let words = Vec::from_elem(alloc, 0u64, place::of_frame(shape, workers))?;
         let size = Size { shape, workers };
@@ -74,9 +77,11 @@ impl Fabric {
     /// A seat for the next worker.
     fn deal(&self, token: &mut Token, number: u16) -> WorkerSeat
         requires own { token.old.table_id ≡ self.now.table }
-        requires mover { token.old.me ≡ (AsMover self.now.size number (new_mover self.now.size), []) }
+        requires mover { token.old.me
+            ≡ (AsMover self.now.size number (new_mover self.now.size), []) }
         requires low { number < self.now.size.workers }
-        ensures kept { (token.new.table_id ≡ token.old.table_id) × (token.new.me ≡ (AsMover self.now.size (number + 1) (new_mover self.now.size), [])) }
+        ensures kept { (token.new.table_id ≡ token.old.table_id)
+            × (token.new.me ≡ (AsMover self.now.size (number + 1) (new_mover self.now.size), [])) }
         ensures dealt { result.reader ≡ record { fabric = self.now; worker = new_worker number } }
     {
         let seat = self.board.shared.split_seat::<Deals>(token);

@@ -67,7 +67,8 @@ impl Looks {
     pub(crate) fn note(&mut self, worker: u16, frame: u64)
         requires { worker < 8 }
         ensures full { length self.old ≡ 8 }
-        ensures noted { self.new ≡ slice_set self.old worker (seen_after (slice_index_or self.old worker (seen_of [])) frame) }
+        ensures noted { self.new ≡ slice_set self.old worker
+            (seen_after (slice_index_or self.old worker (seen_of [])) frame) }
     {
         let at = worker as usize;
         if frame % 2 == 0 {

@@ -40,16 +40,21 @@ impl Model for MoverSeat {
 
     ghost Value = { MoverAt };
 
-    ghost view = { λ s. record { fabric = record { table = s.token.table_id; size = s.layout }; mover = mover_in s.token.me.0 } };
+    ghost view = { λ s. record {
+      fabric = record { table = s.token.table_id; size = s.layout };
+      mover = mover_in s.token.me.0;
+    } };
 
-    ghost invariant = { λ s. IsMoverSeat s.layout s.token.me s.phase s.switches s.seen × AreModules s.layout.shape s.phase s.row s.column };
+    ghost invariant = { λ s. IsMoverSeat s.layout s.token.me s.phase s.switches s.seen
+        × AreModules s.layout.shape s.phase s.row s.column };
 }
 
 impl MoverSeat {
     pub(crate) fn of(token: Token, size: Size) -> MoverSeat
         requires sized { IsSize size }
         requires role { token.me ≡ (AsMover size size.workers (new_mover size), []) }
-        ensures { result ≡ record { fabric = record { table = token.table_id; size = size }; mover = new_mover size } }
+        ensures { result ≡ record
+            { fabric = record { table = token.table_id; size = size }; mover = new_mover size } }
     {
         MoverSeat {
             token,
@@ -96,7 +101,8 @@ impl MoverSeat {
         requires permitted { permit.now ≡ self.old.mover.written }
         requires allowed { MayMove self.old.fabric.size self.old.mover (SetIn leg middle) }
         ensures fabric { self.new.fabric ≡ self.old.fabric }
-        ensures event { Moves self.old.fabric.size self.old.mover (SetIn leg middle) self.new.mover }
+        ensures event { Moves self.old.fabric.size self.old.mover (SetIn leg middle)
+            self.new.mover }
     {
         let _ = permit;
         let row = self.layout.module_of(leg.input);

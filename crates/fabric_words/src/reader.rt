@@ -30,9 +30,13 @@ impl Model for Reader {
 
     ghost Value = { WorkerAt };
 
-    ghost view = { λ r. record { fabric = record { table = r.token.table_id; size = r.size }; worker = worker_in r.token.me.0 } };
+    ghost view = { λ r. record {
+      fabric = record { table = r.token.table_id; size = r.size };
+      worker = worker_in r.token.me.0;
+    } };
 
-    ghost invariant = { λ r. IsReader r.size r.token.me × (r.number ≡ (worker_in r.token.me.0).number) };
+    ghost invariant = { λ r. IsReader r.size r.token.me
+        × (r.number ≡ (worker_in r.token.me.0).number) };
 }
 
 impl Reader {
@@ -40,7 +44,10 @@ impl Reader {
         requires sized { IsSize size }
         requires low { number < size.workers }
         requires role { token.me ≡ (AsWorker size (new_worker number), []) }
-        ensures { result ≡ record { fabric = record { table = token.table_id; size = size }; worker = new_worker number } }
+        ensures { result ≡ record {
+          fabric = record { table = token.table_id; size = size };
+          worker = new_worker number;
+        } }
     {
         Reader {
             token,
@@ -104,9 +111,11 @@ impl Reader {
         requires own { self.old.fabric ≡ fabric.now }
         requires place { IsInPlace self.old.fabric.size.shape self.old.worker.hold place }
         ensures fabric { self.new.fabric ≡ self.old.fabric }
-        ensures event { self.new.worker ≡ in_loaded self.old.fabric.size.shape result self.old.worker }
+        ensures event { self.new.worker ≡ in_loaded self.old.fabric.size.shape result
+            self.old.worker }
         ensures some_word { result ≢ 0 }
-        ensures port { IsPort self.old.fabric.size.shape (port_of self.old.fabric.size.shape self.old.worker.hold result) }
+        ensures port { IsPort self.old.fabric.size.shape
+            (port_of self.old.fabric.size.shape self.old.worker.hold result) }
     {
         fabric.board.shared.load::<LoadsIn>(&mut self.token, place)
     }

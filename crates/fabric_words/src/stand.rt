@@ -95,7 +95,8 @@ impl Stand {
     /// OUT was turned to the path, from this word.
     #[inline(always)]
     pub(crate) fn turn(&mut self, found: u64)
-        ensures { (l : Leg) (k : Middle) → HasIn self.old l k → self.new ≡ (if found == 0 then Rest else Old l (middle_in found)) }
+        ensures { (l : Leg) (k : Middle) → HasIn self.old l k
+            → self.new ≡ (if found == 0 then Rest else Old l (middle_in found)) }
     {
         if found == 0 {
             self.stage = Stage::Rest;

@@ -93,9 +93,11 @@ impl WorkerSeat {
         requires own { self.old.reader.fabric ≡ fabric.now }
         requires allowed { HasPath self.old.reader.worker.hold }
         ensures fabric { self.new.reader.fabric ≡ self.old.reader.fabric }
-        ensures event { self.new.reader.worker ≡ in_loaded self.old.reader.fabric.size.shape result self.old.reader.worker }
+        ensures event { self.new.reader.worker ≡ in_loaded self.old.reader.fabric.size.shape result
+            self.old.reader.worker }
         ensures some_word { result ≢ 0 }
-        ensures port { IsPort self.old.reader.fabric.size.shape (port_of self.old.reader.fabric.size.shape self.old.reader.worker.hold result) }
+        ensures port { IsPort self.old.reader.fabric.size.shape
+            (port_of self.old.reader.fabric.size.shape self.old.reader.worker.hold result) }
     {
         let Hold::Path {
             output: _,

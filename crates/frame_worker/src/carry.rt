@@ -15,9 +15,12 @@ use fabric_words::{Fabric, WorkerSeat};
 pub fn carry_frame(fabric: &Fabric, seat: &mut WorkerSeat, input: &[u8], output: &mut [u8])
     requires own { seat.old.reader.fabric ≡ fabric.now }
     requires rests { CanBegin seat.old.reader.worker }
-    requires room { (length input.now ≡ ports fabric.now.size.shape) × (length output.old ≡ ports fabric.now.size.shape) }
+    requires room { (length input.now ≡ ports fabric.now.size.shape)
+        × (length output.old ≡ ports fabric.now.size.shape) }
     ensures fabric { seat.new.reader.fabric ≡ seat.old.reader.fabric }
-    ensures carried { (ns : List Note) × (seat.new.reader.worker ≡ after_frame ns seat.old.reader.worker) × IsFrame fabric.now.size seat.old.reader.worker.number input.now output.new ns }
+    ensures carried { (ns : List Note)
+        × (seat.new.reader.worker ≡ after_frame ns seat.old.reader.worker)
+        × IsFrame fabric.now.size seat.old.reader.worker.number input.now output.new ns }
 {
     seat.begin_frame(fabric);
     let (shape, workers, number) = (fabric.shape(), fabric.workers(), seat.number());
@@ -44,7 +47,8 @@ pub fn carry_frame(fabric: &Fabric, seat: &mut WorkerSeat, input: &[u8], output:
 fn idle_outputs(shape: Shape, output_module: u16, output: &mut [u8])
     requires place { output_module < shape.modules }
     requires room { length output.old ≡ ports shape }
-    ensures { (z : Size) (w : ℕ) (input : List ℕ) → z.shape ≡ shape → output_module % z.workers ≢ w → IsWritten z w input (output_module * shape.slots) shape.slots output.old output.new [] }
+    ensures { (z : Size) (w : ℕ) (input : List ℕ) → z.shape ≡ shape → output_module % z.workers ≢ w
+        → IsWritten z w input (output_module * shape.slots) shape.slots output.old output.new [] }
 {
     let first = output_module * shape.slots();
     for port in first..first + shape.slots() {

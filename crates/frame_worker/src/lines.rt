@@ -38,16 +38,25 @@ pub fn run_lines<N: Lines, G: Gate>(
 ) -> LinesEnd
     requires own { seat.old.reader.fabric ≡ fabric.now }
     requires unused { seat.old.reader.worker.frame ≡ 0 }
-    requires room { (length input.old ≡ ports fabric.now.size.shape) × (length output.old ≡ ports fabric.now.size.shape) }
+    requires room { (length input.old ≡ ports fabric.now.size.shape)
+        × (length output.old ≡ ports fabric.now.size.shape) }
     ensures fabric { seat.new.reader.fabric ≡ seat.old.reader.fabric }
-    ensures run { (n : ℕ) × IsRun fabric.now.size N.told n result (N.state lines.old) (N.state lines.new) seat.old.reader.worker seat.new.reader.worker × ((result ≡ LinesEnd.Spent) ↔ (n ≡ 2 ^ 61)) × G.asked gate.old gate.new (replicate (askings result n) GatePlace.Frame) }
+    ensures run { (n : ℕ) × IsRun fabric.now.size N.told n result (N.state lines.old)
+        (N.state lines.new) seat.old.reader.worker seat.new.reader.worker
+        × ((result ≡ LinesEnd.Spent) ↔ (n ≡ 2 ^ 61))
+        × G.asked gate.old gate.new (replicate (askings result n) GatePlace.Frame) }
     ensures end { result ≡ LinesEnd.End → (N.state lines.new).ended ≡ true }
-    ensures said_end { (N.state lines.new).ended ≡ true → (result ≡ LinesEnd.End) ⊎ ((N.state lines.old).ended ≡ true) }
+    ensures said_end { (N.state lines.new).ended ≡ true
+        → (result ≡ LinesEnd.End) ⊎ ((N.state lines.old).ended ≡ true) }
     ensures all_read { N.told → result ≡ LinesEnd.End → (N.state lines.new).left ≡ [] }
-    ensures read_fault { result ≡ LinesEnd.ReadFault → Rose (N.state lines.old).read_faults (N.state lines.new).read_faults }
-    ensures no_read_fault { result ≢ LinesEnd.ReadFault → (N.state lines.new).read_faults ≡ (N.state lines.old).read_faults }
-    ensures write_fault { result ≡ LinesEnd.WriteFault → Rose (N.state lines.old).write_faults (N.state lines.new).write_faults }
-    ensures no_write_fault { result ≢ LinesEnd.WriteFault → (N.state lines.new).write_faults ≡ (N.state lines.old).write_faults }
+    ensures read_fault { result ≡ LinesEnd.ReadFault
+        → Rose (N.state lines.old).read_faults (N.state lines.new).read_faults }
+    ensures no_read_fault { result ≢ LinesEnd.ReadFault
+        → (N.state lines.new).read_faults ≡ (N.state lines.old).read_faults }
+    ensures write_fault { result ≡ LinesEnd.WriteFault
+        → Rose (N.state lines.old).write_faults (N.state lines.new).write_faults }
+    ensures no_write_fault { result ≢ LinesEnd.WriteFault
+        → (N.state lines.new).write_faults ≡ (N.state lines.old).write_faults }
     ensures stopped { result ≡ LinesEnd.Stopped → Rose (G.stops gate.old) (G.stops gate.new) }
     ensures unstopped { result ≢ LinesEnd.Stopped → G.stops gate.new ≡ G.stops gate.old }
 {
@@ -79,16 +88,25 @@ fn run_frame<N: Lines, G: Gate>(
     requires own { seat.old.reader.fabric ≡ fabric.now }
     requires rests { CanBegin seat.old.reader.worker }
     requires some_ports { 0 < ports fabric.now.size.shape }
-    requires room { (length input.old ≡ ports fabric.now.size.shape) × (length output.old ≡ ports fabric.now.size.shape) }
+    requires room { (length input.old ≡ ports fabric.now.size.shape)
+        × (length output.old ≡ ports fabric.now.size.shape) }
     ensures fabric { seat.new.reader.fabric ≡ seat.old.reader.fabric }
-    ensures run { MatchOption result (IsRun fabric.now.size N.told 1 LinesEnd.Spent (N.state lines.old) (N.state lines.new) seat.old.reader.worker seat.new.reader.worker) (λ e. (e ≢ LinesEnd.Spent) × IsRun fabric.now.size N.told 0 e (N.state lines.old) (N.state lines.new) seat.old.reader.worker seat.new.reader.worker) }
+    ensures run { MatchOption result (IsRun fabric.now.size N.told 1 LinesEnd.Spent
+        (N.state lines.old) (N.state lines.new) seat.old.reader.worker seat.new.reader.worker)
+        (λ e. (e ≢ LinesEnd.Spent) × IsRun fabric.now.size N.told 0 e (N.state lines.old)
+        (N.state lines.new) seat.old.reader.worker seat.new.reader.worker) }
     ensures end { result ≡ Some LinesEnd.End → (N.state lines.new).ended ≡ true }
-    ensures said_end { (N.state lines.new).ended ≡ true → (result ≡ Some LinesEnd.End) ⊎ ((N.state lines.old).ended ≡ true) }
+    ensures said_end { (N.state lines.new).ended ≡ true
+        → (result ≡ Some LinesEnd.End) ⊎ ((N.state lines.old).ended ≡ true) }
     ensures all_read { N.told → result ≡ Some LinesEnd.End → (N.state lines.new).left ≡ [] }
-    ensures read_faults { HasCause (N.state lines.old).read_faults (N.state lines.new).read_faults (result ≡ Some LinesEnd.ReadFault) }
-    ensures no_read_fault { result ≢ Some LinesEnd.ReadFault → (N.state lines.new).read_faults ≡ (N.state lines.old).read_faults }
-    ensures write_faults { HasCause (N.state lines.old).write_faults (N.state lines.new).write_faults (result ≡ Some LinesEnd.WriteFault) }
-    ensures no_write_fault { result ≢ Some LinesEnd.WriteFault → (N.state lines.new).write_faults ≡ (N.state lines.old).write_faults }
+    ensures read_faults { HasCause (N.state lines.old).read_faults (N.state lines.new).read_faults
+        (result ≡ Some LinesEnd.ReadFault) }
+    ensures no_read_fault { result ≢ Some LinesEnd.ReadFault
+        → (N.state lines.new).read_faults ≡ (N.state lines.old).read_faults }
+    ensures write_faults { HasCause (N.state lines.old).write_faults
+        (N.state lines.new).write_faults (result ≡ Some LinesEnd.WriteFault) }
+    ensures no_write_fault { result ≢ Some LinesEnd.WriteFault
+        → (N.state lines.new).write_faults ≡ (N.state lines.old).write_faults }
     ensures stopped { result ≡ Some LinesEnd.Stopped → Rose (G.stops gate.old) (G.stops gate.new) }
     ensures unstopped { result ≢ Some LinesEnd.Stopped → G.stops gate.new ≡ G.stops gate.old }
     ensures asked { G.asked gate.old gate.new (GatePlace.Frame ∷ []) }

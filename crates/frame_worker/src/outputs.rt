@@ -83,11 +83,13 @@ fn carry_one(
     requires own { reader.old.fabric ≡ fabric.now }
     requires size { IsSize reader.old.fabric.size }
     requires allowed { CanLoadOut reader.old.fabric.size output reader.old.worker }
-    requires lanes { lanes ≡ lanes_of reader.old.fabric.size.shape (module_of reader.old.fabric.size.shape output) }
+    requires lanes { lanes ≡ lanes_of reader.old.fabric.size.shape
+        (module_of reader.old.fabric.size.shape output) }
     requires place { place ≡ out_place reader.old.fabric.size.shape output }
     requires room { length input.now ≡ ports reader.old.fabric.size.shape }
     ensures fabric { reader.new.fabric ≡ reader.old.fabric }
-    ensures carried { (ns : List Note) × (reader.new.worker ≡ with_notes ns reader.old.worker) × CarriesOne reader.old.fabric.size reader.old.worker.number input.now output ns result }
+    ensures carried { (ns : List Note) × (reader.new.worker ≡ with_notes ns reader.old.worker)
+        × CarriesOne reader.old.fabric.size reader.old.worker.number input.now output ns result }
 {
     let word = reader.load_out(fabric, output, place);
     if word == 0 {
@@ -113,10 +115,15 @@ pub(crate) fn carry_outputs(
     requires size { IsSize reader.old.fabric.size }
     requires runs { Runs reader.old.worker × (reader.old.worker.hold ≡ Empty) }
     requires lanes { lanes ≡ lanes_of reader.old.fabric.size.shape output_module }
-    requires place { (output_module < reader.old.fabric.size.shape.modules) × (output_module % reader.old.fabric.size.workers ≡ reader.old.worker.number) }
-    requires room { (length input.now ≡ ports reader.old.fabric.size.shape) × (length output.old ≡ ports reader.old.fabric.size.shape) }
+    requires place { (output_module < reader.old.fabric.size.shape.modules)
+        × (output_module % reader.old.fabric.size.workers ≡ reader.old.worker.number) }
+    requires room { (length input.now ≡ ports reader.old.fabric.size.shape)
+        × (length output.old ≡ ports reader.old.fabric.size.shape) }
     ensures fabric { reader.new.fabric ≡ reader.old.fabric }
-    ensures carried { (ns : List Note) × (reader.new.worker ≡ with_notes ns reader.old.worker) × IsWritten reader.old.fabric.size reader.old.worker.number input.now (output_module * reader.old.fabric.size.shape.slots) reader.old.fabric.size.shape.slots output.old output.new ns }
+    ensures carried { (ns : List Note) × (reader.new.worker ≡ with_notes ns reader.old.worker)
+        × IsWritten reader.old.fabric.size reader.old.worker.number input.now
+        (output_module * reader.old.fabric.size.shape.slots) reader.old.fabric.size.shape.slots
+        output.old output.new ns }
 {
     let _ = output_module;
     for place in lanes.first..lanes.end {

@@ -16,7 +16,8 @@ use roll_plan::{Chain, Choice, LegOp};
 
 fn is_free(matrix: &Matrix, side: Side, leg: Leg, middle: Middle) -> bool
     requires { IsInside matrix.now.shape leg × (middle.0 < matrix.now.shape.slots) }
-    ensures { IsTrue result ↔ IsFree matrix.now side (module_on matrix.now.shape side leg) middle.0 }
+    ensures { IsTrue result ↔ IsFree matrix.now side (module_on matrix.now.shape side leg)
+        middle.0 }
 {
     let _slots = matrix.shape().slots();
     free_beside(matrix, side, leg).contains(middle)
@@ -59,8 +60,8 @@ fn expand_direct(matrix: &Matrix, leg: Leg, middle: Middle) -> Option<LegOp>
 
 fn expand_chain(matrix: &Matrix, leg: Leg, side: Side, a: Middle, b: Middle) -> Option<LegOp>
     requires { IsJoinable matrix.now leg }
-    ensures { let h = choice_on side a b in
-        MatchOption result (¬ IsValidChoice matrix.now leg h.middle.0 h.chain) (Expands matrix.now leg h) }
+    ensures { let h = choice_on side a b in MatchOption result
+        (¬ IsValidChoice matrix.now leg h.middle.0 h.chain) (Expands matrix.now leg h) }
 {
     if !is_pair(matrix, leg, a, b) {
         return None;
@@ -76,7 +77,8 @@ fn expand_chain(matrix: &Matrix, leg: Leg, side: Side, a: Middle, b: Middle) -> 
 /// The join of a new leg by this choice, a valid work. None exactly where the choice isn't valid.
 pub fn expand(matrix: &Matrix, leg: Leg, choice: Choice) -> Option<LegOp>
     requires { IsJoinable matrix.now leg }
-    ensures expands { MatchOption result (¬ IsValidChoice matrix.now leg choice.middle.0 choice.chain)
+    ensures expands { MatchOption result
+        (¬ IsValidChoice matrix.now leg choice.middle.0 choice.chain)
         (Expands matrix.now leg choice) }
     ensures valid { IfSome result (λ op. IsValidWork matrix.now (op ∷ [])) }
 {

@@ -12,8 +12,10 @@ use roll_plan::{Chain, Choice, LegOp, Move};
 // Moves each second leg, from the first one on or from the second one on.
 fn push_seconds(moves: &mut ArrayVec<Move, 94>, legs: &[Leg], first: bool, from: Middle, to: Middle)
     requires { array_vec_len moves.old + length (each_second first legs.now) ≤ 94 }
-    ensures moves { moves.new.items ≡ moves.old.items ++ shifts (each_second first legs.now) from.0 to.0 }
-    ensures count { array_vec_len moves.new ≡ array_vec_len moves.old + length (each_second first legs.now) }
+    ensures moves { moves.new.items ≡ moves.old.items ++ shifts (each_second first legs.now) from.0
+        to.0 }
+    ensures count { array_vec_len moves.new ≡ array_vec_len moves.old + length
+        (each_second first legs.now) }
 {
     let mut is_moved = first;
     for leg in legs {

@@ -19,7 +19,8 @@ fn make_run(
 ) -> usize
     requires same { shape ≡ matrix.old.shape }
     requires valid { AreValidMoves (drop start moves.now) matrix.old }
-    ensures made { AreValidMoves (drop result moves.now) matrix.new × (after (drop result moves.now) matrix.new ≡ after (drop start moves.now) matrix.old) }
+    ensures made { AreValidMoves (drop result moves.now) matrix.new
+        × (after (drop result moves.now) matrix.new ≡ after (drop start moves.now) matrix.old) }
     ensures on { start ≤ result }
     ensures shape { matrix.new.shape ≡ matrix.old.shape }
 {

@@ -16,7 +16,8 @@ use roll_plan::LegOp;
 /// The middles that are free on one side of the leg.
 pub fn free_beside(matrix: &Matrix, side: Side, leg: Leg) -> MiddleSet
     requires { IsInside matrix.now.shape leg }
-    ensures { IsSetOf (IsFree matrix.now side (module_on matrix.now.shape side leg)) matrix.now.shape.slots result }
+    ensures { IsSetOf (IsFree matrix.now side (module_on matrix.now.shape side leg))
+        matrix.now.shape.slots result }
 {
     let module = module_of(matrix.shape(), side, leg);
     match side {

@@ -59,7 +59,8 @@ fn extend(
     requires room { array_vec_len legs.old < 64 }
     ensures whole { IfNone result (IsFree matrix.now side «module» (leave a.0 b.0 side)
         × (legs.new.items ≡ legs.old.items)) }
-    ensures more { IfSome result (GoesOn matrix.now a.0 b.0 side «module» legs.old.items legs.new.items) }
+    ensures more { IfSome result
+        (GoesOn matrix.now a.0 b.0 side «module» legs.old.items legs.new.items) }
     ensures low { IfSome result (λ n. n < matrix.now.shape.modules) }
 {
     let shape = matrix.shape();
@@ -87,7 +88,8 @@ pub fn shorter(
         × (a.0 ≤ matrix.now.shape.slots) × (b.0 ≤ matrix.now.shape.slots) }
     requires free { IsFree matrix.now Row row a.0 × IsFree matrix.now Column column b.0 }
     requires none { (rows.old.items ≡ []) × (columns.old.items ≡ []) }
-    ensures { IsShorter matrix.now a.0 b.0 row column result (legs_on result rows.new.items columns.new.items) }
+    ensures { IsShorter matrix.now a.0 b.0 row column result
+        (legs_on result rows.new.items columns.new.items) }
 {
     let _shape = matrix.shape();
     let mut row_at = row;

@@ -121,8 +121,10 @@ impl Index {
     #[inline(always)]
     pub fn turn(&mut self, shape: Shape, module: u16, from: Middle, to: Middle, leg: Leg)
         requires same { shape ≡ self.old.shape }
-        requires inside { («module» < self.old.shape.modules) × (from.0 ≤ self.old.shape.slots) × (to.0 ≤ self.old.shape.slots) }
-        ensures { self.new ≡ with_cell «module» to.0 (Some leg) (with_cell «module» from.0 None self.old) }
+        requires inside { («module» < self.old.shape.modules) × (from.0 ≤ self.old.shape.slots)
+            × (to.0 ≤ self.old.shape.slots) }
+        ensures { self.new ≡ with_cell «module» to.0 (Some leg)
+            (with_cell «module» from.0 None self.old) }
     {
         let left = cell(shape, module, from);
         let reached = cell(shape, module, to);

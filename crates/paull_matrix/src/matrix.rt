@@ -78,7 +78,8 @@ impl Matrix {
     /// The middle of a leg. None exactly where the leg isn't held.
     pub fn middle_of(&self, leg: Leg) -> Option<Middle>
         requires { IsInside self.now.shape leg }
-        ensures { MatchOption result ((k : ℕ) → ¬ Holds self.now leg k) (λ k. Holds self.now leg k.0) }
+        ensures { MatchOption result ((k : ℕ) → ¬ Holds self.now leg k)
+            (λ k. Holds self.now leg k.0) }
     {
         let route = self.routes[leg.output.0 as usize]?;
         if route.input == leg.input {

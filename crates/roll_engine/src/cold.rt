@@ -26,17 +26,25 @@ pub fn advance_cold<G: Gate>(
     requires own { mover.old.fabric ≡ fabric.now }
     requires leading { IsColdLeading mover.old.fabric.size matrix.now rolling.old mover.old.mover }
     ensures fabric { mover.new.fabric ≡ mover.old.fabric }
-    ensures advances { Advances mover.old.fabric.size (left_of matrix.now mover.old.mover rolling.old) (left_of matrix.now mover.new.mover rolling.new) mover.old.mover mover.new.mover }
+    ensures advances { Advances mover.old.fabric.size
+        (left_of matrix.now mover.old.mover rolling.old)
+        (left_of matrix.now mover.new.mover rolling.new) mover.old.mover mover.new.mover }
     ensures leading { IsColdLeading mover.old.fabric.size matrix.now rolling.new mover.new.mover }
     ensures written { mover.new.mover.written ++ left_of matrix.now mover.new.mover rolling.new
         ≡ mover.old.mover.written ++ left_of matrix.now mover.old.mover rolling.old }
     ensures kept { IsCold rolling.old → IsCold rolling.new }
-    ensures answer { AnswerIs mover.old.fabric.size (left_of matrix.now mover.old.mover rolling.old) (left_of matrix.now mover.new.mover rolling.new) mover.old.mover mover.new.mover result }
-    ensures done { result ≡ Advance.Done → IsAtRestOn mover.old.fabric.size matrix.now mover.new.mover }
-    ensures cold { IsColdAt mover.old.fabric.size matrix.now rolling.old mover.old.mover → IsColdAt mover.old.fabric.size matrix.now rolling.new mover.new.mover }
-    ensures joins { IsColdAt mover.old.fabric.size matrix.now rolling.old mover.old.mover → (f : ℕ) → result ≢ Advance.InFrame f }
+    ensures answer { AnswerIs mover.old.fabric.size (left_of matrix.now mover.old.mover rolling.old)
+        (left_of matrix.now mover.new.mover rolling.new) mover.old.mover mover.new.mover result }
+    ensures done { result ≡ Advance.Done
+        → IsAtRestOn mover.old.fabric.size matrix.now mover.new.mover }
+    ensures cold { IsColdAt mover.old.fabric.size matrix.now rolling.old mover.old.mover
+        → IsColdAt mover.old.fabric.size matrix.now rolling.new mover.new.mover }
+    ensures joins { IsColdAt mover.old.fabric.size matrix.now rolling.old mover.old.mover → (f : ℕ)
+        → result ≢ Advance.InFrame f }
     ensures stopped { RoseOnlyFor (G.stops gate.old) (G.stops gate.new) (result ≡ Advance.Stopped) }
-    ensures asked { G.asked gate.old gate.new (asked_at (left_of matrix.now mover.old.mover rolling.old) (left_of matrix.now mover.new.mover rolling.new) result) }
+    ensures asked { G.asked gate.old gate.new
+        (asked_at (left_of matrix.now mover.old.mover rolling.old)
+        (left_of matrix.now mover.new.mover rolling.new) result) }
 {
     loop {
         match advance(fabric, mover, rolling, gate) {

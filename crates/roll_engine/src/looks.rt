@@ -17,7 +17,8 @@ fn look_one(fabric: &Fabric, mover: &mut MoverSeat, worker: u16) -> Option<u64>
     ensures own { mover.new.fabric ≡ fabric.now }
     ensures looks { (fs : List (ℕ × ℕ)) × Looks fabric.now.size fs mover.old.mover mover.new.mover }
     ensures passed { IfNone result (Passed (looks_of mover.new.mover worker)) }
-    ensures others { (w : ℕ) → w ≢ worker → looks_of mover.new.mover w ≡ looks_of mover.old.mover w }
+    ensures others { (w : ℕ) → w ≢ worker
+        → looks_of mover.new.mover w ≡ looks_of mover.old.mover w }
     ensures seen { IfSome result (IsSeen fabric.now.size mover.old.mover mover.new.mover) }
 {
     if mover.passed(worker) {

@@ -22,7 +22,8 @@ fn make(fabric: &Fabric, mover: &mut MoverSeat, write: RegWrite, permit: &Permit
     requires own { mover.old.fabric ≡ fabric.now }
     requires permitted { permit.now ≡ mover.old.mover.written }
     requires can { CanMake mover.old.fabric.size.shape write mover.old.mover }
-    requires passed { write.kind ≡ ClearMid → IsOld mover.old.mover.phase → AllPassed mover.old.fabric.size mover.old.mover }
+    requires passed { write.kind ≡ ClearMid → IsOld mover.old.mover.phase
+        → AllPassed mover.old.fabric.size mover.old.mover }
     ensures own { mover.new.fabric ≡ fabric.now }
     ensures made { Makes mover.old.fabric.size write mover.old.mover mover.new.mover }
 {
@@ -43,9 +44,12 @@ fn clear_way(fabric: &Fabric, mover: &mut MoverSeat, kind: WriteKind) -> Option<
     ensures fabric { mover.new.fabric ≡ mover.old.fabric }
     ensures sized { IsSize mover.old.fabric.size }
     ensures ruled { IsMoverRuled mover.old.fabric.size mover.old.mover }
-    ensures looks { (fs : List (ℕ × ℕ)) × Looks mover.old.fabric.size fs mover.old.mover mover.new.mover }
-    ensures passed { IfNone result (kind ≡ ClearMid → IsOld mover.old.mover.phase → AllPassed mover.old.fabric.size mover.new.mover) }
-    ensures seen { IfSome result (λ f. (kind ≡ ClearMid) × IsOld mover.old.mover.phase × IsSeen mover.old.fabric.size mover.old.mover mover.new.mover f) }
+    ensures looks { (fs : List (ℕ × ℕ))
+        × Looks mover.old.fabric.size fs mover.old.mover mover.new.mover }
+    ensures passed { IfNone result (kind ≡ ClearMid → IsOld mover.old.mover.phase
+        → AllPassed mover.old.fabric.size mover.new.mover) }
+    ensures seen { IfSome result (λ f. (kind ≡ ClearMid) × IsOld mover.old.mover.phase
+        × IsSeen mover.old.fabric.size mover.old.mover mover.new.mover f) }
 {
     match (kind, mover.phase()) {
         (WriteKind::ClearMid, Phase::Old { .. }) => look_all(fabric, mover),

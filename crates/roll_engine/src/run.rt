@@ -29,9 +29,11 @@ fn write_on<G: Gate>(
     requires own { mover.old.fabric ≡ fabric.now }
     requires few { made.old < 951 }
     requires next { slice_get (writes_of rolling.now.work) made.old ≡ Some write }
-    requires ready { IsReady fabric.now.size (rest_of (at_step made.old rolling.now)) mover.old.mover }
+    requires ready { IsReady fabric.now.size (rest_of (at_step made.old rolling.now))
+        mover.old.mover }
     ensures own { mover.new.fabric ≡ fabric.now }
-    ensures walks { Walks G.stops G.asked fabric.now.size (at_step made.old rolling.now) (at_step made.new rolling.now) mover.old.mover mover.new.mover gate.old gate.new result }
+    ensures walks { Walks G.stops G.asked fabric.now.size (at_step made.old rolling.now)
+        (at_step made.new rolling.now) mover.old.mover mover.new.mover gate.old gate.new result }
     ensures one { result ≡ Advance.Done → made.new ≡ made.old + 1 }
 {
     // Whose write it is only the contract asks.
@@ -61,9 +63,11 @@ fn write_two<G: Gate>(
     requires few { made.old < 950 }
     requires first { slice_get (writes_of rolling.now.work) made.old ≡ Some first }
     requires second { slice_get (writes_of rolling.now.work) (made.old + 1) ≡ Some second }
-    requires ready { IsReady fabric.now.size (rest_of (at_step made.old rolling.now)) mover.old.mover }
+    requires ready { IsReady fabric.now.size (rest_of (at_step made.old rolling.now))
+        mover.old.mover }
     ensures own { mover.new.fabric ≡ fabric.now }
-    ensures walks { Walks G.stops G.asked fabric.now.size (at_step made.old rolling.now) (at_step made.new rolling.now) mover.old.mover mover.new.mover gate.old gate.new result }
+    ensures walks { Walks G.stops G.asked fabric.now.size (at_step made.old rolling.now)
+        (at_step made.new rolling.now) mover.old.mover mover.new.mover gate.old gate.new result }
     ensures two { result ≡ Advance.Done → made.new ≡ made.old + 2 }
 {
     match write_on(fabric, mover, rolling, made, first, gate) {
@@ -87,9 +91,11 @@ fn move_on<G: Gate>(
     requires own { mover.old.fabric ≡ fabric.now }
     requires few { made.old < 946 }
     requires next { BeginsMove (writes_of rolling.now.work) made.old step }
-    requires ready { IsReady fabric.now.size (rest_of (at_step made.old rolling.now)) mover.old.mover }
+    requires ready { IsReady fabric.now.size (rest_of (at_step made.old rolling.now))
+        mover.old.mover }
     ensures own { mover.new.fabric ≡ fabric.now }
-    ensures walks { Walks G.stops G.asked fabric.now.size (at_step made.old rolling.now) (at_step made.new rolling.now) mover.old.mover mover.new.mover gate.old gate.new result }
+    ensures walks { Walks G.stops G.asked fabric.now.size (at_step made.old rolling.now)
+        (at_step made.new rolling.now) mover.old.mover mover.new.mover gate.old gate.new result }
     ensures all { result ≡ Advance.Done → made.new ≡ made.old + 5 }
 {
     let set_in = move_write(step, 0);
@@ -121,9 +127,11 @@ fn three_on<G: Gate>(
     requires own { mover.old.fabric ≡ fabric.now }
     requires few { made.old < 946 }
     requires next { Begins 3 (writes_of rolling.now.work) made.old writes }
-    requires ready { IsReady fabric.now.size (rest_of (at_step made.old rolling.now)) mover.old.mover }
+    requires ready { IsReady fabric.now.size (rest_of (at_step made.old rolling.now))
+        mover.old.mover }
     ensures own { mover.new.fabric ≡ fabric.now }
-    ensures walks { Walks G.stops G.asked fabric.now.size (at_step made.old rolling.now) (at_step made.new rolling.now) mover.old.mover mover.new.mover gate.old gate.new result }
+    ensures walks { Walks G.stops G.asked fabric.now.size (at_step made.old rolling.now)
+        (at_step made.new rolling.now) mover.old.mover mover.new.mover gate.old gate.new result }
     ensures all { result ≡ Advance.Done → made.new ≡ made.old + 3 }
 {
     match write_two(fabric, mover, rolling, made, writes[0], writes[1], gate) {
@@ -149,7 +157,8 @@ fn one_on<G: Gate>(
     requires next { slice_get (writes_of rolling.now.work) made ≡ Some write }
     requires ready { IsReady fabric.now.size (rest_of (at_step made rolling.now)) mover.old.mover }
     ensures own { mover.new.fabric ≡ fabric.now }
-    ensures walks { Walks G.stops G.asked fabric.now.size (at_step made rolling.now) (at_step result.1 rolling.now) mover.old.mover mover.new.mover gate.old gate.new result.0 }
+    ensures walks { Walks G.stops G.asked fabric.now.size (at_step made rolling.now)
+        (at_step result.1 rolling.now) mover.old.mover mover.new.mover gate.old gate.new result.0 }
     ensures one { result.0 ≡ Advance.Done → result.1 ≡ made + 1 }
 {
     let mut count = made;
@@ -170,9 +179,11 @@ fn next_on<G: Gate>(
     requires own { mover.old.fabric ≡ fabric.now }
     requires few { made.old < 946 }
     requires next { IsNext (writes_of rolling.now.work) made.old (Some next) }
-    requires ready { IsReady fabric.now.size (rest_of (at_step made.old rolling.now)) mover.old.mover }
+    requires ready { IsReady fabric.now.size (rest_of (at_step made.old rolling.now))
+        mover.old.mover }
     ensures own { mover.new.fabric ≡ fabric.now }
-    ensures walks { Walks G.stops G.asked fabric.now.size (at_step made.old rolling.now) (at_step made.new rolling.now) mover.old.mover mover.new.mover gate.old gate.new result }
+    ensures walks { Walks G.stops G.asked fabric.now.size (at_step made.old rolling.now)
+        (at_step made.new rolling.now) mover.old.mover mover.new.mover gate.old gate.new result }
     ensures more { result ≡ Advance.Done → made.old < made.new }
 {
     match next {
@@ -215,9 +226,11 @@ fn moves_on<G: Gate>(
     gate: &mut G,
 ) -> Advance
     requires own { mover.old.fabric ≡ fabric.now }
-    requires ready { IsReady fabric.now.size (rest_of (at_step made.old rolling.now)) mover.old.mover }
+    requires ready { IsReady fabric.now.size (rest_of (at_step made.old rolling.now))
+        mover.old.mover }
     ensures own { mover.new.fabric ≡ fabric.now }
-    ensures walks { Walks G.stops G.asked fabric.now.size (at_step made.old rolling.now) (at_step made.new rolling.now) mover.old.mover mover.new.mover gate.old gate.new result }
+    ensures walks { Walks G.stops G.asked fabric.now.size (at_step made.old rolling.now)
+        (at_step made.new rolling.now) mover.old.mover mover.new.mover gate.old gate.new result }
 {
     if *made != 0 {
         return Advance::Done;
@@ -241,9 +254,11 @@ fn writes_on<G: Gate>(
     gate: &mut G,
 ) -> Advance
     requires own { mover.old.fabric ≡ fabric.now }
-    requires ready { IsReady fabric.now.size (rest_of (at_step made.old rolling.now)) mover.old.mover }
+    requires ready { IsReady fabric.now.size (rest_of (at_step made.old rolling.now))
+        mover.old.mover }
     ensures own { mover.new.fabric ≡ fabric.now }
-    ensures walks { Walks G.stops G.asked fabric.now.size (at_step made.old rolling.now) (at_step made.new rolling.now) mover.old.mover mover.new.mover gate.old gate.new result }
+    ensures walks { Walks G.stops G.asked fabric.now.size (at_step made.old rolling.now)
+        (at_step made.new rolling.now) mover.old.mover mover.new.mover gate.old gate.new result }
     ensures all { result ≡ Advance.Done → rest_of (at_step made.new rolling.now) ≡ [] }
 {
     match moves_on(fabric, mover, rolling, made, gate) {
@@ -270,13 +285,16 @@ pub fn advance<G: Gate>(
     requires own { mover.old.fabric ≡ fabric.now }
     requires ready { IsReady mover.old.fabric.size (rest_of rolling.old) mover.old.mover }
     ensures fabric { mover.new.fabric ≡ mover.old.fabric }
-    ensures goes_on { GoesOn mover.old.fabric.size rolling.old rolling.new mover.old.mover mover.new.mover }
+    ensures goes_on { GoesOn mover.old.fabric.size rolling.old rolling.new mover.old.mover
+        mover.new.mover }
     ensures ready { IsReady mover.old.fabric.size (rest_of rolling.new) mover.new.mover }
-    ensures answer { AnswerIs mover.old.fabric.size (rest_of rolling.old) (rest_of rolling.new) mover.old.mover mover.new.mover result }
+    ensures answer { AnswerIs mover.old.fabric.size (rest_of rolling.old) (rest_of rolling.new)
+        mover.old.mover mover.new.mover result }
     ensures written { mover.new.mover.written ++ rest_of rolling.new
         ≡ mover.old.mover.written ++ rest_of rolling.old }
     ensures stopped { RoseOnlyFor (G.stops gate.old) (G.stops gate.new) (result ≡ Advance.Stopped) }
-    ensures asked { G.asked gate.old gate.new (asked_at (rest_of rolling.old) (rest_of rolling.new) result) }
+    ensures asked { G.asked gate.old gate.new
+        (asked_at (rest_of rolling.old) (rest_of rolling.new) result) }
 {
     let mut made = rolling.step();
     let answer = writes_on(fabric, mover, rolling, &mut made, gate);

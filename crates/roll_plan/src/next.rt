@@ -40,7 +40,8 @@ fn next_of_moves(moves: &[Move], place: usize) -> Next
 // What is written next at a place of a join. Err: the place is so far behind it.
 #[inline(always)]
 fn next_of_join(leg: Leg, middle: Middle, place: usize) -> Result<Next, usize>
-    ensures { MatchResult result (λ n. IsNext (join_writes leg middle) place (Some n)) (λ p. p + 3 ≡ place) }
+    ensures { MatchResult result (λ n. IsNext (join_writes leg middle) place (Some n))
+        (λ p. p + 3 ≡ place) }
 {
     match place {
         0 => Ok(Next::Join(leg, middle)),
@@ -52,7 +53,8 @@ fn next_of_join(leg: Leg, middle: Middle, place: usize) -> Result<Next, usize>
 // What is written next at a place of a part. Err: the place is so far behind it.
 #[inline(always)]
 fn next_of_part(leg: Leg, middle: Middle, place: usize) -> Result<Next, usize>
-    ensures { MatchResult result (λ n. IsNext (part_writes leg middle) place (Some n)) (λ p. p + 3 ≡ place) }
+    ensures { MatchResult result (λ n. IsNext (part_writes leg middle) place (Some n))
+        (λ p. p + 3 ≡ place) }
 {
     match place {
         0 => Ok(Next::Part(leg, middle)),
@@ -64,7 +66,8 @@ fn next_of_part(leg: Leg, middle: Middle, place: usize) -> Result<Next, usize>
 // What is written next at a place of an op. Err: the place is so far behind it.
 #[inline(always)]
 fn next_of_op(op: &LegOp, place: usize) -> Result<Next, usize>
-    ensures next { MatchResult result (λ n. IsNext (op_writes op.now) place (Some n)) (λ p. p + length (op_writes op.now) ≡ place) }
+    ensures next { MatchResult result (λ n. IsNext (op_writes op.now) place (Some n))
+        (λ p. p + length (op_writes op.now) ≡ place) }
     ensures few { MatchResult result (λ _. place < 473) (λ p. place ≤ p + 473) }
 {
     match op {

@@ -12,7 +12,8 @@ use toml::{Table, Value};
 /// The document of a file.
 pub fn read(alloc: Global, bytes: &[u8]) -> Result<Table, ShelfFault>
     requires { length bytes.now ≤ most_bytes }
-    ensures { MatchResult result (λ t. IsDocument bytes.now (table_view t)) (IsFirstFault bytes.now) }
+    ensures { MatchResult result (λ t. IsDocument bytes.now (table_view t))
+        (IsFirstFault bytes.now) }
 {
     match toml::table_from_slice(alloc, bytes) {
         Ok(table) => Ok(table),
@@ -21,7 +22,8 @@ pub fn read(alloc: Global, bytes: &[u8]) -> Result<Table, ShelfFault>
 }
 
 fn fault_of(error: &Error) -> ShelfFault
-    ensures { (result ≡ ShelfFault.NoMemory) ⊎ ((result ≡ ShelfFault.NotToml) × ¬ IsMemory error.now) }
+    ensures { (result ≡ ShelfFault.NoMemory)
+        ⊎ ((result ≡ ShelfFault.NotToml) × ¬ IsMemory error.now) }
 {
     if error.is_memory() {
         ShelfFault::NoMemory

@@ -20,7 +20,9 @@ pub fn required<'a>(
     key: ShelfKey,
     user: u16,
 ) -> Result<&'a Value, ShelfFault>
-    ensures { MatchResult result (λ v. get_member name.now (table_view table.now) ≡ Some (view v.now)) (λ f. (get_member name.now (table_view table.now) ≡ None) × (f ≡ ShelfFault.Missing key user)) }
+    ensures { MatchResult result
+        (λ v. get_member name.now (table_view table.now) ≡ Some (view v.now)) (λ f.
+        (get_member name.now (table_view table.now) ≡ None) × (f ≡ ShelfFault.Missing key user)) }
 {
     match value_at(table, name) {
         Some(value) => Ok(value),
@@ -37,7 +39,8 @@ pub fn sid_at(table: &Table) -> Result<Sid, ShelfFault>
 }
 
 pub fn modules_at(table: &Table) -> Result<u16, ShelfFault>
-    ensures { IsReading ShelfKey.Modules 0 (codes "modules") modules_of (table_view table.now) result }
+    ensures { IsReading ShelfKey.Modules 0 (codes "modules") modules_of (table_view table.now)
+        result }
 {
     let key = ShelfKey::Modules;
     let value = required(table, "modules", key, 0)?;
@@ -54,7 +57,9 @@ pub fn slots_at(table: &Table) -> Result<u16, ShelfFault>
 
 /// A user's name, in upper case.
 pub fn uid_at(table: &Table, user: u16) -> Result<Uid, ShelfFault>
-    ensures { MatchResult result (λ k. value_of (codes "uid") uid_of (table_view table.now) ≡ Some k.items) (λ f. fault_at ShelfKey.Uid user (codes "uid") uid_of (table_view table.now) ≡ Some f) }
+    ensures { MatchResult result
+        (λ k. value_of (codes "uid") uid_of (table_view table.now) ≡ Some k.items)
+        (λ f. fault_at ShelfKey.Uid user (codes "uid") uid_of (table_view table.now) ≡ Some f) }
 {
     let key = ShelfKey::Uid;
     let value = required(table, "uid", key, user)?;
@@ -70,7 +75,9 @@ pub fn class_at(table: &Table, user: u16) -> Result<Class, ShelfFault>
 }
 
 pub fn salt_at(table: &Table, user: u16) -> Result<ArrayVec<u8, 32>, ShelfFault>
-    ensures { MatchResult result (λ s. value_of (codes "salt") salt_of (table_view table.now) ≡ Some s.items) (λ f. fault_at ShelfKey.Salt user (codes "salt") salt_of (table_view table.now) ≡ Some f) }
+    ensures { MatchResult result
+        (λ s. value_of (codes "salt") salt_of (table_view table.now) ≡ Some s.items)
+        (λ f. fault_at ShelfKey.Salt user (codes "salt") salt_of (table_view table.now) ≡ Some f) }
 {
     let key = ShelfKey::Salt;
     let value = required(table, "salt", key, user)?;
@@ -78,7 +85,8 @@ pub fn salt_at(table: &Table, user: u16) -> Result<ArrayVec<u8, 32>, ShelfFault>
 }
 
 pub fn digest_at(table: &Table, user: u16) -> Result<[u8; 32], ShelfFault>
-    ensures { IsReading ShelfKey.Digest user (codes "digest") digest_of (table_view table.now) result }
+    ensures { IsReading ShelfKey.Digest user (codes "digest") digest_of (table_view table.now)
+        result }
 {
     let key = ShelfKey::Digest;
     let value = required(table, "digest", key, user)?;

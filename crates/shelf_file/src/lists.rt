@@ -17,7 +17,9 @@ use toml::{Table, Value};
 
 /// The module that a value names by its number from 1, counted from 0.
 fn module_in(value: &Value, modules: u16) -> Option<u16>
-    ensures { MatchOption result (names_module modules (view value.now) ≡ false) (λ m. (names_module modules (view value.now) ≡ true) × (number_of (view value.now) ≡ Some (m + 1)) × (m < modules)) }
+    ensures { MatchOption result (names_module modules (view value.now) ≡ false)
+        (λ m. (names_module modules (view value.now) ≡ true)
+        × (number_of (view value.now) ≡ Some (m + 1)) × (m < modules)) }
 {
     match number_in(value) {
         Some(number) if (1..=modules as u64).contains(&number) => Some((number - 1) as u16),
@@ -28,7 +30,9 @@ fn module_in(value: &Value, modules: u16) -> Option<u16>
 /// The modules that a list names, as bits; None exactly where it isn't a list of different modules.
 pub fn marks_in(list: &Array, modules: u16) -> Option<u64>
     requires { modules ≤ 64 }
-    ensures { MatchOption result (are_modules modules (map view list.now.items) ≡ false) (λ bits. (are_modules modules (map view list.now.items) ≡ true) × (bits < 2 ^ modules) × Marks modules bits (numbers_in (map view list.now.items))) }
+    ensures { MatchOption result (are_modules modules (map view list.now.items) ≡ false)
+        (λ bits. (are_modules modules (map view list.now.items) ≡ true) × (bits < 2 ^ modules)
+        × Marks modules bits (numbers_in (map view list.now.items))) }
 {
     let mut bits = 0;
     for value in list {
@@ -76,7 +80,8 @@ fn list_in(value: &Value) -> Option<&Array>
 
 fn marked(value: &Value, modules: u16) -> Option<u64>
     requires { modules ≤ 64 }
-    ensures { MatchOption result (equipped_of modules (view value.now) ≡ None) (λ bits. (bits < 2 ^ modules) × AreMarked modules bits (equipped_of modules (view value.now))) }
+    ensures { MatchOption result (equipped_of modules (view value.now) ≡ None) (λ bits.
+        (bits < 2 ^ modules) × AreMarked modules bits (equipped_of modules (view value.now))) }
 {
     match list_in(value) {
         Some(list) => marks_in(list, modules),
@@ -87,7 +92,10 @@ fn marked(value: &Value, modules: u16) -> Option<u64>
 /// The equipped modules, as bits: those that the list names, or all where the key is left out.
 pub fn equipped_at(table: &Table, modules: u16) -> Result<u64, ShelfFault>
     requires { modules ≤ 64 }
-    ensures { MatchResult result (λ bits. (bits < 2 ^ modules) × AreMarked modules bits (named_in modules (get_member (codes "equipped") (table_view table.now)))) (λ f. fault_if_there ShelfKey.Equipped 0 (option_map (equipped_of modules) (get_member (codes "equipped") (table_view table.now))) ≡ Some f) }
+    ensures { MatchResult result (λ bits. (bits < 2 ^ modules) × AreMarked modules bits
+        (named_in modules (get_member (codes "equipped") (table_view table.now))))
+        (λ f. fault_if_there ShelfKey.Equipped 0 (option_map (equipped_of modules)
+        (get_member (codes "equipped") (table_view table.now))) ≡ Some f) }
 {
     let Some(value) = value_at(table, "equipped") else {
         return Ok(all_marks(modules));
@@ -100,7 +108,9 @@ pub fn equipped_at(table: &Table, modules: u16) -> Result<u64, ShelfFault>
 
 /// The list of the users' tables.
 pub fn user_list_at(table: &Table) -> Result<&Array, ShelfFault>
-    ensures { MatchResult result (λ v. (value_of (codes "user") users_of (table_view table.now) ≡ Some (tables_in (map view v.now.items))) × (tables_alone (map view v.now.items) ≡ true)) (λ f. fault_at ShelfKey.User 0 (codes "user") users_of (table_view table.now) ≡ Some f) }
+    ensures { MatchResult result (λ v. (value_of (codes "user") users_of (table_view table.now)
+        ≡ Some (tables_in (map view v.now.items))) × (tables_alone (map view v.now.items) ≡ true))
+        (λ f. fault_at ShelfKey.User 0 (codes "user") users_of (table_view table.now) ≡ Some f) }
 {
     let key = ShelfKey::User;
     let value = required(table, "user", key, 0)?;

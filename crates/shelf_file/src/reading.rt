@@ -33,7 +33,8 @@ pub fn shelf_of(alloc: Global, bytes: &[u8]) -> Result<Shelf, ShelfFault>
 
 /// The shelf that a document describes.
 fn shelf_in(alloc: Global, table: &Table) -> Result<Shelf, ShelfFault>
-    ensures { MatchResult result (Describes (table_view table.now)) (IsFaultOf (checks (table_view table.now))) }
+    ensures { MatchResult result (Describes (table_view table.now))
+        (IsFaultOf (checks (table_view table.now))) }
 {
     let sid = sid_at(table)?;
     let shape = shape_at(table)?;
@@ -50,7 +51,12 @@ fn shelf_in(alloc: Global, table: &Table) -> Result<Shelf, ShelfFault>
 
 /// The numbers of modules and slots, each within its limits.
 fn shape_at(table: &Table) -> Result<Shape, ShelfFault>
-    ensures { MatchResult result (λ d. (value_at (codes "modules") modules_of (table_view table.now) ≡ Some d.modules) × (value_at (codes "slots") slots_of (table_view table.now) ≡ Some d.slots) × IsInLimits d) (λ f. first_some (fault_at ShelfKey.Modules 0 (codes "modules") modules_of (table_view table.now) ∷ fault_at ShelfKey.Slots 0 (codes "slots") slots_of (table_view table.now) ∷ []) ≡ Some f) }
+    ensures { MatchResult result
+        (λ d. (value_at (codes "modules") modules_of (table_view table.now) ≡ Some d.modules)
+        × (value_at (codes "slots") slots_of (table_view table.now) ≡ Some d.slots) × IsInLimits d)
+        (λ f. first_some
+        (fault_at ShelfKey.Modules 0 (codes "modules") modules_of (table_view table.now) ∷ fault_at
+        ShelfKey.Slots 0 (codes "slots") slots_of (table_view table.now) ∷ []) ≡ Some f) }
 {
     let modules = modules_at(table)?;
     let slots = slots_at(table)?;

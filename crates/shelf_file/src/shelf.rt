@@ -26,9 +26,15 @@ impl Model for Shelf {
 
     ghost Value = { Contents };
 
-    ghost view = { λ s. record { sid = s.sid; shape = s.shape; equipped = s.equipped; users = entries_of s.users.items } };
+    ghost view = { λ s. record
+        { sid = s.sid; shape = s.shape; equipped = s.equipped; users = entries_of s.users.items } };
 
-    ghost invariant = { λ s. IsKept (record { sid = s.sid; shape = s.shape; equipped = s.equipped; users = entries_of s.users.items }) };
+    ghost invariant = { λ s. IsKept (record {
+      sid = s.sid;
+      shape = s.shape;
+      equipped = s.equipped;
+      users = entries_of s.users.items;
+    }) };
 }
 
 impl Shelf {
@@ -67,10 +73,14 @@ impl Shelf {
 
     fn user(&self, user: u16) -> &User
         requires { user < length self.now.users }
-        ensures name { option_map (λ e. e.name) (slice_get self.now.users user) ≡ Some result.now.uid.items }
-        ensures class { option_map (λ e. e.class) (slice_get self.now.users user) ≡ Some result.now.class }
-        ensures salt { option_map (λ e. e.salt) (slice_get self.now.users user) ≡ Some result.now.salt.items }
-        ensures digest { option_map (λ e. e.digest) (slice_get self.now.users user) ≡ Some result.now.digest }
+        ensures name { option_map (λ e. e.name) (slice_get self.now.users user) ≡ Some
+            result.now.uid.items }
+        ensures class { option_map (λ e. e.class) (slice_get self.now.users user) ≡ Some
+            result.now.class }
+        ensures salt { option_map (λ e. e.salt) (slice_get self.now.users user) ≡ Some
+            result.now.salt.items }
+        ensures digest { option_map (λ e. e.digest) (slice_get self.now.users user) ≡ Some
+            result.now.digest }
     {
         match self.users.get(user as usize) {
             Some(kept) => kept,

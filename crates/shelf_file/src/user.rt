@@ -38,7 +38,8 @@ fn is_alphanumeric(text: &[u8]) -> bool
 
 /// The name in upper case; None exactly where it is longer than a name can be.
 pub fn upper(text: &[u8]) -> Option<Uid>
-    ensures { option_map (λ k. k.items) result ≡ (if nat_lt 10 (length text.now) then None else Some (in_upper_case text.now)) }
+    ensures { option_map (λ k. k.items)
+        result ≡ (if nat_lt 10 (length text.now) then None else Some (in_upper_case text.now)) }
 {
     let mut name = ArrayVec::try_from(text).ok()?;
     name.as_mut_slice().make_ascii_uppercase();
@@ -79,7 +80,8 @@ pub fn salt_in(value: &Value) -> Option<ArrayVec<u8, 32>>
 
 /// A salt of at most 32 bytes, written in hexadecimal.
 fn salt_from(text: &str) -> Option<ArrayVec<u8, 32>>
-    ensures { option_map (λ s. s.items) result ≡ (if nat_lt 64 (length text.now) then None else result_ok (decode_of text.now)) }
+    ensures { option_map (λ s. s.items)
+        result ≡ (if nat_lt 64 (length text.now) then None else result_ok (decode_of text.now)) }
 {
     if text.len() > 64 {
         return None;

@@ -17,7 +17,8 @@ use toml::value::Array;
 
 /// The user that a table describes.
 fn user_in(table: &Table, number: u16) -> Result<User, ShelfFault>
-    ensures { MatchResult result (λ u. IsUser (table_view table.now) (entry_of u)) (λ f. first_some (key_checks number (table_view table.now)) ≡ Some f) }
+    ensures { MatchResult result (λ u. IsUser (table_view table.now) (entry_of u))
+        (λ f. first_some (key_checks number (table_view table.now)) ≡ Some f) }
 {
     let uid = uid_at(table, number)?;
     let class = class_at(table, number)?;
@@ -42,7 +43,9 @@ fn has_name(users: &[User], name: &Uid) -> bool
 
 /// Adds the user that a table describes.
 fn add_user(users: &mut Vec<User>, table: &Table, number: u16) -> Result<(), ShelfFault>
-    ensures { MatchResult result (λ _. Adds (table_view table.now) number (entries_of users.old.items) (entries_of users.new.items)) (IsFaultOf (checks_of (names_in (entries_of users.old.items)) number (table_view table.now))) }
+    ensures { MatchResult result (λ _. Adds (table_view table.now) number
+        (entries_of users.old.items) (entries_of users.new.items)) (IsFaultOf
+        (checks_of (names_in (entries_of users.old.items)) number (table_view table.now))) }
 {
     let user = user_in(table, number)?;
     if has_name(users.as_slice(), &user.uid) {
@@ -58,7 +61,8 @@ fn add_user(users: &mut Vec<User>, table: &Table, number: u16) -> Result<(), She
 fn table_in(list: &Array, place: usize) -> &Table
     requires tables { are_tables (map view list.now.items) ≡ true }
     requires within { place < length list.now.items }
-    ensures { table_view result.now ≡ slice_index_or (tables_in (map view list.now.items)) place no_members }
+    ensures { table_view result.now ≡ slice_index_or (tables_in (map view list.now.items)) place
+        no_members }
 {
     match list[place].as_table() {
         Some(table) => table,
@@ -69,7 +73,10 @@ fn table_in(list: &Array, place: usize) -> &Table
 /// The users that the tables of a list describe, or the first fault of their checks.
 pub fn users_in(alloc: Global, list: &Array) -> Result<Vec<User>, ShelfFault>
     requires { are_tables (map view list.now.items) ≡ true }
-    ensures { MatchResult result (λ m. AreUsers (tables_in (map view list.now.items)) (entries_of m.items) × (first_some (users_checks (tables_in (map view list.now.items))) ≡ None)) (IsFaultOf (users_checks (tables_in (map view list.now.items)))) }
+    ensures { MatchResult result
+        (λ m. AreUsers (tables_in (map view list.now.items)) (entries_of m.items)
+        × (first_some (users_checks (tables_in (map view list.now.items))) ≡ None))
+        (IsFaultOf (users_checks (tables_in (map view list.now.items)))) }
 {
     let mut users = Vec::new(alloc);
     for place in 0..list.len() {

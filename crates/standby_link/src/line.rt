@@ -38,10 +38,13 @@ impl<K: Link> Line<K> {
     /// Sends a write, in as many items as it takes.
     pub(crate) fn write(&mut self, place: u64, from: &[u8])
         ensures gone { IsSome self.old.lost → self.new ≡ self.old }
-        ensures sends { self.old.lost ≡ None → self.old.number + length (pieces place from.now) < 2 ^ 64 → place + length from.now < 2 ^ 64
-            → Sends K.told (line_at K.state self.old) (line_at K.state self.new) (pieces place from.now) }
+        ensures sends { self.old.lost ≡ None
+            → self.old.number + length (pieces place from.now) < 2 ^ 64
+            → place + length from.now < 2 ^ 64 → Sends K.told (line_at K.state self.old)
+            (line_at K.state self.new) (pieces place from.now) }
         ensures ear { self.new.ear ≡ self.old.ear }
-        ensures hung_up { IsHungUp self.old.lost self.new.lost (K.hung_up self.old.link) (K.hung_up self.new.link) }
+        ensures hung_up { IsHungUp self.old.lost self.new.lost (K.hung_up self.old.link)
+            (K.hung_up self.new.link) }
     {
         if self.lost.is_some() {
             return;
@@ -61,9 +64,11 @@ impl<K: Link> Line<K> {
     pub(crate) fn send_write(&mut self, place: u64, from: &[u8])
         requires few { length from.now ≤ 4096 }
         requires here { self.old.lost ≡ None }
-        ensures sends { self.old.number + 1 < 2 ^ 64 → Sends K.told (line_at K.state self.old) (line_at K.state self.new) (write place from.now ∷ []) }
+        ensures sends { self.old.number + 1 < 2 ^ 64 → Sends K.told (line_at K.state self.old)
+            (line_at K.state self.new) (write place from.now ∷ []) }
         ensures ear { self.new.ear ≡ self.old.ear }
-        ensures hung_up { IsHungUp self.old.lost self.new.lost (K.hung_up self.old.link) (K.hung_up self.new.link) }
+        ensures hung_up { IsHungUp self.old.lost self.new.lost (K.hung_up self.old.link)
+            (K.hung_up self.new.link) }
     {
         let mut message = [0; 4115];
         self.number = self.number.wrapping_add(1);
@@ -73,10 +78,12 @@ impl<K: Link> Line<K> {
 
     fn send(&mut self, message: &[u8])
         requires { self.old.lost ≡ None }
-        ensures sends { SendsOne K.told (K.state self.old.link) (K.state self.new.link) self.new.lost message.now }
+        ensures sends { SendsOne K.told (K.state self.old.link) (K.state self.new.link)
+            self.new.lost message.now }
         ensures number { self.new.number ≡ self.old.number }
         ensures ear { self.new.ear ≡ self.old.ear }
-        ensures hung_up { IsHungUp self.old.lost self.new.lost (K.hung_up self.old.link) (K.hung_up self.new.link) }
+        ensures hung_up { IsHungUp self.old.lost self.new.lost (K.hung_up self.old.link)
+            (K.hung_up self.new.link) }
     {
         if let Sent::Cut = write_all(&mut self.link, message) {
             self.lose(Lost::Link);
@@ -86,8 +93,10 @@ impl<K: Link> Line<K> {
     /// Sends a Sync, and waits for its Have.
     pub(crate) fn sync(&mut self)
         ensures gone { IsSome self.old.lost → self.new ≡ self.old }
-        ensures syncs { self.old.lost ≡ None → self.old.number + 1 < 2 ^ 64 → Syncs K.told (line_at K.state self.old) (line_at K.state self.new) }
-        ensures hung_up { IsHungUp self.old.lost self.new.lost (K.hung_up self.old.link) (K.hung_up self.new.link) }
+        ensures syncs { self.old.lost ≡ None → self.old.number + 1 < 2 ^ 64
+            → Syncs K.told (line_at K.state self.old) (line_at K.state self.new) }
+        ensures hung_up { IsHungUp self.old.lost self.new.lost (K.hung_up self.old.link)
+            (K.hung_up self.new.link) }
     {
         if self.lost.is_some() {
             return;
@@ -109,7 +118,8 @@ impl<K: Link> Line<K> {
         ensures ear { self.new.ear ≡ self.old.ear }
         ensures lost { self.old.lost ≡ None → self.new.lost ≡ Some Lost.Disk }
         ensures gone { IsSome self.old.lost → self.new ≡ self.old }
-        ensures hung_up { IsHungUp self.old.lost self.new.lost (K.hung_up self.old.link) (K.hung_up self.new.link) }
+        ensures hung_up { IsHungUp self.old.lost self.new.lost (K.hung_up self.old.link)
+            (K.hung_up self.new.link) }
     {
         if self.lost.is_none() {
             self.lose(Lost::Disk);

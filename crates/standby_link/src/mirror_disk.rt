@@ -35,10 +35,15 @@ impl<D: Disk, K: Link> MirrorDisk<D, K> {
         ensures faults { (D.state disk).faults ≤ (D.state result.disk).faults }
         ensures room { D.told → Spends (1 + length (D.state disk).reads_as)
             (D.state disk) (D.state result.disk) }
-        ensures line { IsSomeAnd result.line (λ l. Joins D.told K.told (D.state disk) (D.state result.disk) (K.state link) (line_at K.state l)) }
-        ensures step { D.told → IsSmall 0 0 (D.state disk).reads_as → length (pieces 0 (D.state disk).reads_as) + 1 < 2 ^ 64
-            → IsSomeAnd result.line (λ l. TookHaves D.told K.told (first_line (K.state link)) (mirrored (D.state result.disk) (line_at K.state l)) (joining (D.state disk).reads_as)) }
-        ensures hung_up { IsSomeAnd result.line (λ l. IsHungUp None l.lost (K.hung_up link) (K.hung_up l.link)) }
+        ensures line { IsSomeAnd result.line (λ l. Joins D.told K.told (D.state disk)
+            (D.state result.disk) (K.state link) (line_at K.state l)) }
+        ensures step { D.told → IsSmall 0 0 (D.state disk).reads_as
+            → length (pieces 0 (D.state disk).reads_as) + 1 < 2 ^ 64
+            → IsSomeAnd result.line (λ l. TookHaves D.told K.told (first_line (K.state link))
+            (mirrored (D.state result.disk) (line_at K.state l))
+            (joining (D.state disk).reads_as)) }
+        ensures hung_up { IsSomeAnd result.line
+            (λ l. IsHungUp None l.lost (K.hung_up link) (K.hung_up l.link)) }
     {
         let mut disk = disk;
         let mut line = Line::new(link);
@@ -61,7 +66,8 @@ impl<D: Disk, K: Link> MirrorDisk<D, K> {
 
     /// How the disk stands to its standby.
     pub fn mirror(&self) -> Mirror
-        ensures { MatchOption self.now.line (result ≡ Mirror.Alone) (λ l. result ≡ mirror_of l.lost) }
+        ensures { MatchOption self.now.line (result ≡ Mirror.Alone)
+            (λ l. result ≡ mirror_of l.lost) }
     {
         match &self.line {
             None => Mirror::Alone,
@@ -91,7 +97,8 @@ impl<D: Disk, K: Link> Disk for MirrorDisk<D, K> {
 
     fn read(&mut self, at: u64, into: &mut [u8]) -> Result<(), DiskFault>
         requires { D.told → at + length into.old ≤ length (D.state self.old.disk).reads_as }
-        ensures read { IsRead D.told (D.state self.old.disk) (D.state self.new.disk) result at into.new }
+        ensures read { IsRead D.told (D.state self.old.disk) (D.state self.new.disk) result at
+            into.new }
         ensures line { self.new.line ≡ self.old.line }
     {
         self.disk.read(at, into)
@@ -100,10 +107,15 @@ impl<D: Disk, K: Link> Disk for MirrorDisk<D, K> {
     fn write_at(&mut self, at: u64, from: &[u8]) -> Result<(), DiskFault>
         requires within { D.told → at ≤ length (D.state self.old.disk).reads_as }
         requires short { length from.now ≤ 4096 }
-        ensures write { IsWrite D.told (D.state self.old.disk) (D.state self.new.disk) result at from.now }
-        ensures tells { Both self.old.line self.new.line (λ l m. TellsWrite K.told (line_at K.state l) (line_at K.state m) at from.now result) }
-        ensures steps { Both self.old.line self.new.line (λ l m. StepsByWrite D.told (mirrored (D.state self.old.disk) (line_at K.state l)) (mirrored (D.state self.new.disk) (line_at K.state m)) at from.now result) }
-        ensures hung_up { Both self.old.line self.new.line (λ l m. IsHungUp l.lost m.lost (K.hung_up l.link) (K.hung_up m.link)) }
+        ensures write { IsWrite D.told (D.state self.old.disk) (D.state self.new.disk) result at
+            from.now }
+        ensures tells { Both self.old.line self.new.line
+            (λ l m. TellsWrite K.told (line_at K.state l) (line_at K.state m) at from.now result) }
+        ensures steps { Both self.old.line self.new.line
+            (λ l m. StepsByWrite D.told (mirrored (D.state self.old.disk) (line_at K.state l))
+            (mirrored (D.state self.new.disk) (line_at K.state m)) at from.now result) }
+        ensures hung_up { Both self.old.line self.new.line
+            (λ l m. IsHungUp l.lost m.lost (K.hung_up l.link) (K.hung_up m.link)) }
     {
         let written = self.disk.write_at(at, from);
         tell_write(&mut self.line, written, at, from);
@@ -112,9 +124,13 @@ impl<D: Disk, K: Link> Disk for MirrorDisk<D, K> {
 
     fn sync(&mut self) -> Result<(), DiskFault>
         ensures sync { IsSync D.told (D.state self.old.disk) (D.state self.new.disk) result }
-        ensures tells { Both self.old.line self.new.line (λ l m. TellsSync K.told (line_at K.state l) (line_at K.state m) result) }
-        ensures steps { Both self.old.line self.new.line (λ l m. StepsBySync D.told K.told (mirrored (D.state self.old.disk) (line_at K.state l)) (mirrored (D.state self.new.disk) (line_at K.state m)) result) }
-        ensures hung_up { Both self.old.line self.new.line (λ l m. IsHungUp l.lost m.lost (K.hung_up l.link) (K.hung_up m.link)) }
+        ensures tells { Both self.old.line self.new.line
+            (λ l m. TellsSync K.told (line_at K.state l) (line_at K.state m) result) }
+        ensures steps { Both self.old.line self.new.line
+            (λ l m. StepsBySync D.told K.told (mirrored (D.state self.old.disk) (line_at K.state l))
+            (mirrored (D.state self.new.disk) (line_at K.state m)) result) }
+        ensures hung_up { Both self.old.line self.new.line
+            (λ l m. IsHungUp l.lost m.lost (K.hung_up l.link) (K.hung_up m.link)) }
     {
         let synced = self.disk.sync();
         tell_sync(&mut self.line, synced);
@@ -129,8 +145,10 @@ fn tell_write<K: Link>(
     at: u64,
     from: &[u8],
 )
-    ensures tells { Both line.old line.new (λ l m. TellsWrite K.told (line_at K.state l) (line_at K.state m) at from.now written) }
-    ensures hung_up { Both line.old line.new (λ l m. IsHungUp l.lost m.lost (K.hung_up l.link) (K.hung_up m.link)) }
+    ensures tells { Both line.old line.new
+        (λ l m. TellsWrite K.told (line_at K.state l) (line_at K.state m) at from.now written) }
+    ensures hung_up { Both line.old line.new
+        (λ l m. IsHungUp l.lost m.lost (K.hung_up l.link) (K.hung_up m.link)) }
 {
     let Some(line) = line else { return };
     match written {
@@ -141,8 +159,10 @@ fn tell_write<K: Link>(
 
 // Sends a sync and waits for its Have, if there is a standby.
 fn tell_sync<K: Link>(line: &mut Option<Line<K>>, synced: Result<(), DiskFault>)
-    ensures tells { Both line.old line.new (λ l m. TellsSync K.told (line_at K.state l) (line_at K.state m) synced) }
-    ensures hung_up { Both line.old line.new (λ l m. IsHungUp l.lost m.lost (K.hung_up l.link) (K.hung_up m.link)) }
+    ensures tells { Both line.old line.new
+        (λ l m. TellsSync K.told (line_at K.state l) (line_at K.state m) synced) }
+    ensures hung_up { Both line.old line.new
+        (λ l m. IsHungUp l.lost m.lost (K.hung_up l.link) (K.hung_up m.link)) }
 {
     let Some(line) = line else { return };
     match synced {
@@ -160,8 +180,10 @@ fn send_file<D: Disk, K: Link>(disk: &mut D, line: &mut Line<K>)
     ensures room { D.told → Spends (1 + length (D.state disk.old).reads_as)
         (D.state disk.old) (D.state disk.new) }
     ensures ear { line.new.ear ≡ line.old.ear }
-    ensures hung_up { IsHungUp line.old.lost line.new.lost (K.hung_up line.old.link) (K.hung_up line.new.link) }
-    ensures sends { D.told → IsSmall 0 0 (D.state disk.old).reads_as → SendsFile K.told (D.state disk.old) (D.state disk.new) (K.state line.old.link) (line_at K.state line.new) }
+    ensures hung_up { IsHungUp line.old.lost line.new.lost (K.hung_up line.old.link)
+        (K.hung_up line.new.link) }
+    ensures sends { D.told → IsSmall 0 0 (D.state disk.old).reads_as → SendsFile K.told
+        (D.state disk.old) (D.state disk.new) (K.state line.old.link) (line_at K.state line.new) }
 {
     let Ok(length) = disk.length() else {
         line.end();

@@ -16,19 +16,31 @@ const READS: u64 = 1 << 32;
 /// Makes on the disk, which is to be empty, what a primary sends over the link, and answers each Sync with a Have. It ends
 /// as the link ends, by a fault, by bytes that are no item, or after 2^32 reads. It takes no memory.
 pub fn serve_standby<K: Link, D: Disk>(link: &mut K, disk: &mut D) -> StandbyEnd
-    ensures served { Unbegun D.told (K.state link.old) (K.state link.new) (D.state disk.old) (D.state disk.new) result ⊎ Served K.told D.told (D.state disk.old).room ((D.state disk.old).faults + (D.state disk.old).margin) (K.state link.old) (K.state link.new) (D.state disk.new) result }
+    ensures served { Unbegun D.told (K.state link.old) (K.state link.new) (D.state disk.old)
+        (D.state disk.new) result ⊎ Served K.told D.told (D.state disk.old).room
+        ((D.state disk.old).faults + (D.state disk.old).margin) (K.state link.old)
+        (K.state link.new) (D.state disk.new) result }
     ensures prompt { IsPrompt K.begun K.told (K.state link.old) (K.state link.new) }
-    ensures not_empty { D.told → (D.state disk.old).reads_as ≢ [] → (result ≡ StandbyEnd.NotEmpty) ⊎ (result ≡ StandbyEnd.DiskFault) }
+    ensures not_empty { D.told → (D.state disk.old).reads_as ≢ []
+        → (result ≡ StandbyEnd.NotEmpty) ⊎ (result ≡ StandbyEnd.DiskFault) }
     ensures empty { D.told → result ≡ StandbyEnd.NotEmpty → (D.state disk.old).reads_as ≢ [] }
-    ensures end { (K.state link.old).ended ≡ false → ((result ≡ StandbyEnd.End) ↔ IsTrue (K.state link.new).ended) }
-    ensures read_fault { result ≡ StandbyEnd.ReadFault → Rose (K.state link.old).read_faults (K.state link.new).read_faults }
-    ensures no_read_fault { result ≢ StandbyEnd.ReadFault → (K.state link.new).read_faults ≡ (K.state link.old).read_faults }
-    ensures write_fault { result ≡ StandbyEnd.WriteFault → Rose (K.state link.old).write_faults (K.state link.new).write_faults }
-    ensures no_write_fault { result ≢ StandbyEnd.WriteFault → (K.state link.new).write_faults ≡ (K.state link.old).write_faults }
-    ensures disk_fault { result ≡ StandbyEnd.DiskFault → Rose (D.state disk.old).faults (D.state disk.new).faults }
+    ensures end { (K.state link.old).ended ≡ false
+        → ((result ≡ StandbyEnd.End) ↔ IsTrue (K.state link.new).ended) }
+    ensures read_fault { result ≡ StandbyEnd.ReadFault
+        → Rose (K.state link.old).read_faults (K.state link.new).read_faults }
+    ensures no_read_fault { result ≢ StandbyEnd.ReadFault
+        → (K.state link.new).read_faults ≡ (K.state link.old).read_faults }
+    ensures write_fault { result ≡ StandbyEnd.WriteFault
+        → Rose (K.state link.old).write_faults (K.state link.new).write_faults }
+    ensures no_write_fault { result ≢ StandbyEnd.WriteFault
+        → (K.state link.new).write_faults ≡ (K.state link.old).write_faults }
+    ensures disk_fault { result ≡ StandbyEnd.DiskFault
+        → Rose (D.state disk.old).faults (D.state disk.new).faults }
     ensures few { (K.state link.new).reads ≤ (K.state link.old).reads + 2 ^ 32 }
-    ensures spent { result ≡ StandbyEnd.Spent → Counted (K.state link.old).reads (K.state link.new).reads (2 ^ 32) }
-    ensures sound_link { IsSoundLink (K.state link.old) → (result ≢ StandbyEnd.ReadFault) × (result ≢ StandbyEnd.WriteFault) }
+    ensures spent { result ≡ StandbyEnd.Spent
+        → Counted (K.state link.old).reads (K.state link.new).reads (2 ^ 32) }
+    ensures sound_link { IsSoundLink (K.state link.old)
+        → (result ≢ StandbyEnd.ReadFault) × (result ≢ StandbyEnd.WriteFault) }
 {
     match disk.length() {
         Ok(0) => serve(link, disk),
@@ -39,18 +51,26 @@ pub fn serve_standby<K: Link, D: Disk>(link: &mut K, disk: &mut D) -> StandbyEnd
 
 fn serve<K: Link, D: Disk>(link: &mut K, disk: &mut D) -> StandbyEnd
     requires { D.told → (D.state disk.old).reads_as ≡ [] }
-    ensures served { (room sum : ℕ) → IsSpentBy 1 room sum (D.state disk.old) → Served K.told D.told room sum (K.state link.old) (K.state link.new) (D.state disk.new) result }
+    ensures served { (room sum : ℕ) → IsSpentBy 1 room sum (D.state disk.old) → Served K.told D.told
+        room sum (K.state link.old) (K.state link.new) (D.state disk.new) result }
     ensures prompt { IsPrompt K.begun K.told (K.state link.old) (K.state link.new) }
     ensures end { (result ≡ StandbyEnd.End) ↔ IsTrue (K.state link.new).ended }
-    ensures read_fault { HasCause (K.state link.old).read_faults (K.state link.new).read_faults (result ≡ StandbyEnd.ReadFault) }
-    ensures no_read_fault { result ≢ StandbyEnd.ReadFault → (K.state link.new).read_faults ≡ (K.state link.old).read_faults }
-    ensures write_fault { HasCause (K.state link.old).write_faults (K.state link.new).write_faults (result ≡ StandbyEnd.WriteFault) }
-    ensures no_write_fault { result ≢ StandbyEnd.WriteFault → (K.state link.new).write_faults ≡ (K.state link.old).write_faults }
-    ensures disk_fault { HasCause (D.state disk.old).faults (D.state disk.new).faults (result ≡ StandbyEnd.DiskFault) }
+    ensures read_fault { HasCause (K.state link.old).read_faults (K.state link.new).read_faults
+        (result ≡ StandbyEnd.ReadFault) }
+    ensures no_read_fault { result ≢ StandbyEnd.ReadFault
+        → (K.state link.new).read_faults ≡ (K.state link.old).read_faults }
+    ensures write_fault { HasCause (K.state link.old).write_faults (K.state link.new).write_faults
+        (result ≡ StandbyEnd.WriteFault) }
+    ensures no_write_fault { result ≢ StandbyEnd.WriteFault
+        → (K.state link.new).write_faults ≡ (K.state link.old).write_faults }
+    ensures disk_fault { HasCause (D.state disk.old).faults (D.state disk.new).faults
+        (result ≡ StandbyEnd.DiskFault) }
     ensures few { (K.state link.new).reads ≤ (K.state link.old).reads + 2 ^ 32 }
-    ensures spent { result ≡ StandbyEnd.Spent → Counted (K.state link.old).reads (K.state link.new).reads (2 ^ 32) }
+    ensures spent { result ≡ StandbyEnd.Spent
+        → Counted (K.state link.old).reads (K.state link.new).reads (2 ^ 32) }
     ensures not_empty { result ≡ StandbyEnd.NotEmpty → ⊥ }
-    ensures sound { IsSoundLink (K.state link.old) → (result ≢ StandbyEnd.ReadFault) × (result ≢ StandbyEnd.WriteFault) }
+    ensures sound { IsSoundLink (K.state link.old)
+        → (result ≢ StandbyEnd.ReadFault) × (result ≢ StandbyEnd.WriteFault) }
 {
     let mut inbox = [0; 4115];
     let mut held = 0;
@@ -77,20 +97,28 @@ fn turn<K: Link, D: Disk>(
     disk: &mut D,
 ) -> Result<usize, StandbyEnd>
     requires unfinished { IsUnfinished inbox.old held }
-    requires sized { D.told → made.old.length ≡ min (length (D.state disk.old).reads_as) (2 ^ 64 - 1) }
-    ensures goes { (before : LinkState) (room sum : ℕ) → Ran K.told D.told room sum before (K.state link.old) (D.state disk.old) made.old (take held inbox.old)
-        → Goes K.told D.told room sum before (K.state link.new) (D.state disk.new) made.new inbox.new result }
+    requires sized { D.told
+        → made.old.length ≡ min (length (D.state disk.old).reads_as) (2 ^ 64 - 1) }
+    ensures goes { (before : LinkState) (room sum : ℕ) → Ran K.told D.told room sum before
+        (K.state link.old) (D.state disk.old) made.old (take held inbox.old) → Goes K.told D.told
+        room sum before (K.state link.new) (D.state disk.new) made.new inbox.new result }
     ensures unfinished { IfOk result (λ left. IsUnfinished inbox.new left) }
     ensures ends { IfErr result IsOfTurn }
     ensures end { (result ≡ Err StandbyEnd.End) ↔ IsTrue (K.state link.new).ended }
     ensures begun { K.begun (K.state link.old) }
     ensures reads { Counted (K.state link.old).reads (K.state link.new).reads 1 }
-    ensures read_fault { HasCause (K.state link.old).read_faults (K.state link.new).read_faults (result ≡ Err StandbyEnd.ReadFault) }
-    ensures no_read_fault { result ≢ Err StandbyEnd.ReadFault → (K.state link.new).read_faults ≡ (K.state link.old).read_faults }
-    ensures write_fault { HasCause (K.state link.old).write_faults (K.state link.new).write_faults (result ≡ Err StandbyEnd.WriteFault) }
-    ensures no_write_fault { result ≢ Err StandbyEnd.WriteFault → (K.state link.new).write_faults ≡ (K.state link.old).write_faults }
-    ensures disk_fault { HasCause (D.state disk.old).faults (D.state disk.new).faults (result ≡ Err StandbyEnd.DiskFault) }
-    ensures sound { IsSoundLink (K.state link.old) → IsSoundLink (K.state link.new) × (result ≢ Err StandbyEnd.ReadFault) × (result ≢ Err StandbyEnd.WriteFault) }
+    ensures read_fault { HasCause (K.state link.old).read_faults (K.state link.new).read_faults
+        (result ≡ Err StandbyEnd.ReadFault) }
+    ensures no_read_fault { result ≢ Err StandbyEnd.ReadFault
+        → (K.state link.new).read_faults ≡ (K.state link.old).read_faults }
+    ensures write_fault { HasCause (K.state link.old).write_faults (K.state link.new).write_faults
+        (result ≡ Err StandbyEnd.WriteFault) }
+    ensures no_write_fault { result ≢ Err StandbyEnd.WriteFault
+        → (K.state link.new).write_faults ≡ (K.state link.old).write_faults }
+    ensures disk_fault { HasCause (D.state disk.old).faults (D.state disk.new).faults
+        (result ≡ Err StandbyEnd.DiskFault) }
+    ensures sound { IsSoundLink (K.state link.old) → IsSoundLink (K.state link.new)
+        × (result ≢ Err StandbyEnd.ReadFault) × (result ≢ Err StandbyEnd.WriteFault) }
 {
     let wanted = size_of_item(&inbox[..held]);
     match link.read(&mut inbox[held..wanted]) {
@@ -109,16 +137,23 @@ fn take_in<K: Link, D: Disk>(
     disk: &mut D,
 ) -> Result<usize, StandbyEnd>
     requires within { length held.now ≤ size held.now }
-    requires sized { D.told → made.old.length ≡ min (length (D.state disk.old).reads_as) (2 ^ 64 - 1) }
-    ensures goes { (before : LinkState) (room sum : ℕ) → Ran K.told D.told room sum before (K.state link.old) (D.state disk.old) made.old held.now
-        → Goes K.told D.told room sum before (K.state link.new) (D.state disk.new) made.new held.now result }
+    requires sized { D.told
+        → made.old.length ≡ min (length (D.state disk.old).reads_as) (2 ^ 64 - 1) }
+    ensures goes { (before : LinkState) (room sum : ℕ)
+        → Ran K.told D.told room sum before (K.state link.old) (D.state disk.old) made.old held.now
+        → Goes K.told D.told room sum before (K.state link.new) (D.state disk.new) made.new held.now
+        result }
     ensures unfinished { IfOk result (λ left. IsUnfinished held.now left) }
     ensures ends { IfErr result IsOfItem }
     ensures link { OnlyWrites (K.state link.old) (K.state link.new) }
-    ensures write_fault { HasCause (K.state link.old).write_faults (K.state link.new).write_faults (result ≡ Err StandbyEnd.WriteFault) }
-    ensures no_write_fault { result ≢ Err StandbyEnd.WriteFault → (K.state link.new).write_faults ≡ (K.state link.old).write_faults }
-    ensures disk_fault { HasCause (D.state disk.old).faults (D.state disk.new).faults (result ≡ Err StandbyEnd.DiskFault) }
-    ensures sound { IsSoundLink (K.state link.old) → IsSoundLink (K.state link.new) × (result ≢ Err StandbyEnd.WriteFault) }
+    ensures write_fault { HasCause (K.state link.old).write_faults (K.state link.new).write_faults
+        (result ≡ Err StandbyEnd.WriteFault) }
+    ensures no_write_fault { result ≢ Err StandbyEnd.WriteFault
+        → (K.state link.new).write_faults ≡ (K.state link.old).write_faults }
+    ensures disk_fault { HasCause (D.state disk.old).faults (D.state disk.new).faults
+        (result ≡ Err StandbyEnd.DiskFault) }
+    ensures sound { IsSoundLink (K.state link.old)
+        → IsSoundLink (K.state link.new) × (result ≢ Err StandbyEnd.WriteFault) }
 {
     match judge(held) {
         InHand::Unfinished => return Ok(held.len()),
@@ -136,9 +171,12 @@ fn send_have<K: Link>(link: &mut K, number: u64) -> Result<(), StandbyEnd>
     ensures sends { SendsHave K.told (K.state link.old) (K.state link.new) number result }
     ensures link { OnlyWrites (K.state link.old) (K.state link.new) }
     ensures ends { IfErr result IsOfItem }
-    ensures cause { HasCause (K.state link.old).write_faults (K.state link.new).write_faults (result ≡ Err StandbyEnd.WriteFault) }
-    ensures no_fault { result ≢ Err StandbyEnd.WriteFault → (K.state link.new).write_faults ≡ (K.state link.old).write_faults }
-    ensures sound { IsSoundLink (K.state link.old) → IsSoundLink (K.state link.new) × (result ≢ Err StandbyEnd.WriteFault) }
+    ensures cause { HasCause (K.state link.old).write_faults (K.state link.new).write_faults
+        (result ≡ Err StandbyEnd.WriteFault) }
+    ensures no_fault { result ≢ Err StandbyEnd.WriteFault
+        → (K.state link.new).write_faults ≡ (K.state link.old).write_faults }
+    ensures sound { IsSoundLink (K.state link.old)
+        → IsSoundLink (K.state link.new) × (result ≢ Err StandbyEnd.WriteFault) }
 {
     let mut message = [3; 9];
     BigEndian::write_u64(&mut message[1..], number);

@@ -50,9 +50,11 @@ impl Model for Answer {
 
     ghost Value = { Draft };
 
-    ghost view = { λ a. record { bytes = a.block; head = take a.head a.block; unended = a.unended } };
+    ghost view = { λ a. record
+        { bytes = a.block; head = take a.head a.block; unended = a.unended } };
 
-    ghost invariant = { λ a. (a.head ≤ length a.block) × (a.head ≤ 64) × (a.unended ≡ true → length a.block < 4096) };
+    ghost invariant = { λ a. (a.head ≤ length a.block) × (a.head ≤ 64)
+        × (a.unended ≡ true → length a.block < 4096) };
 }
 
 impl Answer {
@@ -77,7 +79,8 @@ impl Answer {
     #[inline(always)]
     pub fn begin(&mut self, sid: &Sid, moment: Moment, ctag: Option<&Ctag>, code: Code)
         requires { IsMoment moment }
-        ensures begun { self.new ≡ begun (head sid.now moment (option_map (λ t. t.now) ctag.entry) code) }
+        ensures begun { self.new ≡ begun
+            (head sid.now moment (option_map (λ t. t.now) ctag.entry) code) }
         ensures short { length self.new.head ≤ 64 }
         ensures some { IsBegun self.new }
     {

@@ -73,7 +73,8 @@ fn or_one_way(cct: Option<Cct>) -> Cct
 /// Two different ports.
 #[inline(always)]
 pub fn ends_of(shape: Shape, from: &[u8], to: &[u8]) -> Result<(Port, Port), Cause>
-    ensures ends { MatchResult result (λ e. ends_named shape from.now to.now ≡ Ok (ends_by e)) (λ q. ends_named shape from.now to.now ≡ Err q) }
+    ensures ends { MatchResult result (λ e. ends_named shape from.now to.now ≡ Ok (ends_by e))
+        (λ q. ends_named shape from.now to.now ≡ Err q) }
     ensures ports { IfOk result (λ e. ArePorts shape e.0 e.1) }
 {
     let from = port_of(shape, from).ok_or(Cause::BadAid)?;
@@ -108,7 +109,9 @@ pub fn asked(shape: Shape, code: CommandCode, unit: &[u8], named: Named) -> Resu
     requires second { IsIn unit.now named.second }
     requires value { IsIn unit.now named.value }
     requires label { IsIn unit.now named.label }
-    ensures asked { MatchResult result (λ c. asked_for shape code (named_by unit.now named) ≡ Ok (asked_by unit.now c)) (λ q. asked_for shape code (named_by unit.now named) ≡ Err q) }
+    ensures asked { MatchResult result
+        (λ c. asked_for shape code (named_by unit.now named) ≡ Ok (asked_by unit.now c))
+        (λ q. asked_for shape code (named_by unit.now named) ≡ Err q) }
     ensures apt { IfOk result (IsAptCommand shape unit.now) }
 {
     let first = named.first.text(unit);
@@ -159,7 +162,9 @@ fn connection(shape: Shape, code: CommandCode, unit: &[u8], named: Named) -> Res
     requires value { IsIn unit.now named.value }
     requires label { IsIn unit.now named.label }
     requires code { IsOfConnection code }
-    ensures asked { MatchResult result (λ c. asked_for shape code (named_by unit.now named) ≡ Ok (asked_by unit.now c)) (λ q. asked_for shape code (named_by unit.now named) ≡ Err q) }
+    ensures asked { MatchResult result
+        (λ c. asked_for shape code (named_by unit.now named) ≡ Ok (asked_by unit.now c))
+        (λ q. asked_for shape code (named_by unit.now named) ≡ Err q) }
     ensures apt { IfOk result (IsAptCommand shape unit.now) }
 {
     let cct = cct_of(named.value.text(unit))?;
@@ -184,7 +189,10 @@ pub fn unlabelled_ends(
     requires second { IsIn unit.now named.second }
     requires value { IsIn unit.now named.value }
     requires label { text_at unit.now named.label ≡ [] }
-    ensures asked { (makes : Ends → Option ACct → List ℕ → AnOp) → MatchResult result (λ r. asked_of_ends shape (named_by unit.now named) makes ≡ Ok (asks_table (makes (record { from = r.0; to = r.1 }) r.2 []))) (λ q. asked_of_ends shape (named_by unit.now named) makes ≡ Err q) }
+    ensures asked { (makes : Ends → Option ACct → List ℕ → AnOp)
+        → MatchResult result (λ r. asked_of_ends shape (named_by unit.now named) makes ≡ Ok
+        (asks_table (makes (record { from = r.0; to = r.1 }) r.2 [])))
+        (λ q. asked_of_ends shape (named_by unit.now named) makes ≡ Err q) }
     ensures ports { IfOk result (λ r. ArePorts shape r.0 r.1) }
 {
     let cct = cct_of(named.value.text(unit))?;

@@ -81,7 +81,8 @@ fn has_too_many(form: Form, unit: &[u8], blocks: &Blocks, parts: &Parts) -> bool
 pub fn has_further(unit: &[u8], blocks: &Blocks) -> bool
     requires short { length unit.now ≤ 2047 }
     requires blocks { AreBlocksOf unit.now blocks.now.block.items }
-    ensures { result ≡ list_any (has_from 0) (drop 6 (map (block_at unit.now) blocks.now.block.items)) }
+    ensures { result ≡ list_any (has_from 0)
+        (drop 6 (map (block_at unit.now) blocks.now.block.items)) }
 {
     for number in 6..blocks.block.len() {
         if has_value(unit, block_of(blocks, number)) {
@@ -116,7 +117,8 @@ pub fn refusal(
     requires blocks { AreBlocksOf unit.now blocks.now.block.items }
     requires tagged { tagged ≡ is_ctag (tag_text (map (block_at unit.now) blocks.now.block.items)) }
     requires parts { AreParts unit.now (map (block_at unit.now) blocks.now.block.items) parts.now }
-    ensures { result ≡ first_refusal sid.now user.now code (map (block_at unit.now) blocks.now.block.items) }
+    ensures { result ≡ first_refusal sid.now user.now code
+        (map (block_at unit.now) blocks.now.block.items) }
 {
     let form = form_of(code);
     if !tagged {

@@ -72,7 +72,8 @@ fn comma_in(text: &[u8], from: usize, to: usize) -> usize
 fn front_of(text: &[u8], from: usize) -> usize
     requires { from ≤ length text.now }
     ensures within { from + result ≤ length text.now }
-    ensures front { (k : ℕ) → from ≤ k → k < from + result → (slice_index text.now k == 44) ≡ false }
+    ensures front { (k : ℕ) → from ≤ k → k < from + result
+        → (slice_index text.now k == 44) ≡ false }
 {
     if text.len() - from < LANES {
         return 0;

@@ -38,7 +38,9 @@ pub fn command_of(
 ) -> Result<Command, Cause>
     requires short { length unit.now ≤ 2047 }
     requires blocks { AreBlocksOf unit.now blocks.now.block.items }
-    ensures meaning { MatchResult result (λ c. meaning shape sid.now user (map (block_at unit.now) blocks.now.block.items) ≡ Ok (asked_by unit.now c)) (λ q. meaning shape sid.now user (map (block_at unit.now) blocks.now.block.items) ≡ Err q) }
+    ensures meaning { MatchResult result (λ c. meaning shape sid.now user
+        (map (block_at unit.now) blocks.now.block.items) ≡ Ok (asked_by unit.now c))
+        (λ q. meaning shape sid.now user (map (block_at unit.now) blocks.now.block.items) ≡ Err q) }
     ensures apt { IfOk result (IsAptCommand shape unit.now) }
 {
     let tagged = ctag_in(unit, blocks).is_some();
@@ -58,7 +60,9 @@ pub fn command_with(
     requires short { length unit.now ≤ 2047 }
     requires blocks { AreBlocksOf unit.now blocks.now.block.items }
     requires tagged { tagged ≡ is_some (ctag_of unit.now) }
-    ensures meaning { MatchResult result (λ c. meaning shape sid.now user.now (map (block_at unit.now) blocks.now.block.items) ≡ Ok (asked_by unit.now c)) (λ q. meaning shape sid.now user.now (map (block_at unit.now) blocks.now.block.items) ≡ Err q) }
+    ensures meaning { MatchResult result (λ c. meaning shape sid.now user.now
+        (map (block_at unit.now) blocks.now.block.items) ≡ Ok (asked_by unit.now c)) (λ q. meaning
+        shape sid.now user.now (map (block_at unit.now) blocks.now.block.items) ≡ Err q) }
     ensures apt { IfOk result (IsAptCommand shape unit.now) }
 {
     let code = known_code(unit, blocks)?;
@@ -97,8 +101,10 @@ pub fn command_with(
 #[inline(always)]
 fn known_code(unit: &[u8], blocks: &Blocks) -> Result<CommandCode, Cause>
     requires { AreBlocksOf unit.now blocks.now.block.items }
-    ensures code { IfOk result (λ c. code_named (code_text (map (block_at unit.now) blocks.now.block.items)) ≡ Some c) }
-    ensures refused { (d : Dimensions) (sid : List ℕ) (user : AUser) → IfErr result (λ q. meaning d sid user (map (block_at unit.now) blocks.now.block.items) ≡ Err q) }
+    ensures code { IfOk result
+        (λ c. code_named (code_text (map (block_at unit.now) blocks.now.block.items)) ≡ Some c) }
+    ensures refused { (d : Dimensions) (sid : List ℕ) (user : AUser) → IfErr result
+        (λ q. meaning d sid user (map (block_at unit.now) blocks.now.block.items) ≡ Err q) }
 {
     code_in(unit, blocks).ok_or(Cause::UnknownCommand)
 }
@@ -117,8 +123,11 @@ fn other_command(
     requires short { length unit.now ≤ 2047 }
     requires blocks { AreBlocksOf unit.now blocks.now.block.items }
     requires tagged { tagged ≡ is_ctag (tag_text (map (block_at unit.now) blocks.now.block.items)) }
-    requires code { code_named (code_text (map (block_at unit.now) blocks.now.block.items)) ≡ Some code }
-    ensures meaning { MatchResult result (λ c. meaning shape sid.now user.now (map (block_at unit.now) blocks.now.block.items) ≡ Ok (asked_by unit.now c)) (λ q. meaning shape sid.now user.now (map (block_at unit.now) blocks.now.block.items) ≡ Err q) }
+    requires code { code_named (code_text (map (block_at unit.now) blocks.now.block.items)) ≡ Some
+        code }
+    ensures meaning { MatchResult result (λ c. meaning shape sid.now user.now
+        (map (block_at unit.now) blocks.now.block.items) ≡ Ok (asked_by unit.now c)) (λ q. meaning
+        shape sid.now user.now (map (block_at unit.now) blocks.now.block.items) ≡ Err q) }
     ensures apt { IfOk result (IsAptCommand shape unit.now) }
 {
     let named = admitted(sid, user, code, unit, blocks, tagged)?;
@@ -140,8 +149,11 @@ fn admitted(
     requires short { length unit.now ≤ 2047 }
     requires blocks { AreBlocksOf unit.now blocks.now.block.items }
     requires tagged { tagged ≡ is_ctag (tag_text (map (block_at unit.now) blocks.now.block.items)) }
-    requires code { code_named (code_text (map (block_at unit.now) blocks.now.block.items)) ≡ Some code }
-    ensures meaning { (d : Dimensions) → MatchResult result (λ n. meaning d sid.now user.now (map (block_at unit.now) blocks.now.block.items) ≡ asked_for d code (named_by unit.now n)) (λ q. meaning d sid.now user.now (map (block_at unit.now) blocks.now.block.items) ≡ Err q) }
+    requires code { code_named (code_text (map (block_at unit.now) blocks.now.block.items)) ≡ Some
+        code }
+    ensures meaning { (d : Dimensions) → MatchResult result (λ n. meaning d sid.now user.now
+        (map (block_at unit.now) blocks.now.block.items) ≡ asked_for d code (named_by unit.now n))
+        (λ q. meaning d sid.now user.now (map (block_at unit.now) blocks.now.block.items) ≡ Err q) }
     ensures first { IfOk result (λ n. IsIn unit.now n.first) }
     ensures second { IfOk result (λ n. IsIn unit.now n.second) }
     ensures value { IfOk result (λ n. IsIn unit.now n.value) }

@@ -33,7 +33,8 @@ pub fn block_text<'a>(unit: &'a [u8], blocks: &Blocks, number: usize) -> &'a [u8
 
 /// The block of a number, where it is there.
 pub fn block_of(blocks: &Blocks, number: usize) -> Option<Span>
-    ensures { (unit : List ℕ) → AreBlocksOf unit blocks.now.block.items → HasValues unit (block_in number (map (block_at unit) blocks.now.block.items)).values result }
+    ensures { (unit : List ℕ) → AreBlocksOf unit blocks.now.block.items → HasValues unit
+        (block_in number (map (block_at unit) blocks.now.block.items)).values result }
 {
     if number < blocks.block.len() {
         Some(blocks.block[number])
@@ -101,7 +102,8 @@ impl Pair {
     fn at(unit: &[u8], blocks: &Blocks, number: usize) -> Pair
         requires short { length unit.now ≤ 2047 }
         requires blocks { AreBlocksOf unit.now blocks.now.block.items }
-        ensures { IsPair unit.now (block_in number (map (block_at unit.now) blocks.now.block.items)).values result }
+        ensures { IsPair unit.now
+            (block_in number (map (block_at unit.now) blocks.now.block.items)).values result }
     {
         let Some(block) = block_of(blocks, number) else {
             return Pair::one(Span::default());
@@ -136,7 +138,8 @@ impl Pair {
     }
 
     fn one(first: Span) -> Pair
-        ensures { result ≡ record { first = first; second = record { start = 0; end = 0 }; others = None } }
+        ensures { result ≡ record
+            { first = first; second = record { start = 0; end = 0 }; others = None } }
     {
         Pair {
             first,
@@ -151,7 +154,8 @@ impl Pair {
         requires short { length unit.now ≤ 2047 }
         requires from { from ≤ 2 }
         requires pair { (vs : List (List ℕ)) × IsPair unit.now vs self.now }
-        ensures { (vs : List (List ℕ)) → IsPair unit.now vs self.now → result ≡ list_any is_there (drop from vs) }
+        ensures { (vs : List (List ℕ)) → IsPair unit.now vs self.now
+            → result ≡ list_any is_there (drop from vs) }
     {
         (from == 0 && !self.first.text(unit).is_empty())
             || (from <= 1 && !self.second.text(unit).is_empty())
@@ -169,7 +173,12 @@ pub struct Parts {
 impl Parts {
     /// The parameters that a command may name.
     pub fn named(&self) -> Named
-        ensures { result ≡ record { first = self.now.aids.first; second = self.now.aids.second; value = self.now.payload.first; label = self.now.payload.second } }
+        ensures { result ≡ record {
+          first = self.now.aids.first;
+          second = self.now.aids.second;
+          value = self.now.payload.first;
+          label = self.now.payload.second;
+        } }
     {
         Named {
             first: self.aids.first,

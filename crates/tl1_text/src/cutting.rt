@@ -90,8 +90,9 @@ pub fn quotes_end(unit: &[u8], at: usize) -> Option<usize>
     requires within { at < length unit.now }
     requires not_plain { plain (slice_index unit.now at) ≡ false }
     requires not_mark { mark (slice_index unit.now at) ≡ false }
-    ensures cut { (code : ℕ) → (found : List Span) → (start params : ℕ) → IsCutOn unit.now code at found start params
-        → MatchOption result (blocks_of unit.now ≡ None) (λ end. IsCutOn unit.now code end found start params) }
+    ensures cut { (code : ℕ) → (found : List Span) → (start params : ℕ)
+        → IsCutOn unit.now code at found start params → MatchOption result
+        (blocks_of unit.now ≡ None) (λ end. IsCutOn unit.now code end found start params) }
     ensures forwards { IfSome result (λ end. at < end) }
 {
     if !is_mark(unit[at - 1]) {

@@ -17,7 +17,8 @@ use arrayvec::ArrayVec;
 /// and digits, joined by `-`.
 pub fn blocks(unit: &[u8]) -> Result<Blocks, BadText>
     requires { length unit.now ≤ 2047 }
-    ensures { MatchResult result (λ b. AreBlocksOf unit.now b.block.items) (λ _. blocks_of unit.now ≡ None) }
+    ensures { MatchResult result (λ b. AreBlocksOf unit.now b.block.items)
+        (λ _. blocks_of unit.now ≡ None) }
 {
     if (LANES..=BITS).contains(&unit.len()) {
         return blocks_by_runs(unit);
@@ -37,7 +38,8 @@ pub fn blocks(unit: &[u8]) -> Result<Blocks, BadText>
 fn blocks_by_runs(unit: &[u8]) -> Result<Blocks, BadText>
     requires least { 16 ≤ length unit.now }
     requires most { length unit.now ≤ 64 }
-    ensures { MatchResult result (λ b. AreBlocksOf unit.now b.block.items) (λ _. blocks_of unit.now ≡ None) }
+    ensures { MatchResult result (λ b. AreBlocksOf unit.now b.block.items)
+        (λ _. blocks_of unit.now ≡ None) }
 {
     let Some(code) = code_by_breaks(unit, breaks(unit)) else {
         return Err(BadText);

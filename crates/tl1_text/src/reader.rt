@@ -66,7 +66,8 @@ impl UnitReader {
     ///
     /// However the stream is cut into pieces, the units are the same.
     pub fn feed(&mut self, piece: &[u8]) -> Fed
-        ensures fed { (bs : List ℕ) → Holds bs (hand self.old) → IsFed bs piece.now result self.new }
+        ensures fed { (bs : List ℕ) → Holds bs (hand self.old)
+            → IsFed bs piece.now result self.new }
         ensures within { result.taken ≤ length piece.now }
         ensures some { 0 < length piece.now → 0 < result.taken }
         ensures short { result.unit ≡ UnitKind.Whole → length self.new.kept ≤ 2047 }
@@ -102,7 +103,8 @@ impl UnitReader {
     /// Takes the bytes in front of the first `;` or quote, and answers how many these are: none before a unit's first byte.
     fn take_run(&mut self, rest: &[u8]) -> usize
         ensures within { result ≤ length rest.now }
-        ensures held { (bs : List ℕ) → Holds bs (hand self.old) → Holds (bs ++ take result rest.now) (hand self.new) }
+        ensures held { (bs : List ℕ) → Holds bs (hand self.old)
+            → Holds (bs ++ take result rest.now) (hand self.new) }
     {
         self.begin();
         if self.kept.is_empty() && begins_with_gap(rest) {
@@ -114,7 +116,8 @@ impl UnitReader {
     }
 
     fn take(&mut self, b: u8) -> UnitKind
-        ensures made { (bs : List ℕ) → Holds bs (hand self.old) → Made (bs ++ b ∷ []) result self.new }
+        ensures made { (bs : List ℕ) → Holds bs (hand self.old)
+            → Made (bs ++ b ∷ []) result self.new }
         ensures short { result ≡ UnitKind.Whole → length self.new.kept ≤ 2047 }
     {
         self.begin();

@@ -27,13 +27,25 @@ fn add_rows<D: Disk>(journal: &mut Journal<D>, changes: &[UserChange]) -> Result
     requires drafted { is_drafted journal.old.1.spare ≡ true }
     requires few { length changes.now ≤ 64 }
     requires room { (draft_of journal.old.1.spare).rows ≤ 128 }
-    ensures ok { OnOk result (journal.new.1 ≡ record journal.old.1 { spare = Drafted (record { equipped = (draft_of journal.old.1.spare).equipped; rows = (draft_of journal.old.1.spare).rows + length changes.now }) }) }
+    ensures ok { OnOk result (journal.new.1 ≡ record journal.old.1 {
+      spare = Drafted (record {
+        equipped = (draft_of journal.old.1.spare).equipped;
+        rows = (draft_of journal.old.1.spare).rows + length changes.now;
+      });
+    }) }
     ensures err { OnErr result (journal.new.1 ≡ record journal.old.1 { spare = Open }) }
-    ensures rows { D.told → OnOk result (rows journal.new.1 (D.state journal.new.0).reads_as ≡ rows journal.old.1 (D.state journal.old.0).reads_as ++ map spelling changes.now) }
+    ensures rows { D.told → OnOk result (rows journal.new.1 (D.state journal.new.0).reads_as ≡ rows
+        journal.old.1 (D.state journal.old.0).reads_as ++ map spelling changes.now) }
     ensures whole { IsWhole journal.new.1 }
-    ensures home { (shelf users : Users) → (doubt : Option Change) → IsAtHome D.told (D.state journal.old.0) journal.old.1 shelf users doubt → IsAtHome D.told (D.state journal.new.0) journal.new.1 shelf users doubt }
-    ensures any_moment { D.told → (shelf users : Users) → (doubt : Option Change) → IsAtHome D.told (D.state journal.old.0) journal.old.1 shelf users doubt → LeavesOnly (D.state journal.old.0) (D.state journal.new.0) (IsOldOrDoubted journal.old.1.shape shelf users doubt) }
-    ensures cause { HasCause (D.state journal.old.0).faults (D.state journal.new.0).faults (IsErr result) }
+    ensures home { (shelf users : Users) → (doubt : Option Change)
+        → IsAtHome D.told (D.state journal.old.0) journal.old.1 shelf users doubt
+        → IsAtHome D.told (D.state journal.new.0) journal.new.1 shelf users doubt }
+    ensures any_moment { D.told → (shelf users : Users) → (doubt : Option Change)
+        → IsAtHome D.told (D.state journal.old.0) journal.old.1 shelf users doubt
+        → LeavesOnly (D.state journal.old.0) (D.state journal.new.0)
+        (IsOldOrDoubted journal.old.1.shape shelf users doubt) }
+    ensures cause { HasCause (D.state journal.old.0).faults (D.state journal.new.0).faults
+        (IsErr result) }
     ensures room { Spends 4_224 (D.state journal.old.0) (D.state journal.new.0) }
     ensures sound { IsSound 4_224 (D.state journal.old.0) → IsErr result → ⊥ }
 {
@@ -57,14 +69,26 @@ fn add_all<D: Disk>(
     requires drafted { is_drafted journal.old.1.spare ≡ true }
     requires none { (draft_of journal.old.1.spare).rows ≡ 0 }
     requires empty { D.told → rows journal.old.1 (D.state journal.old.0).reads_as ≡ [] }
-    ensures ok { OnOk result (journal.new.1 ≡ record journal.old.1 { spare = Drafted (record { equipped = (draft_of journal.old.1.spare).equipped; rows = length (rows_of described.now users.now) }) }) }
+    ensures ok { OnOk result (journal.new.1 ≡ record journal.old.1 {
+      spare = Drafted (record {
+        equipped = (draft_of journal.old.1.spare).equipped;
+        rows = length (rows_of described.now users.now);
+      });
+    }) }
     ensures err { OnErr result (journal.new.1 ≡ record journal.old.1 { spare = Open }) }
     ensures few { OnOk result (length (rows_of described.now users.now) ≤ 192) }
-    ensures rows { D.told → OnOk result (rows journal.new.1 (D.state journal.new.0).reads_as ≡ map spelling (rows_of described.now users.now)) }
+    ensures rows { D.told → OnOk result (rows journal.new.1 (D.state journal.new.0).reads_as ≡ map
+        spelling (rows_of described.now users.now)) }
     ensures whole { IsWhole journal.new.1 }
-    ensures home { (shelf users : Users) → (doubt : Option Change) → IsAtHome D.told (D.state journal.old.0) journal.old.1 shelf users doubt → IsAtHome D.told (D.state journal.new.0) journal.new.1 shelf users doubt }
-    ensures any_moment { D.told → (shelf users : Users) → (doubt : Option Change) → IsAtHome D.told (D.state journal.old.0) journal.old.1 shelf users doubt → LeavesOnly (D.state journal.old.0) (D.state journal.new.0) (IsOldOrDoubted journal.old.1.shape shelf users doubt) }
-    ensures cause { HasCause (D.state journal.old.0).faults (D.state journal.new.0).faults (IsErr result) }
+    ensures home { (shelf users : Users) → (doubt : Option Change)
+        → IsAtHome D.told (D.state journal.old.0) journal.old.1 shelf users doubt
+        → IsAtHome D.told (D.state journal.new.0) journal.new.1 shelf users doubt }
+    ensures any_moment { D.told → (shelf users : Users) → (doubt : Option Change)
+        → IsAtHome D.told (D.state journal.old.0) journal.old.1 shelf users doubt
+        → LeavesOnly (D.state journal.old.0) (D.state journal.new.0)
+        (IsOldOrDoubted journal.old.1.shape shelf users doubt) }
+    ensures cause { HasCause (D.state journal.old.0).faults (D.state journal.new.0).faults
+        (IsErr result) }
     ensures room { Spends 12_672 (D.state journal.old.0) (D.state journal.new.0) }
     ensures sound { IsSound 12_672 (D.state journal.old.0) → IsErr result → ⊥ }
 {
@@ -90,15 +114,21 @@ pub(crate) fn write_checkpoint<D: Disk>(
     requires spelled { AreDescribed described.now × AreSpellable described.now users.now }
     requires named { AreNamed described.now × AreNamed users.now }
     requires few { len users.now ≤ most_users }
-    ensures home { (doubt : Option Change) → IsAtHome D.told (D.state journal.old.0) journal.old.1 described.now users.now doubt → IsAtHome D.told (D.state journal.new.0) journal.new.1 described.now users.now doubt }
+    ensures home { (doubt : Option Change)
+        → IsAtHome D.told (D.state journal.old.0) journal.old.1 described.now users.now doubt
+        → IsAtHome D.told (D.state journal.new.0) journal.new.1 described.now users.now doubt }
     ensures ready { OnOk result (IsReady journal.new.1) }
     ensures shape { journal.new.1.shape ≡ journal.old.1.shape }
     // The new header names the modules that the old one named.
     ensures equipped { journal.new.1.head.equipped ≡ journal.old.1.head.equipped }
     ensures book { IsWhole journal.new.1 }
     ensures whole { journal.old.1.to_mend ≡ false → journal.new.1.to_mend ≡ false }
-    ensures any_moment { D.told → (doubt : Option Change) → IsAtHome D.told (D.state journal.old.0) journal.old.1 described.now users.now doubt → LeavesOnly (D.state journal.old.0) (D.state journal.new.0) (IsOldOrDoubted journal.old.1.shape described.now users.now doubt) }
-    ensures cause { HasCause (D.state journal.old.0).faults (D.state journal.new.0).faults (IsErr result) }
+    ensures any_moment { D.told → (doubt : Option Change)
+        → IsAtHome D.told (D.state journal.old.0) journal.old.1 described.now users.now doubt
+        → LeavesOnly (D.state journal.old.0) (D.state journal.new.0)
+        (IsOldOrDoubted journal.old.1.shape described.now users.now doubt) }
+    ensures cause { HasCause (D.state journal.old.0).faults (D.state journal.new.0).faults
+        (IsErr result) }
     ensures room { Spends 4_207_144 (D.state journal.old.0) (D.state journal.new.0) }
     ensures sound { IsSound 4_207_144 (D.state journal.old.0) → IsErr result → ⊥ }
 {

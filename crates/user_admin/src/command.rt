@@ -134,7 +134,8 @@ fn rows_of(text: &[u8]) -> Result<UserOp, Cause>
 // What a command with its parameters asks for, or why it is denied.
 fn asked(code: UserCode, uid: &[u8], pid: &[u8], class: &[u8]) -> Result<UserOp, Cause>
     requires { length pid.now ≤ 2048 }
-    ensures asked { result ≡ asked_for code (record { uid = uid.now; pid = pid.now; class = class.now }) }
+    ensures asked { result ≡ asked_for code
+        (record { uid = uid.now; pid = pid.now; class = class.now }) }
     ensures named { IfOk result NamesUid }
 {
     match code {
@@ -190,7 +191,8 @@ fn refusal(
     requires short { length unit.now ≤ 2047 }
     requires blocks { AreBlocksOf unit.now blocks.now.block.items }
     requires parts { AreParts unit.now (map (block_at unit.now) blocks.now.block.items) parts.now }
-    ensures first { result ≡ first_refusal sid.now user.now code (map (block_at unit.now) blocks.now.block.items) }
+    ensures first { result ≡ first_refusal sid.now user.now code
+        (map (block_at unit.now) blocks.now.block.items) }
     ensures known { result ≢ Some Cause.UnknownCommand }
 {
     let uid = parts.aids.first.text(unit);
@@ -228,9 +230,11 @@ pub fn user_command_of(
 ) -> Result<UserOp, Cause>
     requires short { length unit.now ≤ 2047 }
     requires blocks { AreBlocksOf unit.now blocks.now.block.items }
-    ensures meaning { result ≡ user_meaning sid.now user (map (block_at unit.now) blocks.now.block.items) }
+    ensures meaning { result ≡ user_meaning sid.now user
+        (map (block_at unit.now) blocks.now.block.items) }
     ensures named { IfOk result NamesUid }
-    ensures unknown { IsErrOf result Cause.UnknownCommand ↔ (code_named (code_text (map (block_at unit.now) blocks.now.block.items)) ≡ None) }
+    ensures unknown { IsErrOf result Cause.UnknownCommand ↔
+        (code_named (code_text (map (block_at unit.now) blocks.now.block.items)) ≡ None) }
 {
     let code = code_of(block_text(unit, blocks, 0)).ok_or(Cause::UnknownCommand)?;
     let parts = parts_of(unit, blocks);

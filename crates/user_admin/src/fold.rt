@@ -25,8 +25,10 @@ pub(crate) enum FoldFault {
 // Takes the change of a record. One of version 1 has 32 bytes, and means none.
 fn take(lists: &mut Lists, version: u8, bytes: &[u8; 64]) -> Result<(), BadRecord>
     ensures described { lists.new.described ≡ lists.old.described }
-    ensures good { OnOk result ((version ≡ 2) × ((c : Change) × Means lists.old.described bytes.now c × Fits c lists.old.users × (lists.new.users ≡ effect c lists.old.users))) }
-    ensures bad { OnErr result (version ≡ 2 → (c : Change) → Means lists.old.described bytes.now c → Fits c lists.old.users → ⊥) }
+    ensures good { OnOk result ((version ≡ 2) × ((c : Change) × Means lists.old.described bytes.now
+        c × Fits c lists.old.users × (lists.new.users ≡ effect c lists.old.users))) }
+    ensures bad { OnErr result (version ≡ 2 → (c : Change) → Means lists.old.described bytes.now c
+        → Fits c lists.old.users → ⊥) }
     ensures same { OnErr result (lists.new.users ≡ lists.old.users) }
     ensures whole { length bytes.now ≡ 64 }
 {
@@ -40,15 +42,22 @@ fn take(lists: &mut Lists, version: u8, bytes: &[u8; 64]) -> Result<(), BadRecor
 pub(crate) fn fold<D: Disk>(journal: &mut Journal<D>, lists: &mut Lists) -> Result<(), FoldFault>
     requires { lists.old.users ≡ lists.old.described }
     ensures described { lists.new.described ≡ lists.old.described }
-    ensures told { D.told → Replays lists.old.described (listed journal.old.1 (D.state journal.old.0).reads_as) result lists.new.users }
+    ensures told { D.told → Replays lists.old.described
+        (listed journal.old.1 (D.state journal.old.0).reads_as) result lists.new.users }
     // Of a disk that doesn't tell its content: there are records as it read them.
-    ensures read { IfOk result (λ _. (records : List (List ℕ)) × (length records ≡ journal.old.1.count) × (D.told → records ≡ listed journal.old.1 (D.state journal.old.0).reads_as) × FoldsTo lists.old.described records lists.new.users) }
+    ensures read { IfOk result
+        (λ _. (records : List (List ℕ)) × (length records ≡ journal.old.1.count)
+        × (D.told → records ≡ listed journal.old.1 (D.state journal.old.0).reads_as)
+        × FoldsTo lists.old.described records lists.new.users) }
     ensures looks { D.told → Looks (D.state journal.old.0) (D.state journal.new.0) }
     ensures same { journal.new.1 ≡ journal.old.1 }
-    ensures kept { D.told → IsKept (D.state journal.old.0) journal.old.1 → IsKept (D.state journal.new.0) journal.new.1 }
-    ensures cause { HasCause (D.state journal.old.0).faults (D.state journal.new.0).faults (IsErrOf result FoldFault.Disk) }
+    ensures kept { D.told → IsKept (D.state journal.old.0) journal.old.1
+        → IsKept (D.state journal.new.0) journal.new.1 }
+    ensures cause { HasCause (D.state journal.old.0).faults (D.state journal.new.0).faults
+        (IsErrOf result FoldFault.Disk) }
     ensures room { Spends journal.old.1.count (D.state journal.old.0) (D.state journal.new.0) }
-    ensures sound { IsSound journal.old.1.count (D.state journal.old.0) → IsErrOf result FoldFault.Disk → ⊥ }
+    ensures sound { IsSound journal.old.1.count (D.state journal.old.0)
+        → IsErrOf result FoldFault.Disk → ⊥ }
 {
     let version = journal.version();
     for i in 0..journal.count() {

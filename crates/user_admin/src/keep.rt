@@ -28,14 +28,21 @@ fn make_ready<D: Disk>(
     requires spelled { AreDescribed described.now × AreSpellable described.now users.now }
     requires named { AreNamed described.now × AreNamed users.now }
     requires few { len users.now ≤ most_users }
-    ensures home { (doubt : Option Change) → IsAtHome D.told (D.state journal.old.0) journal.old.1 described.now users.now doubt → IsAtHome D.told (D.state journal.new.0) journal.new.1 described.now users.now doubt }
+    ensures home { (doubt : Option Change)
+        → IsAtHome D.told (D.state journal.old.0) journal.old.1 described.now users.now doubt
+        → IsAtHome D.told (D.state journal.new.0) journal.new.1 described.now users.now doubt }
     ensures ready { OnOk result (IsReady journal.new.1 × (journal.new.1.to_mend ≡ false)) }
     ensures shape { journal.new.1.shape ≡ journal.old.1.shape }
     ensures equipped { journal.new.1.head.equipped ≡ journal.old.1.head.equipped }
     ensures book { IsWhole journal.new.1 }
-    ensures any_moment { D.told → (doubt : Option Change) → IsAtHome D.told (D.state journal.old.0) journal.old.1 described.now users.now doubt → LeavesOnly (D.state journal.old.0) (D.state journal.new.0) (IsOldOrDoubted journal.old.1.shape described.now users.now doubt) }
-    ensures still { IsReady journal.old.1 × (journal.old.1.to_mend ≡ false) → journal.new ≡ journal.old }
-    ensures cause { HasCause (D.state journal.old.0).faults (D.state journal.new.0).faults (IsErr result) }
+    ensures any_moment { D.told → (doubt : Option Change)
+        → IsAtHome D.told (D.state journal.old.0) journal.old.1 described.now users.now doubt
+        → LeavesOnly (D.state journal.old.0) (D.state journal.new.0)
+        (IsOldOrDoubted journal.old.1.shape described.now users.now doubt) }
+    ensures still { IsReady journal.old.1 × (journal.old.1.to_mend ≡ false)
+        → journal.new ≡ journal.old }
+    ensures cause { HasCause (D.state journal.old.0).faults (D.state journal.new.0).faults
+        (IsErr result) }
     ensures room { Spends 4_207_147 (D.state journal.old.0) (D.state journal.new.0) }
     ensures sound { IsSound 4_207_147 (D.state journal.old.0) → IsErr result → ⊥ }
 {
@@ -64,17 +71,27 @@ pub(crate) fn keep<D: Disk>(
     requires few { len users.now ≤ most_users }
     requires fits { Fits change.now users.now }
     requires meant { MayBeSpelled described.now (has_long_salt change.now) change.now }
-    ensures kept { OnOk result ((doubt then_doubt : Option Change) → IsAtHome D.told (D.state journal.old.0) journal.old.1 described.now users.now doubt → IsAtHome D.told (D.state journal.new.0) journal.new.1 described.now (effect change.now users.now) then_doubt) }
-    ensures failed { OnErr result ((doubt : Option Change) → IsAtHome D.told (D.state journal.old.0) journal.old.1 described.now users.now doubt
-        → IsAtHome D.told (D.state journal.new.0) journal.new.1 described.now users.now doubt ⊎ IsAtHome D.told (D.state journal.new.0) journal.new.1 described.now users.now (Some change.now)) }
+    ensures kept { OnOk result ((doubt then_doubt : Option Change)
+        → IsAtHome D.told (D.state journal.old.0) journal.old.1 described.now users.now doubt
+        → IsAtHome D.told (D.state journal.new.0) journal.new.1 described.now
+        (effect change.now users.now) then_doubt) }
+    ensures failed { OnErr result ((doubt : Option Change) → IsAtHome D.told (D.state journal.old.0)
+        journal.old.1 described.now users.now doubt → IsAtHome D.told (D.state journal.new.0)
+        journal.new.1 described.now users.now doubt ⊎ IsAtHome D.told (D.state journal.new.0)
+        journal.new.1 described.now users.now (Some change.now)) }
     ensures shape { journal.new.1.shape ≡ journal.old.1.shape }
     ensures equipped { journal.new.1.head.equipped ≡ journal.old.1.head.equipped }
     ensures book { IsWhole journal.new.1 }
     // A crash at any moment leaves the users as they were, with the change in doubt or not, or with this one.
-    ensures any_moment { D.told → (doubt : Option Change) → IsAtHome D.told (D.state journal.old.0) journal.old.1 described.now users.now doubt → LeavesOnly (D.state journal.old.0) (D.state journal.new.0) (IsOldOrOneMore journal.old.1.shape described.now users.now doubt change.now) }
-    ensures cause { HasCause (D.state journal.old.0).faults (D.state journal.new.0).faults (IsErr result) }
+    ensures any_moment { D.told → (doubt : Option Change)
+        → IsAtHome D.told (D.state journal.old.0) journal.old.1 described.now users.now doubt
+        → LeavesOnly (D.state journal.old.0) (D.state journal.new.0)
+        (IsOldOrOneMore journal.old.1.shape described.now users.now doubt change.now) }
+    ensures cause { HasCause (D.state journal.old.0).faults (D.state journal.new.0).faults
+        (IsErr result) }
     ensures room { Spends 4_207_216 (D.state journal.old.0) (D.state journal.new.0) }
-    ensures short { IsReady journal.old.1 × (journal.old.1.to_mend ≡ false) → Spends 69 (D.state journal.old.0) (D.state journal.new.0) }
+    ensures short { IsReady journal.old.1 × (journal.old.1.to_mend ≡ false)
+        → Spends 69 (D.state journal.old.0) (D.state journal.new.0) }
     ensures sound { IsSound 4_207_216 (D.state journal.old.0) → IsErr result → ⊥ }
 {
     match make_ready(journal, described, users) {

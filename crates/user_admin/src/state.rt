@@ -127,7 +127,8 @@ impl<D: Disk + Drop> UserState<D> {
     ///
     /// Memory is taken before the journal is opened. It takes at most 131,081 of the disk's room.
     pub fn open(alloc: Global, shelf: &Shelf, disk: D) -> Result<UserState<D>, UserOpenFault<D>>
-        ensures ok { IfOk result (λ s. IsOpening D.told (D.state disk).reads_as shelf.now (opening_of D.state s) × Begins D.told D.state s) }
+        ensures ok { IfOk result (λ s. IsOpening D.told (D.state disk).reads_as shelf.now
+            (opening_of D.state s) × Begins D.told D.state s) }
         ensures fails { D.told → IfErr result (Fails D.state (D.state disk) shelf.now) }
         // Of whatever disk is left, where memory was wanting too.
         ensures any_moment { D.told
@@ -172,7 +173,9 @@ impl<D: Disk> UserState<D> {
         requires changing { IsChanging op.now }
         requires named { NamesUid op.now }
         requires stands { (o : Opening) × (h : List Entry) × StandsFor D.told D.state o self.old h }
-        ensures changed { (o : Opening) → (h : List Entry) → (place : ℕ) → StandsFor D.told D.state o self.old h → ChangedIs D.told D.state o h place op.now self.new result }
+        ensures changed { (o : Opening) → (h : List Entry) → (place : ℕ)
+            → StandsFor D.told D.state o self.old h
+            → ChangedIs D.told D.state o h place op.now self.new result }
         ensures origin { self.new.origin ≡ self.old.origin }
         // The journal's header names the modules that it named.
         ensures equipped { self.new.journal.1.head.equipped ≡ self.old.journal.1.head.equipped }
@@ -180,16 +183,22 @@ impl<D: Disk> UserState<D> {
         ensures denied_still { asked_at result ≡ [] → self.new.journal ≡ self.old.journal }
         ensures stopped_still { result ≡ UserDone.Stopped → self.new.journal ≡ self.old.journal }
         // A crash at any moment leaves the users as they were, with the change in doubt or not, or with this one.
-        ensures any_moment { D.told → (o : Opening) → (h : List Entry) → StandsFor D.told D.state o self.old h → LeavesOnly (D.state self.old.journal.0) (D.state self.new.journal.0) (λ file. IsFileAfter o h file ⊎ IsFileWithChange o h op.now file) }
+        ensures any_moment { D.told → (o : Opening) → (h : List Entry)
+            → StandsFor D.told D.state o self.old h
+            → LeavesOnly (D.state self.old.journal.0) (D.state self.new.journal.0)
+            (λ file. IsFileAfter o h file ⊎ IsFileWithChange o h op.now file) }
         ensures stopped { result ≡ UserDone.Stopped → Rose (G.stops gate.old) (G.stops gate.new) }
         ensures unstopped { result ≢ UserDone.Stopped → G.stops gate.new ≡ G.stops gate.old }
         ensures later { G.stops gate.old ≤ G.stops gate.new }
         ensures asked { G.asked gate.old gate.new (asked_at result) }
-        ensures fault { HasCause (D.state self.old.journal.0).faults (D.state self.new.journal.0).faults (result ≡ UserDone.Denied Cause.DiskFault) }
+        ensures fault { HasCause (D.state self.old.journal.0).faults
+            (D.state self.new.journal.0).faults (result ≡ UserDone.Denied Cause.DiskFault) }
         ensures room { Spends 4_207_216 (D.state self.old.journal.0) (D.state self.new.journal.0) }
         // Where no checkpoint is due and no record is in doubt, it is a record's.
-        ensures short { IsReady self.old.journal.1 × (self.old.journal.1.to_mend ≡ false) → Spends 69 (D.state self.old.journal.0) (D.state self.new.journal.0) }
-        ensures sound { IsSound 4_207_216 (D.state self.old.journal.0) → result ≢ UserDone.Denied Cause.DiskFault }
+        ensures short { IsReady self.old.journal.1 × (self.old.journal.1.to_mend ≡ false)
+            → Spends 69 (D.state self.old.journal.0) (D.state self.new.journal.0) }
+        ensures sound { IsSound 4_207_216 (D.state self.old.journal.0)
+            → result ≢ UserDone.Denied Cause.DiskFault }
     {
         let lists = &mut *self.lists;
         let change = match lists.users.verdict(&self.sid, op) {
@@ -210,7 +219,8 @@ impl<D: Disk> UserState<D> {
 
     /// The class of the user of a name, case aside, whose kept digest is that of the salt followed by the PID; None exactly where there is none.
     pub fn login_now(&self, uid: &[u8], pid: &[u8]) -> Option<Class>
-        ensures short { length uid.now ≤ 10 → result ≡ login uid.now pid.now self.now.lists.value.users }
+        ensures short { length uid.now ≤ 10
+            → result ≡ login uid.now pid.now self.now.lists.value.users }
         ensures long { 10 < length uid.now → result ≡ None }
     {
         let uid = Uid::of(uid)?;
@@ -219,7 +229,10 @@ impl<D: Disk> UserState<D> {
 
     /// The names of all users with their classes, in order of names, or of one; UnknownUser is the only cause against it.
     pub fn rows(&self, which: &Option<Uid>) -> Result<UserRows, Cause>
-        ensures { MatchResult result (λ given. (refusal (UserOp.Rows which.now) self.now.lists.value.users ≡ None) × (given.items ≡ rows_in self.now.lists.value.users which.now)) (λ q. refusal (UserOp.Rows which.now) self.now.lists.value.users ≡ Some q) }
+        ensures { MatchResult result
+            (λ given. (refusal (UserOp.Rows which.now) self.now.lists.value.users ≡ None)
+            × (given.items ≡ rows_in self.now.lists.value.users which.now))
+            (λ q. refusal (UserOp.Rows which.now) self.now.lists.value.users ≡ Some q) }
     {
         let Some(uid) = which else {
             return Ok(self.lists.users.rows());
@@ -247,7 +260,8 @@ impl<D: Disk> UserState<D> {
 
     /// A user by its place in the order of names in upper case, from 0; None exactly past the last.
     pub fn user(&self, i: usize) -> Option<User>
-        ensures { option_map (λ u. (u.uid, u)) result ≡ slice_get (entries self.now.lists.value.users) i }
+        ensures { option_map (λ u. (u.uid, u)) result ≡ slice_get
+            (entries self.now.lists.value.users) i }
     {
         match self.lists.users.at(i) {
             Some(user) => Some(copy_as(user, user.class)),

@@ -48,7 +48,8 @@ pub fn change<D: Disk + Drop, G: Gate, R: Wait>(
     requires named { NamesUid op }
     requires seen { (h : List Entry) × Saw (opening_of D.state turns.now.first) pass.old.seen h }
     ensures pass { HasPass turns.now pass.new × (pass.new.number ≡ pass.old.number) }
-    ensures took { (h : List Entry) → Saw (opening_of D.state turns.now.first) pass.old.seen h → TookIs (opening_of D.state turns.now.first) pass.old.number h op pass.new.seen result }
+    ensures took { (h : List Entry) → Saw (opening_of D.state turns.now.first) pass.old.seen h
+        → TookIs (opening_of D.state turns.now.first) pass.old.number h op pass.new.seen result }
     ensures stopped { result ≡ UserTook.Stopped → Rose (G.stops gate.old) (G.stops gate.new) }
     ensures unstopped { result ≢ UserTook.Stopped → G.stops gate.new ≡ G.stops gate.old }
     ensures later { G.stops gate.old ≤ G.stops gate.new }
@@ -86,7 +87,9 @@ pub fn login<D: Disk + Drop, R: Wait>(
     requires pass { HasPass turns.now pass.old }
     requires seen { (h : List Entry) × Saw (opening_of D.state turns.now.first) pass.old.seen h }
     ensures pass { HasPass turns.now pass.new × (pass.new.number ≡ pass.old.number) }
-    ensures logged { (h : List Entry) → Saw (opening_of D.state turns.now.first) pass.old.seen h → LoggedIn (opening_of D.state turns.now.first) pass.old.number h uid pid.now pass.new.seen result }
+    ensures logged { (h : List Entry) → Saw (opening_of D.state turns.now.first) pass.old.seen h
+        → LoggedIn (opening_of D.state turns.now.first) pass.old.number h uid pid.now pass.new.seen
+        result }
 {
     let turn = turns.enter(pass, rt);
     let class = turn.state().login_now(uid.bytes(), pid);
@@ -107,7 +110,10 @@ pub fn rows<D: Disk + Drop, R: Wait>(
     requires pass { HasPass turns.now pass.old }
     requires seen { (h : List Entry) × Saw (opening_of D.state turns.now.first) pass.old.seen h }
     ensures pass { HasPass turns.now pass.new × (pass.new.number ≡ pass.old.number) }
-    ensures rows { (h : List Entry) → Saw (opening_of D.state turns.now.first) pass.old.seen h → MatchResult result (λ given. RowsAre (opening_of D.state turns.now.first) pass.old.number h which pass.new.seen given.items) (RowsDenied (opening_of D.state turns.now.first) pass.old.number h which pass.new.seen) }
+    ensures rows { (h : List Entry) → Saw (opening_of D.state turns.now.first) pass.old.seen h
+        → MatchResult result (λ given. RowsAre (opening_of D.state turns.now.first) pass.old.number
+        h which pass.new.seen given.items)
+        (RowsDenied (opening_of D.state turns.now.first) pass.old.number h which pass.new.seen) }
 {
     let turn = turns.enter(pass, rt);
     let given = turn.state().rows(&which);

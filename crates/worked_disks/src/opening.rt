@@ -52,7 +52,8 @@ fn opened<D: Disk + Drop>(
     shelf: &Shelf,
     disk: D,
 ) -> Result<Result<UserState<D>, Vec<u8>>>
-    ensures { IfOk result (λ r. IfOk r (λ s. (o : Opening) × (h : List Entry) × StandsFor D.told D.state o s h)) }
+    ensures { IfOk result
+        (λ r. IfOk r (λ s. (o : Opening) × (h : List Entry) × StandsFor D.told D.state o s h)) }
 {
     match UserState::open(alloc, shelf, disk) {
         Ok(state) => Ok(Ok(state)),

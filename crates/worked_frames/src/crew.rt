@@ -87,7 +87,9 @@ fn next_worker(
 // The seat with the lowest number that is left.
 fn next_seat(seats: &mut Vec<WorkerSeat>) -> WorkerSeat
     requires some { 0 < length seats.old.items }
-    ensures seat { (f : FabricId) → (n : ℕ) → AreNew f n seats.old.items → (result.reader ≡ record { fabric = f; worker = new_worker n }) × AreNew f (n + 1) seats.new.items }
+    ensures seat { (f : FabricId) → (n : ℕ) → AreNew f n seats.old.items
+        → (result.reader ≡ record { fabric = f; worker = new_worker n })
+        × AreNew f (n + 1) seats.new.items }
     ensures fewer { length seats.new.items + 1 ≡ length seats.old.items }
 {
     seats.remove(0)

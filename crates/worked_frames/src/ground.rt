@@ -21,7 +21,8 @@ pub struct Ground {
 impl Ground {
     /// Another hold on both.
     pub fn try_clone(&self) -> Result<Ground>
-        ensures { IfOk result (λ g. ((arc_value g.shelf) ≡ (arc_value self.now.shelf)) × ((arc_value g.fabric) ≡ (arc_value self.now.fabric))) }
+        ensures { IfOk result (λ g. ((arc_value g.shelf) ≡ (arc_value self.now.shelf))
+            × ((arc_value g.fabric) ≡ (arc_value self.now.fabric))) }
     {
         let shelf = Arc::try_clone(&self.shelf)?;
         let fabric = Arc::try_clone(&self.fabric)?;
@@ -39,8 +40,12 @@ pub struct Laid {
 
 /// The shelf that the row says, and a fabric of its shape for the row's workers.
 pub fn lay(alloc: Global, row: Part<'_, '_>) -> Result<Laid>
-    ensures shape { IfOk result (λ l. (arc_value l.ground.fabric).size.shape ≡ (arc_value l.ground.shelf).shape) }
-    ensures mover { IfOk result (λ l. l.mover ≡ record { fabric = arc_value l.ground.fabric; mover = new_mover (arc_value l.ground.fabric).size }) }
+    ensures shape { IfOk result
+        (λ l. (arc_value l.ground.fabric).size.shape ≡ (arc_value l.ground.shelf).shape) }
+    ensures mover { IfOk result (λ l. l.mover ≡ record {
+      fabric = arc_value l.ground.fabric;
+      mover = new_mover (arc_value l.ground.fabric).size;
+    }) }
     ensures seats { IfOk result (λ l. AreNew (arc_value l.ground.fabric) 0 l.seats.items) }
 {
     let workers = small(row.number_at("workers")?.unwrap_or(1))?;
@@ -50,8 +55,12 @@ pub fn lay(alloc: Global, row: Part<'_, '_>) -> Result<Laid>
 
 fn lay_on(alloc: Global, shelf: Arc<Shelf>, workers: u16) -> Result<Laid>
     requires { (0 < workers) × (workers ≤ 8) }
-    ensures shape { IfOk result (λ l. (arc_value l.ground.fabric).size.shape ≡ (arc_value l.ground.shelf).shape) }
-    ensures mover { IfOk result (λ l. l.mover ≡ record { fabric = arc_value l.ground.fabric; mover = new_mover (arc_value l.ground.fabric).size }) }
+    ensures shape { IfOk result
+        (λ l. (arc_value l.ground.fabric).size.shape ≡ (arc_value l.ground.shelf).shape) }
+    ensures mover { IfOk result (λ l. l.mover ≡ record {
+      fabric = arc_value l.ground.fabric;
+      mover = new_mover (arc_value l.ground.fabric).size;
+    }) }
     ensures seats { IfOk result (λ l. AreNew (arc_value l.ground.fabric) 0 l.seats.items) }
 {
     let Ok((fabric, mover, seats)) = Fabric::new(alloc, shelf.shape(), workers) else {

@@ -8,7 +8,8 @@ use fabric_words::{Fabric, WorkerSeat};
 
 // Whether the output is one of the worker's.
 fn is_own(fabric: &Fabric, seat: &WorkerSeat, output: Port) -> bool
-    ensures { IsTrue result ↔ (IsPort fabric.now.size.shape output × IsOwn fabric.now.size seat.now.reader.worker.number output) }
+    ensures { IsTrue result ↔ (IsPort fabric.now.size.shape output
+        × IsOwn fabric.now.size seat.now.reader.worker.number output) }
 {
     let shape = fabric.shape();
     output.0 < shape.ports() && shape.module_of(output) % fabric.workers() == seat.number()
@@ -19,7 +20,8 @@ pub fn hold(fabric: &Fabric, seat: &mut WorkerSeat, output: Port) -> Option<u64>
     requires own { seat.old.reader.fabric ≡ fabric.now }
     requires rests { CanBegin seat.old.reader.worker }
     ensures fabric { seat.new.reader.fabric ≡ seat.old.reader.fabric }
-    ensures held { IfSome result (λ word. Runs seat.new.reader.worker × HasOutput seat.new.reader.worker.hold) }
+    ensures held { IfSome result
+        (λ word. Runs seat.new.reader.worker × HasOutput seat.new.reader.worker.hold) }
 {
     if !is_own(fabric, seat, output) {
         return None;
@@ -35,7 +37,8 @@ pub fn hold(fabric: &Fabric, seat: &mut WorkerSeat, output: Port) -> Option<u64>
 /// Loads the MID word and the IN word that the OUT word names which was loaded before, and ends the frame.
 pub fn follow(fabric: &Fabric, seat: &mut WorkerSeat, held: Option<u64>) -> Option<(u64, u64)>
     requires own { seat.old.reader.fabric ≡ fabric.now }
-    requires held { IfSome held (λ word. Runs seat.old.reader.worker × HasOutput seat.old.reader.worker.hold) }
+    requires held { IfSome held
+        (λ word. Runs seat.old.reader.worker × HasOutput seat.old.reader.worker.hold) }
 {
     let Some(_word) = held else {
         return None;

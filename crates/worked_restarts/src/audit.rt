@@ -38,13 +38,16 @@ impl<D: Disk> Model for Audit<D> {
 
     ghost view = { λ s. seat_at D.state s.pass (arc_value s.turns) };
 
-    ghost invariant = { λ s. IsSeated D.told D.state s.pass (arc_value s.turns) (arc_value s.ground.fabric) × IsAtOpening (opening_of D.state (arc_value s.turns).first) (arc_value s.ground.shelf) (arc_value s.ground.fabric) };
+    ghost invariant = { λ s. IsSeated D.told D.state s.pass (arc_value s.turns)
+        (arc_value s.ground.fabric) × IsAtOpening (opening_of D.state (arc_value s.turns).first)
+        (arc_value s.ground.shelf) (arc_value s.ground.fabric) };
 }
 
 impl<D: Disk + Drop> Audit<D> {
     pub fn new(pass: Pass, turns: Turns<D>, ground: Ground) -> Audit<D>
         requires seated { IsSeated D.told D.state pass (arc_value turns) (arc_value ground.fabric) }
-        requires opening { IsAtOpening (opening_of D.state (arc_value turns).first) (arc_value ground.shelf) (arc_value ground.fabric) }
+        requires opening { IsAtOpening (opening_of D.state (arc_value turns).first)
+            (arc_value ground.shelf) (arc_value ground.fabric) }
         ensures { result ≡ seat_at D.state pass (arc_value turns) }
     {
         Audit {
@@ -125,7 +128,8 @@ fn words_of<D: Disk + Drop>(
     state: &mut State<D>,
     fabric: &Fabric,
 ) -> Result<Vec<u64>>
-    requires { (o : Opening) × (h : List Entry) × StandsFor D.told D.state o state.old h × (o.site.fabric ≡ fabric.now) }
+    requires { (o : Opening) × (h : List Entry) × StandsFor D.told D.state o state.old h
+        × (o.site.fabric ≡ fabric.now) }
     ensures { state.new ≡ state.old }
 {
     let Some(mut driver) = state.take_out() else {

@@ -79,9 +79,12 @@ fn drive_beside<D: Disk + Drop, R: Wait>(
 ) -> Beside
     requires pass { HasPass turns.now pass.old }
     requires fabric { (opening_of D.state turns.now.first).site.fabric ≡ fabric.now }
-    requires taken { (h : List Entry) × Saw (opening_of D.state turns.now.first) pass.old.seen h × HasTaken D.told D.state (opening_of D.state turns.now.first) pass.old.number op.now h driver.value.p driver.value.rolling }
+    requires taken { (h : List Entry) × Saw (opening_of D.state turns.now.first) pass.old.seen h
+        × HasTaken D.told D.state (opening_of D.state turns.now.first) pass.old.number op.now h
+        driver.value.p driver.value.rolling }
     requires own { reader.old.reader.fabric ≡ fabric.now }
-    requires held { IfSome held (λ word. Runs reader.old.reader.worker × HasOutput reader.old.reader.worker.hold) }
+    requires held { IfSome held
+        (λ word. Runs reader.old.reader.worker × HasOutput reader.old.reader.worker.hold) }
     ensures seated { IsSeated D.told D.state pass.new turns.now fabric.now }
 {
     let out = &mut *driver;
@@ -113,7 +116,9 @@ fn bring_or_cut<D: Disk + Drop, R: Wait>(
 )
     requires pass { HasPass turns.now pass.old }
     requires fabric { (opening_of D.state turns.now.first).site.fabric ≡ fabric.now }
-    requires taken { (h : List Entry) × Saw (opening_of D.state turns.now.first) pass.old.seen h × HasTaken D.told D.state (opening_of D.state turns.now.first) pass.old.number op.now h driver.value.p driver.value.rolling }
+    requires taken { (h : List Entry) × Saw (opening_of D.state turns.now.first) pass.old.seen h
+        × HasTaken D.told D.state (opening_of D.state turns.now.first) pass.old.number op.now h
+        driver.value.p driver.value.rolling }
     requires done { then ≡ Advance.Done → rest_of driver.value.rolling ≡ [] }
     ensures { IsSeated D.told D.state pass.new turns.now fabric.now }
 {

@@ -46,7 +46,8 @@ impl<D: Disk + Drop, U: Disk + Drop> Element<D, U> {
         users: &mut Vec<U>,
         sessions: usize,
     ) -> Result<Element<D, U>>
-        requires mover { mover ≡ record { fabric = arc_value ground.fabric; mover = new_mover (arc_value ground.fabric).size } }
+        requires mover { mover ≡ record
+            { fabric = arc_value ground.fabric; mover = new_mover (arc_value ground.fabric).size } }
         requires shape { (arc_value ground.fabric).size.shape ≡ (arc_value ground.shelf).shape }
         ensures { IfOk result (λ e. e.audit.opening.site.fabric ≡ arc_value ground.fabric) }
     {
@@ -105,7 +106,8 @@ fn adopt<D: Disk + Drop>(
 ) -> Result<Option<State<D>>>
     requires own { seat.fabric ≡ fabric.now }
     ensures begins { IfOk result (λ x. IfSome x (Begins D.told D.state)) }
-    ensures opening { IfOk result (λ x. IfSome x (λ s. IsAtOpening (opening_of D.state s) shelf.now fabric.now)) }
+    ensures opening { IfOk result
+        (λ x. IfSome x (λ s. IsAtOpening (opening_of D.state s) shelf.now fabric.now)) }
 {
     ensure!(
         fabric.shape() == shelf.shape(),
@@ -127,7 +129,8 @@ fn seat_all<D: Disk + Drop, U: Disk + Drop>(
     sessions: usize,
 ) -> Result<Element<D, U>>
     requires begins { Begins D.told D.state state }
-    requires opening { IsAtOpening (opening_of D.state state) (arc_value ground.shelf) (arc_value ground.fabric) }
+    requires opening { IsAtOpening (opening_of D.state state) (arc_value ground.shelf)
+        (arc_value ground.fabric) }
     ensures { IfOk result (λ e. e.audit.opening.site.fabric ≡ arc_value ground.fabric) }
 {
     let count = sessions.min(MOST) as u16;
@@ -167,13 +170,16 @@ fn places_of<D: Disk + Drop, U: Disk + Drop>(
     requires fresh { AreFresh (arc_value turns.now).id 0 waiting.old.passes.items }
     requires within { (arc_value turns.now).passes ≡ count + 1 }
     requires begins { Begins D.told D.state (arc_value turns.now).first }
-    requires opening { IsAtOpening (opening_of D.state (arc_value turns.now).first) (arc_value ground.now.shelf) (arc_value ground.now.fabric) }
+    requires opening { IsAtOpening (opening_of D.state (arc_value turns.now).first)
+        (arc_value ground.now.shelf) (arc_value ground.now.fabric) }
     requires users_left { length waiting.old.users.passes.items ≡ count + 1 }
-    requires users_fresh { AreFresh (arc_value waiting.old.users.turns).id 0 waiting.old.users.passes.items }
+    requires users_fresh { AreFresh (arc_value waiting.old.users.turns).id 0
+        waiting.old.users.passes.items }
     requires users_within { (arc_value waiting.old.users.turns).passes ≡ count + 1 }
     requires users_begin { UsersBegin U.told U.state (arc_value waiting.old.users.turns).first }
     ensures left { IfOk result (λ _. length waiting.new.passes.items ≡ 1) }
-    ensures fresh { IfOk result (λ _. AreFresh (arc_value turns.now).id count waiting.new.passes.items) }
+    ensures fresh { IfOk result
+        (λ _. AreFresh (arc_value turns.now).id count waiting.new.passes.items) }
 {
     let mut places = Vec::new(alloc);
     for number in 0..count {
@@ -193,15 +199,19 @@ fn next_place<D: Disk + Drop, U: Disk + Drop>(
     requires some { 0 < length waiting.old.passes.items }
     requires users_some { 0 < length waiting.old.users.passes.items }
     requires users_within { number < (arc_value waiting.old.users.turns).passes }
-    requires users_fresh { AreFresh (arc_value waiting.old.users.turns).id number waiting.old.users.passes.items }
+    requires users_fresh { AreFresh (arc_value waiting.old.users.turns).id number
+        waiting.old.users.passes.items }
     requires users_begin { UsersBegin U.told U.state (arc_value waiting.old.users.turns).first }
     requires within { number < (arc_value turns.now).passes }
     requires fresh { AreFresh (arc_value turns.now).id number waiting.old.passes.items }
     requires begins { Begins D.told D.state (arc_value turns.now).first }
-    requires opening { IsAtOpening (opening_of D.state (arc_value turns.now).first) (arc_value ground.now.shelf) (arc_value ground.now.fabric) }
+    requires opening { IsAtOpening (opening_of D.state (arc_value turns.now).first)
+        (arc_value ground.now.shelf) (arc_value ground.now.fabric) }
     ensures users { waiting.new.users.turns ≡ waiting.old.users.turns }
-    ensures users_fresh { AreFresh (arc_value waiting.old.users.turns).id (number + 1) waiting.new.users.passes.items }
-    ensures users_fewer { length waiting.new.users.passes.items + 1 ≡ length waiting.old.users.passes.items }
+    ensures users_fresh { AreFresh (arc_value waiting.old.users.turns).id (number + 1)
+        waiting.new.users.passes.items }
+    ensures users_fewer { length waiting.new.users.passes.items + 1 ≡ length
+        waiting.old.users.passes.items }
     ensures fresh { AreFresh (arc_value turns.now).id (number + 1) waiting.new.passes.items }
     ensures fewer { length waiting.new.passes.items + 1 ≡ length waiting.old.passes.items }
 {

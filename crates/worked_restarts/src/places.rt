@@ -27,7 +27,8 @@ pub type UsersTurns<U> = Arc<Turnstile<UserState<U>>>;
 /// Takes the first of some passes.
 pub fn next_pass(passes: &mut Vec<Pass>) -> Pass
     requires some { 0 < length passes.old.items }
-    ensures next { (id : Ident) → (n : ℕ) → AreFresh id n passes.old.items → (result ≡ fresh_pass id n) × AreFresh id (n + 1) passes.new.items }
+    ensures next { (id : Ident) → (n : ℕ) → AreFresh id n passes.old.items
+        → (result ≡ fresh_pass id n) × AreFresh id (n + 1) passes.new.items }
     ensures fewer { length passes.new.items + 1 ≡ length passes.old.items }
 {
     passes.remove(0)
@@ -41,7 +42,8 @@ pub fn turns_of<S: Sequential + Drop>(
 ) -> Result<(Arc<Turnstile<S>>, Vec<Pass>), NoMemory>
     requires some { 0 < count }
     requires stands { S.stands state [] }
-    ensures turns { IfOk result (λ r. ((arc_value r.0).first ≡ state) × ((arc_value r.0).passes ≡ count)) }
+    ensures turns { IfOk result
+        (λ r. ((arc_value r.0).first ≡ state) × ((arc_value r.0).passes ≡ count)) }
     ensures each { IfOk result (λ r. length r.1.items ≡ count) }
     ensures fresh { IfOk result (λ r. AreFresh (arc_value r.0).id 0 r.1.items) }
 {
@@ -69,7 +71,8 @@ pub fn place_of<D: Disk + Drop, U: Disk + Drop>(
     requires users_fresh { users_pass ≡ fresh_pass (arc_value users.now).id number }
     requires begins { Begins D.told D.state (arc_value turns.now).first }
     requires users_begin { UsersBegin U.told U.state (arc_value users.now).first }
-    requires opening { IsAtOpening (opening_of D.state (arc_value turns.now).first) (arc_value shelf.now) (arc_value fabric.now) }
+    requires opening { IsAtOpening (opening_of D.state (arc_value turns.now).first)
+        (arc_value shelf.now) (arc_value fabric.now) }
 {
     let (Ok(shelf), Ok(fabric), Ok(turns), Ok(users)) = (
         Arc::try_clone(shelf),

@@ -49,7 +49,8 @@ fn switches_behind(
     requires made { (before : Colouring) × IsLastWork before last.now.ops.items matrix.old }
     ensures matrix { matrix.new ≡ matrix.old }
     ensures mover { mover.new ≡ mover.old }
-    ensures switches { SwitchesAre fabric.now.size mover.old.mover last.now.ops.items matrix.old result }
+    ensures switches { SwitchesAre fabric.now.size mover.old.mover last.now.ops.items matrix.old
+        result }
     ensures sized { IsSize fabric.now.size }
 {
     // Its clause tells that the fabric's size is within the limits.

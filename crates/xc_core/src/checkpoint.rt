@@ -33,15 +33,30 @@ fn add_rows<D: Disk>(
     requires drafted { is_drafted journal.old.1.spare ≡ true }
     requires none { (draft_of journal.old.1.spare).rows ≡ 0 }
     requires empty { D.told → rows journal.old.1 (D.state journal.old.0).reads_as ≡ [] }
-    ensures ok { OnOk result (journal.new.1 ≡ record journal.old.1 { spare = Drafted (record { equipped = (draft_of journal.old.1.spare).equipped; rows = length (checkpoint table.now matrix.now) }) }) }
+    ensures ok { OnOk result (journal.new.1 ≡ record journal.old.1 {
+      spare = Drafted (record {
+        equipped = (draft_of journal.old.1.spare).equipped;
+        rows = length (checkpoint table.now matrix.now);
+      });
+    }) }
     ensures err { OnErr result (journal.new.1 ≡ record journal.old.1 { spare = Open }) }
-    ensures rows { D.told → OnOk result (rows journal.new.1 (D.state journal.new.0).reads_as ≡ checkpoint table.now matrix.now) }
+    ensures rows { D.told → OnOk result
+        (rows journal.new.1 (D.state journal.new.0).reads_as ≡ checkpoint table.now matrix.now) }
     ensures whole { IsWhole journal.new.1 }
-    ensures home { (b : Past) → (doubt : Option Op) → IsAtHome D.told (D.state journal.old.0) journal.old.1 b doubt → IsAtHome D.told (D.state journal.new.0) journal.new.1 b doubt }
-    ensures any_moment { D.told → (b : Past) → (doubt : Option Op) → IsAtHome D.told (D.state journal.old.0) journal.old.1 b doubt → IsTable b table.now matrix.now → LeavesOnly (D.state journal.old.0) (D.state journal.new.0) (IsOldOrDoubted b doubt) }
-    ensures same { D.told → listed journal.new.1 (D.state journal.new.0).reads_as ≡ listed journal.old.1 (D.state journal.old.0).reads_as }
-    ensures acknowledged { D.told → (b : Past) → (doubt : Option Op) → IsAtHome D.told (D.state journal.old.0) journal.old.1 b doubt → Keeps (D.state journal.old.0) (D.state journal.new.0) journal.old.1 }
-    ensures cause { HasCause (D.state journal.old.0).faults (D.state journal.new.0).faults (IsErr result) }
+    ensures home { (b : Past) → (doubt : Option Op)
+        → IsAtHome D.told (D.state journal.old.0) journal.old.1 b doubt
+        → IsAtHome D.told (D.state journal.new.0) journal.new.1 b doubt }
+    ensures any_moment { D.told → (b : Past) → (doubt : Option Op)
+        → IsAtHome D.told (D.state journal.old.0) journal.old.1 b doubt
+        → IsTable b table.now matrix.now
+        → LeavesOnly (D.state journal.old.0) (D.state journal.new.0) (IsOldOrDoubted b doubt) }
+    ensures same { D.told → listed journal.new.1 (D.state journal.new.0).reads_as ≡ listed
+        journal.old.1 (D.state journal.old.0).reads_as }
+    ensures acknowledged { D.told → (b : Past) → (doubt : Option Op)
+        → IsAtHome D.told (D.state journal.old.0) journal.old.1 b doubt
+        → Keeps (D.state journal.old.0) (D.state journal.new.0) journal.old.1 }
+    ensures cause { HasCause (D.state journal.old.0).faults (D.state journal.new.0).faults
+        (IsErr result) }
     ensures room { Spends 405_570 (D.state journal.old.0) (D.state journal.new.0) }
     ensures sound { IsSound 405_570 (D.state journal.old.0) → IsErr result → ⊥ }
 {
@@ -73,16 +88,27 @@ pub(crate) fn write_checkpoint<D: Disk>(
     requires shape { table.now.shape ≡ journal.old.1.shape }
     requires of_shape { IsOfShape table.now × IsInLimits table.now.shape }
     requires spelled { AllByRecursion FitsConn table.now.conns }
-    ensures home { (b : Past) → (doubt : Option Op) → IsAtHome D.told (D.state journal.old.0) journal.old.1 b doubt → IsTable b table.now matrix.now → IsAtHome D.told (D.state journal.new.0) journal.new.1 b doubt }
+    ensures home { (b : Past) → (doubt : Option Op)
+        → IsAtHome D.told (D.state journal.old.0) journal.old.1 b doubt
+        → IsTable b table.now matrix.now
+        → IsAtHome D.told (D.state journal.new.0) journal.new.1 b doubt }
     ensures ready { OnOk result (IsReady journal.new.1) }
     ensures shape { journal.new.1.shape ≡ journal.old.1.shape }
     ensures book { IsWhole journal.new.1 }
     ensures whole { journal.old.1.to_mend ≡ false → journal.new.1.to_mend ≡ false }
-    ensures any_moment { D.told → (b : Past) → (doubt : Option Op) → IsAtHome D.told (D.state journal.old.0) journal.old.1 b doubt → IsTable b table.now matrix.now → LeavesOnly (D.state journal.old.0) (D.state journal.new.0) (IsOldOrDoubted b doubt) }
+    ensures any_moment { D.told → (b : Past) → (doubt : Option Op)
+        → IsAtHome D.told (D.state journal.old.0) journal.old.1 b doubt
+        → IsTable b table.now matrix.now
+        → LeavesOnly (D.state journal.old.0) (D.state journal.new.0) (IsOldOrDoubted b doubt) }
     // What was counted stays: each image continues the list, or the checkpoint.
-    ensures acknowledged { D.told → (b : Past) → (doubt : Option Op) → IsAtHome D.told (D.state journal.old.0) journal.old.1 b doubt → LeavesOnly (D.state journal.old.0) (D.state journal.new.0) (IsCounted (D.state journal.old.0) journal.old.1 table.now matrix.now) }
-    ensures counts { D.told → OnOk result (StillCounts (D.state journal.old.0) journal.old.1 (D.state journal.new.0) journal.new.1 table.now matrix.now) }
-    ensures cause { HasCause (D.state journal.old.0).faults (D.state journal.new.0).faults (IsErr result) }
+    ensures acknowledged { D.told → (b : Past) → (doubt : Option Op)
+        → IsAtHome D.told (D.state journal.old.0) journal.old.1 b doubt
+        → LeavesOnly (D.state journal.old.0) (D.state journal.new.0)
+        (IsCounted (D.state journal.old.0) journal.old.1 table.now matrix.now) }
+    ensures counts { D.told → OnOk result (StillCounts (D.state journal.old.0) journal.old.1
+        (D.state journal.new.0) journal.new.1 table.now matrix.now) }
+    ensures cause { HasCause (D.state journal.old.0).faults (D.state journal.new.0).faults
+        (IsErr result) }
     ensures room { Spends 4_600_042 (D.state journal.old.0) (D.state journal.new.0) }
     ensures sound { IsSound 4_600_042 (D.state journal.old.0) → IsErr result → ⊥ }
 {

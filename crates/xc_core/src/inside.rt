@@ -24,7 +24,9 @@ use dxc_outside::Gate;
 pub fn take<D: Disk + Drop, G: Gate>(state: &mut State<D>, op: &Op, gate: &mut G) -> Took<D>
     requires apt { IsApt state.old.table.shape op.now }
     requires stands { (o : Opening) × (h : List Entry) × StandsFor D.told D.state o state.old h }
-    ensures took { (o : Opening) → (own : ℕ) → (h : List Entry) → StandsFor D.told D.state o state.old h → TakenIs D.told D.state o own h op.now state.new result }
+    ensures took { (o : Opening) → (own : ℕ) → (h : List Entry)
+        → StandsFor D.told D.state o state.old h
+        → TakenIs D.told D.state o own h op.now state.new result }
     ensures origin { state.new.origin ≡ state.old.origin }
     ensures stopped { result ≡ Took.Stopped → Rose (G.stops gate.old) (G.stops gate.new) }
     ensures unstopped { result ≢ Took.Stopped → G.stops gate.new ≡ G.stops gate.old }
@@ -62,9 +64,14 @@ pub fn take<D: Disk + Drop, G: Gate>(state: &mut State<D>, op: &Op, gate: &mut G
 
 /// Lets the table take the change, and brings the Provisioner home.
 pub fn bring<D: Disk + Drop>(state: &mut State<D>, driver: Box<Driver<D>>) -> Change
-    requires taken { (o : Opening) × (own : ℕ) × (h : List Entry) × (op : Op) × (o.first.changes ≡ 0) × StandsFor D.told D.state o state.old h × HasTaken D.told D.state o own op h driver.value.p driver.value.rolling }
+    requires taken { (o : Opening) × (own : ℕ) × (h : List Entry) × (op : Op)
+        × (o.first.changes ≡ 0) × StandsFor D.told D.state o state.old h
+        × HasTaken D.told D.state o own op h driver.value.p driver.value.rolling }
     requires done { rest_of driver.value.rolling ≡ [] }
-    ensures done { (o : Opening) → (own : ℕ) → (h : List Entry) → (op : Op) → StandsFor D.told D.state o state.old h → HasTaken D.told D.state o own op h driver.value.p driver.value.rolling → StandsFor D.told D.state o state.new (h ++ entry own op (Done result) ∷ []) }
+    ensures done { (o : Opening) → (own : ℕ) → (h : List Entry) → (op : Op)
+        → StandsFor D.told D.state o state.old h
+        → HasTaken D.told D.state o own op h driver.value.p driver.value.rolling
+        → StandsFor D.told D.state o state.new (h ++ entry own op (Done result) ∷ []) }
     ensures origin { state.new.origin ≡ state.old.origin }
 {
     let mut driver = driver;
@@ -76,7 +83,10 @@ pub fn bring<D: Disk + Drop>(state: &mut State<D>, driver: Box<Driver<D>>) -> Ch
 
 /// Brings the Provisioner home halted.
 pub fn cut<D: Disk + Drop>(state: &mut State<D>, driver: Box<Driver<D>>)
-    ensures cut { (o : Opening) → (own : ℕ) → (h : List Entry) → (op : Op) → (r : RollingAt) → StandsFor D.told D.state o state.old h → HasTaken D.told D.state o own op h driver.value.p r → StandsFor D.told D.state o state.new (h ++ entry own op Cut ∷ []) }
+    ensures cut { (o : Opening) → (own : ℕ) → (h : List Entry) → (op : Op) → (r : RollingAt)
+        → StandsFor D.told D.state o state.old h
+        → HasTaken D.told D.state o own op h driver.value.p r
+        → StandsFor D.told D.state o state.new (h ++ entry own op Cut ∷ []) }
     ensures origin { state.new.origin ≡ state.old.origin }
 {
     let mut driver = driver;

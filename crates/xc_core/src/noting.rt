@@ -40,7 +40,8 @@ pub fn note<D: Disk, G: Gate>(
     bytes: &[u8; 64],
     gate: &mut G,
 ) -> Noted
-    requires planned { (b : Past) × MayNote D.told D.state b p.old (plan_of op.now rolling.now bytes.now) }
+    requires planned { (b : Past)
+        × MayNote D.told D.state b p.old (plan_of op.now rolling.now bytes.now) }
     requires sealed { slice_index bytes.now 0 ≡ set_seal }
     ensures ground { ground_of p.new ≡ ground_of p.old }
     ensures mover { p.new.mover ≡ p.old.mover }
@@ -48,17 +49,23 @@ pub fn note<D: Disk, G: Gate>(
     ensures unstopped { result ≢ Noted.Stopped → G.stops gate.new ≡ G.stops gate.old }
     ensures later { G.stops gate.old ≤ G.stops gate.new }
     ensures asked { G.asked gate.old gate.new (Journal ∷ []) }
-    ensures noted { (b : Past) → MayNote D.told D.state b p.old (plan_of op.now rolling.now bytes.now)
+    ensures noted { (b : Past)
+        → MayNote D.told D.state b p.old (plan_of op.now rolling.now bytes.now)
         → NotedIs D.told D.state b p.old p.new (plan_of op.now rolling.now bytes.now) result }
     // A crash at any moment leaves the changes so far, or one more.
-    ensures any_moment { D.told → (b : Past) → MayNote D.told D.state b p.old (plan_of op.now rolling.now bytes.now)
-        → LeavesOnly (D.state p.old.journal.0) (D.state p.new.journal.0) (IsOldOrOneMore b p.old.doubt op.now) }
+    ensures any_moment { D.told → (b : Past)
+        → MayNote D.told D.state b p.old (plan_of op.now rolling.now bytes.now) → LeavesOnly
+        (D.state p.old.journal.0) (D.state p.new.journal.0) (IsOldOrOneMore b p.old.doubt op.now) }
     // What was acknowledged stays: each image continues the journal's list, or a checkpoint of the table.
-    ensures acknowledged { D.told → (b : Past) → IsHome D.told D.state b p.old → IsCopied b p.old → LeavesOnly (D.state p.old.journal.0) (D.state p.new.journal.0) (IsCounted (D.state p.old.journal.0) p.old.journal.1 b.fold.table p.old.matrix) }
-    ensures fault { HasCause (D.state p.old.journal.0).faults (D.state p.new.journal.0).faults (result ≡ Noted.Fault) }
+    ensures acknowledged { D.told → (b : Past) → IsHome D.told D.state b p.old → IsCopied b p.old
+        → LeavesOnly (D.state p.old.journal.0) (D.state p.new.journal.0)
+        (IsCounted (D.state p.old.journal.0) p.old.journal.1 b.fold.table p.old.matrix) }
+    ensures fault { HasCause (D.state p.old.journal.0).faults (D.state p.new.journal.0).faults
+        (result ≡ Noted.Fault) }
     ensures room { Spends 4_600_114 (D.state p.old.journal.0) (D.state p.new.journal.0) }
     // Where no checkpoint is due and no record is in doubt, it is a record's.
-    ensures short { IsReady p.old.journal.1 × (p.old.journal.1.to_mend ≡ false) → Spends 69 (D.state p.old.journal.0) (D.state p.new.journal.0) }
+    ensures short { IsReady p.old.journal.1 × (p.old.journal.1.to_mend ≡ false)
+        → Spends 69 (D.state p.old.journal.0) (D.state p.new.journal.0) }
     ensures sound { IsSound 4_600_114 (D.state p.old.journal.0) → result ≢ Noted.Fault }
 {
     let _ = rolling;

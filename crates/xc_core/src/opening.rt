@@ -78,13 +78,17 @@ fn join_all<D: Disk, G: Gate>(p: &mut Provisioner<D>, fabric: &Fabric, gate: &mu
     requires shape { p.old.matrix.shape ≡ fabric.now.size.shape }
     requires proper { IsProperColouring p.old.matrix }
     ensures others { p.new ≡ record p.old { mover = p.new.mover; spent = p.new.spent } }
-    ensures joined { result ≡ Pass1.Go → (p.new.mover.fabric ≡ fabric.now) × IsAtRestOn fabric.now.size p.old.matrix p.new.mover.mover × (length p.new.mover.mover.log ≡ switches_in (joins_of p.old.matrix)) }
+    ensures joined { result ≡ Pass1.Go → (p.new.mover.fabric ≡ fabric.now)
+        × IsAtRestOn fabric.now.size p.old.matrix p.new.mover.mover
+        × (length p.new.mover.mover.log ≡ switches_in (joins_of p.old.matrix)) }
     ensures spent { p.new.spent ≡ length p.new.mover.mover.log }
     ensures stopped { result ≡ Pass1.Stop → Rose (G.stops gate.old) (G.stops gate.new) }
     ensures unstopped { result ≡ Pass1.Go → G.stops gate.new ≡ G.stops gate.old }
     ensures later { G.stops gate.old ≤ G.stops gate.new }
-    ensures asked { result ≡ Pass1.Go → G.asked gate.old gate.new (replicate (length (joins_of p.old.matrix)) Register) }
-    ensures asked_till { result ≡ Pass1.Stop → (n : ℕ) × G.asked gate.old gate.new (replicate n Register) }
+    ensures asked { result ≡ Pass1.Go
+        → G.asked gate.old gate.new (replicate (length (joins_of p.old.matrix)) Register) }
+    ensures asked_till { result ≡ Pass1.Stop
+        → (n : ℕ) × G.asked gate.old gate.new (replicate n Register) }
 {
     // Its clause tells that the fabric's size is within the limits.
     let _phase = p.mover.phase();

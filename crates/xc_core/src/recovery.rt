@@ -76,7 +76,8 @@ pub(crate) fn stage_on(
     requires made { (before : Colouring) × IsLastWork before last.now.ops.items matrix.old }
     ensures matrix { matrix.new ≡ matrix.old }
     ensures mover { mover.new ≡ mover.old }
-    ensures stage { (before : Colouring) → IsLastWork before last.now.ops.items matrix.old → IsStage fabric.now.size before (writes_of last.now) mover.old.mover result }
+    ensures stage { (before : Colouring) → IsLastWork before last.now.ops.items matrix.old
+        → IsStage fabric.now.size before (writes_of last.now) mover.old.mover result }
 {
     undo_work(matrix, last);
     let stage = stage_of(fabric, mover, matrix, last);
@@ -98,7 +99,8 @@ fn resume(
     requires few { length mover.old.mover.log ≤ 2 ^ 48 }
     ensures matrix { matrix.new ≡ matrix.old }
     ensures mover { mover.new ≡ mover.old }
-    ensures resumed { ResumedIs fabric.now.size mover.old.mover work.ops.items matrix.old switches result }
+    ensures resumed { ResumedIs fabric.now.size mover.old.mover work.ops.items matrix.old switches
+        result }
 {
     match stage_on(matrix, mover, fabric, &work) {
         Stage::At(made) => rest(work, made, mover.phase(), mover.switches(), switches),
@@ -111,14 +113,20 @@ fn read<D: Disk>(p: &mut Provisioner<D>) -> Result<Work, ReplayFault>
     requires halted { (b : Past) × IsHalted D.told D.state b p.old }
     ensures others { p.new ≡ record p.old { journal = p.new.journal; second = p.new.second } }
     ensures ground { ground_of p.new ≡ ground_of p.old }
-    ensures halted { (b : Past) → IsHalted D.told D.state b p.old → IsHalted D.told D.state b p.new }
-    ensures reads { (b : Past) → IsHalted D.told D.state b p.old → ReadIs D.told D.state b p.new result }
+    ensures halted { (b : Past) → IsHalted D.told D.state b p.old
+        → IsHalted D.told D.state b p.new }
+    ensures reads { (b : Past) → IsHalted D.told D.state b p.old
+        → ReadIs D.told D.state b p.new result }
     ensures good { D.told → (i : ℕ) → result ≢ Err (ReplayFault.BadRecord i) }
-    ensures any_moment { D.told → (b : Past) → IsHalted D.told D.state b p.old → LeavesOnly (D.state p.old.journal.0) (D.state p.new.journal.0) (IsOldOrDoubted b p.old.doubt) }
-    ensures acknowledged { D.told → Keeps (D.state p.old.journal.0) (D.state p.new.journal.0) p.old.journal.1 }
-    ensures cause { HasCause (D.state p.old.journal.0).faults (D.state p.new.journal.0).faults (IsErrOf result ReplayFault.Disk) }
+    ensures any_moment { D.told → (b : Past) → IsHalted D.told D.state b p.old → LeavesOnly
+        (D.state p.old.journal.0) (D.state p.new.journal.0) (IsOldOrDoubted b p.old.doubt) }
+    ensures acknowledged { D.told
+        → Keeps (D.state p.old.journal.0) (D.state p.new.journal.0) p.old.journal.1 }
+    ensures cause { HasCause (D.state p.old.journal.0).faults (D.state p.new.journal.0).faults
+        (IsErrOf result ReplayFault.Disk) }
     ensures room { Spends 131_079 (D.state p.old.journal.0) (D.state p.new.journal.0) }
-    ensures sound { IsSound 131_079 (D.state p.old.journal.0) → IsErrOf result ReplayFault.Disk → ⊥ }
+    ensures sound { IsSound 131_079 (D.state p.old.journal.0) → IsErrOf result ReplayFault.Disk
+        → ⊥ }
 {
     match p.journal.reread() {
         Ok(()) => {}
@@ -130,12 +138,19 @@ fn read<D: Disk>(p: &mut Provisioner<D>) -> Result<Work, ReplayFault>
 // How the registers can go on with what was read.
 fn go_on<D: Disk>(p: &mut Provisioner<D>, table: &Table, fabric: &Fabric, work: Work) -> Recovered
     requires own { p.old.mover.fabric ≡ fabric.now }
-    requires reads { (b : Past) × Reads D.told D.state b p.old work.ops.items × (b.fold.table ≡ table.now) }
+    requires reads { (b : Past) × Reads D.told D.state b p.old work.ops.items
+        × (b.fold.table ≡ table.now) }
     ensures others { p.new ≡ record p.old { second = p.new.second } }
-    ensures halted { (b : Past) → Reads D.told D.state b p.old work.ops.items → b.fold.table ≡ table.now → IsHalted D.told D.state b p.new }
-    ensures recovered { (b : Past) → Reads D.told D.state b p.old work.ops.items → b.fold.table ≡ table.now → RecoveredIs D.told D.state b p.old p.new result }
-    ensures resumes { (b : Past) → Reads D.told D.state b p.old work.ops.items → b.fold.table ≡ table.now → IfWarm result (λ r. (lacking : Option Change) × (g : Past) × Resumes D.told D.state b lacking g p.new r) }
-    ensures rejoins { (b : Past) → Reads D.told D.state b p.old work.ops.items → b.fold.table ≡ table.now → IfCold result (λ r. (lacking : Option Change) × (g : Past) × Rejoins D.told D.state b lacking g p.new r) }
+    ensures halted { (b : Past) → Reads D.told D.state b p.old work.ops.items
+        → b.fold.table ≡ table.now → IsHalted D.told D.state b p.new }
+    ensures recovered { (b : Past) → Reads D.told D.state b p.old work.ops.items
+        → b.fold.table ≡ table.now → RecoveredIs D.told D.state b p.old p.new result }
+    ensures resumes { (b : Past) → Reads D.told D.state b p.old work.ops.items
+        → b.fold.table ≡ table.now → IfWarm result
+        (λ r. (lacking : Option Change) × (g : Past) × Resumes D.told D.state b lacking g p.new r) }
+    ensures rejoins { (b : Past) → Reads D.told D.state b p.old work.ops.items
+        → b.fold.table ≡ table.now → IfCold result
+        (λ r. (lacking : Option Change) × (g : Past) × Rejoins D.told D.state b lacking g p.new r) }
     ensures astray { D.told → (i : ℕ) → result ≢ Recovered.Astray i }
     ensures warm { D.told → (r : RollingAt) → result ≢ Recovered.Cold r }
     ensures answered { (result ≢ Recovered.Fault) × (result ≢ Recovered.Stopped) }
@@ -163,10 +178,16 @@ pub fn recover<D: Disk, G: Gate>(
     requires halted { (b : Past) × IsHalted D.told D.state b p.old × (b.fold.table ≡ table.now) }
     ensures ground { ground_of p.new ≡ ground_of p.old }
     ensures others { p.new ≡ record p.old { journal = p.new.journal; second = p.new.second } }
-    ensures halted { (b : Past) → IsHalted D.told D.state b p.old → b.fold.table ≡ table.now → IsHalted D.told D.state b p.new }
-    ensures recovered { (b : Past) → IsHalted D.told D.state b p.old → b.fold.table ≡ table.now → RecoveredIs D.told D.state b p.old p.new result }
-    ensures resumes { (b : Past) → IsHalted D.told D.state b p.old → b.fold.table ≡ table.now → IfWarm result (λ r. (lacking : Option Change) × (g : Past) × Resumes D.told D.state b lacking g p.new r) }
-    ensures rejoins { (b : Past) → IsHalted D.told D.state b p.old → b.fold.table ≡ table.now → IfCold result (λ r. (lacking : Option Change) × (g : Past) × Rejoins D.told D.state b lacking g p.new r) }
+    ensures halted { (b : Past) → IsHalted D.told D.state b p.old → b.fold.table ≡ table.now
+        → IsHalted D.told D.state b p.new }
+    ensures recovered { (b : Past) → IsHalted D.told D.state b p.old → b.fold.table ≡ table.now
+        → RecoveredIs D.told D.state b p.old p.new result }
+    ensures resumes { (b : Past) → IsHalted D.told D.state b p.old → b.fold.table ≡ table.now
+        → IfWarm result
+        (λ r. (lacking : Option Change) × (g : Past) × Resumes D.told D.state b lacking g p.new r) }
+    ensures rejoins { (b : Past) → IsHalted D.told D.state b p.old → b.fold.table ≡ table.now
+        → IfCold result
+        (λ r. (lacking : Option Change) × (g : Past) × Rejoins D.told D.state b lacking g p.new r) }
     // A disk that tells its content is never astray, and the registers are at a stage of what it tells.
     ensures astray { D.told → (i : ℕ) → result ≢ Recovered.Astray i }
     ensures warm { D.told → (r : RollingAt) → result ≢ Recovered.Cold r }
@@ -174,9 +195,12 @@ pub fn recover<D: Disk, G: Gate>(
     ensures unstopped { result ≢ Recovered.Stopped → G.stops gate.new ≡ G.stops gate.old }
     ensures later { G.stops gate.old ≤ G.stops gate.new }
     ensures asked { G.asked gate.old gate.new (Journal ∷ []) }
-    ensures any_moment { D.told → (b : Past) → IsHalted D.told D.state b p.old → LeavesOnly (D.state p.old.journal.0) (D.state p.new.journal.0) (IsOldOrDoubted b p.old.doubt) }
-    ensures acknowledged { D.told → Keeps (D.state p.old.journal.0) (D.state p.new.journal.0) p.old.journal.1 }
-    ensures fault { HasCause (D.state p.old.journal.0).faults (D.state p.new.journal.0).faults (result ≡ Recovered.Fault) }
+    ensures any_moment { D.told → (b : Past) → IsHalted D.told D.state b p.old → LeavesOnly
+        (D.state p.old.journal.0) (D.state p.new.journal.0) (IsOldOrDoubted b p.old.doubt) }
+    ensures acknowledged { D.told
+        → Keeps (D.state p.old.journal.0) (D.state p.new.journal.0) p.old.journal.1 }
+    ensures fault { HasCause (D.state p.old.journal.0).faults (D.state p.new.journal.0).faults
+        (result ≡ Recovered.Fault) }
     ensures room { Spends 131_079 (D.state p.old.journal.0) (D.state p.new.journal.0) }
     ensures sound { IsSound 131_079 (D.state p.old.journal.0) → result ≢ Recovered.Fault }
 {
@@ -198,16 +222,23 @@ pub fn end_recovery<D: Disk>(
     p: &mut Provisioner<D>,
     rolling: &Rolling,
 ) -> Option<Change>
-    requires recovers { (b : Past) × (lacking : Option Change) × (g : Past) × Recovers D.told D.state b lacking g p.old rolling.now × (b.fold.table ≡ state.old.table) }
+    requires recovers { (b : Past) × (lacking : Option Change) × (g : Past)
+        × Recovers D.told D.state b lacking g p.old rolling.now × (b.fold.table ≡ state.old.table) }
     requires done { writes_left p.old rolling.now ≡ [] }
     requires counted { state.old.reports.newest ≡ p.old.changes }
     ensures ground { ground_of p.new ≡ ground_of p.old }
     ensures journal { p.new.journal ≡ p.old.journal }
     ensures mover { p.new.mover ≡ p.old.mover }
-    ensures state { state.new ≡ record state.old { table = state.new.table; reports = reports_with result state.old.reports } }
-    ensures ends { (b : Past) → (lacking : Option Change) → (g : Past) → Resumes D.told D.state b lacking g p.old rolling.now → b.fold.table ≡ state.old.table → Ends D.told D.state b lacking g state.new.table p.new result }
+    ensures state { state.new ≡ record state.old
+        { table = state.new.table; reports = reports_with result state.old.reports } }
+    ensures ends { (b : Past) → (lacking : Option Change) → (g : Past)
+        → Resumes D.told D.state b lacking g p.old rolling.now → b.fold.table ≡ state.old.table
+        → Ends D.told D.state b lacking g state.new.table p.new result }
     // A cold one makes other switches: it ends with as many as were made.
-    ensures ends_cold { (b : Past) → (lacking : Option Change) → (g : Past) → Rejoins D.told D.state b lacking g p.old rolling.now → b.fold.table ≡ state.old.table → Ends D.told D.state b lacking (with_switches (length p.old.mover.mover.log) g) state.new.table p.new result }
+    ensures ends_cold { (b : Past) → (lacking : Option Change) → (g : Past)
+        → Rejoins D.told D.state b lacking g p.old rolling.now → b.fold.table ≡ state.old.table
+        → Ends D.told D.state b lacking (with_switches (length p.old.mover.mover.log) g)
+        state.new.table p.new result }
 {
     let _ = rolling;
     mem::swap(&mut p.matrix, &mut p.second.matrix);

@@ -29,11 +29,14 @@ use fabric_words::Fabric;
 fn make_halted<D: Disk>(p: &mut Provisioner<D>) -> Result<(), DiskFault>
     requires home { (b : Past) × (IsHome D.told D.state b p.old ⊎ IsHalted D.told D.state b p.old) }
     ensures ground { ground_of p.new ≡ ground_of p.old }
-    ensures halted { OnOk result ((b : Past) → IsHome D.told D.state b p.old ⊎ IsHalted D.told D.state b p.old → IsHalted D.told D.state b p.new) }
-    ensures unsettled { OnErr result ((p.old.halted ≡ false) × ((b : Past) → IsHome D.told D.state b p.old → IsHome D.told D.state b p.new)) }
+    ensures halted { OnOk result ((b : Past) → IsHome D.told D.state b p.old
+        ⊎ IsHalted D.told D.state b p.old → IsHalted D.told D.state b p.new) }
+    ensures unsettled { OnErr result ((p.old.halted ≡ false)
+        × ((b : Past) → IsHome D.told D.state b p.old → IsHome D.told D.state b p.new)) }
     ensures doubt { StillDoubts p.old p.new }
     ensures settled { OnOk result (p.old.halted ≡ false → HasNoDoubt p.new) }
-    ensures cause { HasCause (D.state p.old.journal.0).faults (D.state p.new.journal.0).faults (IsErr result) }
+    ensures cause { HasCause (D.state p.old.journal.0).faults (D.state p.new.journal.0).faults
+        (IsErr result) }
     ensures room { Spends 3 (D.state p.old.journal.0) (D.state p.new.journal.0) }
 {
     if p.halted() {
@@ -60,8 +63,11 @@ pub fn restart<D: Disk + Drop, G: Gate>(
     gate: &mut G,
 ) -> Restarting<D>
     requires asked { IsDriven asked.now }
-    requires stands { (o : Opening) × (h : List Entry) × StandsFor D.told D.state o state.old h × (o.site.fabric ≡ fabric.now) }
-    ensures restarting { (o : Opening) → (own : ℕ) → (h : List Entry) → StandsFor D.told D.state o state.old h → RestartingIs D.told D.state o own h asked.now state.new result }
+    requires stands { (o : Opening) × (h : List Entry) × StandsFor D.told D.state o state.old h
+        × (o.site.fabric ≡ fabric.now) }
+    ensures restarting { (o : Opening) → (own : ℕ) → (h : List Entry)
+        → StandsFor D.told D.state o state.old h
+        → RestartingIs D.told D.state o own h asked.now state.new result }
     ensures origin { state.new.origin ≡ state.old.origin }
     ensures stopped { result ≡ Restarting.Stopped → Rose (G.stops gate.old) (G.stops gate.new) }
     ensures unstopped { result ≢ Restarting.Stopped → G.stops gate.new ≡ G.stops gate.old }
@@ -105,9 +111,14 @@ pub fn restart<D: Disk + Drop, G: Gate>(
 
 /// Ends the restart: the table takes the change that it lacked, if it lacked one, and the Provisioner is home and ready.
 pub fn end<D: Disk + Drop>(state: &mut State<D>, driver: Box<Driver<D>>) -> Option<Change>
-    requires restart { (o : Opening) × (own : ℕ) × (h : List Entry) × (asked : Op) × (o.first.changes ≡ 0) × StandsFor D.told D.state o state.old h × HasRestart D.told D.state o own asked h driver.value.p driver.value.rolling }
+    requires restart { (o : Opening) × (own : ℕ) × (h : List Entry) × (asked : Op)
+        × (o.first.changes ≡ 0) × StandsFor D.told D.state o state.old h
+        × HasRestart D.told D.state o own asked h driver.value.p driver.value.rolling }
     requires done { rest_of driver.value.rolling ≡ [] }
-    ensures restarted { (o : Opening) → (own : ℕ) → (h : List Entry) → (asked : Op) → StandsFor D.told D.state o state.old h → HasRestart D.told D.state o own asked h driver.value.p driver.value.rolling → StandsFor D.told D.state o state.new (h ++ entry own Restart (Restarted result) ∷ []) }
+    ensures restarted { (o : Opening) → (own : ℕ) → (h : List Entry) → (asked : Op)
+        → StandsFor D.told D.state o state.old h
+        → HasRestart D.told D.state o own asked h driver.value.p driver.value.rolling
+        → StandsFor D.told D.state o state.new (h ++ entry own Restart (Restarted result) ∷ []) }
     // Where no stop came since the last restart no change is taken up.
     ensures of_stop { TakesUpOfStop D.Disk state.old driver.value result }
     ensures origin { state.new.origin ≡ state.old.origin }
@@ -121,7 +132,10 @@ pub fn end<D: Disk + Drop>(state: &mut State<D>, driver: Box<Driver<D>>) -> Opti
 
 /// Brings the Provisioner home, halted still.
 pub fn cut<D: Disk + Drop>(state: &mut State<D>, driver: Box<Driver<D>>)
-    ensures cut { (o : Opening) → (own : ℕ) → (h : List Entry) → (asked : Op) → (r : RollingAt) → StandsFor D.told D.state o state.old h → HasRestart D.told D.state o own asked h driver.value.p r → StandsFor D.told D.state o state.new (h ++ entry own Restart Cut ∷ []) }
+    ensures cut { (o : Opening) → (own : ℕ) → (h : List Entry) → (asked : Op) → (r : RollingAt)
+        → StandsFor D.told D.state o state.old h
+        → HasRestart D.told D.state o own asked h driver.value.p r
+        → StandsFor D.told D.state o state.new (h ++ entry own Restart Cut ∷ []) }
     ensures origin { state.new.origin ≡ state.old.origin }
 {
     state.bring_home(driver);

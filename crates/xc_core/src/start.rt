@@ -68,7 +68,21 @@ pub(crate) struct Seated {
 
 // What a journal was read into, with the journal.
 fn start_of<D: Disk>(seated: Seated, journal: Journal<D>, last: Work) -> Start<D>
-    ensures { result ≡ record { table = seated.blank.table; reports = seated.blank.reports; p = record { matrix = seated.blank.matrix; journal = journal; mover = seated.mover; doubt = None; changes = 0; halted = false; spent = 0; second = seated.blank.second }; last = last } }
+    ensures { result ≡ record {
+      table = seated.blank.table;
+      reports = seated.blank.reports;
+      p = record {
+        matrix = seated.blank.matrix;
+        journal = journal;
+        mover = seated.mover;
+        doubt = None;
+        changes = 0;
+        halted = false;
+        spent = 0;
+        second = seated.blank.second;
+      };
+      last = last;
+    } }
 {
     let Seated { blank, mover } = seated;
     let Blank {
@@ -200,7 +214,12 @@ fn disk_in<D: Disk>(driver: Driver<D>) -> D
 
 /// The state that begins with it, which keeps it as its origin.
 pub(crate) fn begun<D: Disk>(housed: Housed<D>) -> State<D>
-    ensures state { result ≡ record { table = housed.beside.table; reports = housed.beside.reports; home = In housed.driver; origin = result.origin } }
+    ensures state { result ≡ record {
+      table = housed.beside.table;
+      reports = housed.beside.reports;
+      home = In housed.driver;
+      origin = result.origin;
+    } }
     ensures table { result.origin.table.value ≡ housed.beside.table }
     ensures provisioner { result.origin.provisioner.value ≡ housed.driver.value.p }
     ensures last { result.origin.last.value ≡ housed.beside.last }

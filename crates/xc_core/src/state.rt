@@ -82,14 +82,18 @@ impl<D: Disk + Drop> State<D> {
 /// Makes the change in the table and in the matrix, once all its register writes are made, and answers it. The Provisioner is
 /// the one of the `begin` that planned it, and isn't home.
 pub fn finish<D: Disk>(state: &mut State<D>, p: &mut Provisioner<D>, rolling: &Rolling) -> Change
-    requires rolls { (b : Past) × (op : Op) × (c : Change) × Rolls D.told D.state b op c p.old rolling.now × (b.fold.table ≡ state.old.table) }
+    requires rolls { (b : Past) × (op : Op) × (c : Change)
+        × Rolls D.told D.state b op c p.old rolling.now × (b.fold.table ≡ state.old.table) }
     requires done { rest_of rolling.now ≡ [] }
     requires counted { state.old.reports.newest ≡ p.old.changes }
     ensures ground { ground_of p.new ≡ ground_of p.old }
     ensures journal { p.new.journal ≡ p.old.journal }
     ensures others { OnlyFinishes p.old p.new }
-    ensures state { state.new ≡ record state.old { table = state.new.table; reports = with_one result state.old.reports } }
-    ensures finishes { (b : Past) → (op : Op) → (c : Change) → Rolls D.told D.state b op c p.old rolling.now → b.fold.table ≡ state.old.table → Finishes D.told D.state b c rolling.now state.new.table p.new result }
+    ensures state { state.new ≡ record state.old
+        { table = state.new.table; reports = with_one result state.old.reports } }
+    ensures finishes { (b : Past) → (op : Op) → (c : Change)
+        → Rolls D.told D.state b op c p.old rolling.now → b.fold.table ≡ state.old.table
+        → Finishes D.told D.state b c rolling.now state.new.table p.new result }
 {
     let Some(op) = p.doubt else { unreachable!() };
     let change = granted(&state.table, &op);

@@ -148,8 +148,10 @@ fn is_spelled(bytes: &[u8; 64], change: &Change, choices: &ArrayVec<Choice, 2>) 
 #[inline(always)]
 pub fn entry_of(bytes: &[u8; 64], version: u8) -> Option<(Change, ArrayVec<Choice, 2>)>
     requires { (version ≡ 1) ⊎ (version ≡ 2) }
-    ensures found { IfSome result (λ v. (bytes.now ≡ spelling v.0 v.1.items) × IsEntry version v.0 v.1.items) }
-    ensures only { (change : Change) (choices : List Choice) → IsEntry version change choices → bytes.now ≡ spelling change choices
+    ensures found { IfSome result
+        (λ v. (bytes.now ≡ spelling v.0 v.1.items) × IsEntry version v.0 v.1.items) }
+    ensures only { (change : Change) (choices : List Choice) → IsEntry version change choices
+        → bytes.now ≡ spelling change choices
         → MatchOption result ⊥ (λ v. (v.0 ≡ change) × (v.1.items ≡ choices)) }
 {
     let change = change_in(bytes)?;

@@ -66,7 +66,8 @@ fn choices_at(matrix: &Matrix, conn: &Conn) -> ArrayVec<Choice, 2>
 fn conn_row(table: &Table, matrix: &Matrix, port: &mut u16) -> Option<[u8; 64]>
     requires { IsPlaced table.now matrix.now }
     ensures row { result ≡ option_map (row_of matrix.now) (first_from port.old table.now.conns) }
-    ensures port { (k : Conn) → first_from port.old table.now.conns ≡ Some k → port.new ≡ k.from.0 + 1 }
+    ensures port { (k : Conn) → first_from port.old table.now.conns ≡ Some k
+        → port.new ≡ k.from.0 + 1 }
 {
     let conn = table.next_from(*port)?;
     *port = conn.from.0 + 1;

@@ -23,7 +23,8 @@ use xc_journal::entry_of;
 // Parts a leg, where the choice is the middle on which it stands.
 fn part(matrix: &mut Matrix, leg: Leg, choice: Choice) -> bool
     requires { IsInside matrix.old.shape leg }
-    ensures { (out : Option Middle) → IsTried result out matrix.old (LegTask.Part leg) choice matrix.new }
+    ensures { (out : Option Middle)
+        → IsTried result out matrix.old (LegTask.Part leg) choice matrix.new }
 {
     let Some(middle) = matrix.middle_of(leg) else {
         return false;
@@ -38,7 +39,8 @@ fn part(matrix: &mut Matrix, leg: Leg, choice: Choice) -> bool
 // Joins a leg on this middle, where it is a working one that is free for the leg.
 fn join(matrix: &mut Matrix, leg: Leg, middle: Middle) -> bool
     requires { IsJoinable matrix.old leg }
-    ensures { IsTried result None matrix.old (LegTask.Join leg) (record { middle = middle; chain = Direct }) matrix.new }
+    ensures { IsTried result None matrix.old (LegTask.Join leg)
+        (record { middle = middle; chain = Direct }) matrix.new }
 {
     if middle.0 as u16 >= matrix.shape().slots() {
         return false;
@@ -175,7 +177,8 @@ fn take_last(
 ) -> bool
     requires placed { IsPlaced table.old matrix.old }
     requires version { (version ≡ 1) ⊎ (version ≡ 2) }
-    ensures taken { IsNext result true version table.old matrix.old bytes.now table.new matrix.new last.new.ops.items }
+    ensures taken { IsNext result true version table.old matrix.old bytes.now table.new matrix.new
+        last.new.ops.items }
     ensures placed { IsPlaced table.new matrix.new }
 {
     match take_record(table, matrix, bytes, version) {
@@ -198,7 +201,8 @@ pub(crate) fn take_next(
 ) -> bool
     requires placed { IsPlaced table.old matrix.old }
     requires version { (version ≡ 1) ⊎ (version ≡ 2) }
-    ensures taken { IsNext result is_last version table.old matrix.old bytes.now table.new matrix.new last.new.ops.items }
+    ensures taken { IsNext result is_last version table.old matrix.old bytes.now table.new
+        matrix.new last.new.ops.items }
     ensures placed { IsPlaced table.new matrix.new }
 {
     if !is_last {

@@ -34,7 +34,8 @@ fn route_to(matrix: &Matrix, output: Port) -> Option<Route>
 
 // The next output with a leg, from this one on.
 fn next_leg(matrix: &Matrix, from: Port) -> Option<(Port, Route)>
-    ensures next { MatchOption result (joins_behind matrix.now from.0 ≡ []) (IsNextLeg matrix.now from) }
+    ensures next { MatchOption result (joins_behind matrix.now from.0 ≡ [])
+        (IsNextLeg matrix.now from) }
     ensures fits { IfSome result (λ n. n.0.0 + 1 < 2 ^ 16) }
 {
     for number in from.0..matrix.shape().ports() {
@@ -68,9 +69,12 @@ impl Rolling {
 
     // Takes the join of the matrix's first leg from this output on in hand. False: there is none.
     pub(super) fn take_join(&mut self, matrix: &Matrix, from: Port) -> bool
-        ensures taken { OnTrue result ((m : Mover) → left_of matrix.now m self.new ≡ joins_behind matrix.now from.0) }
-        ensures behind { OnTrue result ((next : Port) × (self.new.behind ≡ JoinsFrom next) × (from.0 < next.0) × (next.0 ≤ ports matrix.now.shape)) }
-        ensures none { OnFalse result ((self.new ≡ self.old) × (joins_behind matrix.now from.0 ≡ [])) }
+        ensures taken { OnTrue result
+            ((m : Mover) → left_of matrix.now m self.new ≡ joins_behind matrix.now from.0) }
+        ensures behind { OnTrue result ((next : Port) × (self.new.behind ≡ JoinsFrom next)
+            × (from.0 < next.0) × (next.0 ≤ ports matrix.now.shape)) }
+        ensures none { OnFalse result
+            ((self.new ≡ self.old) × (joins_behind matrix.now from.0 ≡ [])) }
     {
         match next_leg(matrix, from) {
             Some((output, route)) => {

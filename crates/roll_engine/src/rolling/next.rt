@@ -25,9 +25,11 @@ impl Rolling {
         requires shape { matrix.now.shape ≡ fabric.now.size.shape }
         requires made { rest_of self.old ≡ [] }
         ensures mover { mover.new ≡ mover.old }
-        ensures same { left_of matrix.now mover.old.mover self.new ≡ left_of matrix.now mover.old.mover self.old }
+        ensures same { left_of matrix.now mover.old.mover self.new ≡ left_of matrix.now
+            mover.old.mover self.old }
         ensures cold { IsCold self.old → IsCold self.new }
-        ensures more { OnTrue result (outputs_left (ports matrix.now.shape) self.new.behind < outputs_left (ports matrix.now.shape) self.old.behind) }
+        ensures more { OnTrue result (outputs_left (ports matrix.now.shape)
+            self.new.behind < outputs_left (ports matrix.now.shape) self.old.behind) }
         ensures none { OnFalse result (left_of matrix.now mover.old.mover self.new ≡ []) }
     {
         match self.behind {
@@ -48,10 +50,13 @@ impl Rolling {
         requires own { mover.old.fabric ≡ fabric.now }
         requires shape { matrix.now.shape ≡ fabric.now.size.shape }
         ensures mover { mover.new ≡ mover.old }
-        ensures taken { OnTrue result (left_of matrix.now mover.old.mover self.new ≡ parts_behind mover.old.mover.legs from.0 ++ joins_of matrix.now) }
+        ensures taken { OnTrue result (left_of matrix.now mover.old.mover self.new ≡ parts_behind
+            mover.old.mover.legs from.0 ++ joins_of matrix.now) }
         ensures cold { OnTrue result (IsCold self.new) }
-        ensures more { OnTrue result (outputs_left (ports matrix.now.shape) self.new.behind < outputs_left (ports matrix.now.shape) (PartsFrom from)) }
-        ensures none { OnFalse result ((self.new ≡ self.old) × (parts_behind mover.old.mover.legs from.0 ++ joins_of matrix.now ≡ [])) }
+        ensures more { OnTrue result (outputs_left (ports matrix.now.shape)
+            self.new.behind < outputs_left (ports matrix.now.shape) (PartsFrom from)) }
+        ensures none { OnFalse result ((self.new ≡ self.old)
+            × (parts_behind mover.old.mover.legs from.0 ++ joins_of matrix.now ≡ [])) }
     {
         match next_held(fabric, mover, from) {
             Some((output, route)) => {

@@ -14,7 +14,8 @@ use roll_plan::{LegOp, Work};
 pub(super) fn next_held(fabric: &Fabric, mover: &mut MoverSeat, from: Port) -> Option<(Port, Route)>
     requires own { mover.old.fabric ≡ fabric.now }
     ensures same { mover.new ≡ mover.old }
-    ensures next { MatchOption result (parts_behind mover.old.mover.legs from.0 ≡ []) (IsNextHeld fabric.now.size.shape mover.old.mover.legs from) }
+    ensures next { MatchOption result (parts_behind mover.old.mover.legs from.0 ≡ [])
+        (IsNextHeld fabric.now.size.shape mover.old.mover.legs from) }
     ensures fits { IfSome result (λ n. n.0.0 + 1 < 2 ^ 16) }
 {
     // Its clauses tell that the network is within the limits, and that there is a leg or none for each port.
