@@ -10,7 +10,6 @@ use crate::lines_files::{open_input, open_output};
 use crate::staged_file::{StagedFile, is_free};
 use crate::{FileLines, HostClock, HostDisk, HostGate, PeerLink, Refusal, TcpDoor, TcpLink};
 use dxc_disk::FileDisk;
-use dxc_leaving::LetGo;
 use dxc_outside::{Opened, Opener, most_shelf_bytes};
 use std::alloc::{AllocError, Global};
 use std::fs::File;
@@ -282,18 +281,4 @@ impl<
         };
         HostGate::new(changes)
     }
-}
-
-impl<
-    T: Files<File = File>
-        + Net<Listener = TcpListener, Stream = TcpStream>
-        + SystemClock
-        + Copy
-        + Send
-        + Drop
-        + 'static,
-> LetGo for HostOpener<T> {
-    ghost gone = { λ _. Unit {0} };
-
-    fn let_go<X: Drop>(&self, _left: X) {}
 }
