@@ -114,7 +114,7 @@ pub returns-in-Script-clause-words : goal.returns-in-Script-clause-words
 returns-in-Script-clause-words g c = λ fit bad.
     let before = sources (g.O.Opener.state c.args.opener.now) (g.O.Opener.journal_at c.args.opener.now) (g.G.Gate.stops c.args.gate.now) in
     let after = sources (g.O.Opener.state c.run_script.new.opener) (g.O.Opener.journal_at c.run_script.new.opener) (g.G.Gate.stops c.run_script.new.gate) in
-    opens_words g.O.Opener.told g.O.Journal.Disk.told g.O.Journal.Disk.state _ before after _ _ c.run_script.result (λ f o u ran no. end_words ran.end (sym ran.status_is ∙ no)) c.run_script.ensures.opens bad
+    opens_words g.O.Opener.told g.O.Journal.Disk.told g.O.Journal.Disk.state _ before after _ _ c.run_script.result (λ f o u ran no. end_words ran.ran.end (sym ran.ran.status_is ∙ no)) c.run_script.ensures.opens bad
 
 pub returns-in-Check-clause-words : goal.returns-in-Check-clause-words
 returns-in-Check-clause-words g c = λ fit bad.
