@@ -160,11 +160,11 @@ module _ {D : Type 0} (disk_told : Type 0) (state : D → DiskState) where
 
   -- where the history of the users begins
   abbrev pub users_began : (opener_told : Type 0) (names : Named) (before : Sources D) (s : Contents) (x : UserState D) → HasUsers opener_told disk_told state names before s x → Began opener_told disk_told state names before s
-  users_began opener_told names before s x has = record { found = has.0; opening = users_opening state x; is = has.1.opening }
+  users_began opener_told names before s x has = record { found = has.0; opening = users_opening state x; is = has.1.opening; taken = has.1.taken }
 
   -- where the history of a controller begins
   pub begun : (disk : D) (s : Contents) (workers : ℕ) (x : Controller D) → IsStarted disk_told state disk s workers x → HasOpening disk_told state disk s (opening_of state x.state)
-  begun disk s workers x started = record { fabric = arc_value x.fabric; opening = started.opening }
+  begun disk s workers x started = record { fabric = arc_value x.fabric; opening = started.opening; taken = started.taken }
 
   -- what was opened by these names was by the line's, and what was done there is what the line asks for
   pub opens_for : (opener_told : Type 0) (names other : Named) → names ≡ other → (before after : Sources D) (untouched still : Type 0) (P Q : Contents → D → Opening → D → UsersOpening → Type 0) (status : Status) → (untouched → still) → ((s : Contents) (d : D) (o : Opening) (e : D) (p : UsersOpening) → P s d o e p → Q s d o e p)

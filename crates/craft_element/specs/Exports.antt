@@ -9,7 +9,8 @@ use Rattle.tl1_script.specs.Scripts.{changes_to}
 use Rattle.xc_core.specs.States.{Opening}
 use Rattle.craft_words.specs.declared.status.Status.{Status}
 use Rattle.craft_words.specs.Statuses.{status_of_sent}
-use Rattle.craft_element.specs.Openings.{Named, Opens, Sources}
+use Rattle.dxc_leaving.specs.Values.{AnyValue}
+use Rattle.craft_element.specs.Openings.{Named, Opens, Sources, WasLetGo, opened_on}
 
 -- the commands that come to the opening's table from no connection and what the shelf equips
 abbrev pub script : Contents → Opening → List ℕ
@@ -21,15 +22,16 @@ pub record IsExport (told : Type 0) (s : Contents) (o : Opening) (k l : LinkStat
   pub wrote : IsSent told k l sent (script s o)
   pub status_is : status ≡ status_of_sent sent
 
--- whether opener, disk and link tell what they hold, and what a disk holds
+-- whether opener, disk and link tell what they hold, what a disk holds, and what was let go
 pub record Told (D : Type 0) : Type 1 where
   pub opener : Type 0
   pub disk : Type 0
   pub state : D → DiskState
   pub link : Type 0
+  pub gone : AnyValue → Type 0
 
-abbrev pub told_by : {D : Type 0} → (opener disk : Type 0) → (D → DiskState) → Type 0 → Told D
-told_by opener disk state link = record { opener = opener; disk = disk; state = state; link = link }
+abbrev pub told_by : {D : Type 0} → (opener disk : Type 0) → (D → DiskState) → Type 0 → (AnyValue → Type 0) → Told D
+told_by opener disk state link gone = record { opener = opener; disk = disk; state = state; link = link; gone = gone }
 
 -- what an export is lent, at a moment
 pub record Lent (D : Type 0) : Type 0 where
@@ -39,7 +41,8 @@ pub record Lent (D : Type 0) : Type 0 where
 abbrev pub lent : {D : Type 0} → Sources D → LinkState → Lent D
 lent sources terminal = record { sources = sources; terminal = terminal }
 
--- nothing was opened and written, and why; or the commands of what was opened were written
+-- nothing was opened and written, and why; or the commands of what was opened were written, and it was let go as it was opened
 abbrev pub Exports : {D : Type 0} → Told D → Named → (before after : Lent D) → Status → Type 0
 Exports told names before after status = Opens told.opener told.disk told.state names before.sources after.sources (after.terminal ≡ before.terminal)
-    (λ f o u. (after.sources.stops ≡ before.sources.stops) × IsExport told.link f.shelf o before.terminal after.terminal status) status
+    (λ f o u. (after.sources.stops ≡ before.sources.stops) × IsExport told.link f.shelf o before.terminal after.terminal status
+    × WasLetGo told.disk told.state told.gone (opened_on f.disk u.found.disk f.shelf o)) status

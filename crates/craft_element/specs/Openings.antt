@@ -5,6 +5,7 @@ use Rattle.dxc_causes.specs.Causes.{Rose, last}
 use Rattle.dxc_disk.specs.Disks.{DiskState, IsSound}
 use Rattle.dxc_outside.specs.Asked.{Asking, shelf_named, journal_named}
 use Rattle.dxc_outside.specs.Openings.{OpenerState, IsShelfPart}
+use Rattle.dxc_leaving.specs.Values.{AnyValue, any_value}
 use Rattle.fabric_words.specs.New.{AreNew}
 use Rattle.fabric_words.specs.Seats.{FabricId}
 use Rattle.journal_core.specs.Rooms.{opening_room}
@@ -98,6 +99,7 @@ module _ {D : Type 0} (disk_told : Type 0) (state : D → DiskState) where
   pub record HasOpening (disk : D) (s : Contents) (o : Opening) : Type 0 where
     pub fabric : FabricId
     pub opening : IsOpening disk_told (state disk).reads_as s fabric o
+    pub taken : IsTaken (state disk) o.faults o.room o.margin
 
   -- It started on the shelf, with so many workers, on a fabric of its own; the state stands for no entry behind what the disk's journal came to.
   pub record IsStarted (disk : D) (s : Contents) (workers : ℕ) (x : Controller D) : Type 0 where
@@ -136,6 +138,24 @@ module _ {D : Type 0} (disk_told : Type 0) (state : D → DiskState) where
     pub why : disk_told → UsersFail state (state disk) s fault
     pub disk_failed : status ≡ Disk → IsSound opening_room (state disk) → ⊥
 
+-- the disks of a controller's journal and of its users', the shelf, and where the controller's history began
+pub record OpenedOn (D : Type 0) : Type 0 where
+  pub disk : D
+  pub users_disk : D
+  pub shelf : Contents
+  pub opening : Opening
+
+abbrev pub opened_on : {D : Type 0} → D → D → Contents → Opening → OpenedOn D
+opened_on disk users_disk s o = record { disk = disk; users_disk = users_disk; shelf = s; opening = o }
+
+-- A controller with one worker was let go as it was opened, with its users: on their disks nothing was done behind the opening.
+pub record WasLetGo {D : Type 0} (disk_told : Type 0) (state : D → DiskState) (gone : AnyValue → Type 0) (on : OpenedOn D) : Type 0 where
+  pub element : Element D D
+  pub let_go : gone (any_value element)
+  pub started : IsStarted disk_told state on.disk on.shelf 1 element.controller
+  pub opening_is : on.opening ≡ opening_of state element.controller.state
+  pub users_started : AreUsersStarted disk_told state on.users_disk on.shelf element.users
+
 module _ (opener_told : Type 0) {D : Type 0} (disk_told : Type 0) (state : D → DiskState) where
   -- the controller that the names stand for
   abbrev pub HasController : Named → ℕ → Sources D → Controller D → Type 0
@@ -173,6 +193,7 @@ module _ (opener_told : Type 0) {D : Type 0} (disk_told : Type 0) (state : D →
     pub found : FoundUsers opener_told names before
     pub opening : UsersOpening
     pub is : IsUsersOpening disk_told (state found.disk).reads_as s opening
+    pub taken : IsTaken (state found.disk) opening.faults opening.room opening.margin
 
   -- Nothing was opened, why, and nothing else happened; or this was done on what was opened.
   abbrev pub Opens : (names : Named) (before after : Sources D) (untouched : Type 0) (done : (f : Found opener_told names before) → Opening → Began names before f.shelf → Type 0) → Status → Type 0

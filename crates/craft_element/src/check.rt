@@ -10,12 +10,13 @@ ghost use Rattle.dxc_model.specs.declared.op.Selection.TheVariants.{All};
 ghost use Rattle.dxc_model.specs.Tables.{rows};
 ghost use Rattle.xc_core.specs.declared.state.Home.TheVariants.{Out};
 ghost use Rattle.craft_element.specs.Listings.{IsCheck, row_line, count_line, listing, records_at};
-ghost use Rattle.craft_element.specs.Openings.{Opens, files_asked, named, sources};
+ghost use Rattle.craft_element.specs.Openings.{Opens, WasLetGo, files_asked, named, opened_on, sources};
 
 use crate::opening::{Element, Names, open};
 use arrayvec::ArrayVec;
 use craft_words::Status;
 use dxc_disk::Disk;
+use dxc_leaving::LetGo;
 use dxc_model::{Conn, Selection, Table};
 use dxc_num::Shape;
 use dxc_outside::{Gate, Link, Opener, Sent, write_all};
@@ -26,21 +27,19 @@ use xc_core::{Home, State};
 /// No frames are carried, so the one worker has a seat, and none runs.
 pub const WORKERS: u16 = 1;
 
-/// Writes to the terminal what the journal of a controller came to that is opened on these names.
-pub fn run_check<O: Opener, K: Link, G: Gate>(
+/// Writes to the terminal what the journal of a controller came to that is opened on these names. The controller and its users are let
+/// go as they were opened.
+pub fn run_check<O: Opener + LetGo, K: Link, G: Gate>(
     alloc: Global,
     opener: &mut O,
     names: Names<'_>,
     terminal: &mut K,
     gate: &mut G,
 ) -> Status
-    ensures opens { Opens O.told O.Journal.told O.Journal.state (named names.entry.shelf.now names.entry.journal.now) (sources (O.state opener.old) (O.journal_at opener.old) (G.stops gate.old)) (sources (O.state opener.new) (O.journal_at opener.new) (G.stops gate.new)) (K.state terminal.new ≡ K.state terminal.old) (λ f o u. (G.stops gate.new ≡ G.stops gate.old) × IsCheck K.told f.shelf o (K.state terminal.old) (K.state terminal.new) result) result }
+    ensures opens { Opens O.told O.Journal.told O.Journal.state (named names.entry.shelf.now names.entry.journal.now) (sources (O.state opener.old) (O.journal_at opener.old) (G.stops gate.old)) (sources (O.state opener.new) (O.journal_at opener.new) (G.stops gate.new)) (K.state terminal.new ≡ K.state terminal.old) (λ f o u. (G.stops gate.new ≡ G.stops gate.old) × IsCheck K.told f.shelf o (K.state terminal.old) (K.state terminal.new) result × WasLetGo O.Journal.told O.Journal.state O.gone (opened_on f.disk u.found.disk f.shelf o)) result }
     ensures asked { AskedFor (O.asked opener.old opener.new) (files_asked (named names.entry.shelf.now names.entry.journal.now)) (IsOfNoOpening result) }
 {
-    let Element {
-        controller,
-        users: _,
-    } = match open(alloc, opener, names, WORKERS, gate) {
+    let Element { controller, users } = match open(alloc, opener, names, WORKERS, gate) {
         Ok(element) => element,
         Err(status) => return status,
     };
@@ -48,7 +47,9 @@ pub fn run_check<O: Opener, K: Link, G: Gate>(
     let Ok(mut listed) = Vec::with_capacity(alloc, ports as usize) else {
         return Status::NoMemory;
     };
-    Status::of_sent(check(&controller.state, &mut listed, terminal))
+    let status = Status::of_sent(check(&controller.state, &mut listed, terminal));
+    opener.let_go(Element { controller, users });
+    status
 }
 
 // Writes each row of the table, and how many records its journal has. `listed` has room for the rows of its shape.

@@ -12,6 +12,7 @@ use crate::check::WORKERS;
 use crate::opening::{Element, Names, open};
 use arrayvec::ArrayVec;
 use craft_words::Status;
+use dxc_leaving::LetGo;
 use dxc_model::Change;
 use dxc_num::Shape;
 use dxc_outside::{Gate, Link, Opener, Sent, write_all};
@@ -19,15 +20,15 @@ use std::alloc::Global;
 use tl1_script::{changes_to, command_line};
 
 /// Writes to the terminal the commands that make, on an element without connections that equips what the shelf file equips, what the journal
-/// of a controller came to that is opened on these names.
-pub fn run_export<O: Opener, K: Link, G: Gate>(
+/// of a controller came to that is opened on these names. The controller and its users are let go as they were opened.
+pub fn run_export<O: Opener + LetGo, K: Link, G: Gate>(
     alloc: Global,
     opener: &mut O,
     names: Names<'_>,
     terminal: &mut K,
     gate: &mut G,
 ) -> Status
-    ensures opens { Exports (told_by O.told O.Journal.told O.Journal.state K.told)
+    ensures opens { Exports (told_by O.told O.Journal.told O.Journal.state K.told O.gone)
         (named names.entry.shelf.now names.entry.journal.now)
         (lent (sources (O.state opener.old) (O.journal_at opener.old) (G.stops gate.old))
         (K.state terminal.old))
@@ -37,17 +38,16 @@ pub fn run_export<O: Opener, K: Link, G: Gate>(
         (files_asked (named names.entry.shelf.now names.entry.journal.now))
         (IsOfNoOpening result) }
 {
-    let Element {
-        controller,
-        users: _,
-    } = match open(alloc, opener, names, WORKERS, gate) {
+    let Element { controller, users } = match open(alloc, opener, names, WORKERS, gate) {
         Ok(element) => element,
         Err(status) => return status,
     };
     let Ok(changes) = changes_to(alloc, controller.shelf.equipped(), &controller.state.table) else {
         return Status::NoMemory;
     };
-    Status::of_sent(write_commands(terminal, controller.shelf.shape(), &changes))
+    let status = Status::of_sent(write_commands(terminal, controller.shelf.shape(), &changes));
+    opener.let_go(Element { controller, users });
+    status
 }
 
 // Writes a command for each change, with the CTAGs from 1 on.

@@ -1,3 +1,4 @@
+pub mod Beginning
 pub mod Counting
 pub mod Faulting
 pub mod Framing

@@ -1,18 +1,22 @@
 -- What a standby came to, by what it was lent.
-use Rattle.std.proofs.Common.{◌≡◌, ◌+◌, ◌≤◌, ◌<◌, ◌∙◌, ℕ, arith, List, Option, inl, inr, refl, subst}
+use Rattle.std.proofs.Common.{◌≡◌, ◌+◌, ◌≤◌, ◌<◌, ◌∙◌, [], ◌∷◌, ℕ, arith, List, Option, inl, inr, refl, subst}
 use Rattle.std.specs.Prelude.{IsTrue, length}
 use Rattle.dxc_causes.specs.Causes.{Rose, last}
 use Rattle.dxc_disk.specs.Disks.{CountsOn, DiskState, IsSound}
+use Rattle.dxc_outside.specs.Asked.{Asking, AskedFor, copy_named, listener_named}
+use Rattle.dxc_outside.proofs.Asking.{asked_all, asked_part}
 use Rattle.dxc_outside.specs.Callers.{IsAccept, ListenerState}
 use Rattle.dxc_outside.specs.Links.{LinkState}
 use Rattle.dxc_outside.specs.declared.listener.Came.{Came}
 use Rattle.dxc_outside.specs.declared.listener.Came.TheVariants.{Link, End, Failed}
 use Rattle.standby_link.specs.declared.end.StandbyEnd.{StandbyEnd}
 use Rattle.standby_link.specs.Serves.{IsPrompt, bytes_in}
-use Rattle.craft_words.specs.declared.status.Status.{Status}
-use Rattle.craft_words.specs.declared.status.Status.TheVariants.{CannotOpen, Done}
 use Rattle.craft_jobs.specs.Counts.{RoseBy}
-use Rattle.craft_jobs.specs.Standbys.{Ends, HasBoth, IsFirst, RanStandby, StandsBy, read_in, status_of_standby}
+use Rattle.craft_words.specs.declared.status.Status.{Status}
+use Rattle.craft_jobs.specs.Missing.{IsOfNoOpening}
+use Rattle.craft_jobs.specs.Standbys.{Ends, IsFirst, IsUnopened, NobodyCame, NoneAccepted, RanStandby, ServedOne, Stands, read_in, status_of_stood, stood_asked}
+use Rattle.craft_jobs.specs.declared.stood.Stood.{Stood}
+use Rattle.craft_jobs.specs.declared.stood.Stood.TheVariants.{NoJournal, NoListener, Unmet, Unheard, Served}
 use Rattle.craft_jobs.proofs.Counting.{rose_more}
 
 -- a count of faults doesn't rise on a disk that is sound for what is taken
@@ -24,38 +28,42 @@ pub no_disk_fault : (disk_told link_told : Type 0) (k k' : LinkState) (d d' : Di
 no_disk_fault disk_told link_told k k' d d' end (inl unbegun) counts sound rose = never_rises d.room d.margin d.faults d'.faults d'.margin 1 counts sound.margin (omega arith) sound.enough (unbegun.spent sound.enough).margin rose
 no_disk_fault disk_told link_told k k' d d' end (inr served) counts sound rose = never_rises d.room d.margin d.faults d'.faults d'.margin (1 + length (bytes_in served.came)) counts sound.margin (omega arith) sound.enough (served.spent sound.enough).1 rose
 
-module _ (opener_told disk_told listener_told link_told : Type 0) {D L K : Type 0} (disk : D → DiskState) (listener : L → ListenerState K) (link : K → LinkState) (begun : LinkState → Type 0) (journal_at : List ℕ → Option D) (listener_at : List ℕ → Option L) (faults later : ℕ) (journal address : List ℕ) (b : HasBoth opener_told disk_told listener_told link_told disk listener link begun journal_at listener_at journal address) (door : L) where
+module _ (opener_told disk_told listener_told link_told : Type 0) {D L K : Type 0} (disk : D → DiskState) (listener : L → ListenerState K) (link : K → LinkState) (begun : LinkState → Type 0) (door new_door : L) where
   -- the first link was served
-  pub served_one : (first : Came K) (caller served : K) (copy : D) (end : StandbyEnd) (status : Status) → first ≡ Link caller → status ≡ status_of_standby end → IsFirst listener_told link (listener b.door) (listener door) first → RanStandby disk_told link_told (link caller) (link served) (disk b.copy) (disk copy) end
-      → IsPrompt begun link_told (link caller) (link served) → StandsBy opener_told disk_told listener_told link_told disk listener link begun journal_at listener_at faults later journal address status
-  served_one first caller served copy end status is status_is came ran prompt =
-      let one = subst (λ (f : Came K). IsFirst listener_told link (listener b.door) (listener door) f) is came in
-      inr (inr (
-        b,
-        inr (inr (record {
-          caller = caller;
-          first = λ t. ((listener door).coming, one.coming t);
-          is_sound = one.sound;
-          new_caller = served;
-          new_disk = copy;
-          end = end;
-          ran = ran;
-          prompt = prompt;
-          status_is = status_is;
-        })),
-      ))
+  pub served_one : (first : Came K) (caller served : K) (d copy : D) (end : StandbyEnd) → first ≡ Link caller → IsFirst listener_told link (listener door) (listener new_door) first → RanStandby disk_told link_told (link caller) (link served) (disk d) (disk copy) end
+      → IsPrompt begun link_told (link caller) (link served) → ServedOne opener_told disk_told listener_told link_told disk listener link begun d (listener door) copy new_door served end
+  served_one first caller served d copy end is came ran prompt =
+      let one = subst (λ (f : Came K). IsFirst listener_told link (listener door) (listener new_door) f) is came in
+      record { caller = caller; first = one.coming; is_sound = one.sound; ran = ran; prompt = prompt }
 
   -- the listener said End
-  pub nobody_came : (first : Came K) → first ≡ End → IsFirst listener_told link (listener b.door) (listener door) first → StandsBy opener_told disk_told listener_told link_told disk listener link begun journal_at listener_at faults later journal address Done
+  pub nobody_came : (first : Came K) → first ≡ End → IsFirst listener_told link (listener door) (listener new_door) first → NobodyCame opener_told disk_told listener_told link_told disk listener link begun (listener door) new_door
   nobody_came first is came =
-      let one = subst (λ (f : Came K). IsFirst listener_told link (listener b.door) (listener door) f) is came in
-      inr (inr (b, inl (record { status_is = refl; new_door = door; ended = one.ended refl; nobody = λ t. one.coming t ∙ one.end t refl })))
+      let one = subst (λ (f : Came K). IsFirst listener_told link (listener door) (listener new_door) f) is came in
+      record { ended = one.ended refl; nobody = λ t. one.coming t ∙ one.end t refl }
 
   -- 16 accepts failed
-  pub none_accepted : (first : Came K) → first ≡ Failed → IsFirst listener_told link (listener b.door) (listener door) first → StandsBy opener_told disk_told listener_told link_told disk listener link begun journal_at listener_at faults later journal address CannotOpen
+  pub none_accepted : (first : Came K) → first ≡ Failed → IsFirst listener_told link (listener door) (listener new_door) first → NoneAccepted opener_told disk_told listener_told link_told disk listener link begun (listener door) new_door
   none_accepted first is came =
-      let one = subst (λ (f : Came K). IsFirst listener_told link (listener b.door) (listener door) f) is came in
-      inr (inr (b, inr (inl (record { status_is = refl; new_door = door; risen = one.risen refl; unsound = one.sound }))))
+      let one = subst (λ (f : Came K). IsFirst listener_told link (listener door) (listener new_door) f) is came in
+      record { risen = one.risen refl; unsound = one.sound; nobody = one.coming }
+
+-- no listener was asked for only where the status is one of an opening
+unopened_ends : (faults later : ℕ) (status : Status) → IsUnopened faults later status → IsOfNoOpening status → ⊥
+unopened_ends faults later status closed ends = elim closed [
+  | inl memory ↦ subst IsOfNoOpening memory ends
+  | inr cannot ↦ subst IsOfNoOpening cannot.0 ends
+]
+
+module _ (opener_told disk_told listener_told link_told : Type 0) {D L K : Type 0} (disk : D → DiskState) (listener : L → ListenerState K) (link : K → LinkState) (begun : LinkState → Type 0) (journal_at : List ℕ → Option D) (listener_at : List ℕ → Option L) (faults later : ℕ) (journal address : List ℕ) (asked : List Asking → Type 0) (status : Status) where
+  -- what was asked for, by what is left
+  pub asked_by : (stood : Stood D L K) → status ≡ status_of_stood stood → Stands opener_told disk_told listener_told link_told disk listener link begun journal_at listener_at faults later journal address stood → asked (stood_asked journal address stood)
+      → AskedFor asked (copy_named journal ∷ listener_named address ∷ []) (IsOfNoOpening status)
+  asked_by (NoJournal s) is stands made = asked_part asked _ (copy_named journal ∷ []) (listener_named address ∷ []) made (λ ends. unopened_ends faults later s stands (subst IsOfNoOpening is ends))
+  asked_by (NoListener copy s) is stands made = asked_all asked _ (copy_named journal ∷ listener_named address ∷ []) made
+  asked_by (Unmet copy door) is stands made = asked_all asked _ (copy_named journal ∷ listener_named address ∷ []) made
+  asked_by (Unheard copy door) is stands made = asked_all asked _ (copy_named journal ∷ listener_named address ∷ []) made
+  asked_by (Served copy door caller end) is stands made = asked_all asked _ (copy_named journal ∷ listener_named address ∷ []) made
 
 module _ {K : Type 0} (told : Type 0) (state : K → LinkState) (old mid new : ListenerState K) (failures : ℕ) (coming : told → old.coming ≡ mid.coming) (risen : RoseBy failures old.faults mid.faults) (sound : IsTrue old.sound → (failures ≡ 0) × IsTrue mid.sound) (answer : Came K) (accepted : IsAccept told state mid new answer) where
   -- one more accept that failed

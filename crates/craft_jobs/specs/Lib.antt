@@ -1,6 +1,9 @@
+pub mod Begun
 pub mod Counts
 pub mod Framed
 pub mod Handed
+pub mod Leaves
 pub mod Missing
+pub mod Offices
 pub mod Standbys
 pub mod Starts

@@ -3,8 +3,10 @@ use mathlib.Core.Logic.{inl, inr}
 use Rattle.std.specs.Prelude.{◌≡◌, ◌≢◌, ◌⊎◌, ◌↔◌, ◌+◌, ◌^◌, ℕ, false, true, List, [], ◌∷◌, ◌++◌, length, Option, Some, IsTrue}
 use Rattle.dxc_causes.specs.Causes.{Rose, Counted}
 use Rattle.dxc_disk.specs.Disks.{DiskState, IsSound}
+use Rattle.dxc_outside.specs.Asked.{Asking, copy_named, listener_named}
 use Rattle.dxc_outside.specs.Callers.{ListenerState, IsSoundCame, came}
 use Rattle.dxc_outside.specs.Links.{IsSoundLink, LinkState}
+use Rattle.dxc_leaving.specs.Values.{AnyValue, any_value}
 use Rattle.dxc_outside.specs.declared.listener.Came.{Came}
 use Rattle.dxc_outside.specs.declared.listener.Came.TheVariants as answer
 use Rattle.standby_link.specs.declared.end.StandbyEnd.{StandbyEnd}
@@ -12,7 +14,10 @@ use Rattle.standby_link.specs.declared.end.StandbyEnd.TheVariants as standby
 use Rattle.standby_link.specs.Serves.{IsPrompt, Served, Unbegun, bytes_in}
 use Rattle.craft_words.specs.declared.status.Status.{Status}
 use Rattle.craft_words.specs.declared.status.Status.TheVariants.{Done, Disk, CannotOpen, NoMemory, Link, Spent, BadMessage, NotEmpty}
+use Rattle.craft_jobs.specs.declared.stood.Stood.{Stood}
+use Rattle.craft_jobs.specs.declared.stood.Stood.TheVariants.{NoJournal, NoListener, Unmet, Unheard, Served as ServedStood}
 use Rattle.craft_jobs.specs.Counts.{RoseBy}
+use Rattle.craft_jobs.specs.Offices.{Across, Office}
 
 -- the status of a standby, by the end of its run
 abbrev pub status_of_standby : StandbyEnd → Status
@@ -23,6 +28,22 @@ status_of_standby standby.DiskFault = Disk
 status_of_standby standby.BadMessage = BadMessage
 status_of_standby standby.NotEmpty = NotEmpty
 status_of_standby standby.Spent = Spent
+
+-- the status of what is left of one
+abbrev pub status_of_stood : {D L K : Type 0} → Stood D L K → Status
+status_of_stood (NoJournal status) = status
+status_of_stood (NoListener copy status) = status
+status_of_stood (Unmet copy door) = Done
+status_of_stood (Unheard copy door) = CannotOpen
+status_of_stood (ServedStood copy door caller end) = status_of_standby end
+
+-- what was asked for: without a journal no listener, so nobody was let in
+abbrev pub stood_asked : {D L K : Type 0} → (journal address : List ℕ) → Stood D L K → List Asking
+stood_asked journal address (NoJournal status) = copy_named journal ∷ []
+stood_asked journal address (NoListener copy status) = copy_named journal ∷ listener_named address ∷ []
+stood_asked journal address (Unmet copy door) = copy_named journal ∷ listener_named address ∷ []
+stood_asked journal address (Unheard copy door) = copy_named journal ∷ listener_named address ∷ []
+stood_asked journal address (ServedStood copy door caller end) = copy_named journal ∷ listener_named address ∷ []
 
 -- what came of the accepts up to the first link, the listener's End, or 16 faults
 pub record IsFirst {K : Type 0} (told : Type 0) (state : K → LinkState) (old new : ListenerState K) (first : Came K) : Type 0 where
@@ -57,6 +78,10 @@ module _ (disk_told link_told : Type 0) (k k' : LinkState) (d d' : DiskState) (e
     pub sound_link : IsSoundLink k → (end ≢ standby.ReadFault) × (end ≢ standby.WriteFault)
     pub sound_disk : end ≡ standby.DiskFault → IsSound (1 + read_in ends) d → ⊥
 
+-- it couldn't be opened, or memory was wanting, by the opener's count of faults before and after
+abbrev pub IsUnopened : (faults later : ℕ) → Status → Type 0
+IsUnopened faults later status = (status ≡ NoMemory) ⊎ ((status ≡ CannotOpen) × Rose faults later)
+
 module _ (opener_told disk_told listener_told link_told : Type 0) {D L K : Type 0} (disk : D → DiskState) (listener : L → ListenerState K) (link : K → LinkState) (begun : LinkState → Type 0) where
   -- the disk and the listener that the opener handed out, the one by the journal's name and the other by the address
   pub record HasBoth (journal_at : List ℕ → Option D) (listener_at : List ℕ → Option L) (journal address : List ℕ) : Type 0 where
@@ -65,35 +90,46 @@ module _ (opener_told disk_told listener_told link_told : Type 0) {D L K : Type 
     pub door : L
     pub opened : opener_told → listener_at address ≡ Some door
 
-  -- the first link that came was served on the disk
-  pub record ServedOne (d : D) (l : ListenerState K) (status : Status) : Type 0 where
+  -- the first link that came was served on the disk; both are left as they stood when its service ended
+  pub record ServedOne (d : D) (l : ListenerState K) (new_disk : D) (new_door : L) (new_caller : K) (end : StandbyEnd) : Type 0 where
     pub caller : K
-    pub first : listener_told → (more : List K) × (l.coming ≡ caller ∷ more)
+    pub first : listener_told → l.coming ≡ caller ∷ (listener new_door).coming
     pub is_sound : IsTrue l.sound → IsSoundLink (link caller)
-    pub new_caller : K
-    pub new_disk : D
-    pub end : StandbyEnd
     pub ran : RanStandby disk_told link_told (link caller) (link new_caller) (disk d) (disk new_disk) end
     pub prompt : IsPrompt begun link_told (link caller) (link new_caller)
-    pub status_is : status ≡ status_of_standby end
 
   -- the listener said End before a link came
-  pub record NobodyCame (l : ListenerState K) (status : Status) : Type 0 where
-    pub status_is : status ≡ Done
-    pub new_door : L
+  pub record NobodyCame (l : ListenerState K) (new_door : L) : Type 0 where
     pub ended : (listener new_door).ended ≡ true
     pub nobody : listener_told → l.coming ≡ []
 
   -- 16 accepts in a row failed
-  pub record NoneAccepted (l : ListenerState K) (status : Status) : Type 0 where
-    pub status_is : status ≡ CannotOpen
-    pub new_door : L
+  pub record NoneAccepted (l : ListenerState K) (new_door : L) : Type 0 where
     pub risen : RoseBy 16 l.faults (listener new_door).faults
     pub unsound : IsTrue l.sound → ⊥
+    pub nobody : listener_told → l.coming ≡ (listener new_door).coming
 
-  -- it couldn't be opened, and why; or what came of it, by the opener's count of faults before and after
-  abbrev pub StandsBy : (journal_at : List ℕ → Option D) (listener_at : List ℕ → Option L) (faults later : ℕ) (journal address : List ℕ) → Status → Type 0
-  StandsBy journal_at listener_at faults later journal address status =
-      (status ≡ NoMemory)
-      ⊎ (((status ≡ CannotOpen) × Rose faults later)
-      ⊎ ((b : HasBoth journal_at listener_at journal address) × (NobodyCame (listener b.door) status ⊎ (NoneAccepted (listener b.door) status ⊎ ServedOne b.copy (listener b.door) status))))
+  -- What is left of a standby, and how it came to be: without a journal or a listener nothing was accepted, and where nobody was served the disk is the
+  -- one that was handed out, as it was.
+  abbrev pub Stands : (journal_at : List ℕ → Option D) (listener_at : List ℕ → Option L) (faults later : ℕ) (journal address : List ℕ) → Stood D L K → Type 0
+  Stands journal_at listener_at faults later journal address (NoJournal status) = IsUnopened faults later status
+  Stands journal_at listener_at faults later journal address (NoListener copy status) = (opener_told → journal_at journal ≡ Some copy) × IsUnopened faults later status
+  Stands journal_at listener_at faults later journal address (Unmet copy door) = (b : HasBoth journal_at listener_at journal address) × (copy ≡ b.copy) × NobodyCame (listener b.door) door
+  Stands journal_at listener_at faults later journal address (Unheard copy door) = (b : HasBoth journal_at listener_at journal address) × (copy ≡ b.copy) × NoneAccepted (listener b.door) door
+  Stands journal_at listener_at faults later journal address (ServedStood copy door caller end) = (b : HasBoth journal_at listener_at journal address) × ServedOne b.copy (listener b.door) copy door caller end
+
+  -- What a standby came to: its status is that of what is left of it, which was let go so.
+  pub record StandsBy (journal_at : List ℕ → Option D) (listener_at : List ℕ → Option L) (faults later : ℕ) (journal address : List ℕ) (gone : AnyValue → Type 0) (asked : List Asking → Type 0) (status : Status) : Type 0 where
+    pub stood : Stood D L K
+    pub status_is : status ≡ status_of_stood stood
+    pub stands : Stands journal_at listener_at faults later journal address stood
+    pub let_go : gone (any_value stood)
+    pub asked_for : asked (stood_asked journal address stood)
+
+-- by an opener, across the call, with the names of the journal and of the address
+abbrev pub StoodBy : {O : Type 0} (w : Office O) → (gone : AnyValue → Type 0) → Across O → (names : List ℕ × List ℕ) → Status → Type 0
+StoodBy w gone opener names status = StandsBy w.opener.told w.disk.told w.listener.told w.link.told w.disk.state w.listener.state w.link.state w.link.begun (w.opener.journal_at opener.entry.now) (w.opener.listener_at opener.entry.now) (w.opener.state opener.entry.now).faults (w.opener.state opener.exit.now).faults names.0 names.1 gone (w.opener.asked opener.entry.now opener.exit.now) status
+
+-- and what is left of it
+abbrev pub MetBy : {O : Type 0} (w : Office O) → Across O → (journal address : List ℕ) → Stood w.Disk w.Listener w.Link → Type 0
+MetBy w opener journal address stood = Stands w.opener.told w.disk.told w.listener.told w.link.told w.disk.state w.listener.state w.link.state w.link.begun (w.opener.journal_at opener.entry.now) (w.opener.listener_at opener.entry.now) (w.opener.state opener.entry.now).faults (w.opener.state opener.exit.now).faults journal address stood

@@ -2,12 +2,21 @@
 //! threads.
 #![tactic(auto)]
 
+mod begun;
+mod carrying;
 mod frames;
+mod frames_left;
 mod standby;
+mod stood;
+mod task;
 mod threads;
 mod workers;
 
+pub use begun::RanAll;
 pub use frames::FrameJob;
+pub use frames_left::{FramesDone, FramesLeft};
 pub use standby::run_standby;
+pub use stood::Stood;
+pub use task::Task;
 pub use threads::run_all;
 pub use workers::frame_jobs;

@@ -2,11 +2,14 @@
 ghost use Rattle.std.specs.Prelude.{◌≡◌, ◌∷◌, []};
 ghost use Rattle.dxc_outside.specs.Asked.{AskedFor, copy_named, listener_named};
 ghost use Rattle.craft_jobs.specs.Missing.{IsOfNoOpening};
-ghost use Rattle.craft_jobs.specs.Standbys.{IsFirst, RanStandby, StandsBy, status_of_standby};
+ghost use Rattle.craft_jobs.specs.Offices.{office};
+ghost use Rattle.craft_jobs.specs.Standbys.{IsFirst, MetBy, RanStandby, StoodBy, status_of_standby, status_of_stood, stood_asked};
 ghost use Rattle.standby_link.specs.Serves.{IsPrompt};
 
+use crate::stood::Stood;
 use craft_words::Status;
 use dxc_disk::Disk;
+use dxc_leaving::LetGo;
 use dxc_outside::{Came, Link, Listener, Opened, Opener};
 use standby_link::{StandbyEnd, serve_standby};
 use std::alloc::Global;
@@ -16,32 +19,70 @@ use std::sync::Wait;
 const FAILURES: u8 = 16;
 
 /// Makes on the journal of that name, which is to be new, what a primary sends over the first link that comes at the address. Nobody
-/// else is let in.
-pub fn run_standby<O: Opener, R: Wait>(
+/// else is let in. What is left is let go.
+pub fn run_standby<O: Opener + LetGo, R: Wait>(
     alloc: Global,
     opener: &mut O,
     journal: &str,
     address: &str,
     rt: &R,
 ) -> Status
-    ensures stands_by { StandsBy O.told O.Journal.told O.Listener.told O.Listener.Link.told O.Journal.state O.Listener.state O.Listener.Link.state O.Listener.Link.begun (O.journal_at opener.old) (O.listener_at opener.old) (O.state opener.old).faults (O.state opener.new).faults journal.now address.now result }
+    ensures stands_by { StoodBy
+        (office O.Opener O.Journal.Disk O.Listener.Listener O.Listener.Link.Link)
+        O.gone opener (journal.now, address.now) result }
     ensures asked { AskedFor (O.asked opener.old opener.new)
         (copy_named journal.now ∷ listener_named address.now ∷ []) (IsOfNoOpening result) }
 {
+    let stood = meet_primary(alloc, opener, journal, address, rt);
+    let status = stood.status();
+    opener.let_go(stood);
+    status
+}
+
+// The same, and what is left of it.
+fn meet_primary<O: Opener, R: Wait>(
+    alloc: Global,
+    opener: &mut O,
+    journal: &str,
+    address: &str,
+    rt: &R,
+) -> Stood<O::Journal, O::Listener, <O::Listener as Listener>::Link>
+    ensures stands { MetBy
+        (office O.Opener O.Journal.Disk O.Listener.Listener O.Listener.Link.Link)
+        opener journal.now address.now result }
+    ensures asked { O.asked opener.old opener.new (stood_asked journal.now address.now result) }
+{
     let mut disk = match opener.copy(alloc, journal) {
         Opened::Open(disk) => disk,
-        Opened::Failed => return Status::CannotOpen,
-        Opened::NoMemory => return Status::NoMemory,
+        Opened::Failed => return Stood::NoJournal(Status::CannotOpen),
+        Opened::NoMemory => return Stood::NoJournal(Status::NoMemory),
     };
     let mut listener = match opener.listener(alloc, address) {
         Opened::Open(listener) => listener,
-        Opened::Failed => return Status::CannotOpen,
-        Opened::NoMemory => return Status::NoMemory,
+        Opened::Failed => return Stood::NoListener(disk, Status::CannotOpen),
+        Opened::NoMemory => return Stood::NoListener(disk, Status::NoMemory),
     };
     match first_link(&mut listener, rt) {
-        Came::Link(mut link) => after_standby(stand_by(&mut link, &mut disk)),
-        Came::End => Status::Done,
-        Came::Failed => Status::CannotOpen,
+        Came::Link(mut link) => {
+            let end = stand_by(&mut link, &mut disk);
+            Stood::Served(disk, listener, link, end)
+        }
+        Came::End => Stood::Unmet(disk, listener),
+        Came::Failed => Stood::Unheard(disk, listener),
+    }
+}
+
+impl<D, L, K> Stood<D, L, K> {
+    // The status that the program ends with.
+    fn status(&self) -> Status
+        ensures { result ≡ status_of_stood self.now }
+    {
+        match self {
+            Stood::NoJournal(status) | Stood::NoListener(_, status) => *status,
+            Stood::Unmet(_, _) => Status::Done,
+            Stood::Unheard(_, _) => Status::CannotOpen,
+            Stood::Served(_, _, _, end) => after_standby(*end),
+        }
     }
 }
 

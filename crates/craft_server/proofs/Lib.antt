@@ -7,3 +7,4 @@ pub mod Loading
 pub mod Mirroring
 pub mod Wording
 pub mod Trying
+pub mod Running

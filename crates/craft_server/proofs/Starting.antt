@@ -1,7 +1,8 @@
 -- A controller that was opened, and its users, as sessions begin on them.
-use Rattle.std.proofs.Common.{ℕ, sym, ◌∙◌, ap}
+use Rattle.std.proofs.Common.{◌≡◌, ℕ, sym, ◌∙◌, ap}
 use Rattle.std.specs.Arc.{arc_value}
 use Rattle.dxc_disk.specs.Disks.{DiskState}
+use Rattle.fabric_core.specs.declared.size.Size.{Size}
 use Rattle.shelf_file.specs.Contents.{Contents}
 use Rattle.user_admin.specs.declared.state.UserState.{UserState}
 use Rattle.user_admin.specs.States.{opening_of as users_opening}
@@ -16,6 +17,12 @@ module _ {D : Type 0} (disk_told : Type 0) (state : D → DiskState) where
   -- a controller's state is at its opening
   pub opened_at : (disk : D) (s : Contents) (workers : ℕ) (x : Controller D) → IsStarted disk_told state disk s workers x → IsAtOpening (opening_of state x.state) (arc_value x.shelf) (arc_value x.fabric)
   opened_at disk s workers x started = record { fabric = started.opening.fabric_is; shape = started.shape ∙ ap (λ (y : Contents). y.shape) (sym started.shelf) }
+
+  -- its fabric is one of the shelf, for its workers
+  pub sized : (disk : D) (s : Contents) (workers : ℕ) (x : Controller D) → IsStarted disk_told state disk s workers x → (arc_value x.fabric).size ≡ record { shape = (arc_value x.shelf).shape; workers = workers }
+  sized disk s workers x started =
+      let size : Contents → Size = λ y. record { shape = y.shape; workers = workers } in
+      started.size ∙ ap size (sym started.shelf)
 
   -- which is an opening of its disk
   pub of_disk : (disk : D) (s : Contents) (workers : ℕ) (x : Controller D) → IsStarted disk_told state disk s workers x → IsOpeningOf (state disk) (opening_of state x.state)

@@ -2,6 +2,7 @@ pub mod Askings
 pub mod Callers
 pub mod Statuses
 pub mod Loads
+pub mod Served
 pub mod Serving
 pub mod Scripts
 pub mod Trials

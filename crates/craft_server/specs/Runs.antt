@@ -2,11 +2,13 @@
 use Rattle.std.specs.Prelude.{◌≡◌, ◌⊎◌, ℕ, List, Option, Some, None}
 use Rattle.dxc_disk.specs.Disks.{DiskState}
 use Rattle.dxc_outside.specs.declared.clock.Moment.{Moment}
+use Rattle.dxc_outside.specs.Asked.{Asking}
 use Rattle.dxc_outside.specs.Callers.{ListenerState}
 use Rattle.dxc_outside.specs.Links.{LinkState}
 use Rattle.dxc_outside.specs.Threads.{SpawnerState}
 use Rattle.dxc_model.specs.declared.user.SessionUser.TheVariants.{Nobody}
 use Rattle.dxc_num.specs.Dimensions.{Dimensions}
+use Rattle.dxc_leaving.specs.Values.{AnyValue}
 use Rattle.shelf_file.specs.Contents.{Contents}
 use Rattle.standby_link.specs.declared.mirror_disk.MirrorDisk.{MirrorDisk}
 use Rattle.user_admin.specs.Histories.{Opening as UsersOpening}
@@ -19,9 +21,9 @@ use Rattle.craft_words.specs.Lines.{IsLine}
 use Rattle.craft_element.specs.Exports.{IsExport}
 use Rattle.craft_element.specs.Listings.{IsCheck}
 use Rattle.craft_server.specs.Loads.{IsLoad}
-use Rattle.craft_element.specs.Openings.{Began, Found, Named, Opens, Sources, named}
+use Rattle.craft_element.specs.Openings.{Began, Found, Named, OpenedOn, Opens, Sources, WasLetGo, named, opened_on}
 use Rattle.craft_element.specs.Peers.{Mirrors}
-use Rattle.craft_server.specs.Scripts.{RanSession}
+use Rattle.craft_server.specs.Scripts.{RanAndLeft}
 use Rattle.craft_server.specs.Trials.{IsTrialOn, memory_told, trial_lent}
 use Rattle.craft_server.specs.Serving.{JobsTold, ServedSite, SiteAt, named_in, site_at}
 use Rattle.craft_jobs.specs.Standbys.{StandsBy}
@@ -37,9 +39,12 @@ pub record Told : Type 1 where
   pub link : Type 0
   pub terminal_begun : LinkState → Type 0
   pub link_begun : LinkState → Type 0
+  -- what was let go, and what the opener was asked for
+  pub gone : AnyValue → Type 0
+  pub asked : List Asking → Type 0
 
-abbrev pub told_by : (opener disk terminal clock peer listener link : Type 0) (terminal_begun link_begun : LinkState → Type 0) → Told
-told_by opener disk terminal clock peer listener link terminal_begun link_begun = record { opener = opener; disk = disk; terminal = terminal; clock = clock; peer = peer; listener = listener; link = link; terminal_begun = terminal_begun; link_begun = link_begun }
+abbrev pub told_by : (opener disk terminal clock peer listener link : Type 0) (terminal_begun link_begun : LinkState → Type 0) (gone : AnyValue → Type 0) (asked : List Asking → Type 0) → Told
+told_by opener disk terminal clock peer listener link terminal_begun link_begun gone asked = record { opener = opener; disk = disk; terminal = terminal; clock = clock; peer = peer; listener = listener; link = link; terminal_begun = terminal_begun; link_begun = link_begun; gone = gone; asked = asked }
 
 -- what the program is lent, at a moment
 pub record Lent (D : Type 0) : Type 0 where
@@ -58,21 +63,23 @@ pub record IsUntouched {D : Type 0} (before after : Lent D) : Type 0 where
   pub spawner : after.spawner ≡ before.spawner
 
 module _ (told : Told) {D : Type 0} (state : D → DiskState) where
-  -- one session was served over the terminal
+  -- one session was served over the terminal, and the place was let go as it left it
   pub record RanScript (before after : Lent D) (s : Contents) (o : Opening) (p : UsersOpening) (disk users_disk : D) (status : Status) : Type 0 where
-    pub session : RanSession told.disk told.terminal told.clock told.terminal_begun (state disk) (state users_disk) Nobody s o p before.terminal after.terminal before.clock after.clock before.sources.stops after.sources.stops status
+    pub session : RanAndLeft told.disk told.terminal told.clock told.terminal_begun told.gone (state disk) (state users_disk) Nobody s o p before.terminal after.terminal before.clock after.clock before.sources.stops after.sources.stops status
     pub spawner : after.spawner ≡ before.spawner
 
-  -- the table was written to the terminal
-  pub record RanCheck (before after : Lent D) (s : Contents) (o : Opening) (status : Status) : Type 0 where
-    pub check : IsCheck told.terminal s o before.terminal after.terminal status
+  -- the table was written to the terminal, and what was opened was let go as it was opened
+  pub record RanCheck (before after : Lent D) (on : OpenedOn D) (status : Status) : Type 0 where
+    pub check : IsCheck told.terminal on.shelf on.opening before.terminal after.terminal status
+    pub let_go : WasLetGo told.disk state told.gone on
     pub clock : after.clock ≡ before.clock
     pub spawner : after.spawner ≡ before.spawner
     pub gate : after.sources.stops ≡ before.sources.stops
 
-  -- the commands that make the table were written to the terminal
-  pub record RanExport (before after : Lent D) (s : Contents) (o : Opening) (status : Status) : Type 0 where
-    pub export : IsExport told.terminal s o before.terminal after.terminal status
+  -- the commands that make the table were written to the terminal, and what was opened was let go as it was opened
+  pub record RanExport (before after : Lent D) (on : OpenedOn D) (status : Status) : Type 0 where
+    pub export : IsExport told.terminal on.shelf on.opening before.terminal after.terminal status
+    pub let_go : WasLetGo told.disk state told.gone on
     pub clock : after.clock ≡ before.clock
     pub spawner : after.spawner ≡ before.spawner
     pub gate : after.sources.stops ≡ before.sources.stops
@@ -103,8 +110,8 @@ module _ (told : Told) {N L C G : Type 0} (jobs : JobsTold N L C G) {D : Type 0}
   abbrev pub Ran : (l : Line) (before after : Lent D) (status : Status) → (f : Found told.opener (named_in l) before.sources) → Opening → Began told.opener told.disk state (named_in l) before.sources f.shelf → Type 0
   Ran (Script shelf journal) before after status f o u = RanScript told state before after f.shelf o u.opening f.disk u.found.disk status
   Ran (Trial shape) before after status f o u = ⊥
-  Ran (Check shelf journal) before after status f o u = RanCheck told state before after f.shelf o status
-  Ran (Export shelf journal) before after status f o u = RanExport told state before after f.shelf o status
+  Ran (Check shelf journal) before after status f o u = RanCheck told state before after (opened_on f.disk u.found.disk f.shelf o) status
+  Ran (Export shelf journal) before after status f o u = RanExport told state before after (opened_on f.disk u.found.disk f.shelf o) status
   Ran (Serve shelf journal address lines workers peer) before after status f o u = RanServe D jobs (site_at address lines workers) before after f.shelf o u.opening status
   Ran (Standby journal address) before after status f o u = ⊥
   Ran (Load number) before after status f o u = ⊥
@@ -124,7 +131,7 @@ module _ (told : Told) {N L C G : Type 0} (jobs : JobsTold N L C G) {D K J : Typ
 
   -- a standby ran, by what the opener would hand out, with terminal, clock, spawner and gate untouched
   pub record RanBy (journal address : List ℕ) (before after : Lent D) (status : Status) : Type 0 where
-    pub stands_by : StandsBy told.opener told.disk told.listener told.link state listener link told.link_begun before.sources.journal_at listener_at before.sources.opener.faults after.sources.opener.faults journal address status
+    pub stands_by : StandsBy told.opener told.disk told.listener told.link state listener link told.link_begun before.sources.journal_at listener_at before.sources.opener.faults after.sources.opener.faults journal address told.gone told.asked status
     pub untouched : IsUntouched before after
     pub gate : after.sources.stops ≡ before.sources.stops
 

@@ -1,22 +1,38 @@
 -- The serving of callers, and the program's jobs.
 use Rattle.std.specs.Prelude.{◌≡◌, ◌≢◌, ℕ, ◌+◌, ◌≤◌, ◌⊎◌, true, All, List, [], ◌++◌, length, map, Option, None}
 use Rattle.dxc_causes.specs.Causes.{Rose}
+use Rattle.dxc_outside.specs.declared.clock.Clock.{Ghosts as ClockOf}
+use Rattle.dxc_outside.specs.declared.gate.Gate.{Ghosts as GateOf}
+use Rattle.dxc_outside.specs.declared.lines.Lines.{Ghosts as LinesOf}
+use Rattle.dxc_outside.specs.declared.link.Link.{Ghosts as LinkOf}
+use Rattle.dxc_outside.specs.declared.listener.Listener.{Ghosts as ListenerOf}
+use Rattle.dxc_outside.specs.declared.opener.Opener.{Ghosts as OpenerOf}
 use Rattle.dxc_outside.specs.Jobs.{AnyJob, any_jobs}
 use Rattle.dxc_outside.specs.Threads.{SpawnerState}
+use Rattle.dxc_leaving.specs.Values.{AnyValue, any_value}
 use Rattle.shelf_file.specs.Contents.{Contents}
 use Rattle.user_admin.specs.Histories.{Opening as UsersOpening}
 use Rattle.xc_core.specs.States.{Opening}
 use Rattle.craft_session.specs.Places.{ArePlaces}
+use Rattle.craft_session.specs.Seats.{PlaceAt}
 use Rattle.craft_words.specs.declared.line.Line.{Line}
 use Rattle.craft_words.specs.declared.line.Line.TheVariants.{Script, Trial, Check, Export, Serve, Standby, Load}
 use Rattle.craft_words.specs.declared.status.Status.{Status}
 use Rattle.craft_words.specs.declared.status.Status.TheVariants.{Done, CannotOpen, NoThread, NoMemory}
+use Rattle.craft_jobs.specs.declared.begun.RanAll.{RanAll}
 use Rattle.craft_jobs.specs.declared.frames.FrameJob.{FrameJob}
+use Rattle.craft_jobs.specs.declared.frames_left.FramesDone.{FramesDone}
+use Rattle.craft_jobs.specs.declared.frames_left.FramesLeft.{FramesLeft}
+use Rattle.craft_jobs.specs.Begun.{AreRan}
 use Rattle.craft_jobs.specs.Counts.{RoseBy}
+use Rattle.craft_jobs.specs.Framed.{RanFrames}
 use Rattle.craft_jobs.specs.Handed.{AreJobsOf}
+use Rattle.craft_jobs.specs.Leaves.{left_by}
 use Rattle.craft_jobs.specs.Starts.{IsLastFailed}
 use Rattle.craft_element.specs.Openings.{Named, Sources, named}
+use Rattle.craft_server.specs.declared.sessions.SessionDone.{SessionDone}
 use Rattle.craft_server.specs.declared.sessions.SessionJob.{SessionJob}
+use Rattle.craft_server.specs.Served.{RanAt}
 
 -- a line of the mode serve, with 1 to 8 workers
 abbrev pub IsServe : Line → Type 0
@@ -80,28 +96,48 @@ pub record IsServing (jobs faults later : ℕ) (old new : SpawnerState) (status 
   pub not_started : (status ≡ CannotOpen) ⊎ (status ≡ NoMemory) → new ≡ old
   pub only : status ≢ Done → status ≢ NoThread → status ≢ CannotOpen → status ≡ NoMemory
 
--- What tells of jobs: for which worker lines were handed out, and at which address a listener, and which jobs the spawner was handed. Their clocks
--- and gates are of these types.
+-- What tells of jobs: for which worker lines were handed out, and at which address a listener, and which jobs the spawner was handed; what a worker's frames
+-- came to, and the sessions of a place; and what was let go.
 pub record JobsTold (N L C G : Type 0) : Type 1 where
   pub lines_for : N → List ℕ → ℕ → Type 0
   pub listener_for : L → List ℕ → Type 0
   pub handed : List AnyJob → Type 0
+  pub carried : FrameJob N G → FramesDone N G → FramesLeft → Type 0
+  pub served : (D U : Type 0) → SessionJob D U L C G → SessionDone L C G → PlaceAt → Type 0
+  pub gone : AnyValue → Type 0
 
-abbrev pub jobs_told : {N L : Type 0} (C G : Type 0) → (N → List ℕ → ℕ → Type 0) → (L → List ℕ → Type 0) → (List AnyJob → Type 0) → JobsTold N L C G
-jobs_told C G lines_for listener_for handed = record { lines_for = lines_for; listener_for = listener_for; handed = handed }
+abbrev pub jobs_told : (disk_told : Type 0) {O D N L C G E K : Type 0} → OpenerOf O D N L C G E K → LinesOf N → ListenerOf L K → LinkOf K → ClockOf C → GateOf G → (gone : AnyValue → Type 0) → (List AnyJob → Type 0) → JobsTold N L C G
+jobs_told disk_told o n l k c g gone handed = record {
+  lines_for = o.lines_for;
+  listener_for = o.listener_for;
+  handed = handed;
+  carried = RanFrames n g;
+  served = λ D U. RanAt {D = D} {U = U} disk_told l k c g;
+  gone = gone;
+}
+
+-- What these jobs left, which was let go: each has run, and left this.
+pub record AreLeft {J K E F : Type 0} (gone : AnyValue → Type 0) (carried : J → E → Type 0) (served : K → F → Type 0) (workers : List J) (sessions : List K) : Type 0 where
+  pub left : RanAll E F
+  pub let_go : gone (any_value left)
+  pub of_workers : AreRan carried workers left.workers.items
+  pub of_sessions : AreRan served sessions left.sessions.items
 
 module _ (D U : Type 0) {N L C G : Type 0} (told : JobsTold N L C G) (site : SiteAt) where
-  -- What the spawner was handed: a job for each worker, with its seat of the opening's fabric and lines that were handed out for it; behind these one for
-  -- each of 16 places at the opening's state and users, with a listener that was handed out at the address; and no other.
+  -- What the spawner was handed: a job for each worker of the opening's fabric, with its seat of it and lines that were handed out for it; behind these one for
+  -- each of 16 places at the opening's state and users, with a listener that was handed out at the address; and no other. Each has run, and what it left was
+  -- let go: the seat, as the worker's frames left it, and the place, as its sessions left it.
   pub record HandedJobs (s : Contents) (o : Opening) (p : UsersOpening) : Type 0 where
     pub workers : List (FrameJob N G)
     pub each : length workers ≡ site.workers
+    pub sized : o.site.fabric.size ≡ record { shape = s.shape; workers = site.workers }
     pub seats : AreJobsOf told.lines_for o.site.fabric site.lines 0 workers
     pub sessions : List (SessionJob D U L C G)
     pub sixteen : length sessions ≡ 16
     pub places : ArePlaces s o p 16 0 (map (λ (job : SessionJob D U L C G). job.place) sessions)
     pub listeners : All (λ (job : SessionJob D U L C G). told.listener_for job.listener site.address) sessions
     pub handed : told.handed (any_jobs workers ++ any_jobs sessions)
+    pub left : AreLeft told.gone (left_by told.carried) (left_by (told.served D U)) workers sessions
 
   -- What came of serving the site on what was opened. The gate is asked no more once that is so; where the status is Done, these jobs were started.
   pub record ServedSite {J : Type 0} (before after : Sources J) (old new : SpawnerState) (s : Contents) (o : Opening) (p : UsersOpening) (status : Status) : Type 0 where

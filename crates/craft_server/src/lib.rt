@@ -11,9 +11,9 @@ mod serve;
 mod sessions;
 mod trial;
 
-pub use craft_jobs::FrameJob;
+pub use craft_jobs::{FrameJob, FramesDone, FramesLeft};
 pub use craft_words::{JournalBad, Line, Status, WordsFault, line_of};
 pub use links::{LinksEnd, serve_links};
 pub use run::dxc_run;
 pub use serve::serve_all;
-pub use sessions::SessionJob;
+pub use sessions::{SessionDone, SessionJob};

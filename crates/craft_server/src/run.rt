@@ -15,6 +15,7 @@ use crate::trial::run_trial;
 use craft_element::{Names, run_check, run_export};
 use craft_jobs::run_standby;
 use craft_words::{Line, Status, WordsFault, line_of};
+use dxc_leaving::LetGo;
 use dxc_outside::{Clock, Gate, Link, Listener, Name, Opener, Spawner};
 use std::alloc::Global;
 use std::sync::Wait;
@@ -31,7 +32,7 @@ use std::sync::Wait;
 /// primary at the address, and makes on the journal, which is to be new, what it sends, to the end of the link. `load` serves one session
 /// that is sent the load script of the number, with a frame behind each command, and writes one line that sums it up. The gate is asked
 /// while the controller starts and, in `script` and `load`, before a change is journalled, before each register write and before the table takes a change.
-pub fn dxc_run<O: Opener, K: Link, C: Clock, G: Gate, P: Spawner, R: Wait>(
+pub fn dxc_run<O: Opener + LetGo, K: Link, C: Clock, G: Gate, P: Spawner, R: Wait>(
     alloc: Global,
     words: &[Name],
     opener: &mut O,
@@ -44,7 +45,7 @@ pub fn dxc_run<O: Opener, K: Link, C: Clock, G: Gate, P: Spawner, R: Wait>(
 where
     <O::Listener as Listener>::Link: Send + 'static,
     ensures words { result ≡ Status.BadWords → (l : ALine) → IsLine words.now l → ⊥ }
-    ensures run { IsRun (told_by O.told O.Journal.told K.told C.told O.Peer.told O.Listener.told O.Listener.Link.told K.begun O.Listener.Link.begun) (jobs_told O.Clock O.Gate O.lines_for O.listener_for (P.handed spawner.old spawner.new)) O.Journal.state O.Peer.state O.Listener.state O.Listener.Link.state (O.listener_at opener.old) words.now (lent (sources (O.state opener.old) (O.journal_at opener.old) (G.stops gate.old)) (K.state terminal.old) (C.coming clock.old) (P.state spawner.old)) (lent (sources (O.state opener.new) (O.journal_at opener.new) (G.stops gate.new)) (K.state terminal.new) (C.coming clock.new) (P.state spawner.new)) result }
+    ensures run { IsRun (told_by O.told O.Journal.told K.told C.told O.Peer.told O.Listener.told O.Listener.Link.told K.begun O.Listener.Link.begun O.gone (O.asked opener.old opener.new)) (jobs_told O.Journal.told O.Opener O.Lines.Lines O.Listener.Listener O.Listener.Link.Link O.Clock.Clock O.Gate.Gate O.gone (P.handed spawner.old spawner.new)) O.Journal.state O.Peer.state O.Listener.state O.Listener.Link.state (O.listener_at opener.old) words.now (lent (sources (O.state opener.old) (O.journal_at opener.old) (G.stops gate.old)) (K.state terminal.old) (C.coming clock.old) (P.state spawner.old)) (lent (sources (O.state opener.new) (O.journal_at opener.new) (G.stops gate.new)) (K.state terminal.new) (C.coming clock.new) (P.state spawner.new)) result }
     ensures asked { AskedBy (O.asked opener.old opener.new) words.now result }
 {
     match line_of(alloc, words) {
@@ -55,7 +56,7 @@ where
 }
 
 // Runs a line that `dxc_run` holds: with nothing to drop here, the modes cost the proof a fifth.
-fn run_line<O: Opener, K: Link, C: Clock, G: Gate, P: Spawner, R: Wait>(
+fn run_line<O: Opener + LetGo, K: Link, C: Clock, G: Gate, P: Spawner, R: Wait>(
     alloc: Global,
     line: &Line,
     opener: &mut O,
@@ -68,7 +69,7 @@ fn run_line<O: Opener, K: Link, C: Clock, G: Gate, P: Spawner, R: Wait>(
 where
     <O::Listener as Listener>::Link: Send + 'static,
     ensures words { IsInRange line.now → result ≢ Status.BadWords }
-    ensures run { IsInRange line.now → IsRunOf (told_by O.told O.Journal.told K.told C.told O.Peer.told O.Listener.told O.Listener.Link.told K.begun O.Listener.Link.begun) (jobs_told O.Clock O.Gate O.lines_for O.listener_for (P.handed spawner.old spawner.new)) O.Journal.state O.Peer.state O.Listener.state O.Listener.Link.state (O.listener_at opener.old) line.now (lent (sources (O.state opener.old) (O.journal_at opener.old) (G.stops gate.old)) (K.state terminal.old) (C.coming clock.old) (P.state spawner.old)) (lent (sources (O.state opener.new) (O.journal_at opener.new) (G.stops gate.new)) (K.state terminal.new) (C.coming clock.new) (P.state spawner.new)) result }
+    ensures run { IsInRange line.now → IsRunOf (told_by O.told O.Journal.told K.told C.told O.Peer.told O.Listener.told O.Listener.Link.told K.begun O.Listener.Link.begun O.gone (O.asked opener.old opener.new)) (jobs_told O.Journal.told O.Opener O.Lines.Lines O.Listener.Listener O.Listener.Link.Link O.Clock.Clock O.Gate.Gate O.gone (P.handed spawner.old spawner.new)) O.Journal.state O.Peer.state O.Listener.state O.Listener.Link.state (O.listener_at opener.old) line.now (lent (sources (O.state opener.old) (O.journal_at opener.old) (G.stops gate.old)) (K.state terminal.old) (C.coming clock.old) (P.state spawner.old)) (lent (sources (O.state opener.new) (O.journal_at opener.new) (G.stops gate.new)) (K.state terminal.new) (C.coming clock.new) (P.state spawner.new)) result }
     ensures asked { IsInRange line.now → AskedFor (O.asked opener.old opener.new) (line_asked line.now) (IsOfNoOpening result) }
 {
     match line {

@@ -3,19 +3,21 @@ ghost use Rattle.dxc_outside.specs.Asked.{AskedFor};
 ghost use Rattle.craft_jobs.specs.Missing.{IsOfNoOpening};
 ghost use Rattle.craft_element.specs.Openings.{Opens, files_asked, named, sources};
 ghost use Rattle.dxc_model.specs.declared.user.SessionUser.{SessionUser};
-ghost use Rattle.craft_server.specs.Scripts.{RanSession};
+ghost use Rattle.craft_server.specs.Scripts.{RanAndLeft};
 ghost use Rattle.craft_server.specs.Statuses.{status_of};
 
 use craft_element::{Controller, Element, Names, WORKERS, open};
 use craft_session::places::lone_place;
 use craft_session::{SessionEnd, serve_session};
 use craft_words::Status;
+use dxc_leaving::LetGo;
 use dxc_outside::{Clock, Gate, Link, Opener};
 use std::alloc::Global;
 use std::sync::Wait;
 
-/// Serves one session over the terminal, at the one place of a controller that is opened on these names.
-pub(crate) fn run_script<O: Opener, K: Link, C: Clock, G: Gate, R: Wait>(
+/// Serves one session over the terminal, at the one place of a controller that is opened on these names. The place is let go as the
+/// session left it.
+pub(crate) fn run_script<O: Opener + LetGo, K: Link, C: Clock, G: Gate, R: Wait>(
     alloc: Global,
     opener: &mut O,
     names: Names<'_>,
@@ -29,7 +31,7 @@ pub(crate) fn run_script<O: Opener, K: Link, C: Clock, G: Gate, R: Wait>(
         (sources (O.state opener.old) (O.journal_at opener.old) (G.stops gate.old))
         (sources (O.state opener.new) (O.journal_at opener.new) (G.stops gate.new))
         ((K.state terminal.new ≡ K.state terminal.old) × (C.coming clock.new ≡ C.coming clock.old))
-        (λ f o u. RanSession O.Journal.told K.told C.told K.begun (O.Journal.state f.disk)
+        (λ f o u. RanAndLeft O.Journal.told K.told C.told K.begun O.gone (O.Journal.state f.disk)
         (O.Journal.state u.found.disk) SessionUser.Nobody f.shelf o u.opening (K.state terminal.old)
         (K.state terminal.new) (C.coming clock.old) (C.coming clock.new) (G.stops gate.old)
         (G.stops gate.new) result) result }
@@ -48,7 +50,9 @@ pub(crate) fn run_script<O: Opener, K: Link, C: Clock, G: Gate, R: Wait>(
     let Ok(mut place) = lone_place(alloc, &shelf, &fabric, state, users) else {
         return Status::NoMemory;
     };
-    after_session(serve_session(&mut place, terminal, clock, gate, rt))
+    let status = after_session(serve_session(&mut place, terminal, clock, gate, rt));
+    opener.let_go(place);
+    status
 }
 
 /// The status of a session that ended so.

@@ -10,11 +10,14 @@ ghost use Rattle.user_admin.specs.States.{opening_of as users_opening};
 ghost use Rattle.xc_core.specs.Openings.{Begins};
 ghost use Rattle.xc_core.specs.States.{opening_of};
 ghost use Rattle.craft_session.specs.Places.{IsAtOpening};
+ghost use Rattle.craft_jobs.specs.Framed.{RanFrames};
+ghost use Rattle.craft_jobs.specs.Leaves.{left_by};
 ghost use Rattle.craft_jobs.specs.Missing.{IsOfNoOpening};
 ghost use Rattle.craft_element.specs.Openings.{Opens, files_asked, named, sources};
 ghost use Rattle.craft_element.specs.Peers.{Mirrors};
 ghost use Rattle.craft_server.specs.Askings.{line_asked, site_asked};
-ghost use Rattle.craft_server.specs.Serving.{HandedJobs, IsServe, IsServing, ServedSite, jobs_told, named_in, peer_of, site_at, site_in};
+ghost use Rattle.craft_server.specs.Served.{RanAt};
+ghost use Rattle.craft_server.specs.Serving.{AreLeft, HandedJobs, IsServe, IsServing, ServedSite, jobs_told, named_in, peer_of, site_at, site_in};
 
 use crate::jobs::session_jobs;
 use crate::mirrored::serve_mirrored;
@@ -24,6 +27,7 @@ use craft_jobs::{FrameJob, frame_jobs, run_all};
 use craft_session::places::open_places;
 use craft_words::{Line, Status};
 use dxc_disk::Disk;
+use dxc_leaving::LetGo;
 use dxc_outside::{Clock, Gate, Lines, Listener, Opener, Spawner, Started};
 use fabric_words::{Fabric, WorkerSeat};
 use shelf_file::Shelf;
@@ -32,7 +36,7 @@ use std::sync::{Arc, Wait};
 use user_admin::UserState;
 use xc_core::State;
 
-/// Runs the workers' jobs and the sessions' jobs to their ends.
+/// Runs the workers' jobs and the sessions' jobs to their ends. What they leave is let go.
 fn run_jobs<
     D: Disk + Send + Drop + 'static,
     U: Disk + Send + Drop + 'static,
@@ -40,9 +44,12 @@ fn run_jobs<
     C: Clock + Send + Drop + 'static,
     G: Gate + Send + Drop + 'static,
     N: Lines + Send + Drop + 'static,
+    O: LetGo,
     P: Spawner,
     R: Wait,
 >(
+    alloc: Global,
+    opener: &O,
     spawner: &mut P,
     workers: Vec<FrameJob<N, G>>,
     sessions: Vec<SessionJob<D, U, L, C, G>>,
@@ -52,8 +59,14 @@ where
     L::Link: Send + 'static,
     ensures serving { (faults : ℕ) → (later : ℕ) → IsServing (vec_len workers + vec_len sessions) faults later (P.state spawner.old) (P.state spawner.new) result }
     ensures handed { result ≡ Status.Done → P.handed spawner.old spawner.new (any_jobs workers.items ++ any_jobs sessions.items) }
+    // Each worker has carried its frames in its seat, and each session's place is left as its sessions left it.
+    ensures left { result ≡ Status.Done → AreLeft O.gone (left_by (RanFrames N.Lines G.Gate))
+        (left_by (RanAt D.told L.Listener L.Link.Link C.Clock G.Gate)) workers.items sessions.items }
 {
-    match run_all(spawner, workers, sessions, rt) {
+    let ran = run_all(alloc, spawner, workers, sessions, rt);
+    let started = ran.started;
+    opener.let_go(ran);
+    match started {
         Started::Running => Status::Done,
         Started::Failed => Status::NoThread,
     }
@@ -72,7 +85,7 @@ pub(crate) struct Site<'a> {
 
 /// Opens the lines of each worker and a listener for each of 16 places at the state and the users, and runs their jobs to their ends.
 pub(crate) fn serve_on<
-    O: Opener,
+    O: Opener + LetGo,
     D: Disk + Send + Drop + 'static,
     U: Disk + Send + Drop + 'static,
     P: Spawner,
@@ -93,11 +106,13 @@ where
     <O::Listener as Listener>::Link: Send + 'static,
     requires seats { AreNew (arc_value fabric.now) 0 seats.items }
     requires each { length seats.items ≡ site.workers }
+    requires sized { (arc_value fabric.now).size
+        ≡ record { shape = (arc_value shelf.now).shape; workers = site.workers } }
     requires begins { Begins D.told D.state state }
     requires users_begin { UsersBegin U.told U.state users }
     requires opening { IsAtOpening (opening_of D.state state) (arc_value shelf.now) (arc_value fabric.now) }
     ensures serving { IsServing (site.entry.workers + 16) (O.state opener.old).faults (O.state opener.new).faults (P.state spawner.old) (P.state spawner.new) result }
-    ensures jobs { result ≡ Status.Done → HandedJobs D U (jobs_told O.Clock O.Gate O.lines_for O.listener_for (P.handed spawner.old spawner.new)) (site_at site.entry.address.now site.entry.lines.now site.entry.workers) (arc_value shelf.now) (opening_of D.state state) (users_opening U.state users) }
+    ensures jobs { result ≡ Status.Done → HandedJobs D U (jobs_told D.told O.Opener O.Lines.Lines O.Listener.Listener O.Listener.Link.Link O.Clock.Clock O.Gate.Gate O.gone (P.handed spawner.old spawner.new)) (site_at site.entry.address.now site.entry.lines.now site.entry.workers) (arc_value shelf.now) (opening_of D.state state) (users_opening U.state users) }
     ensures asked { AskedFor (O.asked opener.old opener.new) (site_asked site.entry.lines.now site.entry.address.now site.entry.workers) (IsOfNoOpening result) }
 {
     let Ok(places) = open_places(alloc, shelf, fabric, state, users, SESSIONS) else {
@@ -111,11 +126,11 @@ where
         Ok(jobs) => jobs,
         Err(status) => return status,
     };
-    run_jobs(spawner, workers, sessions, rt)
+    run_jobs(alloc, opener, spawner, workers, sessions, rt)
 }
 
 // Serves the site with the controller that is opened on these names.
-fn serve_alone<O: Opener, G: Gate, P: Spawner, R: Wait>(
+fn serve_alone<O: Opener + LetGo, G: Gate, P: Spawner, R: Wait>(
     alloc: Global,
     opener: &mut O,
     names: Names<'_>,
@@ -127,7 +142,7 @@ fn serve_alone<O: Opener, G: Gate, P: Spawner, R: Wait>(
 where
     <O::Listener as Listener>::Link: Send + 'static,
     requires { (1 ≤ site.workers) × (site.workers ≤ 8) }
-    ensures opens { Opens O.told O.Journal.told O.Journal.state (named names.entry.shelf.now names.entry.journal.now) (sources (O.state opener.old) (O.journal_at opener.old) (G.stops gate.old)) (sources (O.state opener.new) (O.journal_at opener.new) (G.stops gate.new)) (P.state spawner.new ≡ P.state spawner.old) (λ f o u. ServedSite O.Journal O.Journal (jobs_told O.Clock O.Gate O.lines_for O.listener_for (P.handed spawner.old spawner.new)) (site_at site.entry.address.now site.entry.lines.now site.entry.workers) (sources (O.state opener.old) (O.journal_at opener.old) (G.stops gate.old)) (sources (O.state opener.new) (O.journal_at opener.new) (G.stops gate.new)) (P.state spawner.old) (P.state spawner.new) f.shelf o u.opening result) result }
+    ensures opens { Opens O.told O.Journal.told O.Journal.state (named names.entry.shelf.now names.entry.journal.now) (sources (O.state opener.old) (O.journal_at opener.old) (G.stops gate.old)) (sources (O.state opener.new) (O.journal_at opener.new) (G.stops gate.new)) (P.state spawner.new ≡ P.state spawner.old) (λ f o u. ServedSite O.Journal O.Journal (jobs_told O.Journal.told O.Opener O.Lines.Lines O.Listener.Listener O.Listener.Link.Link O.Clock.Clock O.Gate.Gate O.gone (P.handed spawner.old spawner.new)) (site_at site.entry.address.now site.entry.lines.now site.entry.workers) (sources (O.state opener.old) (O.journal_at opener.old) (G.stops gate.old)) (sources (O.state opener.new) (O.journal_at opener.new) (G.stops gate.new)) (P.state spawner.old) (P.state spawner.new) f.shelf o u.opening result) result }
     ensures asked { AskedFor (O.asked opener.old opener.new) (files_asked (named names.entry.shelf.now names.entry.journal.now) ++ site_asked site.entry.lines.now site.entry.address.now site.entry.workers) (IsOfNoOpening result) }
 {
     let Element { controller, users } = match open(alloc, opener, names, site.workers, gate) {
@@ -150,7 +165,7 @@ where
 /// The controller is opened first, and the gate asked meanwhile; then the lines of each worker and a listener for each session.
 /// The frame workers are started before the sessions. It ends when all of them have ended. Where the line has a peer, the standby there
 /// is joined before the controller is opened.
-pub fn serve_all<O: Opener, G: Gate, P: Spawner, R: Wait>(
+pub fn serve_all<O: Opener + LetGo, G: Gate, P: Spawner, R: Wait>(
     alloc: Global,
     opener: &mut O,
     line: &Line,
@@ -161,8 +176,8 @@ pub fn serve_all<O: Opener, G: Gate, P: Spawner, R: Wait>(
 where
     <O::Listener as Listener>::Link: Send + 'static,
     requires { IsServe line.now }
-    ensures alone { peer_of line.now ≡ None → Opens O.told O.Journal.told O.Journal.state (named_in line.now) (sources (O.state opener.old) (O.journal_at opener.old) (G.stops gate.old)) (sources (O.state opener.new) (O.journal_at opener.new) (G.stops gate.new)) (P.state spawner.new ≡ P.state spawner.old) (λ f o u. ServedSite O.Journal O.Journal (jobs_told O.Clock O.Gate O.lines_for O.listener_for (P.handed spawner.old spawner.new)) (site_in line.now) (sources (O.state opener.old) (O.journal_at opener.old) (G.stops gate.old)) (sources (O.state opener.new) (O.journal_at opener.new) (G.stops gate.new)) (P.state spawner.old) (P.state spawner.new) f.shelf o u.opening result) result }
-    ensures mirrored { IsSome (peer_of line.now) → Mirrors O.Journal.told O.Peer.told O.Journal.state O.Peer.state O.told (named_in line.now) (sources (O.state opener.old) (O.journal_at opener.old) (G.stops gate.old)) (sources (O.state opener.new) (O.journal_at opener.new) (G.stops gate.new)) (P.state spawner.new ≡ P.state spawner.old) (λ f o u. ServedSite (MirrorDisk O.Journal O.Peer) O.Journal (jobs_told O.Clock O.Gate O.lines_for O.listener_for (P.handed spawner.old spawner.new)) (site_in line.now) (sources (O.state opener.old) (O.journal_at opener.old) (G.stops gate.old)) (sources (O.state opener.new) (O.journal_at opener.new) (G.stops gate.new)) (P.state spawner.old) (P.state spawner.new) f.shelf o u.opening result) result }
+    ensures alone { peer_of line.now ≡ None → Opens O.told O.Journal.told O.Journal.state (named_in line.now) (sources (O.state opener.old) (O.journal_at opener.old) (G.stops gate.old)) (sources (O.state opener.new) (O.journal_at opener.new) (G.stops gate.new)) (P.state spawner.new ≡ P.state spawner.old) (λ f o u. ServedSite O.Journal O.Journal (jobs_told O.Journal.told O.Opener O.Lines.Lines O.Listener.Listener O.Listener.Link.Link O.Clock.Clock O.Gate.Gate O.gone (P.handed spawner.old spawner.new)) (site_in line.now) (sources (O.state opener.old) (O.journal_at opener.old) (G.stops gate.old)) (sources (O.state opener.new) (O.journal_at opener.new) (G.stops gate.new)) (P.state spawner.old) (P.state spawner.new) f.shelf o u.opening result) result }
+    ensures mirrored { IsSome (peer_of line.now) → Mirrors O.Journal.told O.Peer.told O.Journal.state O.Peer.state O.told (named_in line.now) (sources (O.state opener.old) (O.journal_at opener.old) (G.stops gate.old)) (sources (O.state opener.new) (O.journal_at opener.new) (G.stops gate.new)) (P.state spawner.new ≡ P.state spawner.old) (λ f o u. ServedSite (MirrorDisk O.Journal O.Peer) O.Journal (jobs_told O.Journal.told O.Opener O.Lines.Lines O.Listener.Listener O.Listener.Link.Link O.Clock.Clock O.Gate.Gate O.gone (P.handed spawner.old spawner.new)) (site_in line.now) (sources (O.state opener.old) (O.journal_at opener.old) (G.stops gate.old)) (sources (O.state opener.new) (O.journal_at opener.new) (G.stops gate.new)) (P.state spawner.old) (P.state spawner.new) f.shelf o u.opening result) result }
     ensures asked { AskedFor (O.asked opener.old opener.new) (line_asked line.now) (IsOfNoOpening result) }
 {
     let Line::Serve {
@@ -193,7 +208,7 @@ where
 
 /// Serves a line of `serve`, as each is that words spell. BadWords: it is none.
 // Without a `requires`, which costs a caller that holds the whole program more than this test.
-pub(crate) fn serve_line<O: Opener, G: Gate, P: Spawner, R: Wait>(
+pub(crate) fn serve_line<O: Opener + LetGo, G: Gate, P: Spawner, R: Wait>(
     alloc: Global,
     opener: &mut O,
     line: &Line,
@@ -203,8 +218,8 @@ pub(crate) fn serve_line<O: Opener, G: Gate, P: Spawner, R: Wait>(
 ) -> Status
 where
     <O::Listener as Listener>::Link: Send + 'static,
-    ensures alone { IsServe line.now → peer_of line.now ≡ None → Opens O.told O.Journal.told O.Journal.state (named_in line.now) (sources (O.state opener.old) (O.journal_at opener.old) (G.stops gate.old)) (sources (O.state opener.new) (O.journal_at opener.new) (G.stops gate.new)) (P.state spawner.new ≡ P.state spawner.old) (λ f o u. ServedSite O.Journal O.Journal (jobs_told O.Clock O.Gate O.lines_for O.listener_for (P.handed spawner.old spawner.new)) (site_in line.now) (sources (O.state opener.old) (O.journal_at opener.old) (G.stops gate.old)) (sources (O.state opener.new) (O.journal_at opener.new) (G.stops gate.new)) (P.state spawner.old) (P.state spawner.new) f.shelf o u.opening result) result }
-    ensures mirrored { IsServe line.now → IsSome (peer_of line.now) → Mirrors O.Journal.told O.Peer.told O.Journal.state O.Peer.state O.told (named_in line.now) (sources (O.state opener.old) (O.journal_at opener.old) (G.stops gate.old)) (sources (O.state opener.new) (O.journal_at opener.new) (G.stops gate.new)) (P.state spawner.new ≡ P.state spawner.old) (λ f o u. ServedSite (MirrorDisk O.Journal O.Peer) O.Journal (jobs_told O.Clock O.Gate O.lines_for O.listener_for (P.handed spawner.old spawner.new)) (site_in line.now) (sources (O.state opener.old) (O.journal_at opener.old) (G.stops gate.old)) (sources (O.state opener.new) (O.journal_at opener.new) (G.stops gate.new)) (P.state spawner.old) (P.state spawner.new) f.shelf o u.opening result) result }
+    ensures alone { IsServe line.now → peer_of line.now ≡ None → Opens O.told O.Journal.told O.Journal.state (named_in line.now) (sources (O.state opener.old) (O.journal_at opener.old) (G.stops gate.old)) (sources (O.state opener.new) (O.journal_at opener.new) (G.stops gate.new)) (P.state spawner.new ≡ P.state spawner.old) (λ f o u. ServedSite O.Journal O.Journal (jobs_told O.Journal.told O.Opener O.Lines.Lines O.Listener.Listener O.Listener.Link.Link O.Clock.Clock O.Gate.Gate O.gone (P.handed spawner.old spawner.new)) (site_in line.now) (sources (O.state opener.old) (O.journal_at opener.old) (G.stops gate.old)) (sources (O.state opener.new) (O.journal_at opener.new) (G.stops gate.new)) (P.state spawner.old) (P.state spawner.new) f.shelf o u.opening result) result }
+    ensures mirrored { IsServe line.now → IsSome (peer_of line.now) → Mirrors O.Journal.told O.Peer.told O.Journal.state O.Peer.state O.told (named_in line.now) (sources (O.state opener.old) (O.journal_at opener.old) (G.stops gate.old)) (sources (O.state opener.new) (O.journal_at opener.new) (G.stops gate.new)) (P.state spawner.new ≡ P.state spawner.old) (λ f o u. ServedSite (MirrorDisk O.Journal O.Peer) O.Journal (jobs_told O.Journal.told O.Opener O.Lines.Lines O.Listener.Listener O.Listener.Link.Link O.Clock.Clock O.Gate.Gate O.gone (P.handed spawner.old spawner.new)) (site_in line.now) (sources (O.state opener.old) (O.journal_at opener.old) (G.stops gate.old)) (sources (O.state opener.new) (O.journal_at opener.new) (G.stops gate.new)) (P.state spawner.old) (P.state spawner.new) f.shelf o u.opening result) result }
     ensures asked { IsServe line.now → AskedFor (O.asked opener.old opener.new) (line_asked line.now) (IsOfNoOpening result) }
 {
     if is_serve(line) {

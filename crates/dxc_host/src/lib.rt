@@ -15,6 +15,7 @@ mod host_gate;
 mod host_opener;
 mod keepalive;
 mod last_sync;
+mod leaving;
 mod lines_files;
 mod outbox;
 mod patient;

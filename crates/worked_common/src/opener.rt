@@ -7,6 +7,7 @@ use crate::link::RowLink;
 use crate::listener::RowListener;
 use crate::noon::NOON;
 use crate::shelf::read_part;
+use dxc_leaving::LetGo;
 use dxc_outside::{MemClock, MemGate, Opened, Opener};
 use std::alloc::Global;
 
@@ -166,4 +167,10 @@ impl Opener for RowOpener {
             None => MemGate::new(Vec::new(self.alloc)),
         }
     }
+}
+
+impl LetGo for RowOpener {
+    ghost gone = { λ _. Unit {0} };
+
+    fn let_go<T: Drop>(&self, _left: T) {}
 }

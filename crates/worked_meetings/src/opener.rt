@@ -6,6 +6,7 @@ use crate::lines::WatchedLines;
 use crate::link::CueLink;
 use crate::listener::OneCaller;
 use dxc_disk::MemDisk;
+use dxc_leaving::LetGo;
 use dxc_outside::{MemClock, MemLink, Opened, Opener};
 use std::alloc::Global;
 use worked_common::read_part;
@@ -112,4 +113,10 @@ impl Opener for SessionsOpener {
     fn gate(&mut self) -> CuedGate {
         self.gates.pop().unwrap_or(CuedGate::new(None))
     }
+}
+
+impl LetGo for SessionsOpener {
+    ghost gone = { λ _. Unit {0} };
+
+    fn let_go<T: Drop>(&self, _left: T) {}
 }

@@ -3,6 +3,7 @@
 
 use anyhow::Result;
 use craft_server::{Status, dxc_run};
+use dxc_leaving::LetGo;
 use dxc_outside::{Link, Listener, Opener, Spawner};
 use std::alloc::Global;
 use std::sync::Wait;
@@ -34,7 +35,7 @@ fn run_all<R: Threads + Wait + Copy + Send + Drop + 'static>(
     run_files(&program, rt, threads, &FILES)
 }
 
-fn run<O: Opener, K: Link, P: Spawner, R: Wait>(
+fn run<O: Opener + LetGo, K: Link, P: Spawner, R: Wait>(
     alloc: Global,
     opener: &mut O,
     beside: &mut Beside<K, P>,

@@ -41,7 +41,14 @@ returns-clause-opens g c =
         record {
           sent = c.check.result;
           wrote = listed_first told state f.shelf x.state st.begins st.shape g.K.Link.told (g.K.Link.state c.args.terminal.now) (g.K.Link.state c.check.new.link) c.check.result c.check.ensures;
-          status_is = c.of_sent.ensures;
+          status_is = c.of_sent-status.ensures;
+        },
+        record {
+          element = c.in-Ok.element;
+          let_go = c.let_go.ensures;
+          started = st;
+          opening_is = refl;
+          users_started = c.in-Ok.ensures.opened.1.1;
         },
       ),
     )

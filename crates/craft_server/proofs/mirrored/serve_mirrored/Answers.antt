@@ -8,7 +8,7 @@ use Rattle.craft_element.specs.Peers.{mirror_asked, mirror_state}
 use Rattle.craft_server.specs.Serving.{ServedSite, jobs_told, site_at}
 use Rattle.craft_element.proofs.Mirroring.{serves}
 use Rattle.craft_server.proofs.Serves.{served_on}
-use Rattle.craft_server.proofs.Starting.{opened_at}
+use Rattle.craft_server.proofs.Starting.{opened_at, sized}
 use Rattle.dxc_outside.proofs.Asking.{all_made, asked_behind, asked_within}
 use Rattle.craft_element.proofs.Wording.{not_mirrored_ends}
 use Rattle.craft_server.specs.Askings.{site_asked}
@@ -22,6 +22,9 @@ serve_on-requires-clause-seats g c κs within = c.in-Ok.ensures.opened.0.1.seats
 
 pub serve_on-requires-clause-each : goal.serve_on-requires-clause-each
 serve_on-requires-clause-each g c κs within = c.in-Ok.ensures.opened.0.1.each
+
+pub serve_on-requires-clause-sized : goal.serve_on-requires-clause-sized
+serve_on-requires-clause-sized g c κs within = let h = c.in-Ok.ensures.opened.0 in sized g.O.Journal.Disk.told (mirror_state g.O.Journal.Disk.state) h.0.mirror h.0.shelf _ c.in-Ok.element.controller h.1
 
 pub serve_on-requires-clause-begins : goal.serve_on-requires-clause-begins
 serve_on-requires-clause-begins g c κs within = c.in-Ok.ensures.opened.0.1.begins
@@ -40,7 +43,7 @@ returns-clause-mirrors g c =
     let q = g.P.Spawner.state c.serve_on.new.spawner in
     let mirror : Type 0 = MirrorDisk g.row.O-Journal.Denot g.row.O-Peer.Denot in
     let site = site_at c.args.site.address.now c.args.site.lines.now c.args.site.workers in
-    let jobs = jobs_told g.row.O-Clock.Denot g.row.O-Gate.Denot g.O.Opener.lines_for g.O.Opener.listener_for (g.P.Spawner.handed c.args.spawner.now c.serve_on.new.spawner) in
+    let jobs = jobs_told g.O.Journal.Disk.told g.O.Opener g.O.Lines.Lines g.O.Listener.Listener g.O.Listener.Link.Link g.O.Clock.Clock g.O.Gate.Gate g.O.LetGo.gone (g.P.Spawner.handed c.args.spawner.now c.serve_on.new.spawner) in
     let h = c.in-Ok.ensures.opened.0 in
     let Served : Contents → Opening → UsersOpening → Type 0 = λ s o u. ServedSite mirror g.row.O-Journal.Denot jobs site before after p q s o u c.serve_on.result in
     serves g.O.Journal.Disk.told g.O.Peer.Link.told g.O.Journal.Disk.state g.O.Peer.Link.state g.O.Opener.told (named c.args.names.shelf.now c.args.names.journal.now) c.args.site.workers before after (q ≡ p) Served c.serve_on.result c.in-Ok.element c.in-Ok.ensures.opened

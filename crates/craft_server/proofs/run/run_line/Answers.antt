@@ -10,11 +10,11 @@ use Rattle.user_admin.specs.Histories.{Opening as UsersOpening}
 use Rattle.xc_core.specs.States.{Opening}
 use Rattle.craft_words.specs.declared.line.Line.{Line}
 use Rattle.craft_words.specs.Lines.{IsInRange}
-use Rattle.craft_element.specs.Openings.{named, sources}
+use Rattle.craft_element.specs.Openings.{WasLetGo, named, opened_on, sources}
 use Rattle.craft_element.specs.Exports.{IsExport}
 use Rattle.craft_element.specs.Listings.{IsCheck}
 use Rattle.craft_server.specs.Runs.{IsRunOf, IsUntouched, RanCheck, RanExport, RanScript, RanServe, lent, told_by}
-use Rattle.craft_server.specs.Scripts.{RanSession}
+use Rattle.craft_server.specs.Scripts.{RanAndLeft}
 use Rattle.craft_jobs.specs.Standbys.{StandsBy}
 use Rattle.craft_server.specs.Serving.{IsServe, ServedSite, jobs_told, named_in, peer_of, site_at, site_in}
 use Rattle.craft_server.proofs.Loading.{load_words}
@@ -35,14 +35,14 @@ use Rattle.craft_server.proofs.run.run_line.Goals as goal
 
 pub returns-in-Script-clause-run : goal.returns-in-Script-clause-run
 returns-in-Script-clause-run g c = λ fit.
-    let told = told_by g.O.Opener.told g.O.Journal.Disk.told g.K.Link.told g.C.Clock.told g.O.Peer.Link.told g.O.Listener.Listener.told g.O.Listener.Link.Link.told g.K.Link.begun g.O.Listener.Link.Link.begun in
-    let jobs = jobs_told g.row.O-Clock.Denot g.row.O-Gate.Denot g.O.Opener.lines_for g.O.Opener.listener_for (g.P.Spawner.handed c.args.spawner.now c.args.spawner.now) in
+    let told = told_by g.O.Opener.told g.O.Journal.Disk.told g.K.Link.told g.C.Clock.told g.O.Peer.Link.told g.O.Listener.Listener.told g.O.Listener.Link.Link.told g.K.Link.begun g.O.Listener.Link.Link.begun g.O.LetGo.gone (g.O.Opener.asked c.args.opener.now c.run_script.new.opener) in
+    let jobs = jobs_told g.O.Journal.Disk.told g.O.Opener g.O.Lines.Lines g.O.Listener.Listener g.O.Listener.Link.Link g.O.Clock.Clock g.O.Gate.Gate g.O.LetGo.gone (g.P.Spawner.handed c.args.spawner.now c.args.spawner.now) in
     let state = g.O.Journal.Disk.state in
     let p = g.P.Spawner.state c.args.spawner.now in
     let before = lent (sources (g.O.Opener.state c.args.opener.now) (g.O.Opener.journal_at c.args.opener.now) (g.G.Gate.stops c.args.gate.now)) (g.K.Link.state c.args.terminal.now) (g.C.Clock.coming c.args.clock.now) p in
     let after = lent (sources (g.O.Opener.state c.run_script.new.opener) (g.O.Opener.journal_at c.run_script.new.opener) (g.G.Gate.stops c.run_script.new.gate)) (g.K.Link.state c.run_script.new.terminal) (g.C.Clock.coming c.run_script.new.clock) p in
     let status = c.run_script.result in
-    let P : Contents → g.row.O-Journal.Denot → Opening → g.row.O-Journal.Denot → UsersOpening → Type 0 = λ s d o e u. RanSession g.O.Journal.Disk.told g.K.Link.told g.C.Clock.told g.K.Link.begun (state d) (state e) Nobody s o u before.terminal after.terminal before.clock after.clock before.sources.stops after.sources.stops status in
+    let P : Contents → g.row.O-Journal.Denot → Opening → g.row.O-Journal.Denot → UsersOpening → Type 0 = λ s d o e u. RanAndLeft g.O.Journal.Disk.told g.K.Link.told g.C.Clock.told g.K.Link.begun g.O.LetGo.gone (state d) (state e) Nobody s o u before.terminal after.terminal before.clock after.clock before.sources.stops after.sources.stops status in
     let Q : Contents → g.row.O-Journal.Denot → Opening → g.row.O-Journal.Denot → UsersOpening → Type 0 = λ s d o e u. RanScript told state before after s o u d e status in
     let ran = opens_for told.disk state told.opener _ (named c.in-Script.shelf c.in-Script.journal) c.names_of-names.ensures before.sources after.sources ((after.terminal ≡ before.terminal) × (after.clock ≡ before.clock)) (IsUntouched before after) P Q status
     (λ u. record { terminal = u.0; clock = u.1; spawner = refl }) (λ s d o e u one. record { session = one; spawner = refl }) c.run_script.ensures.opens in
@@ -50,40 +50,40 @@ returns-in-Script-clause-run g c = λ fit.
 
 pub returns-in-Check-clause-run : goal.returns-in-Check-clause-run
 returns-in-Check-clause-run g c = λ fit.
-    let told = told_by g.O.Opener.told g.O.Journal.Disk.told g.K.Link.told g.C.Clock.told g.O.Peer.Link.told g.O.Listener.Listener.told g.O.Listener.Link.Link.told g.K.Link.begun g.O.Listener.Link.Link.begun in
-    let jobs = jobs_told g.row.O-Clock.Denot g.row.O-Gate.Denot g.O.Opener.lines_for g.O.Opener.listener_for (g.P.Spawner.handed c.args.spawner.now c.args.spawner.now) in
+    let told = told_by g.O.Opener.told g.O.Journal.Disk.told g.K.Link.told g.C.Clock.told g.O.Peer.Link.told g.O.Listener.Listener.told g.O.Listener.Link.Link.told g.K.Link.begun g.O.Listener.Link.Link.begun g.O.LetGo.gone (g.O.Opener.asked c.args.opener.now c.run_check.new.opener) in
+    let jobs = jobs_told g.O.Journal.Disk.told g.O.Opener g.O.Lines.Lines g.O.Listener.Listener g.O.Listener.Link.Link g.O.Clock.Clock g.O.Gate.Gate g.O.LetGo.gone (g.P.Spawner.handed c.args.spawner.now c.args.spawner.now) in
     let state = g.O.Journal.Disk.state in
     let p = g.P.Spawner.state c.args.spawner.now in
     let moments = g.C.Clock.coming c.args.clock.now in
     let before = lent (sources (g.O.Opener.state c.args.opener.now) (g.O.Opener.journal_at c.args.opener.now) (g.G.Gate.stops c.args.gate.now)) (g.K.Link.state c.args.terminal.now) moments p in
     let after = lent (sources (g.O.Opener.state c.run_check.new.opener) (g.O.Opener.journal_at c.run_check.new.opener) (g.G.Gate.stops c.run_check.new.gate)) (g.K.Link.state c.run_check.new.terminal) moments p in
     let status = c.run_check.result in
-    let P : Contents → g.row.O-Journal.Denot → Opening → g.row.O-Journal.Denot → UsersOpening → Type 0 = λ s d o e u. (after.sources.stops ≡ before.sources.stops) × IsCheck g.K.Link.told s o before.terminal after.terminal status in
-    let Q : Contents → g.row.O-Journal.Denot → Opening → g.row.O-Journal.Denot → UsersOpening → Type 0 = λ s d o e u. RanCheck told state before after s o status in
+    let P : Contents → g.row.O-Journal.Denot → Opening → g.row.O-Journal.Denot → UsersOpening → Type 0 = λ s d o e u. (after.sources.stops ≡ before.sources.stops) × IsCheck g.K.Link.told s o before.terminal after.terminal status × WasLetGo told.disk state told.gone (opened_on d e s o) in
+    let Q : Contents → g.row.O-Journal.Denot → Opening → g.row.O-Journal.Denot → UsersOpening → Type 0 = λ s d o e u. RanCheck told state before after (opened_on d e s o) status in
     let ran = opens_for told.disk state told.opener _ (named c.in-Check.shelf c.in-Check.journal) c.names_of-names-in-Check.ensures before.sources after.sources (after.terminal ≡ before.terminal) (IsUntouched before after) P Q status
-    (λ u. record { terminal = u; clock = refl; spawner = refl }) (λ s d o e u one. record { check = one.1; clock = refl; spawner = refl; gate = one.0 }) c.run_check.ensures.opens in
+    (λ u. record { terminal = u; clock = refl; spawner = refl }) (λ s d o e u one. record { check = one.1; let_go = one.2; clock = refl; spawner = refl; gate = one.0 }) c.run_check.ensures.opens in
     subst (λ (l : Line). IsRunOf told jobs state g.O.Peer.Link.state g.O.Listener.Listener.state g.O.Listener.Link.Link.state (g.O.Opener.listener_at c.args.opener.now) l before after status) (sym c.in-Check.is) ran
 
 pub returns-in-Export-clause-run : goal.returns-in-Export-clause-run
 returns-in-Export-clause-run g c = λ fit.
-    let told = told_by g.O.Opener.told g.O.Journal.Disk.told g.K.Link.told g.C.Clock.told g.O.Peer.Link.told g.O.Listener.Listener.told g.O.Listener.Link.Link.told g.K.Link.begun g.O.Listener.Link.Link.begun in
-    let jobs = jobs_told g.row.O-Clock.Denot g.row.O-Gate.Denot g.O.Opener.lines_for g.O.Opener.listener_for (g.P.Spawner.handed c.args.spawner.now c.args.spawner.now) in
+    let told = told_by g.O.Opener.told g.O.Journal.Disk.told g.K.Link.told g.C.Clock.told g.O.Peer.Link.told g.O.Listener.Listener.told g.O.Listener.Link.Link.told g.K.Link.begun g.O.Listener.Link.Link.begun g.O.LetGo.gone (g.O.Opener.asked c.args.opener.now c.run_export.new.opener) in
+    let jobs = jobs_told g.O.Journal.Disk.told g.O.Opener g.O.Lines.Lines g.O.Listener.Listener g.O.Listener.Link.Link g.O.Clock.Clock g.O.Gate.Gate g.O.LetGo.gone (g.P.Spawner.handed c.args.spawner.now c.args.spawner.now) in
     let state = g.O.Journal.Disk.state in
     let p = g.P.Spawner.state c.args.spawner.now in
     let moments = g.C.Clock.coming c.args.clock.now in
     let before = lent (sources (g.O.Opener.state c.args.opener.now) (g.O.Opener.journal_at c.args.opener.now) (g.G.Gate.stops c.args.gate.now)) (g.K.Link.state c.args.terminal.now) moments p in
     let after = lent (sources (g.O.Opener.state c.run_export.new.opener) (g.O.Opener.journal_at c.run_export.new.opener) (g.G.Gate.stops c.run_export.new.gate)) (g.K.Link.state c.run_export.new.terminal) moments p in
     let status = c.run_export.result in
-    let P : Contents → g.row.O-Journal.Denot → Opening → g.row.O-Journal.Denot → UsersOpening → Type 0 = λ s d o e u. (after.sources.stops ≡ before.sources.stops) × IsExport g.K.Link.told s o before.terminal after.terminal status in
-    let Q : Contents → g.row.O-Journal.Denot → Opening → g.row.O-Journal.Denot → UsersOpening → Type 0 = λ s d o e u. RanExport told state before after s o status in
+    let P : Contents → g.row.O-Journal.Denot → Opening → g.row.O-Journal.Denot → UsersOpening → Type 0 = λ s d o e u. (after.sources.stops ≡ before.sources.stops) × IsExport g.K.Link.told s o before.terminal after.terminal status × WasLetGo told.disk state told.gone (opened_on d e s o) in
+    let Q : Contents → g.row.O-Journal.Denot → Opening → g.row.O-Journal.Denot → UsersOpening → Type 0 = λ s d o e u. RanExport told state before after (opened_on d e s o) status in
     let ran = opens_for told.disk state told.opener _ (named c.in-Export.shelf c.in-Export.journal) c.names_of-names-in-Export.ensures before.sources after.sources (after.terminal ≡ before.terminal) (IsUntouched before after) P Q status
-    (λ u. record { terminal = u; clock = refl; spawner = refl }) (λ s d o e u one. record { export = one.1; clock = refl; spawner = refl; gate = one.0 }) c.run_export.ensures.opens in
+    (λ u. record { terminal = u; clock = refl; spawner = refl }) (λ s d o e u one. record { export = one.1; let_go = one.2; clock = refl; spawner = refl; gate = one.0 }) c.run_export.ensures.opens in
     subst (λ (l : Line). IsRunOf told jobs state g.O.Peer.Link.state g.O.Listener.Listener.state g.O.Listener.Link.Link.state (g.O.Opener.listener_at c.args.opener.now) l before after status) (sym c.in-Export.is) ran
 
 pub returns-in-Serve-clause-run : goal.returns-in-Serve-clause-run
 returns-in-Serve-clause-run g c = λ fit.
-    let told = told_by g.O.Opener.told g.O.Journal.Disk.told g.K.Link.told g.C.Clock.told g.O.Peer.Link.told g.O.Listener.Listener.told g.O.Listener.Link.Link.told g.K.Link.begun g.O.Listener.Link.Link.begun in
-    let jobs = jobs_told g.row.O-Clock.Denot g.row.O-Gate.Denot g.O.Opener.lines_for g.O.Opener.listener_for (g.P.Spawner.handed c.args.spawner.now c.serve_line.new.spawner) in
+    let told = told_by g.O.Opener.told g.O.Journal.Disk.told g.K.Link.told g.C.Clock.told g.O.Peer.Link.told g.O.Listener.Listener.told g.O.Listener.Link.Link.told g.K.Link.begun g.O.Listener.Link.Link.begun g.O.LetGo.gone (g.O.Opener.asked c.args.opener.now c.serve_line.new.opener) in
+    let jobs = jobs_told g.O.Journal.Disk.told g.O.Opener g.O.Lines.Lines g.O.Listener.Listener g.O.Listener.Link.Link g.O.Clock.Clock g.O.Gate.Gate g.O.LetGo.gone (g.P.Spawner.handed c.args.spawner.now c.serve_line.new.spawner) in
     let state = g.O.Journal.Disk.state in
     let peer_state = g.O.Peer.Link.state in
     let terminal = g.K.Link.state c.args.terminal.now in
@@ -113,8 +113,8 @@ returns-in-Serve-clause-run g c = λ fit.
 
 pub returns-in-Standby-clause-run : goal.returns-in-Standby-clause-run
 returns-in-Standby-clause-run g c = λ fit.
-    let told = told_by g.O.Opener.told g.O.Journal.Disk.told g.K.Link.told g.C.Clock.told g.O.Peer.Link.told g.O.Listener.Listener.told g.O.Listener.Link.Link.told g.K.Link.begun g.O.Listener.Link.Link.begun in
-    let jobs = jobs_told g.row.O-Clock.Denot g.row.O-Gate.Denot g.O.Opener.lines_for g.O.Opener.listener_for (g.P.Spawner.handed c.args.spawner.now c.args.spawner.now) in
+    let told = told_by g.O.Opener.told g.O.Journal.Disk.told g.K.Link.told g.C.Clock.told g.O.Peer.Link.told g.O.Listener.Listener.told g.O.Listener.Link.Link.told g.K.Link.begun g.O.Listener.Link.Link.begun g.O.LetGo.gone (g.O.Opener.asked c.args.opener.now c.run_standby.new.opener) in
+    let jobs = jobs_told g.O.Journal.Disk.told g.O.Opener g.O.Lines.Lines g.O.Listener.Listener g.O.Listener.Link.Link g.O.Clock.Clock g.O.Gate.Gate g.O.LetGo.gone (g.P.Spawner.handed c.args.spawner.now c.args.spawner.now) in
     let state = g.O.Journal.Disk.state in
     let listener = g.O.Listener.Listener.state in
     let link = g.O.Listener.Link.Link.state in
@@ -123,7 +123,7 @@ returns-in-Standby-clause-run g c = λ fit.
     let after = at (g.O.Opener.state c.run_standby.new.opener) (g.O.Opener.journal_at c.run_standby.new.opener) in
     let status = c.run_standby.result in
     let listeners = g.O.Opener.listener_at c.args.opener.now in
-    let by = λ (journal address : List ℕ). StandsBy told.opener told.disk told.listener told.link state listener link told.link_begun before.sources.journal_at listeners before.sources.opener.faults after.sources.opener.faults journal address status in
+    let by = λ (journal address : List ℕ). StandsBy told.opener told.disk told.listener told.link state listener link told.link_begun before.sources.journal_at listeners before.sources.opener.faults after.sources.opener.faults journal address told.gone told.asked status in
     let stands : by c.in-Standby.journal c.in-Standby.address = subst (λ (n : List ℕ). by n c.in-Standby.address) c.text.ensures (subst (λ (n : List ℕ). by c.text.result.now n) c.text-in-Standby.ensures c.run_standby.ensures.stands_by) in
     subst (λ (l : Line). IsRunOf told jobs state g.O.Peer.Link.state listener link listeners l before after status) (sym c.in-Standby.is) (record { stands_by = stands; untouched = record { terminal = refl; clock = refl; spawner = refl }; gate = refl })
 
@@ -131,7 +131,7 @@ pub returns-in-Script-clause-words : goal.returns-in-Script-clause-words
 returns-in-Script-clause-words g c = λ fit bad.
     let before = sources (g.O.Opener.state c.args.opener.now) (g.O.Opener.journal_at c.args.opener.now) (g.G.Gate.stops c.args.gate.now) in
     let after = sources (g.O.Opener.state c.run_script.new.opener) (g.O.Opener.journal_at c.run_script.new.opener) (g.G.Gate.stops c.run_script.new.gate) in
-    opens_words g.O.Opener.told g.O.Journal.Disk.told g.O.Journal.Disk.state _ before after _ _ c.run_script.result (λ f o u ran no. end_words ran.end (sym ran.status_is ∙ no)) c.run_script.ensures.opens bad
+    opens_words g.O.Opener.told g.O.Journal.Disk.told g.O.Journal.Disk.state _ before after _ _ c.run_script.result (λ f o u ran no. end_words ran.ran.end (sym ran.ran.status_is ∙ no)) c.run_script.ensures.opens bad
 
 pub returns-in-Check-clause-words : goal.returns-in-Check-clause-words
 returns-in-Check-clause-words g c = λ fit bad.
@@ -153,7 +153,7 @@ returns-in-Serve-clause-words g c = λ fit bad.
     let q = g.P.Spawner.state c.serve_line.new.spawner in
     let line = c.args.line.now in
     let status = c.serve_line.result in
-    let jobs = jobs_told g.row.O-Clock.Denot g.row.O-Gate.Denot g.O.Opener.lines_for g.O.Opener.listener_for (g.P.Spawner.handed c.args.spawner.now c.serve_line.new.spawner) in
+    let jobs = jobs_told g.O.Journal.Disk.told g.O.Opener g.O.Lines.Lines g.O.Listener.Listener g.O.Listener.Link.Link g.O.Clock.Clock g.O.Gate.Gate g.O.LetGo.gone (g.P.Spawner.handed c.args.spawner.now c.serve_line.new.spawner) in
     let disk : Type 0 = g.row.O-Journal.Denot in
     let mirror : Type 0 = MirrorDisk disk g.row.O-Peer.Denot in
     let S : Contents → Opening → UsersOpening → Type 0 = λ s o u. ServedSite disk disk jobs (site_in line) before after p q s o u status in
@@ -164,12 +164,12 @@ returns-in-Serve-clause-words g c = λ fit bad.
     (λ some. mirrors_words g.O.Journal.Disk.told g.O.Peer.Link.told g.O.Journal.Disk.state g.O.Peer.Link.state g.O.Opener.told (named_in line) before after (q ≡ p) M status (λ s o u ran. other ran.serving) (c.serve_line.ensures.mirrored (subst IsServe (sym c.in-Serve.is) (subst IsInRange c.in-Serve.is fit)) (subst IsSome (sym (ap peer_of c.in-Serve.is)) some)) bad)
 
 pub returns-in-Standby-clause-words : goal.returns-in-Standby-clause-words
-returns-in-Standby-clause-words g c = λ fit bad. stands_words _ _ _ _ _ _ _ _ _ _ _ _ _ _ _ c.run_standby.ensures.stands_by bad
+returns-in-Standby-clause-words g c = λ fit bad. stands_words _ _ _ _ _ _ _ _ _ _ _ _ _ _ _ _ _ c.run_standby.ensures.stands_by bad
 
 pub returns-in-Load-clause-run : goal.returns-in-Load-clause-run
 returns-in-Load-clause-run g c = λ fit.
-    let told = told_by g.O.Opener.told g.O.Journal.Disk.told g.K.Link.told g.C.Clock.told g.O.Peer.Link.told g.O.Listener.Listener.told g.O.Listener.Link.Link.told g.K.Link.begun g.O.Listener.Link.Link.begun in
-    let jobs = jobs_told g.row.O-Clock.Denot g.row.O-Gate.Denot g.O.Opener.lines_for g.O.Opener.listener_for (g.P.Spawner.handed c.args.spawner.now c.args.spawner.now) in
+    let told = told_by g.O.Opener.told g.O.Journal.Disk.told g.K.Link.told g.C.Clock.told g.O.Peer.Link.told g.O.Listener.Listener.told g.O.Listener.Link.Link.told g.K.Link.begun g.O.Listener.Link.Link.begun g.O.LetGo.gone (g.O.Opener.asked c.args.opener.now c.args.opener.now) in
+    let jobs = jobs_told g.O.Journal.Disk.told g.O.Opener g.O.Lines.Lines g.O.Listener.Listener g.O.Listener.Link.Link g.O.Clock.Clock g.O.Gate.Gate g.O.LetGo.gone (g.P.Spawner.handed c.args.spawner.now c.args.spawner.now) in
     let state = g.O.Journal.Disk.state in
     let at = λ (stops : ℕ) (terminal : LinkState). lent (sources (g.O.Opener.state c.args.opener.now) (g.O.Opener.journal_at c.args.opener.now) stops) terminal (g.C.Clock.coming c.args.clock.now) (g.P.Spawner.state c.args.spawner.now) in
     let before = at (g.G.Gate.stops c.args.gate.now) (g.K.Link.state c.args.terminal.now) in
@@ -205,8 +205,8 @@ returns-in-Load-clause-asked g c = λ fit.
 
 pub returns-in-Trial-clause-run : goal.returns-in-Trial-clause-run
 returns-in-Trial-clause-run g c = λ fit.
-    let told = told_by g.O.Opener.told g.O.Journal.Disk.told g.K.Link.told g.C.Clock.told g.O.Peer.Link.told g.O.Listener.Listener.told g.O.Listener.Link.Link.told g.K.Link.begun g.O.Listener.Link.Link.begun in
-    let jobs = jobs_told g.row.O-Clock.Denot g.row.O-Gate.Denot g.O.Opener.lines_for g.O.Opener.listener_for (g.P.Spawner.handed c.args.spawner.now c.args.spawner.now) in
+    let told = told_by g.O.Opener.told g.O.Journal.Disk.told g.K.Link.told g.C.Clock.told g.O.Peer.Link.told g.O.Listener.Listener.told g.O.Listener.Link.Link.told g.K.Link.begun g.O.Listener.Link.Link.begun g.O.LetGo.gone (g.O.Opener.asked c.args.opener.now c.args.opener.now) in
+    let jobs = jobs_told g.O.Journal.Disk.told g.O.Opener g.O.Lines.Lines g.O.Listener.Listener g.O.Listener.Link.Link g.O.Clock.Clock g.O.Gate.Gate g.O.LetGo.gone (g.P.Spawner.handed c.args.spawner.now c.args.spawner.now) in
     let state = g.O.Journal.Disk.state in
     let at = λ (stops : ℕ) (terminal : LinkState) (moments : List Moment). lent (sources (g.O.Opener.state c.args.opener.now) (g.O.Opener.journal_at c.args.opener.now) stops) terminal moments (g.P.Spawner.state c.args.spawner.now) in
     let before = at (g.G.Gate.stops c.args.gate.now) (g.K.Link.state c.args.terminal.now) (g.C.Clock.coming c.args.clock.now) in

@@ -1,7 +1,7 @@
 use Rattle.std.proofs.Common.{ℕ, inl, inr, refl, subst}
 use Rattle.dxc_model.specs.declared.user.SessionUser.TheVariants.{Nobody}
 use Rattle.xc_core.specs.States.{opening_of}
-use Rattle.craft_server.proofs.Scripting.{IsEnd, ran_session}
+use Rattle.craft_server.proofs.Scripting.{IsEnd, ran_and_left}
 use Rattle.craft_element.proofs.Starting.{begun, users_began}
 use Rattle.craft_server.proofs.Starting.{opened_at}
 use Rattle.dxc_outside.proofs.Asking.{asked_less}
@@ -40,8 +40,8 @@ returns-clause-opens g c =
       opening_of state x.state,
       begun told state f.disk f.shelf _ x st,
       users_began told state g.O.Opener.told _ _ f.shelf users u,
-      ran_session told state g.K.Link.told g.C.Clock.told g.K.Link.begun k l (g.C.Clock.coming c.args.clock.now) (g.C.Clock.coming c.serve_session.new.clock) (g.G.Gate.stops c.args.gate.now) later Nobody f.shelf f.disk u.0.disk _ x users c.in-Ok-lone_place.place c.serve_session.new.place c.serve_session.result c.after_session.result st u.1 c.in-Ok-lone_place.ensures e.place.seat e.place.users e.place.numbers e.place.users_numbers e.place.astray e.session e.prompt
-          (subst (λ (n : ℕ). IsEnd k l n later c.serve_session.result) c.in-Ok.ensures.unstopped ended) c.after_session.ensures,
+      ran_and_left told state g.K.Link.told g.C.Clock.told g.K.Link.begun k l (g.C.Clock.coming c.args.clock.now) (g.C.Clock.coming c.serve_session.new.clock) (g.G.Gate.stops c.args.gate.now) later Nobody f.shelf f.disk u.0.disk g.O.LetGo.gone _ x users c.in-Ok-lone_place.place c.serve_session.new.place c.serve_session.result c.after_session-status.result st u.1 c.in-Ok-lone_place.ensures e.place.seat e.place.users e.place.numbers e.place.users_numbers e.place.astray e.session e.prompt
+          (subst (λ (n : ℕ). IsEnd k l n later c.serve_session.result) c.in-Ok.ensures.unstopped ended) c.after_session-status.ensures c.let_go.ensures,
     )
 
 pub returns-in-Err-clause-asked : goal.returns-in-Err-clause-asked

@@ -3,7 +3,7 @@ use Rattle.xc_core.specs.States.{opening_of}
 use Rattle.craft_server.specs.Serving.{jobs_told, site_at}
 use Rattle.craft_server.proofs.Serves.{served_on}
 use Rattle.craft_element.proofs.Starting.{begun, users_began}
-use Rattle.craft_server.proofs.Starting.{opened_at}
+use Rattle.craft_server.proofs.Starting.{opened_at, sized}
 use Rattle.dxc_outside.proofs.Asking.{all_made, asked_behind, asked_within}
 use Rattle.craft_element.specs.Openings.{files_asked, named, sources}
 use Rattle.craft_element.proofs.Wording.{not_opened_ends}
@@ -18,6 +18,9 @@ serve_on-requires-clause-seats g c κs within = c.in-Ok.ensures.opened.0.1.seats
 
 pub serve_on-requires-clause-each : goal.serve_on-requires-clause-each
 serve_on-requires-clause-each g c κs within = c.in-Ok.ensures.opened.0.1.each
+
+pub serve_on-requires-clause-sized : goal.serve_on-requires-clause-sized
+serve_on-requires-clause-sized g c κs within = let h = c.in-Ok.ensures.opened.0 in sized g.O.Journal.Disk.told g.O.Journal.Disk.state h.0.disk h.0.shelf _ c.in-Ok.element.controller h.1
 
 pub serve_on-requires-clause-begins : goal.serve_on-requires-clause-begins
 serve_on-requires-clause-begins g c κs within = c.in-Ok.ensures.opened.0.1.begins
@@ -40,7 +43,7 @@ returns-clause-opens g c =
     let x = c.in-Ok.element in
     let names = named c.args.names.shelf.now c.args.names.journal.now in
     let site = site_at c.args.site.address.now c.args.site.lines.now c.args.site.workers in
-    let jobs = jobs_told g.row.O-Clock.Denot g.row.O-Gate.Denot g.O.Opener.lines_for g.O.Opener.listener_for (g.P.Spawner.handed c.args.spawner.now c.serve_on.new.spawner) in
+    let jobs = jobs_told g.O.Journal.Disk.told g.O.Opener g.O.Lines.Lines g.O.Listener.Listener g.O.Listener.Link.Link g.O.Clock.Clock g.O.Gate.Gate g.O.LetGo.gone (g.P.Spawner.handed c.args.spawner.now c.serve_on.new.spawner) in
     inr (
       h.0,
       opening_of state x.controller.state,

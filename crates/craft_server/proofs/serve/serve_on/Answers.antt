@@ -92,5 +92,7 @@ returns-clause-jobs g c = λ done.
       sixteen = let ok = sessions.ok.0 in let all : vec_len sessions ≡ 16 = c.in-Ok-session_jobs.ensures.jobs ∙ c.in-Ok.ensures.each in omega (arith, ok, all);
       places = subst (λ (l : List PlaceAt). ArePlaces (arc_value c.args.shelf.now) o p 16 0 l) (sym c.in-Ok-session_jobs.ensures.places) c.in-Ok.ensures.places;
       listeners = c.in-Ok-session_jobs.ensures.listeners;
+      sized = ap (λ (f : FabricId). f.size) c.requires.opening.fabric ∙ c.requires.sized;
       handed = c.run_jobs.ensures.handed done;
+      left = c.run_jobs.ensures.left done;
     }
