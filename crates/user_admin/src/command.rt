@@ -34,9 +34,7 @@ fn is_not_entitled(code: UserCode, user: &SessionUser) -> bool
 
 // A parameter that isn't optional is empty.
 fn is_missing(code: UserCode, uid: &[u8], pid: &[u8], second: &[u8]) -> bool
-    ensures {
-        result ≡ misses code (record { uid = uid.now; pid = pid.now; second = second.now })
-    }
+    ensures { result ≡ misses code (record { uid = uid.now; pid = pid.now; second = second.now }) }
 {
     match code {
         UserCode::Enter | UserCode::EditPid => {
@@ -166,10 +164,8 @@ fn asked(
 ) -> Result<UserOp, Cause>
     requires pid { length pid.now ≤ 2048 }
     requires second { length second.now ≤ 2048 }
-    ensures asked {
-        result ≡ asked_for user.now code
-            (record { uid = uid.now; pid = pid.now; second = second.now })
-    }
+    ensures asked { result ≡ asked_for user.now code
+        (record { uid = uid.now; pid = pid.now; second = second.now }) }
     ensures named { IfOk result NamesUid }
 {
     match code {
@@ -214,9 +210,7 @@ fn has_too_many(code: UserCode, unit: &[u8], blocks: &Blocks, parts: &Parts) -> 
 fn second_in<'a>(unit: &'a [u8], blocks: &Blocks, parts: &Parts) -> &'a [u8]
     requires short { length unit.now ≤ 2047 }
     requires parts { AreParts unit.now (map (block_at unit.now) blocks.now.block.items) parts.now }
-    ensures text {
-        result.now ≡ (named_in (map (block_at unit.now) blocks.now.block.items)).second
-    }
+    ensures text { result.now ≡ (named_in (map (block_at unit.now) blocks.now.block.items)).second }
     ensures short { length result.now ≤ 2048 }
 {
     parts.payload.second.text(unit)

@@ -91,10 +91,8 @@ fn is_changing(op: &UserOp) -> bool
     ensures { IsTrue result ↔ IsChanging op.now }
 {
     match op {
-        UserOp::Enter { .. }
-        | UserOp::Edit { .. }
-        | UserOp::Delete(_)
-        | UserOp::EditPid { .. } => true,
+        UserOp::Enter { .. } | UserOp::Edit { .. } | UserOp::Delete(_) | UserOp::EditPid { .. } =>
+            true,
         UserOp::Rows(_) | UserOp::Look(_) => false,
     }
 }
