@@ -140,7 +140,7 @@ module _ (r : Rules) (own : ℕ) (excused : Excuse) where
 
   -- A change that was asked while a stop stands failed.
   fails : (h : List Entry) (op : Op) (o : Outcome) (reply : Reply) → IsChangeAt h o → ChangeReply o reply → MayReply (standing_in ready h) (Changes op) reply
-  fails h op o reply at is = λ on. (let f = at.stopped (is_stopped h on) in (f.0, f.1.0, subst (λ (x : Outcome). ChangeReply x reply) f.1.1 is))
+  fails h op o reply at is = λ on. (let f = at.stopped (is_stopped h on) in (f.0, f.1, subst (λ (x : Outcome). ChangeReply x reply) f.2 is))
 
   -- What is asked takes no entry
   pub record Free (h es : List Entry) (s : Attending) (k : Ask) (reply : Reply) : Type 0 where

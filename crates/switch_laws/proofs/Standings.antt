@@ -79,8 +79,8 @@ pub is_stopped : (h : List Entry) → (standing_in ready h).stopped ≡ true →
 is_stopped h = kept [] h ready (λ x. absurd (let no : false ≡ true = x in cc))
 
 told_apart : (b : Bool) → (b ≡ true → ⊥) → b ≡ false
-told_apart true no = absurd (no refl)
-told_apart false no = refl
+told_apart true never = absurd (never refl)
+told_apart false never = refl
 
 pub not_stopped : (h : List Entry) → (IsStopped h → ⊥) → (standing_in ready h).stopped ≡ false
-not_stopped h no = told_apart (standing_in ready h).stopped (λ x. no (is_stopped h x))
+not_stopped h never = told_apart (standing_in ready h).stopped (λ x. never (is_stopped h x))
