@@ -32,6 +32,7 @@ COMMANDS = {  # code: classes, parameters of the AID block, of the first payload
     b"ED-USER-SECU": ("S", (True,), (False, False)),
     b"DLT-USER-SECU": ("S", (True,), ()),
     b"RTRV-USER-SECU": ("S", (False,), ()),
+    b"ED-PID": ("RPS", (True,), (True, True)),
 }
 CAUSES = {
     "TooLong": ("IISP", "UNIT LONGER THAN 2048 BYTES"),
@@ -161,6 +162,9 @@ class User:
     rank: str
     salt: bytes
     digest: bytes
+
+    def has(self, pid):
+        return hashlib.sha256(self.salt + pid).digest() == self.digest
 
 
 @dataclass
@@ -405,6 +409,8 @@ class Session:
             if names[0].upper() not in (b"", b"ALL"):
                 raise Denied("BadAid")
             self.cursor = None if code[0] == "I" else len(element.changes) if self.cursor is None else self.cursor
+        elif code == "ED-PID":
+            return self.change_pid(names[0], *values)
         elif code.endswith("-USER-SECU"):
             return self.on_users(code.partition("-")[0], names[0], *values)
         elif code == "RTRV-CRS-T0":
@@ -446,9 +452,20 @@ class Session:
             raise Denied("UnknownUser")
         return [f'"{user.name}:{user.rank}"' for user in self.element.users if user.name.encode() == uid.upper() or not uid]
 
+    def change_pid(self, uid, old, new):
+        if not UID.match(uid):
+            raise Denied("BadAid")
+        if uid.decode().upper() != self.user.name:
+            raise Denied("OtherUser")
+        user = self.element.named(uid)
+        if not user or not user.has(old):
+            raise Denied("BadIdentity")
+        self.people = user, self.element.under(uid, new, user.rank)
+        return []
+
     def log_in(self, uid, pid):
         user = self.element.named(uid)
-        if user and hashlib.sha256(user.salt + pid).digest() == user.digest:
+        if user and user.has(pid):
             if self.user is not None:
                 raise Denied("AlreadyLoggedIn")
             self.user = user

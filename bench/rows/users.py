@@ -18,6 +18,8 @@ SID = b"DXC1"
 ELEMENT = SimpleNamespace(modules=2, slots=1, equipped={1, 2})
 CLASSES = "RPS"
 THERE, UNKNOWN, LAST, FULL = "USER ALREADY THERE", "USER NOT KNOWN", "LAST USER OF CLASS S", "64 USERS ARE KEPT"
+INVALID, OTHER = "USER OR PID INVALID", "SESSION IS ANOTHER USERS"
+ASKING = "ANNA"  # who asks, in the rows
 DONE = "COMPLD"
 
 
@@ -163,6 +165,14 @@ class Kept:
             return LAST
         return self.keep(10, self.users[name])
 
+    def change_pid(self, uid, old, new):
+        name = uid.upper()
+        if name != ASKING:
+            return OTHER
+        if self.login(name, old) == "-":
+            return INVALID
+        return self.keep(9, new_user(name, self.users[name].letter, new))
+
     def rows(self, uid=""):
         name = uid.upper()
         if not name:
@@ -182,6 +192,7 @@ UNITS = {
     "edit": lambda uid, pid="", letter="": f"ED-USER-SECU::{uid}:1::{pid},{letter}",
     "delete": lambda uid: f"DLT-USER-SECU::{uid}:1",
     "rows": lambda uid="": f"RTRV-USER-SECU::{uid}:1",
+    "change_pid": lambda uid, old, new: f"ED-PID::{uid}:1::{old},{new}",
 }
 
 
@@ -219,11 +230,15 @@ def worked():
     row("an edit with a PID has a new salt, one without leaves the secrets",
         [("edit", "ANNA", "k2"), ("login", "ANNA", "bc"), ("login", "ANNA", "k2"), ("edit", "CARA", "", "P"), ("login", "CARA", "long"), ("edit", "CARA", "m3", "S"), ("login", "CARA", "long"), ("login", "CARA", "m3"), ("edit", "ANNA", "", "R")],
         [("list",), ("login", "ANNA", "k2"), ("login", "CARA", "m3")])
+    row("one's own PID is replaced by who knows the old one",
+        [("change_pid", "ANNA", "bd", "k2"), ("login", "ANNA", "bc"), ("change_pid", "anna", "bc", "k2"), ("login", "ANNA", "bc"), ("login", "ANNA", "k2"), ("change_pid", "ANNA", "bc", "k3"), ("change_pid", "CARA", "long", "k3"), ("login", "CARA", "long"), ("rows",)],
+        [("login", "ANNA", "bc"), ("login", "ANNA", "k2"), ("change_pid", "ANNA", "k2", "k2"), ("login", "ANNA", "k2"), ("enter", "B", "p1", "S"), ("delete", "ANNA"), ("change_pid", "ANNA", "k2", "k4"), ("list",)],
+        [("login", "ANNA", "k2"), ("enter", "ANNA", "k5", "R"), ("change_pid", "ANNA", "k5", "k6"), ("login", "ANNA", "k6"), ("rows", "ANNA")])
     row("one who was deleted is entered again under another PID",
         [("enter", "B", "p1", "S"), ("delete", "b"), ("login", "B", "p1"), ("enter", "b", "p2", "R"), ("login", "B", "p1"), ("login", "B", "p2"), ("delete", "CARA"), ("enter", "cara", "long", "R"), ("login", "CARA", "long")],
         [("list",), ("login", "CARA", "long")])
     row("what a unit decides by itself comes first",
-        [("raw", "ENT-USER-SECU::FAY:1::x9,p", "VALUE NOT KNOWN"), ("raw", "ENT-USER-SECU::ABCDEFGHIJK:1::x9,P", "AID INVALID"), ("login", "ABCDEFGHIJK", "x9"), ("list",)])
+        [("raw", "ENT-USER-SECU::FAY:1::x9,p", "VALUE NOT KNOWN"), ("raw", "ENT-USER-SECU::ABCDEFGHIJK:1::x9,P", "AID INVALID"), ("raw", "ED-PID::ANNA:1::bc", "PARAMETER MISSING"), ("raw", "ED-PID::ANNA:1::,k2", "PARAMETER MISSING"), ("raw", "ED-PID:::1::bc,k2", "PARAMETER MISSING"), ("raw", "ED-PID::ANNA:1::bc,k2,k2", "PARAMETER TOO MANY"), ("raw", "ED-PID::1ANNA:1::bc,k2", "AID INVALID"), ("login", "ABCDEFGHIJK", "x9"), ("list",)])
     many = [f"U{number:02}" for number in range(62)]
     row("64 users are kept", [("enter", uid, f"p{uid}", "RPS"[number % 3]) for number, uid in enumerate(many)] + [("enter", "ONEMORE", "x", "R"), ("enter", "U00", "x", "R"), ("delete", "U31"), ("enter", "ONEMORE", "x", "R"), ("login", "U61", "pU61"), ("login", "ONEMORE", "x")],
         [("list",), ("login", "U30", "pU30"), ("login", "U31", "pU31")], after=False)
@@ -265,9 +280,9 @@ def images(kept, step, *runs):
 
 
 def crashed():
-    print("\nfile \n\nrow a crash at each call of three changes, and of the making of the journal")
+    print("\nfile \n\nrow a crash at each call of four changes, and of the making of the journal")
     kept = Kept()
-    for step in (("enter", "FAY", "x9", "P"), ("edit", "CARA", "", "S"), ("delete", "ANNA")):
+    for step in (("enter", "FAY", "x9", "P"), ("change_pid", "ANNA", "bc", "k2"), ("edit", "CARA", "", "S"), ("delete", "ANNA")):
         images(kept, step, (0, 1))
     print("open users")
     show(kept, [("list",)])
@@ -287,7 +302,7 @@ def rows():
     print("#   file HEX       the journal's bytes for the rows behind it; none: a new one")
     print("#   row TEXT       begins a row                front N     of its journal only the first bytes")
     print("#   byte N B       one byte of it is this      open TEXT   an opening, and what it must come to")
-    print("#   ask UNIT       a user of class S asks      login UID PID")
+    print("#   ask UNIT       ANNA of class S asks        login UID PID")
     print("#   list           the users in order          want TEXT   what must come of the line before")
     print("#   after HEX      what the journal is then")
     print("#   images N M     at each Mth call from N on a crash leaves one of these:   users TEXT")

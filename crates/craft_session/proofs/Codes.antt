@@ -30,17 +30,19 @@ other_length (x ∷ xs) (y ∷ ys) shorter =
     let same = nat_eq (to_ascii_lowercase x) (to_ascii_lowercase y) in
     ap (λ (b : Bool). same && b) (other_length xs ys (omega arith)) ∙ none_behind same
 
-pub short_is_none : (text : List ℕ) → nat_lt (length text) 12 ≡ true → code_named text ≡ None
+pub short_is_none : (text : List ℕ) → nat_lt (length text) 6 ≡ true → code_named text ≡ None
 unfolding code_named
 short_is_none text is =
-    let short = below (length text) 12 is in
+    let short = below (length text) 6 is in
+    let by_12 : length text < 12 = omega arith in
     let by_13 : length text < 13 = omega arith in
     let by_14 : length text < 14 = omega arith in
     otherwise _ _ _ _ (other_length text (codes "ENT-USER-SECU") by_13)
-    (otherwise _ _ _ _ (other_length text (codes "ED-USER-SECU") short)
+    (otherwise _ _ _ _ (other_length text (codes "ED-USER-SECU") by_12)
     (otherwise _ _ _ _ (other_length text (codes "DLT-USER-SECU") by_13)
-    (otherwise _ _ _ _ (other_length text (codes "RTRV-USER-SECU") by_14) refl)))
+    (otherwise _ _ _ _ (other_length text (codes "RTRV-USER-SECU") by_14)
+    (otherwise _ _ _ _ (other_length text (codes "ED-PID") short) refl))))
 
 pub none_is_unknown : (sid : List ℕ) (user : SessionUser) (bs : List Block) → code_named (code_text bs) ≡ None → user_meaning sid user bs ≡ Err UnknownCommand
 unfolding user_meaning
-none_is_unknown sid user bs none = ap (λ (c : Option UserCode). or_cause c UnknownCommand >>= (λ code. unless (first_refusal sid user code bs) (asked code (named_in bs)))) none
+none_is_unknown sid user bs none = ap (λ (c : Option UserCode). or_cause c UnknownCommand >>= (λ code. unless (first_refusal sid user code bs) (asked user code (named_in bs)))) none

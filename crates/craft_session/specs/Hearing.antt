@@ -45,6 +45,7 @@ abbrev pub rows_of : UserOp → Users → List UserRow
 rows_of (op.Enter uid pid class) users = []
 rows_of (op.Edit uid pid class) users = []
 rows_of (op.Delete uid) users = []
+rows_of (op.EditPid uid old new) users = []
 rows_of (op.Rows which) users = rows_in users which
 rows_of (op.Look uid) users = []
 

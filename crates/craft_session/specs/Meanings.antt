@@ -116,6 +116,7 @@ abbrev pub op_wants : UserOp → Wanted
 op_wants (user.Enter uid pid class) = to_do (user.Enter uid pid class)
 op_wants (user.Edit uid pid class) = to_do (user.Edit uid pid class)
 op_wants (user.Delete uid) = to_do (user.Delete uid)
+op_wants (user.EditPid uid old new) = to_do (user.EditPid uid old new)
 op_wants (user.Rows which) = to_do (user.Rows which)
 op_wants (user.Look uid) = nothing
 

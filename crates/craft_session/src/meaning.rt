@@ -254,13 +254,13 @@ fn hear_users<U: Disk + Drop, G: Gate, R: Wait>(
     }
 }
 
-/// Whether a unit's code has fewer bytes than `ED-USER-SECU`, the shortest of those that keep users.
+/// Whether a unit's code has fewer bytes than `ED-PID`, the shortest of those that keep users.
 fn is_short(unit: &[u8], found: &Blocks) -> bool
     requires blocks { AreBlocksOf unit.now found.now.block.items }
     ensures { result ≡ true
         → code_named (code_text (map (block_at unit.now) found.now.block.items)) ≡ None }
 {
-    block_text(unit, found, 0).len() < 12
+    block_text(unit, found, 0).len() < 6
 }
 
 /// What a unit asks that may be a command of the users. The blocks are the unit's.

@@ -27,6 +27,7 @@ reading_makes_none : (sid : List ℕ) (o : UserOp) (users : Users) (c : UserChan
 reading_makes_none sid (op.Enter uid pid class) users c reads x = reads
 reading_makes_none sid (op.Edit uid pid class) users c reads x = reads
 reading_makes_none sid (op.Delete uid) users c reads x = reads
+reading_makes_none sid (op.EditPid uid old new) users c reads x = reads
 reading_makes_none sid (op.Rows which) users c reads x = x
 reading_makes_none sid (op.Look uid) users c reads x = x
 

@@ -7,7 +7,7 @@ use Rattle.dxc_num.specs.Dimensions.{Dimensions}
 use Rattle.dxc_disk.specs.Disks.{CountsOn, DiskState, IsDisk, IsSpent, LeavesOnly, Spends}
 use Rattle.dxc_disk.proofs.DiskSteps.{spends_none}
 use Rattle.dxc_model.specs.declared.cause.Cause.{Cause}
-use Rattle.dxc_model.specs.declared.cause.Cause.TheVariants.{DiskFault, LastOfClassS, UnknownUser, UserThere, UsersFull}
+use Rattle.dxc_model.specs.declared.cause.Cause.TheVariants.{BadIdentity, DiskFault, LastOfClassS, UnknownUser, UserThere, UsersFull}
 use Rattle.dxc_model.specs.declared.user.Class.{Class}
 use Rattle.journal_core.specs.declared.book.Book.{Book}
 use Rattle.journal_core.specs.Books.{IsWhole, listed, next_head, rows}
@@ -27,7 +27,7 @@ use Rattle.user_admin.specs.declared.state.Lists.{Lists}
 use Rattle.user_admin.specs.declared.state.UserState.{UserState}
 use Rattle.user_admin.specs.Users.{Users, is_of_class_s, is_there, named, shelf_users}
 use Rattle.user_admin.specs.Changes.{after, effect, most_users}
-use Rattle.user_admin.specs.Verdicts.{Grants, Refuses, class_or, is_last_s, refusal, refused_deletion, refused_edit}
+use Rattle.user_admin.specs.Verdicts.{Grants, Refuses, class_or, has_pid, is_last_s, refusal, refused_deletion, refused_edit, refused_pid}
 use Rattle.user_admin.specs.Spellable.{AreDescribed, AreSpellable, NamesUid}
 use Rattle.user_admin.specs.Files.{IsFileOn, IsOldOrDoubted, IsOldOrOneMore}
 use Rattle.user_admin.specs.Journals.{IsAtHome}
@@ -162,7 +162,7 @@ entered told state o s h e disk of_shelf whole doubt doubted home users legal ma
     (users ∙ more) (legal_more o h e legal may) faults spends (paid_counted o (h ++ e ∷ []) (state s.journal.0) counts faults spends) (subst (λ (m : Users). AreSpellable (shelf_users o.shelf) m) more spellable)
 
 -- what holds of each cause of the users holds of the first
-module _ (P : Cause → Type 0) (there : P UserThere) (full : P UsersFull) (unknown : P UnknownUser) (last_s : P LastOfClassS) where
+module _ (P : Cause → Type 0) (there : P UserThere) (full : P UsersFull) (unknown : P UnknownUser) (last_s : P LastOfClassS) (identity : P BadIdentity) where
   entry_cause : (b d : Bool) (q : Cause) → (if b then Some UserThere else if d then Some UsersFull else None) ≡ Some q → P q
   entry_cause true d q is = subst P (same_some _ _ is) there
   entry_cause false true q is = subst P (same_some _ _ is) full
@@ -180,6 +180,14 @@ module _ (P : Cause → Type 0) (there : P UserThere) (full : P UsersFull) (unkn
   deletion_cause None users q is = subst P (same_some _ _ is) unknown
   deletion_cause (Some u) users q is = last_cause (is_last_s u users) q is
 
+  held_cause : (b : Bool) (q : Cause) → (if b then None else Some BadIdentity) ≡ Some q → P q
+  held_cause true q is = absurd (none_some q is)
+  held_cause false q is = subst P (same_some _ _ is) identity
+
+  pid_cause : (old : List ℕ) (u : Option User) (q : Cause) → refused_pid old u ≡ Some q → P q
+  pid_cause old None q is = subst P (same_some _ _ is) identity
+  pid_cause old (Some u) q is = held_cause (has_pid old u) q is
+
   rows_cause : (b : Bool) (q : Cause) → (if b then None else Some UnknownUser) ≡ Some q → P q
   rows_cause true q is = absurd (none_some q is)
   rows_cause false q is = subst P (same_some _ _ is) unknown
@@ -188,23 +196,24 @@ module _ (P : Cause → Type 0) (there : P UserThere) (full : P UsersFull) (unkn
   by_users (asked_for.Enter uid pid class) users q is = entry_cause (is_there uid users) (nat_le most_users (len users)) q is
   by_users (asked_for.Edit uid pid class) users q is = edit_cause (named uid users) class users q is
   by_users (asked_for.Delete uid) users q is = deletion_cause (named uid users) users q is
+  by_users (asked_for.EditPid uid old new) users q is = pid_cause old.items (named uid users) q is
   by_users (asked_for.Rows None) users q is = absurd (none_some q is)
   by_users (asked_for.Rows (Some uid)) users q is = rows_cause (is_there uid users) q is
   by_users (asked_for.Look uid) users q is = absurd (none_some q is)
 
 -- no cause of the users is the disk's
 pub not_by_disk : (op : UserOp) (users : Users) (q : Cause) → refusal op users ≡ Some q → refused q ≡ Denied q
-not_by_disk = by_users (λ q. refused q ≡ Denied q) refl refl refl refl
+not_by_disk = by_users (λ q. refused q ≡ Denied q) refl refl refl refl refl
 
 pub asked_none : (op : UserOp) (users : Users) (q : Cause) → refusal op users ≡ Some q → asked_before q ≡ []
-asked_none = by_users (λ q. asked_before q ≡ []) refl refl refl refl
+asked_none = by_users (λ q. asked_before q ≡ []) refl refl refl refl refl
 
 abbrev stands_against : UserDone → Bool
 stands_against (done.Denied DiskFault) = true
 stands_against _ = false
 
 pub other_than_disk : (op : UserOp) (users : Users) (q : Cause) → refusal op users ≡ Some q → done.Denied q ≡ done.Denied DiskFault → ⊥
-other_than_disk op users q is same = never (by_users (λ q. stands_against (done.Denied q) ≡ false) refl refl refl refl op users q is) (ap stands_against same)
+other_than_disk op users q is same = never (by_users (λ q. stands_against (done.Denied q) ≡ false) refl refl refl refl refl op users q is) (ap stands_against same)
 
 -- what a state that stands for a history may keep
 pub record MayKeep (l : Lists) : Type 0 where

@@ -7,9 +7,9 @@ ghost use Rattle.shelf_file.specs.Keys.{is_uid as reads_as_uid};
 ghost use Rattle.tl1_command.specs.Blocks.{code_text};
 ghost use Rattle.tl1_command.specs.Parts.{AreParts};
 ghost use Rattle.user_admin.specs.Spellable.{NamesUid};
-ghost use Rattle.user_admin.specs.Commands.{asked as asked_for, code_named, class_given, class_of as class_named, first_refusal, has_too_many as too_many, is_missing as misses, is_not_entitled as not_entitled, is_not_logged_in as not_logged_in, named_in, pid_given, rows_asked, uid_given, user_meaning};
+ghost use Rattle.user_admin.specs.Commands.{asked as asked_for, code_named, class_given, class_of as class_named, first_refusal, has_too_many as too_many, is_missing as misses, is_own as is_own_user, is_not_entitled as not_entitled, is_not_logged_in as not_logged_in, named_in, own_given, pid_given, rows_asked, uid_given, user_meaning};
 
-use crate::code::{UserCode, code_of};
+use crate::code::{UserCode, code_of, is_for_class_s};
 use crate::op::{Pid, UserOp};
 use arrayvec::ArrayVec;
 use dxc_model::{Cause, Class, SessionUser, Uid};
@@ -23,22 +23,24 @@ fn is_not_logged_in(user: &SessionUser) -> bool
     matches!(user, SessionUser::Nobody)
 }
 
-fn is_not_entitled(user: &SessionUser) -> bool
-    ensures { result ≡ not_entitled user.now }
+fn is_not_entitled(code: UserCode, user: &SessionUser) -> bool
+    ensures { result ≡ not_entitled code user.now }
 {
     match user {
         SessionUser::Nobody => false,
-        SessionUser::User { class, .. } => *class != Class::S,
+        SessionUser::User { class, .. } => is_for_class_s(code) && *class != Class::S,
     }
 }
 
 // A parameter that isn't optional is empty.
-fn is_missing(code: UserCode, uid: &[u8], pid: &[u8], class: &[u8]) -> bool
-    ensures { result ≡ misses code (record { uid = uid.now; pid = pid.now; class = class.now }) }
+fn is_missing(code: UserCode, uid: &[u8], pid: &[u8], second: &[u8]) -> bool
+    ensures { result ≡ misses code (record { uid = uid.now; pid = pid.now; second = second.now }) }
 {
     match code {
-        UserCode::Enter => uid.is_empty() || pid.is_empty() || class.is_empty(),
-        UserCode::Edit => uid.is_empty() || (pid.is_empty() && class.is_empty()),
+        UserCode::Enter | UserCode::EditPid => {
+            uid.is_empty() || pid.is_empty() || second.is_empty()
+        }
+        UserCode::Edit => uid.is_empty() || (pid.is_empty() && second.is_empty()),
         UserCode::Delete => uid.is_empty(),
         UserCode::Rows => false,
     }
@@ -131,22 +133,50 @@ fn rows_of(text: &[u8]) -> Result<UserOp, Cause>
     Ok(UserOp::Rows(Some(uid)))
 }
 
+// It is the session's user, case aside.
+fn is_own(user: &SessionUser, uid: &[u8]) -> bool
+    ensures { result ≡ is_own_user user.now uid.now }
+{
+    match user {
+        SessionUser::Nobody => false,
+        SessionUser::User { uid: own, .. } => uid.eq_ignore_ascii_case(own.bytes()),
+    }
+}
+
+fn own_uid_of(user: &SessionUser, text: &[u8]) -> Result<Uid, Cause>
+    ensures given { result ≡ own_given user.now text.now }
+    ensures valid { IfOk result (λ uid. reads_as_uid uid ≡ true) }
+{
+    let uid = uid_of(text)?;
+    if !is_own(user, text) {
+        return Err(Cause::OtherUser);
+    }
+    Ok(uid)
+}
+
 // What a command with its parameters asks for, or why it is denied.
-fn asked(code: UserCode, uid: &[u8], pid: &[u8], class: &[u8]) -> Result<UserOp, Cause>
-    requires { length pid.now ≤ 2048 }
-    ensures asked { result ≡ asked_for code
-        (record { uid = uid.now; pid = pid.now; class = class.now }) }
+fn asked(
+    user: &SessionUser,
+    code: UserCode,
+    uid: &[u8],
+    pid: &[u8],
+    second: &[u8],
+) -> Result<UserOp, Cause>
+    requires pid { length pid.now ≤ 2048 }
+    requires second { length second.now ≤ 2048 }
+    ensures asked { result ≡ asked_for user.now code
+        (record { uid = uid.now; pid = pid.now; second = second.now }) }
     ensures named { IfOk result NamesUid }
 {
     match code {
         UserCode::Enter => {
-            let class = class_of(class)?;
+            let class = class_of(second)?;
             let uid = uid_of(uid)?;
             let pid = pid_of(pid);
             Ok(UserOp::Enter { uid, pid, class })
         }
         UserCode::Edit => {
-            let class = class_if_given(class)?;
+            let class = class_if_given(second)?;
             let uid = uid_of(uid)?;
             let pid = pid_if_given(pid);
             Ok(UserOp::Edit { uid, pid, class })
@@ -156,6 +186,11 @@ fn asked(code: UserCode, uid: &[u8], pid: &[u8], class: &[u8]) -> Result<UserOp,
             Ok(UserOp::Delete(uid))
         }
         UserCode::Rows => rows_of(uid),
+        UserCode::EditPid => {
+            let uid = own_uid_of(user, uid)?;
+            let (old, new) = (pid_of(pid), pid_of(second));
+            Ok(UserOp::EditPid { uid, old, new })
+        }
     }
 }
 
@@ -171,10 +206,12 @@ fn has_too_many(code: UserCode, unit: &[u8], blocks: &Blocks, parts: &Parts) -> 
         || has_further(unit, blocks)
 }
 
-// The class that a unit names, in the second parameter of its first payload block.
-fn class_in<'a>(unit: &'a [u8], blocks: &Blocks, parts: &Parts) -> &'a [u8]
+// The second parameter of a unit's first payload block: a class, or a new PID.
+fn second_in<'a>(unit: &'a [u8], blocks: &Blocks, parts: &Parts) -> &'a [u8]
+    requires short { length unit.now ≤ 2047 }
     requires parts { AreParts unit.now (map (block_at unit.now) blocks.now.block.items) parts.now }
-    ensures { result.now ≡ (named_in (map (block_at unit.now) blocks.now.block.items)).class }
+    ensures text { result.now ≡ (named_in (map (block_at unit.now) blocks.now.block.items)).second }
+    ensures short { length result.now ≤ 2048 }
 {
     parts.payload.second.text(unit)
 }
@@ -197,16 +234,16 @@ fn refusal(
 {
     let uid = parts.aids.first.text(unit);
     let pid = parts.payload.first.text(unit);
-    let class = class_in(unit, blocks, parts);
+    let second = second_in(unit, blocks, parts);
     if Ctag::of(block_text(unit, blocks, 3)).is_none() {
         Some(Cause::BadCtag)
     } else if is_other_target(sid, block_text(unit, blocks, 1)) {
         Some(Cause::OtherTarget)
     } else if is_not_logged_in(user) {
         Some(Cause::NotLoggedIn)
-    } else if is_not_entitled(user) {
+    } else if is_not_entitled(code, user) {
         Some(Cause::NotEntitled)
-    } else if is_missing(code, uid, pid, class) {
+    } else if is_missing(code, uid, pid, second) {
         Some(Cause::Missing)
     } else if has_too_many(code, unit, blocks, parts) {
         Some(Cause::TooMany)
@@ -218,7 +255,7 @@ fn refusal(
 }
 
 /// What a unit asks of the users, or the first cause that holds, of UnknownCommand, BadCtag, OtherTarget, NotLoggedIn,
-/// NotEntitled, Missing, TooMany, GeneralBlock, BadValue and BadAid in this order. The blocks are the unit's.
+/// NotEntitled, Missing, TooMany, GeneralBlock, BadValue, BadAid and OtherUser in this order. The blocks are the unit's.
 ///
 /// It is an unknown command exactly where its code isn't one of those that keep users.
 #[tactic(auto, unfolding(crate::specs::Commands::user_meaning))]
@@ -243,5 +280,5 @@ pub fn user_command_of(
     }
     let uid = parts.aids.first.text(unit);
     let pid = parts.payload.first.text(unit);
-    asked(code, uid, pid, class_in(unit, blocks, &parts))
+    asked(&user, code, uid, pid, second_in(unit, blocks, &parts))
 }

@@ -70,7 +70,7 @@ fn class_text(alloc: Global, class: Option<Class>) -> Result<Vec<u8>> {
     Ok(text)
 }
 
-// What a unit of a user of class S asks.
+// What a unit of ANNA, of class S, asks.
 fn op_of(sid: &Sid, unit: &[u8]) -> Result<UserOp, Cause>
     ensures { IfOk result NamesUid }
 {
@@ -78,7 +78,7 @@ fn op_of(sid: &Sid, unit: &[u8]) -> Result<UserOp, Cause>
         return Err(Cause::TooLong);
     }
     let user = SessionUser::User {
-        uid: Uid::default(),
+        uid: Uid::of(b"ANNA").unwrap_or_default(),
         class: Class::S,
     };
     match blocks(unit) {
@@ -91,7 +91,8 @@ fn is_changing(op: &UserOp) -> bool
     ensures { IsTrue result ↔ IsChanging op.now }
 {
     match op {
-        UserOp::Enter { .. } | UserOp::Edit { .. } | UserOp::Delete(_) => true,
+        UserOp::Enter { .. } | UserOp::Edit { .. } | UserOp::Delete(_) | UserOp::EditPid { .. } =>
+            true,
         UserOp::Rows(_) | UserOp::Look(_) => false,
     }
 }

@@ -3,4 +3,4 @@ use Rattle.craft_session.proofs.Codes.{short_is_none}
 use Rattle.craft_session.proofs.meaning.is_short.Goals as goal
 
 pub returns : goal.returns
-returns c is = short_is_none _ (ap (λ (t : List ℕ). nat_lt (length t) 12) (sym c.block_text.ensures) ∙ is)
+returns c is = short_is_none _ (ap (λ (t : List ℕ). nat_lt (length t) 6) (sym c.block_text.ensures) ∙ is)
