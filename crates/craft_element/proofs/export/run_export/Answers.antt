@@ -23,7 +23,7 @@ write_commands-requires g c =
     let state = g.O.Journal.Disk.state in
     let same : x.state.table.shape ≡ c.shape.result = of_shape told state f.shelf x.state st.begins st.shape ∙ (ap (λ (s : Contents). s.shape) (sym st.shelf) ∙ (ap (λ (s : Contents). s.shape) (sym c.deref-2.ensures) ∙ sym c.shape.ensures)) in
     subst (λ (cs : List Change). AllByRecursion (IsChangeOf c.shape.result) cs) (sym c.deref-3.ensures.value)
-      (subst (λ (d : Dimensions). AllByRecursion (IsChangeOf d) c.in-Ok-changes_to.changes.items) same c.in-Ok-changes_to.ensures.inside)
+    (subst (λ (d : Dimensions). AllByRecursion (IsChangeOf d) c.in-Ok-changes_to.changes.items) same c.in-Ok-changes_to.ensures.inside)
 
 pub returns-in-Err-clause-opens : goal.returns-in-Err-clause-opens
 returns-in-Err-clause-opens g c = inl (c.in-Err.ensures.opened, refl)
