@@ -36,8 +36,16 @@ pub fn run_check<O: Opener + LetGo, K: Link, G: Gate>(
     terminal: &mut K,
     gate: &mut G,
 ) -> Status
-    ensures opens { Opens O.told O.Journal.told O.Journal.state (named names.entry.shelf.now names.entry.journal.now) (sources (O.state opener.old) (O.journal_at opener.old) (G.stops gate.old)) (sources (O.state opener.new) (O.journal_at opener.new) (G.stops gate.new)) (K.state terminal.new ≡ K.state terminal.old) (λ f o u. (G.stops gate.new ≡ G.stops gate.old) × IsCheck K.told f.shelf o (K.state terminal.old) (K.state terminal.new) result × WasLetGo O.Journal.told O.Journal.state O.gone (opened_on f.disk u.found.disk f.shelf o)) result }
-    ensures asked { AskedFor (O.asked opener.old opener.new) (files_asked (named names.entry.shelf.now names.entry.journal.now)) (IsOfNoOpening result) }
+    ensures opens { Opens O.told O.Journal.told O.Journal.state
+        (named names.entry.shelf.now names.entry.journal.now)
+        (sources (O.state opener.old) (O.journal_at opener.old) (G.stops gate.old))
+        (sources (O.state opener.new) (O.journal_at opener.new) (G.stops gate.new))
+        (K.state terminal.new ≡ K.state terminal.old)
+        (λ f o u. (G.stops gate.new ≡ G.stops gate.old)
+        × IsCheck K.told f.shelf o (K.state terminal.old) (K.state terminal.new) result × WasLetGo
+        O.Journal.told O.Journal.state O.gone (opened_on f.disk u.found.disk f.shelf o)) result }
+    ensures asked { AskedFor (O.asked opener.old opener.new)
+        (files_asked (named names.entry.shelf.now names.entry.journal.now)) (IsOfNoOpening result) }
 {
     let Element { controller, users } = match open(alloc, opener, names, WORKERS, gate) {
         Ok(element) => element,
@@ -56,7 +64,8 @@ pub fn run_check<O: Opener + LetGo, K: Link, G: Gate>(
 fn check<K: Link, D: Disk + Drop>(state: &State<D>, listed: &mut Vec<Conn>, link: &mut K) -> Sent
     requires home { state.now.home ≢ Out }
     requires room { ports state.now.table.shape ≤ vec_capacity listed.old }
-    ensures { IsSent K.told (K.state link.old) (K.state link.new) result (listing state.now.table.shape (rows state.now.table All) (records_at state.now.home)) }
+    ensures { IsSent K.told (K.state link.old) (K.state link.new) result
+        (listing state.now.table.shape (rows state.now.table All) (records_at state.now.home)) }
 {
     let mut text = ArrayVec::new();
     list(&state.table, Selection::All, listed);
@@ -99,7 +108,8 @@ fn write_rows<K: Link>(
     listed: &[Conn],
 ) -> Sent
     requires { AllByRecursion (IsOfShape shape) listed.now }
-    ensures { IsSent K.told (K.state link.old) (K.state link.new) result (flat_map (row_line shape) listed.now) }
+    ensures { IsSent K.told (K.state link.old) (K.state link.new) result
+        (flat_map (row_line shape) listed.now) }
 {
     for at in 0..listed.len() {
         write_line(shape, &listed[at], text);

@@ -15,8 +15,10 @@ pub fn load_element<G: Gate>(
     alloc: Global,
     gate: &mut G,
 ) -> Result<Element<MemDisk, MemDisk>, Status>
-    ensures started { MatchResult result IsLoadStarted (NotLoaded (G.stops gate.old) (G.stops gate.new)) }
-    ensures unstopped { MatchResult result (λ x. G.stops gate.new ≡ G.stops gate.old) (λ s. G.stops gate.old ≤ G.stops gate.new) }
+    ensures started { MatchResult result IsLoadStarted
+        (NotLoaded (G.stops gate.old) (G.stops gate.new)) }
+    ensures unstopped { MatchResult result (λ x. G.stops gate.new ≡ G.stops gate.old)
+        (λ s. G.stops gate.old ≤ G.stops gate.new) }
 {
     let Ok(shelf) = load_shelf(alloc) else {
         return Err(Status::NoMemory);

@@ -50,10 +50,18 @@ pub fn open<O: Opener, G: Gate>(
     gate: &mut G,
 ) -> Result<Element<O::Journal, O::Journal>, Status>
     requires workers { (0 < workers) × (workers ≤ 8) }
-    ensures opened { MatchResult result (IsOpened O.told O.Journal.told O.Journal.state (named names.entry.shelf.now names.entry.journal.now) workers (sources (O.state opener.old) (O.journal_at opener.old) (G.stops gate.old))) (NotOpened O.told O.Journal.told O.Journal.state (named names.entry.shelf.now names.entry.journal.now) (sources (O.state opener.old) (O.journal_at opener.old) (G.stops gate.old)) (sources (O.state opener.new) (O.journal_at opener.new) (G.stops gate.new))) }
-    ensures unstopped { MatchResult result (λ x. G.stops gate.new ≡ G.stops gate.old) (λ s. G.stops gate.old ≤ G.stops gate.new) }
+    ensures opened { MatchResult result (IsOpened O.told O.Journal.told O.Journal.state
+        (named names.entry.shelf.now names.entry.journal.now) workers
+        (sources (O.state opener.old) (O.journal_at opener.old) (G.stops gate.old)))
+        (NotOpened O.told O.Journal.told O.Journal.state
+        (named names.entry.shelf.now names.entry.journal.now)
+        (sources (O.state opener.old) (O.journal_at opener.old) (G.stops gate.old))
+        (sources (O.state opener.new) (O.journal_at opener.new) (G.stops gate.new))) }
+    ensures unstopped { MatchResult result (λ x. G.stops gate.new ≡ G.stops gate.old)
+        (λ s. G.stops gate.old ≤ G.stops gate.new) }
     ensures later { (O.state opener.old).faults ≤ (O.state opener.new).faults }
-    ensures asked { AskedFor (O.asked opener.old opener.new) (files_asked (named names.entry.shelf.now names.entry.journal.now)) (IsOk result) }
+    ensures asked { AskedFor (O.asked opener.old opener.new)
+        (files_asked (named names.entry.shelf.now names.entry.journal.now)) (IsOk result) }
 {
     let controller = open_controller(alloc, opener, names, workers, gate)?;
     match open_users(alloc, opener, names.journal, &controller.shelf) {
@@ -71,11 +79,21 @@ fn open_controller<O: Opener, G: Gate>(
     gate: &mut G,
 ) -> Result<Controller<O::Journal>, Status>
     requires workers { (0 < workers) × (workers ≤ 8) }
-    ensures opened { MatchResult result (HasController O.told O.Journal.told O.Journal.state (named names.entry.shelf.now names.entry.journal.now) workers (sources (O.state opener.old) (O.journal_at opener.old) (G.stops gate.old))) (NoController O.told O.Journal.told O.Journal.state (named names.entry.shelf.now names.entry.journal.now) (sources (O.state opener.old) (O.journal_at opener.old) (G.stops gate.old)) (sources (O.state opener.new) (O.journal_at opener.new) (G.stops gate.new))) }
-    ensures others { O.told → (n : List ℕ) → n ≢ names.entry.journal.now → O.journal_at opener.new n ≡ O.journal_at opener.old n }
-    ensures unstopped { MatchResult result (λ x. G.stops gate.new ≡ G.stops gate.old) (λ s. G.stops gate.old ≤ G.stops gate.new) }
+    ensures opened { MatchResult result (HasController O.told O.Journal.told O.Journal.state
+        (named names.entry.shelf.now names.entry.journal.now) workers
+        (sources (O.state opener.old) (O.journal_at opener.old) (G.stops gate.old)))
+        (NoController O.told O.Journal.told O.Journal.state
+        (named names.entry.shelf.now names.entry.journal.now)
+        (sources (O.state opener.old) (O.journal_at opener.old) (G.stops gate.old))
+        (sources (O.state opener.new) (O.journal_at opener.new) (G.stops gate.new))) }
+    ensures others { O.told → (n : List ℕ) → n ≢ names.entry.journal.now
+        → O.journal_at opener.new n ≡ O.journal_at opener.old n }
+    ensures unstopped { MatchResult result (λ x. G.stops gate.new ≡ G.stops gate.old)
+        (λ s. G.stops gate.old ≤ G.stops gate.new) }
     ensures later { (O.state opener.old).faults ≤ (O.state opener.new).faults }
-    ensures asked { AskedFor (O.asked opener.old opener.new) (shelf_named names.entry.shelf.now ∷ journal_named names.entry.journal.now ∷ []) (IsOk result) }
+    ensures asked { AskedFor (O.asked opener.old opener.new)
+        (shelf_named names.entry.shelf.now ∷ journal_named names.entry.journal.now ∷ [])
+        (IsOk result) }
 {
     let shelf = shelf_of_file(alloc, opener, names.shelf)?;
     match opener.journal(alloc, names.journal) {
@@ -91,8 +109,10 @@ pub(crate) fn shelf_of_file<O: Opener>(
     opener: &mut O,
     name: &str,
 ) -> Result<Shelf, Status>
-    ensures shelf { MatchResult result (HasShelf O.told (O.state opener.old) name.now) (NoShelf O.told (O.state opener.old) (O.state opener.new) name.now) }
-    ensures journals { O.told → (n : List ℕ) → O.journal_at opener.new n ≡ O.journal_at opener.old n }
+    ensures shelf { MatchResult result (HasShelf O.told (O.state opener.old) name.now)
+        (NoShelf O.told (O.state opener.old) (O.state opener.new) name.now) }
+    ensures journals { O.told → (n : List ℕ)
+        → O.journal_at opener.new n ≡ O.journal_at opener.old n }
     ensures later { (O.state opener.old).faults ≤ (O.state opener.new).faults }
     ensures asked { O.asked opener.old opener.new (shelf_named name.now ∷ []) }
 {
@@ -117,8 +137,10 @@ pub(crate) fn start<D: Disk + Drop, G: Gate>(
     gate: &mut G,
 ) -> Result<Controller<D>, Status>
     requires workers { (0 < workers) × (workers ≤ 8) }
-    ensures started { MatchResult result (IsStarted D.told D.state disk shelf workers) (NotStarted D.told D.state disk shelf (G.stops gate.old) (G.stops gate.new)) }
-    ensures unstopped { MatchResult result (λ x. G.stops gate.new ≡ G.stops gate.old) (λ s. G.stops gate.old ≤ G.stops gate.new) }
+    ensures started { MatchResult result (IsStarted D.told D.state disk shelf workers)
+        (NotStarted D.told D.state disk shelf (G.stops gate.old) (G.stops gate.new)) }
+    ensures unstopped { MatchResult result (λ x. G.stops gate.new ≡ G.stops gate.old)
+        (λ s. G.stops gate.old ≤ G.stops gate.new) }
 {
     let Ok(shelf) = Arc::new(alloc, shelf) else {
         return Err(Status::NoMemory);
@@ -173,9 +195,16 @@ pub(crate) fn open_users<O: Opener>(
     journal: &str,
     shelf: &Shelf,
 ) -> Result<UserState<O::Journal>, Status>
-    ensures users { MatchResult result (λ x. (d : O.Journal) × (O.told → O.journal_at opener.old (name_of_users journal.now) ≡ Some d) × AreUsersStarted O.Journal.told O.Journal.state d shelf.now x) (λ status. ((status ≡ Status.NoMemory) ⊎ ((status ≡ Status.CannotOpen) × Rose (O.state opener.old).faults (O.state opener.new).faults)) ⊎ ((d : O.Journal) × (O.told → O.journal_at opener.old (name_of_users journal.now) ≡ Some d) × AreUsersNotStarted O.Journal.told O.Journal.state d shelf.now status)) }
+    ensures users { MatchResult result (λ x. (d : O.Journal)
+        × (O.told → O.journal_at opener.old (name_of_users journal.now) ≡ Some d)
+        × AreUsersStarted O.Journal.told O.Journal.state d shelf.now x)
+        (λ status. ((status ≡ Status.NoMemory) ⊎ ((status ≡ Status.CannotOpen)
+        × Rose (O.state opener.old).faults (O.state opener.new).faults))
+        ⊎ ((d : O.Journal) × (O.told → O.journal_at opener.old (name_of_users journal.now) ≡ Some d)
+        × AreUsersNotStarted O.Journal.told O.Journal.state d shelf.now status)) }
     ensures later { (O.state opener.old).faults ≤ (O.state opener.new).faults }
-    ensures asked { AskedFor (O.asked opener.old opener.new) (journal_named (name_of_users journal.now) ∷ []) (IsOk result) }
+    ensures asked { AskedFor (O.asked opener.old opener.new)
+        (journal_named (name_of_users journal.now) ∷ []) (IsOk result) }
 {
     let Ok(name) = users_name(alloc, journal) else {
         return Err(Status::NoMemory);
@@ -193,7 +222,8 @@ pub(crate) fn start_users<D: Disk + Drop>(
     shelf: &Shelf,
     disk: D,
 ) -> Result<UserState<D>, Status>
-    ensures { MatchResult result (AreUsersStarted D.told D.state disk shelf.now) (AreUsersNotStarted D.told D.state disk shelf.now) }
+    ensures { MatchResult result (AreUsersStarted D.told D.state disk shelf.now)
+        (AreUsersNotStarted D.told D.state disk shelf.now) }
 {
     match UserState::open(alloc, shelf, disk) {
         Ok(users) => Ok(users),

@@ -26,10 +26,19 @@ pub fn open_mirrored<O: Opener, G: Gate>(
     gate: &mut G,
 ) -> Result<Element<Mirror<O>, O::Journal>, Status>
     requires workers { (0 < workers) × (workers ≤ 8) }
-    ensures opened { MatchResult result (IsOpenedOn O.Journal.told O.Peer.told O.Journal.state O.Peer.state O.told (named names.entry.shelf.now names.entry.journal.now) workers (sources (O.state opener.old) (O.journal_at opener.old) (G.stops gate.old))) (NotMirrored O.Journal.told O.Peer.told O.Journal.state O.Peer.state O.told (named names.entry.shelf.now names.entry.journal.now) (sources (O.state opener.old) (O.journal_at opener.old) (G.stops gate.old)) (sources (O.state opener.new) (O.journal_at opener.new) (G.stops gate.new))) }
-    ensures unstopped { MatchResult result (λ x. G.stops gate.new ≡ G.stops gate.old) (λ s. G.stops gate.old ≤ G.stops gate.new) }
+    ensures opened { MatchResult result (IsOpenedOn O.Journal.told O.Peer.told O.Journal.state
+        O.Peer.state O.told (named names.entry.shelf.now names.entry.journal.now) workers
+        (sources (O.state opener.old) (O.journal_at opener.old) (G.stops gate.old)))
+        (NotMirrored O.Journal.told O.Peer.told O.Journal.state O.Peer.state O.told
+        (named names.entry.shelf.now names.entry.journal.now)
+        (sources (O.state opener.old) (O.journal_at opener.old) (G.stops gate.old))
+        (sources (O.state opener.new) (O.journal_at opener.new) (G.stops gate.new))) }
+    ensures unstopped { MatchResult result (λ x. G.stops gate.new ≡ G.stops gate.old)
+        (λ s. G.stops gate.old ≤ G.stops gate.new) }
     ensures later { (O.state opener.old).faults ≤ (O.state opener.new).faults }
-    ensures asked { AskedFor (O.asked opener.old opener.new) (mirror_asked (named names.entry.shelf.now names.entry.journal.now) peer.now) (IsOk result) }
+    ensures asked { AskedFor (O.asked opener.old opener.new)
+        (mirror_asked (named names.entry.shelf.now names.entry.journal.now) peer.now)
+        (IsOk result) }
 {
     let controller = mirrored_controller(alloc, opener, names, peer, workers, gate)?;
     match open_users(alloc, opener, names.journal, &controller.shelf) {
@@ -48,11 +57,20 @@ fn mirrored_controller<O: Opener, G: Gate>(
     gate: &mut G,
 ) -> Result<Controller<Mirror<O>>, Status>
     requires workers { (0 < workers) × (workers ≤ 8) }
-    ensures opened { MatchResult result (HasMirrored O.Journal.told O.Peer.told O.Journal.state O.Peer.state O.told (named names.entry.shelf.now names.entry.journal.now) workers (sources (O.state opener.old) (O.journal_at opener.old) (G.stops gate.old))) (NoMirrored O.Journal.told O.Peer.told O.Journal.state O.Peer.state O.told (named names.entry.shelf.now names.entry.journal.now) (sources (O.state opener.old) (O.journal_at opener.old) (G.stops gate.old)) (sources (O.state opener.new) (O.journal_at opener.new) (G.stops gate.new))) }
-    ensures others { O.told → (n : List ℕ) → n ≢ names.entry.journal.now → O.journal_at opener.new n ≡ O.journal_at opener.old n }
-    ensures unstopped { MatchResult result (λ x. G.stops gate.new ≡ G.stops gate.old) (λ s. G.stops gate.old ≤ G.stops gate.new) }
+    ensures opened { MatchResult result (HasMirrored O.Journal.told O.Peer.told O.Journal.state
+        O.Peer.state O.told (named names.entry.shelf.now names.entry.journal.now) workers
+        (sources (O.state opener.old) (O.journal_at opener.old) (G.stops gate.old)))
+        (NoMirrored O.Journal.told O.Peer.told O.Journal.state O.Peer.state O.told
+        (named names.entry.shelf.now names.entry.journal.now)
+        (sources (O.state opener.old) (O.journal_at opener.old) (G.stops gate.old))
+        (sources (O.state opener.new) (O.journal_at opener.new) (G.stops gate.new))) }
+    ensures others { O.told → (n : List ℕ) → n ≢ names.entry.journal.now
+        → O.journal_at opener.new n ≡ O.journal_at opener.old n }
+    ensures unstopped { MatchResult result (λ x. G.stops gate.new ≡ G.stops gate.old)
+        (λ s. G.stops gate.old ≤ G.stops gate.new) }
     ensures later { (O.state opener.old).faults ≤ (O.state opener.new).faults }
-    ensures asked { AskedFor (O.asked opener.old opener.new) (shelf_named names.entry.shelf.now ∷ journal_named names.entry.journal.now ∷ peer_named peer.now ∷ []) (IsOk result) }
+    ensures asked { AskedFor (O.asked opener.old opener.new) (shelf_named names.entry.shelf.now
+        ∷ journal_named names.entry.journal.now ∷ peer_named peer.now ∷ []) (IsOk result) }
 {
     let shelf = shelf_of_file(alloc, opener, names.shelf)?;
     let mirror = mirror_of(alloc, opener, names.journal, peer)?;
@@ -66,10 +84,14 @@ fn mirror_of<O: Opener>(
     journal: &str,
     peer: &str,
 ) -> Result<Mirror<O>, Status>
-    ensures mirror { MatchResult result (IsMirrorOf O.Journal.told O.Peer.told O.Journal.state O.Peer.state O.told (O.journal_at opener.old) journal.now) (λ s. (s ≡ Status.NoMemory) ⊎ ((s ≡ Status.CannotOpen) × Rose (O.state opener.old).faults (O.state opener.new).faults)) }
-    ensures others { O.told → (n : List ℕ) → n ≢ journal.now → O.journal_at opener.new n ≡ O.journal_at opener.old n }
+    ensures mirror { MatchResult result (IsMirrorOf O.Journal.told O.Peer.told O.Journal.state
+        O.Peer.state O.told (O.journal_at opener.old) journal.now) (λ s. (s ≡ Status.NoMemory) ⊎
+        ((s ≡ Status.CannotOpen) × Rose (O.state opener.old).faults (O.state opener.new).faults)) }
+    ensures others { O.told → (n : List ℕ) → n ≢ journal.now
+        → O.journal_at opener.new n ≡ O.journal_at opener.old n }
     ensures later { (O.state opener.old).faults ≤ (O.state opener.new).faults }
-    ensures asked { AskedFor (O.asked opener.old opener.new) (journal_named journal.now ∷ peer_named peer.now ∷ []) (IsOk result) }
+    ensures asked { AskedFor (O.asked opener.old opener.new)
+        (journal_named journal.now ∷ peer_named peer.now ∷ []) (IsOk result) }
 {
     let disk = match opener.journal(alloc, journal) {
         Opened::Open(disk) => disk,

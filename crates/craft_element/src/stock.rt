@@ -48,9 +48,14 @@ pub fn stock_of<D: Disk + Drop, R: Wait>(
     rt: &R,
 ) -> Option<Stock>
     requires pass { HasPass turns.now pass.old }
-    requires room { ports (opening_of D.state turns.now.first).first.fold.table.shape ≤ vec_capacity rows.old }
-    ensures left { (h : List Entry) → Saw (opening_of D.state turns.now.first) pass.old.seen h → IfSome result (IsLeft pass.old.number turns.now.passes (opening_of D.state turns.now.first) h) }
-    ensures none { (h : List Entry) → Saw (opening_of D.state turns.now.first) pass.old.seen h → IfNone result (IsHeldUp D.told D.state pass.old.number turns.now.passes (opening_of D.state turns.now.first) h) }
+    requires room { ports (opening_of D.state turns.now.first).first.fold.table.shape ≤ vec_capacity
+        rows.old }
+    ensures left { (h : List Entry) → Saw (opening_of D.state turns.now.first) pass.old.seen h
+        → IfSome result
+        (IsLeft pass.old.number turns.now.passes (opening_of D.state turns.now.first) h) }
+    ensures none { (h : List Entry) → Saw (opening_of D.state turns.now.first) pass.old.seen h
+        → IfNone result (IsHeldUp D.told D.state pass.old.number turns.now.passes
+        (opening_of D.state turns.now.first) h) }
 {
     let turn = turns.enter(pass, rt);
     let stock = stock_in(turn.state(), rows);

@@ -101,7 +101,8 @@ fn after_standby(end: StandbyEnd) -> Status
 
 // Serves the link on the disk to its end.
 fn stand_by<K: Link, D: Disk>(link: &mut K, disk: &mut D) -> StandbyEnd
-    ensures ran { RanStandby D.told K.told (K.state link.old) (K.state link.new) (D.state disk.old) (D.state disk.new) result }
+    ensures ran { RanStandby D.told K.told (K.state link.old) (K.state link.new) (D.state disk.old)
+        (D.state disk.new) result }
     ensures prompt { IsPrompt K.begun K.told (K.state link.old) (K.state link.new) }
 {
     serve_standby(link, disk)

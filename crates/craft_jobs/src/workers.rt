@@ -24,7 +24,8 @@ fn frame_job<O: Opener>(
     seat: WorkerSeat,
 ) -> Result<FrameJob<O::Lines, O::Gate>, Status>
     requires { seat.reader ≡ record { fabric = arc_value fabric.now; worker = new_worker number } }
-    ensures job { IfOk result (λ job. IsJobOf O.lines_for (arc_value fabric.now) name.now number job) }
+    ensures job { IfOk result
+        (λ job. IsJobOf O.lines_for (arc_value fabric.now) name.now number job) }
     ensures made { IsMade (O.state opener.old).faults (O.state opener.new).faults result }
     ensures asked { O.asked opener.old opener.new (lines_named name.now number ∷ []) }
 {
@@ -55,9 +56,11 @@ pub fn frame_jobs<O: Opener>(
     requires each { length seats.items ≡ workers }
     ensures jobs { IfOk result (λ jobs. vec_len jobs ≡ workers) }
     // Each has the seat of its worker, and the lines that were handed out for that worker.
-    ensures workers { IfOk result (λ jobs. AreJobsOf O.lines_for (arc_value fabric.now) name.now 0 jobs.items) }
+    ensures workers { IfOk result
+        (λ jobs. AreJobsOf O.lines_for (arc_value fabric.now) name.now 0 jobs.items) }
     ensures made { IsMade (O.state opener.old).faults (O.state opener.new).faults result }
-    ensures asked { AskedFor (O.asked opener.old opener.new) (asked_each (lines_named name.now) workers) (IsOk result) }
+    ensures asked { AskedFor (O.asked opener.old opener.new)
+        (asked_each (lines_named name.now) workers) (IsOk result) }
 {
     let mut jobs = Vec::new(alloc);
     for number in 0..workers {

@@ -19,7 +19,8 @@ fn session_job<O: Opener, D: Disk + Drop, U: Disk + Drop>(
 ) -> Result<SessionJob<D, U, O::Listener, O::Clock, O::Gate>, Status>
     ensures made { IsMade (O.state opener.old).faults (O.state opener.new).faults result }
     ensures asked { O.asked opener.old opener.new (listener_named address.now ∷ []) }
-    ensures job { IfOk result (λ job. (job.place ≡ place) × O.listener_for job.listener address.now) }
+    ensures job { IfOk result
+        (λ job. (job.place ≡ place) × O.listener_for job.listener address.now) }
 {
     match opener.listener(alloc, address) {
         Opened::Open(listener) => Ok(SessionJob {
@@ -43,9 +44,11 @@ pub(crate) fn session_jobs<O: Opener, D: Disk + Drop, U: Disk + Drop>(
     ensures jobs { IfOk result (λ jobs. vec_len jobs ≡ vec_len places) }
     // Each has its place, and a listener that was handed out at the address.
     ensures places { IfOk result (λ jobs. map (λ job. job.place) jobs.items ≡ places.items) }
-    ensures listeners { IfOk result (λ jobs. All (λ job. O.listener_for job.listener address.now) jobs.items) }
+    ensures listeners { IfOk result
+        (λ jobs. All (λ job. O.listener_for job.listener address.now) jobs.items) }
     ensures made { IsMade (O.state opener.old).faults (O.state opener.new).faults result }
-    ensures asked { AskedFor (O.asked opener.old opener.new) (asked_each (λ session. listener_named address.now) (vec_len places)) (IsOk result) }
+    ensures asked { AskedFor (O.asked opener.old opener.new)
+        (asked_each (λ session. listener_named address.now) (vec_len places)) (IsOk result) }
 {
     let mut jobs = Vec::new(alloc);
     for place in places {

@@ -65,8 +65,11 @@ fn serve_load<D: Disk + Drop, U: Disk + Drop, G: Gate, R: Wait>(
     rt: &R,
 ) -> Result<(), Status>
     requires unread { (link_state link.old).reads ≡ 0 }
-    ensures served { MatchResult result (λ _. IsLoadServed D.told place.old place.new (link_state link.old) (link_state link.new)) (NotLoaded (G.stops gate.old) (G.stops gate.new)) }
-    ensures unstopped { MatchResult result (λ _. G.stops gate.new ≡ G.stops gate.old) (λ _. G.stops gate.old ≤ G.stops gate.new) }
+    ensures served { MatchResult result
+        (λ _. IsLoadServed D.told place.old place.new (link_state link.old) (link_state link.new))
+        (NotLoaded (G.stops gate.old) (G.stops gate.new)) }
+    ensures unstopped { MatchResult result (λ _. G.stops gate.new ≡ G.stops gate.old)
+        (λ _. G.stops gate.old ≤ G.stops gate.new) }
 {
     let end = serve_session(place, link, &mut LoadClock, gate, rt);
     // Its clause tells that not all reads were made before the script's end.
@@ -88,7 +91,8 @@ fn left_by<D: Disk + Drop, U: Disk + Drop, R: Wait>(
     rt: &R,
 ) -> Option<Stock>
     requires { ports place.seat.opening.first.fold.table.shape ≤ vec_capacity rows.old }
-    ensures { (h : List Entry) → Saw place.seat.opening place.seat.seen h → IfSome result (IsLeft place.seat.place place.seat.places place.seat.opening h) }
+    ensures { (h : List Entry) → Saw place.seat.opening place.seat.seen h
+        → IfSome result (IsLeft place.seat.place place.seat.places place.seat.opening h) }
 {
     let (mut pass, turns) = place.into_pass();
     stock_of(&mut pass, &turns, rows, rt)
@@ -104,8 +108,10 @@ fn summed<D: Disk + Drop, U: Disk + Drop, G: Gate, R: Wait>(
 ) -> Result<Summary, Status>
     requires unread { (link_state link.old).reads ≡ 0 }
     requires room { ports place.seat.opening.first.fold.table.shape ≤ vec_capacity rows.old }
-    ensures summed { MatchResult result (IsSummed D.told place (link_state link.old)) (NotLoaded (G.stops gate.old) (G.stops gate.new)) }
-    ensures unstopped { MatchResult result (λ _. G.stops gate.new ≡ G.stops gate.old) (λ _. G.stops gate.old ≤ G.stops gate.new) }
+    ensures summed { MatchResult result (IsSummed D.told place (link_state link.old))
+        (NotLoaded (G.stops gate.old) (G.stops gate.new)) }
+    ensures unstopped { MatchResult result (λ _. G.stops gate.new ≡ G.stops gate.old)
+        (λ _. G.stops gate.old ≤ G.stops gate.new) }
 {
     match serve_load(&mut place, link, gate, rt) {
         Ok(()) => {}
@@ -136,8 +142,10 @@ fn load_on<D: Disk + Drop, U: Disk + Drop, G: Gate, R: Wait>(
     requires element { IsLoadElement D.told U.told D.state U.state element }
     requires rows { ports shape_of_load ≤ vec_capacity rows.old }
     requires written { (written.items ≡ []) × (2 ^ 21 ≤ vec_capacity written) }
-    ensures loaded { MatchResult result (IsLoadedOn D.told U.told D.state U.state number) (NotLoaded (G.stops gate.old) (G.stops gate.new)) }
-    ensures unstopped { MatchResult result (λ _. G.stops gate.new ≡ G.stops gate.old) (λ _. G.stops gate.old ≤ G.stops gate.new) }
+    ensures loaded { MatchResult result (IsLoadedOn D.told U.told D.state U.state number)
+        (NotLoaded (G.stops gate.old) (G.stops gate.new)) }
+    ensures unstopped { MatchResult result (λ _. G.stops gate.new ≡ G.stops gate.old)
+        (λ _. G.stops gate.old ≤ G.stops gate.new) }
 {
     let Element { controller, users } = element;
     let Controller {
@@ -166,7 +174,8 @@ fn load_opened<D: Disk + Drop, U: Disk + Drop, G: Gate, R: Wait>(
     requires element { IfOk opened (IsLoadElement D.told U.told D.state U.state) }
     requires rows { ports shape_of_load ≤ vec_capacity rows.old }
     requires written { (written.items ≡ []) × (2 ^ 21 ≤ vec_capacity written) }
-    ensures { LoadsOn D.told U.told D.state U.state number opened (G.stops gate.old) (G.stops gate.new) result }
+    ensures { LoadsOn D.told U.told D.state U.state number opened (G.stops gate.old)
+        (G.stops gate.new) result }
 {
     match opened {
         Ok(element) => load_on(alloc, number, element, rows, written, gate, rt),
@@ -181,8 +190,10 @@ fn loaded<G: Gate, R: Wait>(
     gate: &mut G,
     rt: &R,
 ) -> Result<Summary, Status>
-    ensures loaded { MatchResult result (IsLoaded number) (NotLoaded (G.stops gate.old) (G.stops gate.new)) }
-    ensures unstopped { MatchResult result (λ _. G.stops gate.new ≡ G.stops gate.old) (λ _. G.stops gate.old ≤ G.stops gate.new) }
+    ensures loaded { MatchResult result (IsLoaded number)
+        (NotLoaded (G.stops gate.old) (G.stops gate.new)) }
+    ensures unstopped { MatchResult result (λ _. G.stops gate.new ≡ G.stops gate.old)
+        (λ _. G.stops gate.old ≤ G.stops gate.new) }
 {
     let Ok((mut rows, written)) = rooms(alloc) else {
         return Err(Status::NoMemory);
@@ -199,7 +210,8 @@ pub(crate) fn run_load<K: Link, G: Gate, R: Wait>(
     gate: &mut G,
     rt: &R,
 ) -> Status
-    ensures { IsLoad number K.told (K.state terminal.old) (K.state terminal.new) (G.stops gate.old) (G.stops gate.new) result }
+    ensures { IsLoad number K.told (K.state terminal.old) (K.state terminal.new) (G.stops gate.old)
+        (G.stops gate.new) result }
 {
     let summary = match loaded(alloc, number, gate, rt) {
         Ok(summary) => summary,

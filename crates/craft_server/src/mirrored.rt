@@ -30,8 +30,21 @@ pub(crate) fn serve_mirrored<O: Opener + LetGo, G: Gate, P: Spawner, R: Wait>(
 where
     <O::Listener as Listener>::Link: Send + 'static,
     requires { (1 ≤ site.workers) × (site.workers ≤ 8) }
-    ensures mirrors { Mirrors O.Journal.told O.Peer.told O.Journal.state O.Peer.state O.told (named names.entry.shelf.now names.entry.journal.now) (sources (O.state opener.old) (O.journal_at opener.old) (G.stops gate.old)) (sources (O.state opener.new) (O.journal_at opener.new) (G.stops gate.new)) (P.state spawner.new ≡ P.state spawner.old) (λ f o u. ServedSite (MirrorDisk O.Journal O.Peer) O.Journal (jobs_told O.Journal.told O.Opener O.Lines.Lines O.Listener.Listener O.Listener.Link.Link O.Clock.Clock O.Gate.Gate O.gone (P.handed spawner.old spawner.new)) (site_at site.entry.address.now site.entry.lines.now site.entry.workers) (sources (O.state opener.old) (O.journal_at opener.old) (G.stops gate.old)) (sources (O.state opener.new) (O.journal_at opener.new) (G.stops gate.new)) (P.state spawner.old) (P.state spawner.new) f.shelf o u.opening result) result }
-    ensures asked { AskedFor (O.asked opener.old opener.new) (mirror_asked (named names.entry.shelf.now names.entry.journal.now) peer.now ++ site_asked site.entry.lines.now site.entry.address.now site.entry.workers) (IsOfNoOpening result) }
+    ensures mirrors { Mirrors O.Journal.told O.Peer.told O.Journal.state O.Peer.state O.told
+        (named names.entry.shelf.now names.entry.journal.now)
+        (sources (O.state opener.old) (O.journal_at opener.old) (G.stops gate.old))
+        (sources (O.state opener.new) (O.journal_at opener.new) (G.stops gate.new))
+        (P.state spawner.new ≡ P.state spawner.old)
+        (λ f o u. ServedSite (MirrorDisk O.Journal O.Peer) O.Journal
+        (jobs_told O.Journal.told O.Opener O.Lines.Lines O.Listener.Listener O.Listener.Link.Link
+        O.Clock.Clock O.Gate.Gate O.gone (P.handed spawner.old spawner.new))
+        (site_at site.entry.address.now site.entry.lines.now site.entry.workers)
+        (sources (O.state opener.old) (O.journal_at opener.old) (G.stops gate.old))
+        (sources (O.state opener.new) (O.journal_at opener.new) (G.stops gate.new))
+        (P.state spawner.old) (P.state spawner.new) f.shelf o u.opening result) result }
+    ensures asked { AskedFor (O.asked opener.old opener.new)
+        (mirror_asked (named names.entry.shelf.now names.entry.journal.now) peer.now ++ site_asked
+        site.entry.lines.now site.entry.address.now site.entry.workers) (IsOfNoOpening result) }
 {
     let Element { controller, users } = match open_mirrored(
         alloc,

@@ -35,7 +35,8 @@ pub(crate) fn run_script<O: Opener + LetGo, K: Link, C: Clock, G: Gate, R: Wait>
         (O.Journal.state u.found.disk) SessionUser.Nobody f.shelf o u.opening (K.state terminal.old)
         (K.state terminal.new) (C.coming clock.old) (C.coming clock.new) (G.stops gate.old)
         (G.stops gate.new) result) result }
-    ensures asked { AskedFor (O.asked opener.old opener.new) (files_asked (named names.entry.shelf.now names.entry.journal.now)) (IsOfNoOpening result) }
+    ensures asked { AskedFor (O.asked opener.old opener.new)
+        (files_asked (named names.entry.shelf.now names.entry.journal.now)) (IsOfNoOpening result) }
 {
     let Element { controller, users } = match open(alloc, opener, names, WORKERS, gate) {
         Ok(element) => element,

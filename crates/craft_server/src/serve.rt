@@ -57,11 +57,14 @@ fn run_jobs<
 ) -> Status
 where
     L::Link: Send + 'static,
-    ensures serving { (faults : ℕ) → (later : ℕ) → IsServing (vec_len workers + vec_len sessions) faults later (P.state spawner.old) (P.state spawner.new) result }
-    ensures handed { result ≡ Status.Done → P.handed spawner.old spawner.new (any_jobs workers.items ++ any_jobs sessions.items) }
+    ensures serving { (faults : ℕ) → (later : ℕ) → IsServing (vec_len workers + vec_len sessions)
+        faults later (P.state spawner.old) (P.state spawner.new) result }
+    ensures handed { result ≡ Status.Done
+        → P.handed spawner.old spawner.new (any_jobs workers.items ++ any_jobs sessions.items) }
     // Each worker has carried its frames in its seat, and each session's place is left as its sessions left it.
     ensures left { result ≡ Status.Done → AreLeft O.gone (left_by (RanFrames N.Lines G.Gate))
-        (left_by (RanAt D.told L.Listener L.Link.Link C.Clock G.Gate)) workers.items sessions.items }
+        (left_by (RanAt D.told L.Listener L.Link.Link C.Clock G.Gate)) workers.items
+        sessions.items }
 {
     let ran = run_all(alloc, spawner, workers, sessions, rt);
     let started = ran.started;
@@ -110,10 +113,18 @@ where
         ≡ record { shape = (arc_value shelf.now).shape; workers = site.workers } }
     requires begins { Begins D.told D.state state }
     requires users_begin { UsersBegin U.told U.state users }
-    requires opening { IsAtOpening (opening_of D.state state) (arc_value shelf.now) (arc_value fabric.now) }
-    ensures serving { IsServing (site.entry.workers + 16) (O.state opener.old).faults (O.state opener.new).faults (P.state spawner.old) (P.state spawner.new) result }
-    ensures jobs { result ≡ Status.Done → HandedJobs D U (jobs_told D.told O.Opener O.Lines.Lines O.Listener.Listener O.Listener.Link.Link O.Clock.Clock O.Gate.Gate O.gone (P.handed spawner.old spawner.new)) (site_at site.entry.address.now site.entry.lines.now site.entry.workers) (arc_value shelf.now) (opening_of D.state state) (users_opening U.state users) }
-    ensures asked { AskedFor (O.asked opener.old opener.new) (site_asked site.entry.lines.now site.entry.address.now site.entry.workers) (IsOfNoOpening result) }
+    requires opening { IsAtOpening (opening_of D.state state) (arc_value shelf.now)
+        (arc_value fabric.now) }
+    ensures serving { IsServing (site.entry.workers + 16) (O.state opener.old).faults
+        (O.state opener.new).faults (P.state spawner.old) (P.state spawner.new) result }
+    ensures jobs { result ≡ Status.Done
+        → HandedJobs D U (jobs_told D.told O.Opener O.Lines.Lines O.Listener.Listener
+        O.Listener.Link.Link O.Clock.Clock O.Gate.Gate O.gone (P.handed spawner.old spawner.new))
+        (site_at site.entry.address.now site.entry.lines.now site.entry.workers)
+        (arc_value shelf.now) (opening_of D.state state) (users_opening U.state users) }
+    ensures asked { AskedFor (O.asked opener.old opener.new)
+        (site_asked site.entry.lines.now site.entry.address.now site.entry.workers)
+        (IsOfNoOpening result) }
 {
     let Ok(places) = open_places(alloc, shelf, fabric, state, users, SESSIONS) else {
         return Status::NoMemory;
@@ -142,8 +153,20 @@ fn serve_alone<O: Opener + LetGo, G: Gate, P: Spawner, R: Wait>(
 where
     <O::Listener as Listener>::Link: Send + 'static,
     requires { (1 ≤ site.workers) × (site.workers ≤ 8) }
-    ensures opens { Opens O.told O.Journal.told O.Journal.state (named names.entry.shelf.now names.entry.journal.now) (sources (O.state opener.old) (O.journal_at opener.old) (G.stops gate.old)) (sources (O.state opener.new) (O.journal_at opener.new) (G.stops gate.new)) (P.state spawner.new ≡ P.state spawner.old) (λ f o u. ServedSite O.Journal O.Journal (jobs_told O.Journal.told O.Opener O.Lines.Lines O.Listener.Listener O.Listener.Link.Link O.Clock.Clock O.Gate.Gate O.gone (P.handed spawner.old spawner.new)) (site_at site.entry.address.now site.entry.lines.now site.entry.workers) (sources (O.state opener.old) (O.journal_at opener.old) (G.stops gate.old)) (sources (O.state opener.new) (O.journal_at opener.new) (G.stops gate.new)) (P.state spawner.old) (P.state spawner.new) f.shelf o u.opening result) result }
-    ensures asked { AskedFor (O.asked opener.old opener.new) (files_asked (named names.entry.shelf.now names.entry.journal.now) ++ site_asked site.entry.lines.now site.entry.address.now site.entry.workers) (IsOfNoOpening result) }
+    ensures opens { Opens O.told O.Journal.told O.Journal.state
+        (named names.entry.shelf.now names.entry.journal.now)
+        (sources (O.state opener.old) (O.journal_at opener.old) (G.stops gate.old))
+        (sources (O.state opener.new) (O.journal_at opener.new) (G.stops gate.new))
+        (P.state spawner.new ≡ P.state spawner.old) (λ f o u. ServedSite O.Journal O.Journal
+        (jobs_told O.Journal.told O.Opener O.Lines.Lines O.Listener.Listener O.Listener.Link.Link
+        O.Clock.Clock O.Gate.Gate O.gone (P.handed spawner.old spawner.new))
+        (site_at site.entry.address.now site.entry.lines.now site.entry.workers)
+        (sources (O.state opener.old) (O.journal_at opener.old) (G.stops gate.old))
+        (sources (O.state opener.new) (O.journal_at opener.new) (G.stops gate.new))
+        (P.state spawner.old) (P.state spawner.new) f.shelf o u.opening result) result }
+    ensures asked { AskedFor (O.asked opener.old opener.new)
+        (files_asked (named names.entry.shelf.now names.entry.journal.now) ++ site_asked
+        site.entry.lines.now site.entry.address.now site.entry.workers) (IsOfNoOpening result) }
 {
     let Element { controller, users } = match open(alloc, opener, names, site.workers, gate) {
         Ok(element) => element,
@@ -176,9 +199,29 @@ pub fn serve_all<O: Opener + LetGo, G: Gate, P: Spawner, R: Wait>(
 where
     <O::Listener as Listener>::Link: Send + 'static,
     requires { IsServe line.now }
-    ensures alone { peer_of line.now ≡ None → Opens O.told O.Journal.told O.Journal.state (named_in line.now) (sources (O.state opener.old) (O.journal_at opener.old) (G.stops gate.old)) (sources (O.state opener.new) (O.journal_at opener.new) (G.stops gate.new)) (P.state spawner.new ≡ P.state spawner.old) (λ f o u. ServedSite O.Journal O.Journal (jobs_told O.Journal.told O.Opener O.Lines.Lines O.Listener.Listener O.Listener.Link.Link O.Clock.Clock O.Gate.Gate O.gone (P.handed spawner.old spawner.new)) (site_in line.now) (sources (O.state opener.old) (O.journal_at opener.old) (G.stops gate.old)) (sources (O.state opener.new) (O.journal_at opener.new) (G.stops gate.new)) (P.state spawner.old) (P.state spawner.new) f.shelf o u.opening result) result }
-    ensures mirrored { IsSome (peer_of line.now) → Mirrors O.Journal.told O.Peer.told O.Journal.state O.Peer.state O.told (named_in line.now) (sources (O.state opener.old) (O.journal_at opener.old) (G.stops gate.old)) (sources (O.state opener.new) (O.journal_at opener.new) (G.stops gate.new)) (P.state spawner.new ≡ P.state spawner.old) (λ f o u. ServedSite (MirrorDisk O.Journal O.Peer) O.Journal (jobs_told O.Journal.told O.Opener O.Lines.Lines O.Listener.Listener O.Listener.Link.Link O.Clock.Clock O.Gate.Gate O.gone (P.handed spawner.old spawner.new)) (site_in line.now) (sources (O.state opener.old) (O.journal_at opener.old) (G.stops gate.old)) (sources (O.state opener.new) (O.journal_at opener.new) (G.stops gate.new)) (P.state spawner.old) (P.state spawner.new) f.shelf o u.opening result) result }
-    ensures asked { AskedFor (O.asked opener.old opener.new) (line_asked line.now) (IsOfNoOpening result) }
+    ensures alone { peer_of line.now ≡ None
+        → Opens O.told O.Journal.told O.Journal.state (named_in line.now)
+        (sources (O.state opener.old) (O.journal_at opener.old) (G.stops gate.old))
+        (sources (O.state opener.new) (O.journal_at opener.new) (G.stops gate.new))
+        (P.state spawner.new ≡ P.state spawner.old) (λ f o u. ServedSite O.Journal O.Journal
+        (jobs_told O.Journal.told O.Opener O.Lines.Lines O.Listener.Listener O.Listener.Link.Link
+        O.Clock.Clock O.Gate.Gate O.gone (P.handed spawner.old spawner.new)) (site_in line.now)
+        (sources (O.state opener.old) (O.journal_at opener.old) (G.stops gate.old))
+        (sources (O.state opener.new) (O.journal_at opener.new) (G.stops gate.new))
+        (P.state spawner.old) (P.state spawner.new) f.shelf o u.opening result) result }
+    ensures mirrored { IsSome (peer_of line.now)
+        → Mirrors O.Journal.told O.Peer.told O.Journal.state O.Peer.state O.told (named_in line.now)
+        (sources (O.state opener.old) (O.journal_at opener.old) (G.stops gate.old))
+        (sources (O.state opener.new) (O.journal_at opener.new) (G.stops gate.new))
+        (P.state spawner.new ≡ P.state spawner.old)
+        (λ f o u. ServedSite (MirrorDisk O.Journal O.Peer) O.Journal
+        (jobs_told O.Journal.told O.Opener O.Lines.Lines O.Listener.Listener O.Listener.Link.Link
+        O.Clock.Clock O.Gate.Gate O.gone (P.handed spawner.old spawner.new)) (site_in line.now)
+        (sources (O.state opener.old) (O.journal_at opener.old) (G.stops gate.old))
+        (sources (O.state opener.new) (O.journal_at opener.new) (G.stops gate.new))
+        (P.state spawner.old) (P.state spawner.new) f.shelf o u.opening result) result }
+    ensures asked { AskedFor (O.asked opener.old opener.new) (line_asked line.now)
+        (IsOfNoOpening result) }
 {
     let Line::Serve {
         shelf,
@@ -218,9 +261,29 @@ pub(crate) fn serve_line<O: Opener + LetGo, G: Gate, P: Spawner, R: Wait>(
 ) -> Status
 where
     <O::Listener as Listener>::Link: Send + 'static,
-    ensures alone { IsServe line.now → peer_of line.now ≡ None → Opens O.told O.Journal.told O.Journal.state (named_in line.now) (sources (O.state opener.old) (O.journal_at opener.old) (G.stops gate.old)) (sources (O.state opener.new) (O.journal_at opener.new) (G.stops gate.new)) (P.state spawner.new ≡ P.state spawner.old) (λ f o u. ServedSite O.Journal O.Journal (jobs_told O.Journal.told O.Opener O.Lines.Lines O.Listener.Listener O.Listener.Link.Link O.Clock.Clock O.Gate.Gate O.gone (P.handed spawner.old spawner.new)) (site_in line.now) (sources (O.state opener.old) (O.journal_at opener.old) (G.stops gate.old)) (sources (O.state opener.new) (O.journal_at opener.new) (G.stops gate.new)) (P.state spawner.old) (P.state spawner.new) f.shelf o u.opening result) result }
-    ensures mirrored { IsServe line.now → IsSome (peer_of line.now) → Mirrors O.Journal.told O.Peer.told O.Journal.state O.Peer.state O.told (named_in line.now) (sources (O.state opener.old) (O.journal_at opener.old) (G.stops gate.old)) (sources (O.state opener.new) (O.journal_at opener.new) (G.stops gate.new)) (P.state spawner.new ≡ P.state spawner.old) (λ f o u. ServedSite (MirrorDisk O.Journal O.Peer) O.Journal (jobs_told O.Journal.told O.Opener O.Lines.Lines O.Listener.Listener O.Listener.Link.Link O.Clock.Clock O.Gate.Gate O.gone (P.handed spawner.old spawner.new)) (site_in line.now) (sources (O.state opener.old) (O.journal_at opener.old) (G.stops gate.old)) (sources (O.state opener.new) (O.journal_at opener.new) (G.stops gate.new)) (P.state spawner.old) (P.state spawner.new) f.shelf o u.opening result) result }
-    ensures asked { IsServe line.now → AskedFor (O.asked opener.old opener.new) (line_asked line.now) (IsOfNoOpening result) }
+    ensures alone { IsServe line.now → peer_of line.now ≡ None
+        → Opens O.told O.Journal.told O.Journal.state (named_in line.now)
+        (sources (O.state opener.old) (O.journal_at opener.old) (G.stops gate.old))
+        (sources (O.state opener.new) (O.journal_at opener.new) (G.stops gate.new))
+        (P.state spawner.new ≡ P.state spawner.old) (λ f o u. ServedSite O.Journal O.Journal
+        (jobs_told O.Journal.told O.Opener O.Lines.Lines O.Listener.Listener O.Listener.Link.Link
+        O.Clock.Clock O.Gate.Gate O.gone (P.handed spawner.old spawner.new)) (site_in line.now)
+        (sources (O.state opener.old) (O.journal_at opener.old) (G.stops gate.old))
+        (sources (O.state opener.new) (O.journal_at opener.new) (G.stops gate.new))
+        (P.state spawner.old) (P.state spawner.new) f.shelf o u.opening result) result }
+    ensures mirrored { IsServe line.now → IsSome (peer_of line.now)
+        → Mirrors O.Journal.told O.Peer.told O.Journal.state O.Peer.state O.told (named_in line.now)
+        (sources (O.state opener.old) (O.journal_at opener.old) (G.stops gate.old))
+        (sources (O.state opener.new) (O.journal_at opener.new) (G.stops gate.new))
+        (P.state spawner.new ≡ P.state spawner.old)
+        (λ f o u. ServedSite (MirrorDisk O.Journal O.Peer) O.Journal
+        (jobs_told O.Journal.told O.Opener O.Lines.Lines O.Listener.Listener O.Listener.Link.Link
+        O.Clock.Clock O.Gate.Gate O.gone (P.handed spawner.old spawner.new)) (site_in line.now)
+        (sources (O.state opener.old) (O.journal_at opener.old) (G.stops gate.old))
+        (sources (O.state opener.new) (O.journal_at opener.new) (G.stops gate.new))
+        (P.state spawner.old) (P.state spawner.new) f.shelf o u.opening result) result }
+    ensures asked { IsServe line.now
+        → AskedFor (O.asked opener.old opener.new) (line_asked line.now) (IsOfNoOpening result) }
 {
     if is_serve(line) {
         serve_all(alloc, opener, line, gate, spawner, rt)

@@ -110,7 +110,8 @@ impl<T: Files<File = File>> HostOpener<T> {
 
 // Appends the bytes of a file as far as they are read, or nothing.
 fn append_file<T: Files<File = File>>(files: &T, path: &str, into: &mut Vec<u8>) -> io::Result<()>
-    ensures ok { OnOk result ((part : List ℕ) × (into.new.items ≡ into.old.items ++ part) × (length part ≤ most_shelf_bytes)) }
+    ensures ok { OnOk result ((part : List ℕ) × (into.new.items ≡ into.old.items ++ part)
+        × (length part ≤ most_shelf_bytes)) }
     ensures err { OnErr result (into.new.items ≡ into.old.items) }
 {
     let start = into.len();

@@ -39,7 +39,8 @@ impl<T: Threads + Wait + Copy + Send + Drop + 'static> ThreadSpawner<T> {
 impl<T: Threads + Wait + Copy + Send + Drop + 'static> Spawner for ThreadSpawner<T> {
     type Threads = T;
 
-    ghost state = { λ s. record { starts = s.starts; waited = s.waited; faults = s.faults; last_failed = s.last_failed } };
+    ghost state = { λ s. record
+        { starts = s.starts; waited = s.waited; faults = s.faults; last_failed = s.last_failed } };
 
     ghost handed = { λ _ _ _. Unit {0} };
 

@@ -32,7 +32,8 @@ impl Listener for RowListener {
 
     ghost told = { ⊥ };
 
-    ghost state = { λ l. record { coming = []; ended = l.ended; faults = l.faults; sound = false } };
+    ghost state = { λ l. record
+        { coming = []; ended = l.ended; faults = l.faults; sound = false } };
 
     fn accept<R: Wait>(&mut self, _rt: &R) -> Came<RowLink> {
         let fails = self.failing.contains(&self.accepts);
