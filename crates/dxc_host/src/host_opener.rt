@@ -178,9 +178,9 @@ impl<
         + 'static,
 > Opener for HostOpener<T> {
     ghost use Rattle.std.specs.Prelude.{None};
-    ghost use Rattle.dxc_outside.specs.Openings.{Hands, IsAside, IsJournalOpening, IsShelfRead};
+    ghost use Rattle.dxc_outside.specs.Openings.{Hands};
     ghost use Rattle.dxc_host.specs.HostDisks.{is_copied};
-    ghost use Rattle.dxc_host.specs.Openers.{host_opener};
+    ghost use Rattle.dxc_host.specs.Openers.{OpensJournal, Reads, StaysAside, host_opener};
 
     type Journal = HostDisk;
 
@@ -213,8 +213,7 @@ impl<
     ghost listener_for = { λ _ _. Unit {0} };
 
     fn shelf(&mut self, alloc: Global, name: &str, into: &mut Vec<u8>) -> Opened<()>
-        ensures read { IsShelfRead ⊥ (host_opener self.old) (host_opener self.new) result name.now
-            into.old.items into.new.items }
+        ensures read { Reads self.old self.new result name.now (into.old.items, into.new.items) }
         ensures no_fault { result ≢ Opened.Failed → self.new.faults ≡ self.old.faults }
         ensures looks { self.new.only_looks ≡ self.old.only_looks }
     {
@@ -227,8 +226,7 @@ impl<
     /// A file that isn't there is made. A journal has one owner: another that is opened while the first is held is a fault. Who only looks
     /// gets a copy.
     fn journal(&mut self, alloc: Global, name: &str) -> Opened<HostDisk>
-        ensures opening { IsJournalOpening ⊥ (host_opener self.old) (host_opener self.new)
-            (λ _. None) (λ _. None) result name.now }
+        ensures opening { OpensJournal self.old self.new result name.now }
         ensures kind { (d : HostDisk) → result ≡ Opened.Open d
             → is_copied d.bytes ≡ self.old.only_looks }
         ensures no_fault { result ≢ Opened.Failed → self.new.faults ≡ self.old.faults }
@@ -248,8 +246,7 @@ impl<
     /// The file is made beside its name, as NAME`.joining`, and takes the name with its first sync. A name whose file holds bytes already, but
     /// for what a copy leaves that was never whole, gets the disk of that file.
     fn copy(&mut self, alloc: Global, name: &str) -> Opened<HostDisk>
-        ensures opening { IsJournalOpening ⊥ (host_opener self.old) (host_opener self.new)
-            (λ _. None) (λ _. None) result name.now }
+        ensures opening { OpensJournal self.old self.new result name.now }
         ensures kind { (d : HostDisk) → result ≡ Opened.Open d → is_copied d.bytes ≡ false }
         ensures no_fault { result ≢ Opened.Failed → self.new.faults ≡ self.old.faults }
         ensures looks { self.new.only_looks ≡ self.old.only_looks }
@@ -262,8 +259,7 @@ impl<
 
     /// Worker `w` of the name `L` reads `L.in` and writes `L.w.out`, which is made where it isn't there.
     fn lines(&mut self, alloc: Global, name: &str, worker: u16) -> Opened<FileLines>
-        ensures aside { IsAside {J = HostDisk} ⊥ (host_opener self.old) (host_opener self.new)
-            (λ _. None) (λ _. None) }
+        ensures aside { StaysAside self.old self.new }
         ensures cause { HasCause self.old.faults self.new.faults (result ≡ Opened.Failed) }
         ensures no_fault { result ≢ Opened.Failed → self.new.faults ≡ self.old.faults }
         ensures looks { self.new.only_looks ≡ self.old.only_looks }
@@ -290,8 +286,7 @@ impl<
 
     fn listener(&mut self, alloc: Global, address: &str) -> Opened<TcpDoor<T>>
         ensures hands { ⊥ → Hands {J = TcpDoor T} result None None }
-        ensures aside { IsAside {J = HostDisk} ⊥ (host_opener self.old) (host_opener self.new)
-            (λ _. None) (λ _. None) }
+        ensures aside { StaysAside self.old self.new }
         ensures cause { HasCause self.old.faults self.new.faults (result ≡ Opened.Failed) }
         ensures no_fault { result ≢ Opened.Failed → self.new.faults ≡ self.old.faults }
         ensures looks { self.new.only_looks ≡ self.old.only_looks }
@@ -306,8 +301,7 @@ impl<
     }
 
     fn peer(&mut self, alloc: Global, address: &str) -> Opened<PeerLink>
-        ensures aside { IsAside {J = HostDisk} ⊥ (host_opener self.old) (host_opener self.new)
-            (λ _. None) (λ _. None) }
+        ensures aside { StaysAside self.old self.new }
         ensures cause { HasCause self.old.faults self.new.faults (result ≡ Opened.Failed) }
         ensures no_fault { result ≢ Opened.Failed → self.new.faults ≡ self.old.faults }
         ensures looks { self.new.only_looks ≡ self.old.only_looks }
