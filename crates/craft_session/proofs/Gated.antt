@@ -1,11 +1,13 @@
 -- Where the gate was asked for entries, one turn longer.
 use Rattle.std.specs.Prelude.{replicate}
-use Rattle.std.proofs.Common.{◌≡◌, ◌≢◌, ℕ, ◌+◌, Bool, true, false, List, [], ◌∷◌, ◌++◌, append-nil, append_assoc, sym, subst, inl, inr}
+use Rattle.std.proofs.Common.{◌≡◌, ◌≢◌, ◌≤◌, ℕ, ◌+◌, ◌-◌, arith, Bool, true, false, length, length-drop, List, [], ◌∷◌, ◌++◌, append-nil, append_assoc, sym, ◌∙◌, ap, subst, inl, inr}
 use base.Stored.{Gv}
 use Rattle.turnstile.specs.Turning.{Each}
+use Rattle.turnstile.proofs.Lists.{map_once}
 use Rattle.dxc_disk.specs.Disks.{DiskState}
 use Rattle.dxc_outside.specs.declared.gate.GatePlace.{GatePlace}
 use Rattle.dxc_outside.specs.declared.gate.GatePlace.TheVariants.{Journal, Register}
+use Rattle.dxc_model.specs.declared.cause.Cause.{Cause}
 use Rattle.dxc_model.specs.declared.entry.Entry.{Entry}
 use Rattle.dxc_model.specs.declared.entry.Outcome.TheVariants.{Done, Failed, Restarted, Cut, Taken}
 use Rattle.dxc_model.specs.declared.op.Op.{Op}
@@ -18,13 +20,16 @@ use Rattle.xc_core.specs.declared.restarts.Restarting.TheVariants as restarting
 use Rattle.xc_core.specs.declared.turns.Took.{Took}
 use Rattle.xc_core.specs.declared.turns.Took.TheVariants as took
 use Rattle.xc_core.specs.Askings.{RestartAsked, asked_at_take, asked_before}
-use Rattle.xc_core.specs.Seeing.{Saw, Turned, TurnedBack, entry, refused}
+use Rattle.roll_plan.specs.Works.{writes_of}
+use Rattle.roll_engine.specs.Rollings.{RollingAt, rest_of}
+use Rattle.xc_core.specs.declared.provisioner.Provisioner.{Provisioner}
+use Rattle.xc_core.specs.Seeing.{HasTaken, Saw, Turned, TurnedBack, entry, entry_coded, refused}
 use Rattle.xc_core.specs.States.{Opening}
 use Rattle.xc_core.specs.Turns.{DoneIs, RestartIs, RestartedIs, TookIs}
 use Rattle.craft_session.specs.Askings.{AskedToStop, asked_for}
-use Rattle.craft_session.specs.Gated.{AreEntered, AreUsersEntered, BothEntered, Entered, IsGated, IsUserGated, NothingAsked, UsersEntered, are_gated_on, at_state, at_users, by_others, changes, denies, fails_before, fails_behind, gated_on, restarts, stops_between, stops_first, stops_last, takes}
+use Rattle.craft_session.specs.Gated.{AreEntered, AreUsersEntered, BothEntered, Entered, IsGated, IsOfWork, IsUserGated, IsWorkOf, NothingAsked, UsersEntered, are_gated_on, at_state, at_users, by_others, changes, denies, fails_before, fails_behind, gated_on, restarts, stops_between, stops_first, stops_last, takes}
 use Rattle.craft_session.specs.Seats.{IsSameSeat, IsSameUserSeat, SeatAt, UserSeatAt}
-use Rattle.craft_session.proofs.Gating.{failed_asked}
+use Rattle.craft_session.proofs.Gating.{failed_first}
 
 -- whether the place has the Provisioner out behind the turn
 abbrev pub takes_out : {D : Type 0} → Took D → Bool
@@ -35,42 +40,70 @@ abbrev pub restarts_out : {D : Type 0} → Restarting D → Bool
 restarts_out (restarting.Rolling d) = true
 restarts_out _ = false
 
+-- one history was seen
+seen_once : (o : Opening) (seen : List Gv) (h k : List Entry) → Saw o seen h → Saw o seen k → h ≡ k
+seen_once o seen h k a b = map_once entry_coded.code entry_coded.inj h k (sym a.codes_are ∙ b.codes_are)
+
+-- the work that a place has in hand, whatever others entered since
+pub work_in_hand : {D : Type 0} (told : Type 0) (state : D → DiskState) (o : Opening) (place : ℕ) (op : Op) (seen : List Gv) (h k later : List Entry) (p : Provisioner D) (r : RollingAt) → Saw o seen h → Saw o seen k → HasTaken told state o place op k p r → Each (λ e. e.place ≢ place) later → IsWorkOf o place op (h ++ later) (length (rest_of r))
+work_in_hand told state o place op seen h k later p r saw_h saw_k t others = record {
+  taken = k;
+  later = later;
+  all = ap (λ (l : List Entry). l ++ later) (seen_once o seen h k saw_h saw_k);
+  others = others;
+  held = t.out.held;
+  past = t.out.now;
+  reckoned = t.out.reckoned;
+  change = t.change;
+  granted = t.rolls.granted;
+  ops = r.work.ops.items;
+  planned = t.rolls.planned;
+  few = let less = length-drop r.step (writes_of r.work) in omega (arith, less);
+}
+
 module _ (o : Opening) (place : ℕ) (asked : List GatePlace → Type 0) (h : List Entry) (seen : List Gv) where
   pub entered_none : asked [] → Saw o seen h → Entered o place asked false false h seen
-  entered_none none saw = record { entries = []; saw = subst (λ (l : List Entry). Saw o seen l) (sym (append-nil h)) saw; places = []; were = none; gated = by_others false [] tt }
+  entered_none none saw = record { entries = []; saw = subst (λ (l : List Entry). Saw o seen l) (sym (append-nil h)) saw; places = []; were = none; gated = by_others h false [] tt }
 
   -- others entered alone
   entered_back : asked [] → TurnedBack o place h seen → Entered o place asked false false h seen
-  entered_back none t = record { entries = t.later; saw = t.saw; places = []; were = none; gated = by_others false t.later t.others }
+  entered_back none t = record { entries = t.later; saw = t.saw; places = []; were = none; gated = by_others h false t.later t.others }
 
   -- others, and then the place
-  pub entered_at : (out then_out : Bool) (e : Entry) (ps : List GatePlace) → IsGated place out (e ∷ []) ps then_out → asked ps → Turned o place h e seen → Entered o place asked out then_out h seen
-  entered_at out then_out e ps gated were t = record {
+  entered_by : (out then_out : Bool) (e : Entry) (ps : List GatePlace) (t : Turned o place h e seen) → IsGated o place (h ++ t.later) out (e ∷ []) ps then_out → asked ps → Entered o place asked out then_out h seen
+  entered_by out then_out e ps t gated were = record {
     entries = t.later ++ e ∷ [];
     saw = subst (λ (l : List Entry). Saw o seen l) (append_assoc h t.later (e ∷ [])) t.saw;
     places = ps;
     were = were;
-    gated = gated_on out out then_out t.later (e ∷ []) [] ps (by_others out t.later t.others) gated;
+    gated = gated_on h out out then_out t.later (e ∷ []) [] ps (by_others h out t.later t.others) gated;
   }
 
+  pub entered_at : (out then_out : Bool) (e : Entry) (ps : List GatePlace) → ((k : List Entry) → IsGated o place k out (e ∷ []) ps then_out) → asked ps → Turned o place h e seen → Entered o place asked out then_out h seen
+  entered_at out then_out e ps gated were t = entered_by out then_out e ps t (gated (h ++ t.later)) were
+
+  -- whatever others entered since
+  abbrev pub HasWorkOf : (Op → List Entry → ℕ → Type 0) → Op → ℕ → Type 0
+  HasWorkOf W op writes = (later : List Entry) → Each (λ e. e.place ≢ place) later → W op (h ++ later) writes
+
   -- a work was driven to its end, or to a stop
-  pub entered_change : (op : Op) (writes : ℕ) → asked (asked_for writes) → DoneIs o place h op seen → Entered o place asked true false h seen
-  entered_change op writes were x = entered_at true false (entry place op (Done x.0)) (asked_for writes) (changes op x.0 writes) were x.1
+  pub entered_change : (op : Op) (writes : ℕ) → HasWorkOf (IsWorkOf o place) op writes → asked (asked_for writes) → DoneIs o place h op seen → Entered o place asked true false h seen
+  entered_change op writes work were x = entered_by true false (entry place op (Done x.0)) (asked_for writes) x.1 (changes (h ++ x.1.later) op x.0 writes (work x.1.later x.1.others)) were
 
   pub entered_restart : (op : Op) (writes : ℕ) → asked (asked_for writes) → RestartedIs o place h op seen → Entered o place asked true false h seen
-  entered_restart op writes were x = entered_at true false (entry place Restart (Restarted x.0)) (asked_for writes) (restarts x.0 writes) were x.1
+  entered_restart op writes were x = entered_at true false (entry place Restart (Restarted x.0)) (asked_for writes) (λ k. restarts k x.0 writes) were x.1
 
-  pub entered_stop : (op : Op) (writes : ℕ) → AskedToStop asked writes → Turned o place h (entry place op Cut) seen → Entered o place asked true false h seen
-  entered_stop op writes were t = elim were [
-    | inl y ↦ entered_at true false (entry place op Cut) (replicate (y.0 + 1) Register) (stops_between op y.0) y.2 t
-    | inr y ↦ entered_at true false (entry place op Cut) (asked_for writes) (stops_last op writes) y t
+  pub entered_stop : (op : Op) (writes : ℕ) → HasWorkOf (IsOfWork o place) op writes → AskedToStop asked writes → Turned o place h (entry place op Cut) seen → Entered o place asked true false h seen
+  entered_stop op writes work were t = elim were [
+    | inl y ↦ entered_by true false (entry place op Cut) (replicate (y.0 + 1) Register) t (stops_between (h ++ t.later) op y.0 writes y.1 (work t.later t.others)) y.2
+    | inr y ↦ entered_by true false (entry place op Cut) (asked_for writes) t (stops_last (h ++ t.later) op writes (work t.later t.others)) y
   ]
 
   module _ {D : Type 0} (told : Type 0) (state : D → DiskState) (op : Op) where
     take_by : (t : Took D) → asked (asked_at_take t) → TookIs told state o place h op seen t → Entered o place asked false (takes_out t) h seen
-    take_by (took.Rolling d) were x = entered_at false true (entry place op Taken) (Journal ∷ []) (takes op) were x.0
-    take_by (took.Denied q) were x = entered_at false false (entry place op (refused q)) (asked_before q) (denies op q) were x.0
-    take_by took.Stopped were x = entered_at false false (entry place op Cut) (Journal ∷ []) (stops_first op) were x.0
+    take_by (took.Rolling d) were x = entered_at false true (entry place op Taken) (Journal ∷ []) (λ k. takes k op) were x.0
+    take_by (took.Denied q) were x = entered_at false false (entry place op (refused q)) (asked_before q) (λ k. denies k op q) were x.0
+    take_by took.Stopped were x = entered_at false false (entry place op Cut) (Journal ∷ []) (λ k. stops_first k op) were x.0
     take_by took.Halted were x = entered_back were x.0
     take_by took.Waits were x = entered_back were x.0
 
@@ -79,12 +112,12 @@ module _ (o : Opening) (place : ℕ) (asked : List GatePlace → Type 0) (h : Li
     entered_take t out is were x = subst (λ (b : Bool). Entered o place asked false b h seen) is (take_by t were x)
 
     mend_by : (t : Restarting D) → RestartAsked asked t → RestartIs told state o place h op seen t → Entered o place asked false (restarts_out t) h seen
-    mend_by (restarting.Rolling d) were x = entered_at false true (entry place Restart Taken) (Journal ∷ []) (takes Restart) were x.0
-    mend_by (restarting.Failed q) were x = elim (failed_asked D asked q were) [
-      | inl none ↦ entered_at false false (entry place op (Failed q)) [] (fails_before op q) none x.0
-      | inr one ↦ entered_at false false (entry place op (Failed q)) (Journal ∷ []) (fails_behind op q) one x.0
+    mend_by (restarting.Rolling d) were x = entered_at false true (entry place Restart Taken) (Journal ∷ []) (λ k. takes k Restart) were x.0
+    mend_by (restarting.Failed q) were x = elim (failed_first D asked q were) [
+      | inl none ↦ entered_at false false (entry place op (Failed q)) [] (λ k. subst (λ (c : Cause). IsGated o place k false (entry place op (Failed c) ∷ []) [] false) (sym none.0) (fails_before k op)) none.1 x.0
+      | inr one ↦ entered_at false false (entry place op (Failed q)) (Journal ∷ []) (λ k. fails_behind k op q) one x.0
     ]
-    mend_by restarting.Stopped were x = entered_at false false (entry place Restart Cut) (Journal ∷ []) (stops_first Restart) were x.0
+    mend_by restarting.Stopped were x = entered_at false false (entry place Restart Cut) (Journal ∷ []) (λ k. stops_first k Restart) were x.0
     mend_by restarting.Waits were x = entered_back were x.0
 
     -- that in which a restart was
@@ -119,7 +152,7 @@ module _ (s : SeatAt) (u : UserSeatAt) (asked : List GatePlace → Type 0) where
     saw_users = subst (λ (l : List UserEntry). SawUsers u.opening u.seen l) (sym (append-nil g)) saw_users;
     places = [];
     were = none;
-    gated = at_state [] [] (by_others false [] tt);
+    gated = at_state h [] [] (by_others h false [] tt);
   }
 
   -- at the users alone
@@ -133,7 +166,7 @@ module _ (s : SeatAt) (u : UserSeatAt) (asked : List GatePlace → Type 0) where
         saw_users = x.saw;
         places = x.places;
         were = x.were;
-        gated = at_users x.entries x.places x.gated;
+        gated = at_users h x.entries x.places x.gated;
       }
 
 -- a gate between two moments, and on from there
@@ -147,7 +180,7 @@ module _ {X : Type 0} (asked : X → X → List GatePlace → Type 0) (on : (a b
         saw = subst (λ (l : List Entry). Saw o seen l) (append_assoc h x.entries y.entries) y.saw;
         places = x.places ++ y.places;
         were = on a b c x.places y.places x.were y.were;
-        gated = gated_on first between last x.entries y.entries x.places y.places x.gated y.gated;
+        gated = gated_on h first between last x.entries y.entries x.places y.places x.gated y.gated;
       }
 
   -- behind other turns that in which a change was to begin
@@ -169,7 +202,7 @@ module _ {X : Type 0} (asked : X → X → List GatePlace → Type 0) (on : (a b
         saw_users = subst (λ (w : List Gv × List UserEntry). SawUsers u.opening w.0 (g ++ w.1)) (λ i. (sym users_is i, sym (append-nil x.users_entries) i)) x.saw_users;
         places = x.places ++ y.places;
         were = on a b c x.places y.places x.were y.were;
-        gated = are_gated_on x.entries y.entries x.users_entries [] x.places y.places x.gated (at_state y.entries y.places y.gated);
+        gated = are_gated_on h x.entries y.entries x.users_entries [] x.places y.places x.gated (at_state (h ++ x.entries) y.entries y.places y.gated);
       }
 
   -- turns of both behind those of both
@@ -185,7 +218,7 @@ module _ {X : Type 0} (asked : X → X → List GatePlace → Type 0) (on : (a b
         saw_users = subst (λ (l : List UserEntry). SawUsers u.opening users_seen l) (append_assoc g x.users_entries y.users_entries) y.saw_users;
         places = x.places ++ y.places;
         were = on a b c x.places y.places x.were y.were;
-        gated = are_gated_on x.entries y.entries x.users_entries y.users_entries x.places y.places x.gated y.gated;
+        gated = are_gated_on h x.entries y.entries x.users_entries y.users_entries x.places y.places x.gated y.gated;
       }
 
   -- turns of one seat in which nothing was asked

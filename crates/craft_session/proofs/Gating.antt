@@ -140,6 +140,11 @@ pub roll_done : (asked : List GatePlace → Type 0) (writes : ℕ) (how : Pass1)
 roll_done asked writes Go x = x
 roll_done asked writes Stop x = inr x
 
+-- a restart that failed: before the gate was asked only by the disk
+pub failed_first : (D : Type 0) (asked : List GatePlace → Type 0) (q : Cause) → RestartAsked {D = D} asked (restarting.Failed q) → ((q ≡ DiskFault) × asked []) ⊎ asked (Journal ∷ [])
+failed_first D asked DiskFault x = elim x [ inl none ↦ inl (refl, none) | inr one ↦ inr one ]
+failed_first D asked _ x = inr x
+
 -- a restart that failed
 pub failed_asked : (D : Type 0) (asked : List GatePlace → Type 0) (q : Cause) → RestartAsked {D = D} asked (restarting.Failed q) → asked [] ⊎ asked (Journal ∷ [])
 failed_asked D asked DiskFault x = x

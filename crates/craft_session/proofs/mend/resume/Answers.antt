@@ -55,5 +55,5 @@ returns-in-Stop g c = record {
   stopped = λ is. c.roll.ensures.stop c.in-Stop.is;
   later = c.roll.ensures.later;
   asked = inr (refl, subst (λ (x : Driver g.row.D.Denot). AskedToStop (g.G.Gate.asked c.args.gate.now c.roll.new.gate) (length (rest_of x.rolling))) c.deref_mut-held.ensures.value c.in-Stop.ensures.asked);
-  entered = λ h saw. entered_stop (opening_of g.D.Disk.state c.args.turns.now.first) c.args.pass.now.number (g.G.Gate.asked c.args.gate.now c.roll.new.gate) h c.cut_restart.new.pass.seen Restart (length (rest_of c.deref_mut-held.result.now.rolling)) c.in-Stop.ensures.asked (c.cut_restart.ensures.cut h saw).0;
+  entered = λ h saw. entered_stop (opening_of g.D.Disk.state c.args.turns.now.first) c.args.pass.now.number (g.G.Gate.asked c.args.gate.now c.roll.new.gate) h c.cut_restart.new.pass.seen Restart (length (rest_of c.deref_mut-held.result.now.rolling)) (λ later others. inl refl) c.in-Stop.ensures.asked (c.cut_restart.ensures.cut h saw).0;
 }
