@@ -1,5 +1,5 @@
 -- The link of the load.
-use Rattle.std.specs.Prelude.{ℕ, false, [], ◌++◌}
+use Rattle.std.specs.Prelude.{◌≡◌, ℕ, false, [], ◌++◌}
 use Rattle.std.specs.Arc.{arc_value}
 use base.Stored.{Gv}
 use Rattle.fabric_core.specs.declared.worker.Worker.{Worker}
@@ -29,3 +29,7 @@ unread number fabric = record { left = bytes (login_text ++ commands_behind numb
 -- the worker that carries the frames behind its commands
 abbrev pub worker_of : LoadLink → Worker
 worker_of l = l.carrier.seat.reader.worker
+
+-- a link of the load shows this
+abbrev pub IsOfLoad : LinkState → Type 0
+IsOfLoad s = (l : LoadLink) × (link_state l ≡ s)
