@@ -6,4 +6,6 @@ pub mod Served
 pub mod Serving
 pub mod Scripts
 pub mod Trials
+pub mod Worlds
+pub mod Sites
 pub mod Runs
