@@ -1,3 +1,6 @@
+ghost use Rattle.std.specs.Prelude.{◌≡◌, ◌⊎◌, IfSome, is_some};
+ghost use Rattle.dxc_console.specs.Words.{asks_for_help};
+
 use crate::sources::SOURCES;
 use craft_words::Status;
 use dxc_outside::Name;
@@ -61,7 +64,10 @@ Status: 0 done, 2 words not understood, 3 shelf file refused, 4 journal refused,
 const VERSION: &str = "1.1.0";
 
 /// Prints what the one word `--help` or `--version` asks for, and gives the status that the program then ends with. None: the words ask for neither.
-pub fn help_asked<R: Print>(rt: &R, words: &[Name]) -> Option<Status> {
+pub fn help_asked<R: Print>(rt: &R, words: &[Name]) -> Option<Status>
+    ensures asked { is_some result ≡ asks_for_help words.now }
+    ensures status { IfSome result (λ s. (s ≡ Status.Done) ⊎ (s ≡ Status.Link)) }
+{
     let [word] = words else {
         return None;
     };

@@ -1,3 +1,6 @@
+ghost use Rattle.std.specs.Prelude.{◌≡◌};
+ghost use Rattle.dxc_console.specs.Words.{is_look};
+
 use dxc_causes::NoMemory;
 use dxc_outside::Name;
 use std::alloc::Global;
@@ -19,6 +22,11 @@ pub fn words_given<R: Env + AllocGlobal>(rt: &R, words: &mut Vec<Name>) -> Resul
 }
 
 /// Whether the words are of a mode that changes no file.
-pub fn only_look(words: &[Name]) -> bool {
-    matches!(words.first(), Some(mode) if mode.text() == "check")
+pub fn only_look(words: &[Name]) -> bool
+    ensures { result ≡ is_look words.now }
+{
+    match words {
+        [] => false,
+        [mode, ..] => mode.text() == "check",
+    }
 }
