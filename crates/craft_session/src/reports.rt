@@ -43,6 +43,7 @@ pub fn report<K: Link, C: Clock, D: Disk + Drop, U: Disk + Drop, R: Wait>(
     ensures users { desk.new.users ≡ desk.old.users }
     ensures reader { desk.new.reader ≡ desk.old.reader }
     ensures link { Writes K.told (K.state link.old) (K.state link.new) }
+    ensures hung_up { K.hung_up link.new ≡ K.hung_up link.old }
     ensures goes { (first : AUser) → (k : LinkState) → (c : List Moment) → (b : Beginning) →
         (r : Reader) → (ahead : List ℕ) → IsAt b desk.old.seat desk.old.users.seat → Stands
         (language_for first (arc_value desk.old.shelf)) K.told C.told k (K.state link.old) c
@@ -73,6 +74,7 @@ fn report_since<K: Link, C: Clock, D: Disk + Drop, U: Disk + Drop, R: Wait>(
     ensures users { desk.new.users ≡ desk.old.users }
     ensures reader { desk.new.reader ≡ desk.old.reader }
     ensures link { Writes K.told (K.state link.old) (K.state link.new) }
+    ensures hung_up { K.hung_up link.new ≡ K.hung_up link.old }
     ensures goes { (first : AUser) → (k : LinkState) → (c : List Moment) → (b : Beginning) →
         (r : Reader) → (ahead : List ℕ) → IsAt b desk.old.seat desk.old.users.seat → Stands
         (language_for first (arc_value desk.old.shelf)) K.told C.told k (K.state link.old) c
@@ -101,6 +103,7 @@ fn tell<K: Link, C: Clock, D: Disk + Drop, U: Disk + Drop>(
     ensures users { desk.new.users ≡ desk.old.users }
     ensures attending { desk.new.attending ≡ desk.old.attending }
     ensures reader { desk.new.reader ≡ desk.old.reader }
+    ensures hung_up { K.hung_up link.new ≡ K.hung_up link.old }
     ensures told { AreTold (language (arc_value desk.old.shelf)) K.told C.told (K.state link.old) (K.state link.new) (C.coming clock.old) (C.coming clock.new) result (found_notices looked.since looked.newest desk.old.changes.items) }
 {
     let before = looked.newest - desk.changes.as_slice().len() as u64;
@@ -123,6 +126,7 @@ fn tell_lost<K: Link, C: Clock, D: Disk + Drop, U: Disk + Drop>(
     ensures users { desk.new.users ≡ desk.old.users }
     ensures attending { desk.new.attending ≡ desk.old.attending }
     ensures reader { desk.new.reader ≡ desk.old.reader }
+    ensures hung_up { K.hung_up link.new ≡ K.hung_up link.old }
     ensures changes { desk.new.changes ≡ desk.old.changes }
     ensures told { AreTold (language (arc_value desk.old.shelf)) K.told C.told (K.state link.old) (K.state link.new) (C.coming clock.old) (C.coming clock.new) result (lead since before) }
 {
@@ -149,6 +153,7 @@ fn tell_changes<K: Link, C: Clock, D: Disk + Drop, U: Disk + Drop>(
     ensures users { desk.new.users ≡ desk.old.users }
     ensures attending { desk.new.attending ≡ desk.old.attending }
     ensures reader { desk.new.reader ≡ desk.old.reader }
+    ensures hung_up { K.hung_up link.new ≡ K.hung_up link.old }
     ensures told { AreTold (language (arc_value desk.old.shelf)) K.told C.told (K.state link.old) (K.state link.new) (C.coming clock.old) (C.coming clock.new) result (numbered before desk.old.changes.items) }
 {
     for at in 0..desk.changes.as_slice().len() {
@@ -176,6 +181,7 @@ fn tell_change<K: Link, C: Clock, D: Disk + Drop, U: Disk + Drop>(
     ensures users { desk.new.users ≡ desk.old.users }
     ensures attending { desk.new.attending ≡ desk.old.attending }
     ensures reader { desk.new.reader ≡ desk.old.reader }
+    ensures hung_up { K.hung_up link.new ≡ K.hung_up link.old }
     ensures changes { desk.new.changes ≡ desk.old.changes }
     ensures told { (d : Change) → IsReported K.told C.told (K.state link.old) (K.state link.new) (C.coming clock.old) (C.coming clock.new) result (λ m. (language (arc_value desk.old.shelf)).report m (change (before + at + 1) (slice_index_or desk.old.changes.items at d))) }
 {
@@ -195,6 +201,7 @@ fn tell_one<K: Link, C: Clock, D: Disk + Drop, U: Disk + Drop>(
     ensures users { desk.new.users ≡ desk.old.users }
     ensures attending { desk.new.attending ≡ desk.old.attending }
     ensures reader { desk.new.reader ≡ desk.old.reader }
+    ensures hung_up { K.hung_up link.new ≡ K.hung_up link.old }
     ensures changes { desk.new.changes ≡ desk.old.changes }
     ensures told { IsReported K.told C.told (K.state link.old) (K.state link.new) (C.coming clock.old) (C.coming clock.new) result (λ m. whole_report (arc_value desk.old.shelf).sid m number desk.old.text.items) }
 {
