@@ -118,7 +118,7 @@ def beside_a_server(folder):
         caller.send((LOG_IN + "ENT-CRS-T0::DS0-2-1,DS0-1-2:3;").encode())
         got = b"".join(caller.messages(2))
         expect(b"DENY" not in got, f"the server was disturbed: {got}")
-        expect("ENT-CRS-T0::DS0-2-1,DS0-1-2:3::1WAY;\n" in wrote("export", shelf, journal), "a change isn't in the export")
+        expect("ENT-CRS-T0::DS0-2-1,DS0-1-2:2::1WAY;\n" in wrote("export", shelf, journal), "a change isn't in the export")
 
 
 def faults(folder):
