@@ -201,7 +201,7 @@ module _ {D : Type 0} (told : Type 0) (state : D → DiskState) where
               table = end.table_is;
               reports = reports l;
               legal = legal_more (rules_of o) h e st.legal (fits l taken);
-              turns = turns_more None h e st.turns (waits_own told state o s h st own Restart p t.out e refl refl tt);
+              turns = turns_more None h e st.turns (waits_own told state o s h st own Restart p t.out e refl refl);
               paid = paid_now told state o s h st own Restart p t.out e d.value.p journal refl refl counts;
               astray = astray_more told h e st.astray (λ k x. let y : Restarted l ≡ Failed JournalAstray = x in cc);
               home = (
