@@ -16,7 +16,7 @@ use Rattle.dxc_model.specs.declared.entry.Entry.{Entry}
 use Rattle.dxc_model.specs.Tables.{Board}
 use Rattle.dxc_model.specs.Verdicts.{Grants}
 use Rattle.dxc_model.specs.Steps.{IsDriven, IsFault}
-use Rattle.dxc_model.specs.Histories.{Fits, KeepsLimit, IsCut, IsDoubtful, IsFailedRestart, IsRestarted, IsSettling, IsStopped, IsRestartDue, KeepsTurns, changes_of, table_after}
+use Rattle.dxc_model.specs.Histories.{Fits, KeepsLimit, IsCut, IsDoubtful, IsFailedRestart, IsRestarted, IsSettling, IsStopped, KeepsTurns, changes_of, table_after}
 use Rattle.dxc_model.proofs.FirstCauses.{changes}
 use Rattle.dxc_model.proofs.Growth.{fits_by, legal_more, turns_more}
 use Rattle.dxc_model.proofs.Lasting.{lasts_before, lasts_more, lasts_now}
@@ -32,12 +32,12 @@ use Rattle.xc_core.specs.Provisioners.{Boxed, IsHome, StillDoubts, ground_of, wi
 use Rattle.xc_core.specs.Reckonings.{HasWork, Past, ReckonsTo}
 use Rattle.xc_core.specs.Restarts.{IsHalted, Resumes}
 use Rattle.xc_core.specs.Seeing.{HasFailed, HasHeld, HasPlan, HasRestart, HasStopped, HasTaken, IsDueFor, IsOut, entry}
-use Rattle.xc_core.specs.States.{DoubtsUnsettled, HomeIs, LimitBehind, IsHomeAfter, IsReadyOrHalted, IsUnsettled, Opening, SpendsOf, StandsFor, cost, fault_in, faults_in, most_room, room_in, rules_of, with_home}
+use Rattle.xc_core.specs.States.{DoubtsUnsettled, LimitBehind, IsHomeAfter, IsReadyOrHalted, Opening, SpendsOf, StandsFor, fault_in, faults_in, most_room, room_in, rules_of, with_home}
 use Rattle.xc_core.proofs.Away.{comes_halted, home_now, out_since, out_table, read_since, same_table, taken_since, waits_own}
 use Rattle.xc_core.proofs.Entries.{answered_not_cut, answered_not_restarted, answered_not_settling, astray_more, changes_same, cut_settles_not, doubts_left, doubts_more, failed_settles_not, faults_more, lasted_reading, lasts_reading, paid_counted, reads_faults, reads_room, room_more, spends_at, spends_one, taken_settles_not, unsettled_more}
 use Rattle.xc_core.proofs.Meeting.{meets_one}
 use Rattle.xc_core.proofs.Restarting.{due_more, due_now, of_stop, restart_since}
-use Rattle.xc_core.proofs.Standing.{IsIn, found_in, limit_met, marked_home, out_of, ready_home, stands_out, table_is, there}
+use Rattle.xc_core.proofs.Standing.{IsIn, found_in, limit_met, marked_home, out_of, ready_home, stands_out, there}
 
 module _ {D : Type 0} (told : Type 0) (state : D → DiskState) where
   -- In later turns others have read, and all else is as it was.

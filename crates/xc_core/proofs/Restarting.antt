@@ -1,42 +1,37 @@
 -- A state whose Provisioner waited for a restart, or was asked for one, an entry later: a lemma for each outcome of a restart.
-use Rattle.std.specs.Prelude.{min}
-use Rattle.std.proofs.Common.{◌≡◌, ◌≢◌, ℕ, ◌+◌, ◌≤◌, ◌⊎◌, true, List, [], ◌∷◌, ◌++◌, Option, Some, None, refl, sym, ◌∙◌, ap, subst, inl, inr}
-use Rattle.dxc_causes.specs.Causes.{Rose, last}
-use Rattle.dxc_disk.specs.Disks.{CountsOn, DiskState, Spends}
+use Rattle.std.proofs.Common.{◌≡◌, ◌≢◌, ℕ, ◌+◌, ◌⊎◌, true, List, [], ◌∷◌, ◌++◌, Option, Some, None, refl, sym, ◌∙◌, ap, subst, inl, inr}
+use Rattle.dxc_disk.specs.Disks.{CountsOn, DiskState}
 use Rattle.dbchg_reports.specs.Recent.{recent_of, with_one}
 use Rattle.dbchg_reports.proofs.Keeping.{recent_more}
 use Rattle.dxc_model.specs.declared.op.Op.{Op}
 use Rattle.dxc_model.specs.declared.op.Op.TheVariants.{Restart}
 use Rattle.dxc_model.specs.declared.op.Change.{Change}
 use Rattle.dxc_model.specs.declared.cause.Cause.{Cause}
-use Rattle.dxc_model.specs.declared.cause.Cause.TheVariants.{DiskFault, JournalAstray}
-use Rattle.dxc_model.specs.declared.entry.Outcome.TheVariants.{Failed, Restarted, Cut, Taken}
+use Rattle.dxc_model.specs.declared.cause.Cause.TheVariants.{JournalAstray}
+use Rattle.dxc_model.specs.declared.entry.Outcome.TheVariants.{Failed, Restarted, Cut}
 use Rattle.dxc_model.specs.declared.entry.Entry.{Entry}
 use Rattle.dxc_model.specs.Tables.{Board}
 use Rattle.dxc_model.specs.Verdicts.{Grants, effect}
-use Rattle.dxc_model.specs.Steps.{IsDriven, IsFault}
-use Rattle.dxc_model.specs.Histories.{Fits, IsCut, IsFailedRestart, IsInDoubt, IsRestartDue, IsRestarted, IsSettling, IsDoubtful, IsStopped, KeepsLimit, KeepsTurns, changes_of, table_after}
+use Rattle.dxc_model.specs.Histories.{Fits, IsCut, IsFailedRestart, IsInDoubt, IsRestartDue, IsRestarted, IsSettling, IsDoubtful, KeepsTurns, changes_of, table_after}
 use Rattle.dxc_model.proofs.Growth.{fits_by, legal_more, turns_more}
-use Rattle.dxc_model.proofs.Lasting.{lasts_before, lasts_more, lasts_no_more, lasts_now}
+use Rattle.dxc_model.proofs.Lasting.{lasts_more, lasts_no_more, lasts_now}
 use Rattle.dxc_model.proofs.Verdicts.{own_verdict}
 use Rattle.roll_engine.specs.Rollings.{RollingAt}
 use Rattle.turnstile.specs.Turning.{Each}
-use Rattle.xc_recovery.specs.Placings.{IsPlaced}
 use Rattle.xc_core.specs.declared.provisioner.Provisioner.{Provisioner}
-use Rattle.xc_core.specs.declared.state.Home.TheVariants.{In, Out}
+use Rattle.xc_core.specs.declared.state.Home.TheVariants.{In}
 use Rattle.xc_core.specs.declared.state.State.{State}
 use Rattle.xc_core.specs.Reckonings.{Past, ReckonsTo}
-use Rattle.xc_core.specs.Provisioners.{Boxed, IsHome, StillDoubts, ground_of}
+use Rattle.xc_core.specs.Provisioners.{Boxed, ground_of}
 use Rattle.xc_core.specs.Restarts.{IsHalted, Resumes, TakesUp}
 use Rattle.xc_core.specs.Endings.{Ends, reports_with}
-use Rattle.xc_core.specs.States.{DoubtsUnsettled, Opening, HomeIs, IsReadyOrHalted, IsUnsettled, LimitBehind, StandsFor, faults_in, most_room, rules_of, with_home}
+use Rattle.xc_core.specs.States.{DoubtsUnsettled, Opening, HomeIs, IsReadyOrHalted, IsUnsettled, StandsFor, rules_of, with_home}
 use Rattle.xc_core.specs.Seeing.{HasRestart, IsDueFor, IsOfStop, entry}
 use Rattle.xc_core.proofs.Away.{comes_halted, home_now, in_now, out_moved, out_since, out_table, paid_now, read_since, waits_own}
-use Rattle.xc_core.proofs.Entries.{AreReads, answered_not_restarted, answered_not_settling, astray_more, changes_one, changes_same, cut_settles_not, doubts_left, doubts_more, failed_settles_not, lasts_reading, one_fault, taken_settles_not, unsettled_more}
+use Rattle.xc_core.proofs.Entries.{AreReads, answered_not_restarted, answered_not_settling, astray_more, changes_one, changes_same, cut_settles_not, lasts_reading, unsettled_more}
 use Rattle.xc_core.proofs.Halting.{resumes_halted}
-use Rattle.xc_core.proofs.Meeting.{meets_one}
 use Rattle.xc_core.proofs.Reckoning.{reckons_more}
-use Rattle.xc_core.proofs.Standing.{IsIn, home_by, no_fault, out_of, stands_out, table_is}
+use Rattle.xc_core.proofs.Standing.{table_is}
 
 -- a change that a restart takes up is in doubt
 doubt_of : (t : Board) (h : List Entry) (op : Op) (c : Change) → Grants t op c → IsUnsettled h op → IsInDoubt t h c

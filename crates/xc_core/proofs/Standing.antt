@@ -1,38 +1,37 @@
 -- A state whose Provisioner was home and ready, one entry later: a lemma for each outcome. None but these, those of a Provisioner that was taken out or is halted, and the one of an opening, makes a `StandsFor`.
 use Rattle.std.specs.Prelude.{min}
 use Rattle.std.proofs.Common.{◌≡◌, ◌≢◌, ℕ, ◌+◌, ◌≤◌, arith, ◌⊎◌, true, false, List, [], ◌∷◌, ◌++◌, Option, Some, None, Ok, Err, refl, sym, ◌∙◌, ap, subst, inl, inr}
-use Rattle.dxc_causes.specs.Causes.{Rose, last}
+use Rattle.dxc_causes.specs.Causes.{last}
 use Rattle.dxc_disk.specs.Disks.{CountsOn, DiskState, Spends}
 use Rattle.dbchg_reports.specs.Recent.{recent_of}
 use Rattle.dxc_model.specs.declared.op.Op.{Op}
 use Rattle.dxc_model.specs.declared.op.Change.{Change}
 use Rattle.dxc_model.specs.declared.cause.Cause.{Cause}
-use Rattle.dxc_model.specs.declared.cause.Cause.TheVariants.{DiskFault, JournalAstray}
+use Rattle.dxc_model.specs.declared.cause.Cause.TheVariants.{JournalAstray}
 use Rattle.dxc_model.specs.declared.entry.Outcome.{Outcome}
 use Rattle.dxc_model.specs.declared.entry.Outcome.TheVariants.{Denied, Failed, Answered, Cut, Taken}
 use Rattle.dxc_model.specs.declared.entry.Entry.{Entry}
 use Rattle.dxc_model.specs.Tables.{Board}
 use Rattle.dxc_model.specs.Verdicts.{Grants, Refuses}
 use Rattle.dxc_model.specs.Steps.{IsRetrieval, made}
-use Rattle.dxc_model.specs.Histories.{Fits, KeepsLimit, WaitsFor, IsCut, IsDoubtful, IsRestarted, IsFailedRestart, IsSettling, IsStopped, IsRestartDue, changes_of, holder, holder_after, table_after, taker}
+use Rattle.dxc_model.specs.Histories.{Fits, KeepsLimit, WaitsFor, IsCut, IsRestarted, IsFailedRestart, IsSettling, IsStopped, IsRestartDue, changes_of, holder, holder_after, table_after, taker}
 use Rattle.dxc_model.proofs.FirstCauses.{changes}
 use Rattle.dxc_model.proofs.Growth.{fits_by, holder_more, legal_more, turns_more}
-use Rattle.dxc_model.proofs.Lasting.{lasts_before, lasts_more, lasts_now}
+use Rattle.dxc_model.proofs.Lasting.{lasts_before, lasts_more}
 use Rattle.dxc_model.proofs.Standings.{reading_fits}
-use Rattle.roll_engine.specs.Rollings.{RollingAt}
 use Rattle.xc_core.specs.declared.provisioner.Provisioner.{Provisioner}
 use Rattle.xc_core.specs.declared.state.Home.{Home}
 use Rattle.xc_core.specs.declared.state.Home.TheVariants.{In, Out}
 use Rattle.xc_core.specs.declared.state.State.{State}
-use Rattle.xc_core.specs.Reckonings.{HasWork, Meets, Past, ReckonsTo}
-use Rattle.xc_core.specs.Provisioners.{Boxed, IsHome, Rolls, ground_of, with_halt}
+use Rattle.xc_core.specs.Reckonings.{Meets, Past, ReckonsTo}
+use Rattle.xc_core.specs.Provisioners.{Boxed, IsHome, ground_of, with_halt}
 use Rattle.xc_core.specs.Restarts.{IsHalted}
 use Rattle.xc_core.proofs.Halting.{halted_home}
 use Rattle.xc_core.proofs.Pasts.{past_marked}
-use Rattle.xc_core.specs.Begins.{IsOverLimit, IsWithin, MayDoubt}
+use Rattle.xc_core.specs.Begins.{IsOverLimit}
 use Rattle.xc_core.specs.States.{DoubtsUnsettled, Opening, IsHomeAfter, IsPaid, LimitBehind, SpendsOf, rules_of, HomeIs, StandsFor, cost, fault_in, faults_in, most_room, room_in, with_home}
-use Rattle.xc_core.specs.Seeing.{HasTaken, IsOut, Rests, entry}
-use Rattle.xc_core.proofs.Entries.{answered_settles_not, astray_more, changes_same, cut_settles_not, denied_settles_not, doubts_cut, doubts_more, doubts_ready, failed_settles_not, held_still, limit_no_fault, limit_not_astray, one_fault, over_limit, paid_counted, paid_same, room_more, same_faults, spends_at, spends_one, unsettled_more, waits_reading}
+use Rattle.xc_core.specs.Seeing.{IsOut, Rests, entry}
+use Rattle.xc_core.proofs.Entries.{answered_settles_not, astray_more, changes_same, denied_settles_not, doubts_more, failed_settles_not, held_still, limit_no_fault, limit_not_astray, over_limit, paid_counted, paid_same, room_more, same_faults, spends_at, spends_one, waits_reading}
 use Rattle.xc_core.proofs.Granting.{granted_once}
 use Rattle.xc_core.proofs.Reckoning.{reckoned_table}
 

@@ -1,6 +1,5 @@
 -- What a turn does with the state.
-use Rattle.std.proofs.Common.{◌≡◌, ◌≢◌, ◌≤◌, ◌⊎◌, ℕ, true, false, List, [], ◌∷◌, ◌++◌, refl, sym, ◌∙◌, ap, subst, inl, inr}
-use Rattle.dxc_causes.specs.Causes.{Rose}
+use Rattle.std.proofs.Common.{◌≡◌, ◌≤◌, ◌⊎◌, ℕ, true, false, List, [], ◌∷◌, ◌++◌, refl, sym, ◌∙◌, ap, subst, inl, inr}
 use Rattle.dxc_disk.specs.Disks.{CountsOn, DiskState, Spends}
 use Rattle.dxc_model.specs.declared.cause.Cause.{Cause}
 use Rattle.dxc_model.specs.declared.cause.Cause.TheVariants.{DiskFault, NoMiddle, SwitchLimit, JournalAstray}
@@ -24,14 +23,14 @@ use Rattle.xc_core.specs.declared.state.Home.TheVariants.{In, Out}
 use Rattle.xc_core.specs.declared.state.State.{State}
 use Rattle.xc_core.specs.declared.turns.Took.TheVariants as took
 use Rattle.xc_core.specs.Reckonings.{Past}
-use Rattle.xc_core.specs.Provisioners.{Boxed, IsHome, ground_of, with_halt}
-use Rattle.xc_core.specs.Begins.{IsCopied, IsOverLimit, IsPlanned, IsWithin, MayDoubt, MayNote, Starts, plan_of}
+use Rattle.xc_core.specs.Provisioners.{Boxed, IsHome, ground_of}
+use Rattle.xc_core.specs.Begins.{IsCopied, IsOverLimit, IsPlanned, MayNote, plan_of}
 use Rattle.xc_core.specs.States.{HomeIs, IsLent, Opening, StandsFor, most_room, with_home}
 use Rattle.xc_core.specs.Seeing.{entry, refused}
 use Rattle.xc_core.specs.Turns.{TakenIs}
 use Rattle.xc_core.proofs.Entries.{over_limit}
 use Rattle.xc_core.proofs.Restarting.{found_stage}
-use Rattle.xc_core.proofs.Standing.{IsReadyAfter, has_taken, ready_home, stands_denied, stands_failed, stands_faulted, stands_held, stands_taken}
+use Rattle.xc_core.proofs.Standing.{IsReadyAfter, ready_home, stands_denied, stands_failed}
 
 -- what the table says is entered as denied
 denied_by : (t : Board) (op : Op) (q : Cause) → Holds t op q → refused q ≡ outcome.Denied q

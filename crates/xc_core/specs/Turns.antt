@@ -33,7 +33,7 @@ use Rattle.xc_core.specs.declared.state.Home.{Home}
 use Rattle.xc_core.specs.declared.state.Home.TheVariants.{In, Out}
 use Rattle.xc_core.specs.Begins.{plan_of}
 use Rattle.xc_core.specs.States.{IsLent, IsNeverAstray, Opening, StandsFor}
-use Rattle.xc_core.specs.Seeing.{HasFailed, HasHeld, HasPlan, HasRestart, HasStopped, HasTaken, IsDueFor, IsOfStop, Turned, TurnedBack, codes, entry, refused}
+use Rattle.xc_core.specs.Seeing.{HasFailed, HasHeld, HasPlan, HasRestart, HasStopped, IsDueFor, IsOfStop, Turned, TurnedBack, codes, entry, refused}
 
 -- each entry that was seen carries the number of one of so many passes
 abbrev pub AreNumbered : ℕ → List Gv → Type 0

@@ -1,4 +1,4 @@
-use Rattle.std.proofs.Common.{List, [], ◌∷◌, ◌++◌, ◌∙◌, length, refl, sym, ap, subst, inl, inr}
+use Rattle.std.proofs.Common.{List, ◌∙◌, length, refl, sym, subst, inl, inr}
 use Rattle.dxc_model.specs.declared.cause.Cause.TheVariants.{DiskFault}
 use Rattle.dxc_model.specs.declared.entry.Entry.{Entry}
 use Rattle.dxc_model.specs.Histories.{IsStopped}

@@ -1,4 +1,4 @@
-use Rattle.std.proofs.Common.{le_of_eq, rules, length, ℕ, [], ◌∷◌, ◌++◌, inl, inr, refl, sym, ◌∙◌, ap, subst}
+use Rattle.std.proofs.Common.{le_of_eq, rules, ℕ, [], ◌∷◌, ◌++◌, inl, inr, refl, sym, ◌∙◌, ap, subst}
 use Rattle.dxc_model.specs.declared.entry.Outcome.TheVariants.{Taken}
 use Rattle.dxc_model.proofs.FirstCauses.{changes}
 use Rattle.xc_core.specs.Seeing.{HasPlan, entry}
@@ -9,8 +9,6 @@ use Rattle.craft_session.specs.declared.change.Changed.TheVariants.{Denied, Stop
 use Rattle.craft_session.specs.declared.mend.Mended.{Mended}
 use Rattle.craft_session.specs.Changing.{ChangedIs, MendedIs}
 use Rattle.craft_session.proofs.Changing.{changed_on, mend_denied, mend_stopped, mended_back, mended_none, mends_ready, mends_wait, taken_passed, took_back, took_denied, took_halted, took_rolling, turned_back_passed}
-use Rattle.dxc_outside.specs.declared.gate.GatePlace.TheVariants.{Journal}
-use Rattle.roll_engine.specs.Rollings.{rest_of}
 use Rattle.craft_session.specs.Askings.{no_mending}
 use Rattle.craft_session.proofs.Gated.{entered_none, entered_on, entered_take_on, takes_out}
 use Rattle.craft_session.proofs.Gating.{denied_asked, mending_denied, mending_more, mending_none, mending_stopped, carried_asked, nothing_more}
@@ -121,7 +119,7 @@ returns-in-Denied-mend g c =
     let k = c.loop.invariant in
     let t = c.take.ensures in
     let m = c.mend.ensures in
-    let unstopped = t.unstopped (apart took_goes _ _ _ c.in-Halted.is refl refl) ∙ k.gate in
+    let unstopped = k.gate in
     record {
       pass = (m.pass.0, m.pass.1 ∙ t.pass.1 ∙ k.number);
       astray = m.astray;
@@ -135,7 +133,7 @@ returns-in-Denied-mend g c =
           let m = subst (λ (n : ℕ). MendedIs (opening_of g.D.Disk.state c.args.turns.now.first) n (h ++ d.front) c.args.op.now c.mend.new.pass.seen c.mend.result) (c.take.ensures.pass.1 ∙ c.loop.invariant.number) (c.mend.ensures.mended (h ++ d.front) d.saw) in
           changed_on (opening_of g.D.Disk.state c.args.turns.now.first) c.args.pass.now.number h c.args.op.now c.take.new.pass.seen c.mend.new.pass.seen d (Denied c.in-Denied-mend.cause) (mend_denied (opening_of g.D.Disk.state c.args.turns.now.first) c.args.pass.now.number (h ++ d.front) (opening_of g.D.Disk.state c.args.turns.now.first).first.fold.table.shape c.args.op.now c.requires.apt c.mend.new.pass.seen c.in-Denied-mend.cause (subst (λ (z : Mended). MendedIs (opening_of g.D.Disk.state c.args.turns.now.first) c.args.pass.now.number (h ++ d.front) c.args.op.now c.mend.new.pass.seen z) c.in-Denied-mend.is m));
       asked = mending_denied g.G.Gate.asked g.G.Gate.asked_on c.args.gate.now c.loop.gate c.mend.new.gate c.loop.invariant.asked.0 c.loop.invariant.asked.1 (nothing_more g.G.Gate.asked g.G.Gate.asked_on c.args.gate.now c.loop.gate c.loop.gate c.loop.invariant.asked.0 c.loop.invariant.asked.2 (g.G.Gate.unasked c.loop.gate)) c.mend.result c.in-Denied-mend.cause c.in-Denied-mend.is c.mend.ensures.asked;
-      entered = λ h saw. entered_on g.G.Gate.asked g.G.Gate.asked_on c.args.gate.now c.loop.gate c.mend.new.gate _ _ _ _ _ _ _ _ _ (t.pass.1 ∙ k.number) (entered_take_on g.G.Gate.asked g.G.Gate.asked_on c.args.gate.now c.loop.gate c.loop.gate _ _ _ _ _ _ g.D.Disk.told g.D.Disk.state c.args.op.now c.take.result _ (ap takes_out c.in-Halted.is) k.number (k.entered h saw) t.asked t.took) m.entered;
+      entered = λ h saw. entered_on g.G.Gate.asked g.G.Gate.asked_on c.args.gate.now c.loop.gate c.mend.new.gate _ _ _ _ _ _ _ _ _ (t.pass.1 ∙ k.number) (entered_take_on g.G.Gate.asked g.G.Gate.asked_on c.args.gate.now c.loop.gate c.loop.gate _ _ _ _ _ _ g.D.Disk.told g.D.Disk.state c.args.op.now c.take.result _ (ap takes_out c.in-Halted.is) k.number (k.entered h saw) (g.G.Gate.unasked c.loop.gate) t.took) m.entered;
     }
 
 pub returns-in-Stopped-mend : goal.returns-in-Stopped-mend
@@ -143,7 +141,7 @@ returns-in-Stopped-mend g c =
     let k = c.loop.invariant in
     let t = c.take.ensures in
     let m = c.mend.ensures in
-    let unstopped = t.unstopped (apart took_goes _ _ _ c.in-Halted.is refl refl) ∙ k.gate in
+    let unstopped = k.gate in
     record {
       pass = (m.pass.0, m.pass.1 ∙ t.pass.1 ∙ k.number);
       astray = m.astray;
@@ -157,5 +155,5 @@ returns-in-Stopped-mend g c =
           let m = subst (λ (n : ℕ). MendedIs (opening_of g.D.Disk.state c.args.turns.now.first) n (h ++ d.front) c.args.op.now c.mend.new.pass.seen c.mend.result) (c.take.ensures.pass.1 ∙ c.loop.invariant.number) (c.mend.ensures.mended (h ++ d.front) d.saw) in
           changed_on (opening_of g.D.Disk.state c.args.turns.now.first) c.args.pass.now.number h c.args.op.now c.take.new.pass.seen c.mend.new.pass.seen d Stopped (mend_stopped (opening_of g.D.Disk.state c.args.turns.now.first) c.args.pass.now.number (h ++ d.front) (opening_of g.D.Disk.state c.args.turns.now.first).first.fold.table.shape c.args.op.now c.requires.apt c.mend.new.pass.seen (subst (λ (z : Mended). MendedIs (opening_of g.D.Disk.state c.args.turns.now.first) c.args.pass.now.number (h ++ d.front) c.args.op.now c.mend.new.pass.seen z) c.in-Stopped-mend.is m));
       asked = mending_stopped g.G.Gate.asked g.G.Gate.asked_on c.args.gate.now c.loop.gate c.mend.new.gate c.loop.invariant.asked.0 c.loop.invariant.asked.1 (nothing_more g.G.Gate.asked g.G.Gate.asked_on c.args.gate.now c.loop.gate c.loop.gate c.loop.invariant.asked.0 c.loop.invariant.asked.2 (g.G.Gate.unasked c.loop.gate)) c.mend.result c.in-Stopped-mend.is c.mend.ensures.asked;
-      entered = λ h saw. entered_on g.G.Gate.asked g.G.Gate.asked_on c.args.gate.now c.loop.gate c.mend.new.gate _ _ _ _ _ _ _ _ _ (t.pass.1 ∙ k.number) (entered_take_on g.G.Gate.asked g.G.Gate.asked_on c.args.gate.now c.loop.gate c.loop.gate _ _ _ _ _ _ g.D.Disk.told g.D.Disk.state c.args.op.now c.take.result _ (ap takes_out c.in-Halted.is) k.number (k.entered h saw) t.asked t.took) m.entered;
+      entered = λ h saw. entered_on g.G.Gate.asked g.G.Gate.asked_on c.args.gate.now c.loop.gate c.mend.new.gate _ _ _ _ _ _ _ _ _ (t.pass.1 ∙ k.number) (entered_take_on g.G.Gate.asked g.G.Gate.asked_on c.args.gate.now c.loop.gate c.loop.gate _ _ _ _ _ _ g.D.Disk.told g.D.Disk.state c.args.op.now c.take.result _ (ap takes_out c.in-Halted.is) k.number (k.entered h saw) (g.G.Gate.unasked c.loop.gate) t.took) m.entered;
     }

@@ -1,4 +1,4 @@
-use Rattle.std.proofs.Common.{List, ◌∙◌, length, refl, sym, ap, subst, inl, inr}
+use Rattle.std.proofs.Common.{List, ◌∙◌, length, refl, sym, ap, subst, inl}
 use Rattle.dxc_model.specs.declared.entry.Entry.{Entry}
 use Rattle.dxc_model.specs.declared.op.Op.TheVariants.{Restart}
 use Rattle.roll_engine.specs.Rollings.{rest_of}

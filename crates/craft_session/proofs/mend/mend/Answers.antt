@@ -8,7 +8,6 @@ use Rattle.craft_session.specs.declared.mend.Mended.TheVariants.{Stopped, Waits}
 use Rattle.craft_session.proofs.Changing.{held_out, held_waits, mended_on_turns, taken_passed}
 use Rattle.craft_session.proofs.Ends.{apart, mended_goes}
 use Rattle.craft_session.proofs.Gated.{entered_hold, entered_on, holds_out}
-use Rattle.craft_session.proofs.Gating.{mend_on}
 use Rattle.craft_session.proofs.mend.mend.Goals as goal
 
 pub go_on-requires-clause-held : goal.go_on-requires-clause-held

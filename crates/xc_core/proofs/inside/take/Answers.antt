@@ -1,15 +1,16 @@
-use Rattle.std.proofs.Common.{◌≡◌, ◌≤◌, refl, sym, ◌∙◌, ap, subst, arith}
+use Rattle.std.proofs.Common.{Some, sym, ◌∙◌, ap, subst, arith}
 use Rattle.std.specs.Box.{with_value}
 use Rattle.dxc_disk.proofs.DiskSteps.{spends_none}
 use Rattle.xc_core.specs.declared.provisioner.Driver.{Driver}
 use Rattle.xc_core.specs.declared.provisioner.Provisioner.{Provisioner}
+use Rattle.xc_core.specs.declared.state.Home.{Home}
 use Rattle.xc_core.specs.declared.state.Home.TheVariants.{In}
 use Rattle.xc_core.specs.declared.state.State.{State}
 use Rattle.xc_core.specs.declared.turns.Took.TheVariants as took
 use Rattle.xc_core.specs.Begins.{plan_of}
 use Rattle.xc_core.specs.Provisioners.{Boxed, ground_of}
 use Rattle.xc_core.specs.States.{most_room, with_home}
-use Rattle.xc_core.specs.Turns.{TakenIs}
+use Rattle.xc_core.specs.Turns.{TakenIs, journal_home}
 use Rattle.xc_core.proofs.Homing.{plan_taken}
 use Rattle.xc_core.proofs.Within.{held_home, later_from, lent, may_note, spent_from, was_denied, was_halted}
 use Rattle.xc_core.proofs.inside.take.Goals as goal
@@ -67,3 +68,19 @@ returns-in-Ok-clause-origin g c = ap (λ (x : State g.row.D.Denot). x.origin) c.
 
 pub returns-then-halted-clause-origin : goal.returns-then-halted-clause-origin
 returns-then-halted-clause-origin g c = ap (λ (x : State g.row.D.Denot). x.origin) c.bring_home.ensures ∙ ap (λ (x : State g.row.D.Denot). x.origin) c.take_out.ensures.state
+
+-- no turn calls the journal
+pub returns-in_default-clause-still : goal.returns-in_default-clause-still
+returns-in_default-clause-still g c = ap (λ (x : State g.row.D.Denot). journal_home x.home) c.take_out.ensures.state ∙ sym (ap (λ (x : Home g.row.D.Denot). journal_home x) c.in_default.ensures.none)
+
+pub returns-in-Ok-clause-still : goal.returns-in-Ok-clause-still
+returns-in-Ok-clause-still g c = ap (λ (x : Provisioner g.row.D.Denot). Some x.journal) c.plan_copied.ensures.others ∙ (ap (λ (x : Driver g.row.D.Denot). Some x.p.journal) c.deref_mut-held.ensures.value ∙ sym (ap (λ (x : Home g.row.D.Denot). journal_home x) c.in-Some.ensures.found))
+
+pub returns-in-Err-clause-still : goal.returns-in-Err-clause-still
+returns-in-Err-clause-still g c =
+    ap (λ (x : State g.row.D.Denot). journal_home x.home) c.bring_home-in-Err.ensures
+    ∙ (ap (λ (x : Provisioner g.row.D.Denot). Some x.journal) c.plan_copied.ensures.others ∙ (ap (λ (x : Driver g.row.D.Denot). Some x.p.journal) c.deref_mut-held.ensures.value ∙ sym (ap (λ (x : Home g.row.D.Denot). journal_home x) c.in-Some.ensures.found)))
+
+pub returns-then-halted-clause-still : goal.returns-then-halted-clause-still
+returns-then-halted-clause-still g c =
+    ap (λ (x : State g.row.D.Denot). journal_home x.home) c.bring_home.ensures ∙ (ap (λ (x : Driver g.row.D.Denot). Some x.p.journal) c.deref_mut-held.ensures.value ∙ sym (ap (λ (x : Home g.row.D.Denot). journal_home x) c.in-Some.ensures.found))

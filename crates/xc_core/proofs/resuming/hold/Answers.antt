@@ -1,12 +1,13 @@
-use Rattle.std.proofs.Common.{◌≡◌, true, false, refl, sym, ◌∙◌, ap, subst, inl}
+use Rattle.std.proofs.Common.{◌≡◌, Some, true, false, refl, sym, ◌∙◌, ap, subst, inl}
 use Rattle.std.specs.Box.{with_value}
 use Rattle.xc_core.specs.declared.provisioner.Driver.{Driver}
 use Rattle.xc_core.specs.declared.restarts.Held.TheVariants as held
+use Rattle.xc_core.specs.declared.state.Home.{Home}
 use Rattle.xc_core.specs.declared.state.Home.TheVariants.{In}
 use Rattle.xc_core.specs.declared.state.State.{State}
 use Rattle.xc_core.specs.Provisioners.{Boxed}
 use Rattle.xc_core.specs.States.{with_home}
-use Rattle.xc_core.specs.Turns.{HeldIs}
+use Rattle.xc_core.specs.Turns.{HeldIs, journal_home}
 use Rattle.xc_core.proofs.Copying.{copy_fits}
 use Rattle.xc_core.proofs.Restored.{keeps_found, was_ready, was_taken}
 use Rattle.xc_core.proofs.Within.{held_home, lent}
@@ -53,3 +54,14 @@ returns-then-not-goes_for-clause-origin g c = ap (λ (x : State g.row.D.Denot). 
 
 pub returns-clause-origin : goal.returns-clause-origin
 returns-clause-origin g c = ap (λ (x : State g.row.D.Denot). x.origin) c.take_out.ensures.state
+
+-- no turn calls the journal
+pub returns-in_default-clause-still : goal.returns-in_default-clause-still
+returns-in_default-clause-still g c = ap (λ (x : State g.row.D.Denot). journal_home x.home) c.take_out.ensures.state ∙ sym (ap (λ (x : Home g.row.D.Denot). journal_home x) c.in_default.ensures.none)
+
+pub returns-then-not-goes_for-clause-still : goal.returns-then-not-goes_for-clause-still
+returns-then-not-goes_for-clause-still g c =
+    ap (λ (x : State g.row.D.Denot). journal_home x.home) c.bring_home.ensures ∙ (ap (λ (x : Driver g.row.D.Denot). Some x.p.journal) c.deref_mut-held.ensures.value ∙ sym (ap (λ (x : Home g.row.D.Denot). journal_home x) c.in-Some.ensures.found))
+
+pub returns-clause-still : goal.returns-clause-still
+returns-clause-still g c = ap (λ (x : Driver g.row.D.Denot). Some x.p.journal) c.deref_mut-held.ensures.value ∙ sym (ap (λ (x : Home g.row.D.Denot). journal_home x) c.in-Some.ensures.found)

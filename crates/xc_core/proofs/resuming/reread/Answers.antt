@@ -1,5 +1,5 @@
-use Rattle.std.proofs.Common.{◌≡◌, refl, sym, ◌∙◌, ap, subst, inl, inr}
-use Rattle.fabric_words.specs.Seats.{FabricId, MoverAt}
+use Rattle.std.proofs.Common.{refl, ◌∙◌, ap, inl, inr}
+use Rattle.fabric_words.specs.Seats.{MoverAt}
 use Rattle.xc_core.specs.declared.provisioner.Provisioner.{Provisioner}
 use Rattle.xc_core.specs.declared.second.Second.{Second}
 use Rattle.xc_core.proofs.Restored.{halted_now, was_astray, was_faulty, was_resumed, was_stopped, was_unsettled}
