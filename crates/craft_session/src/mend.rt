@@ -20,7 +20,7 @@ use fabric_words::Fabric;
 use std::sync::Wait;
 use turnstile::{Pass, Rest, Turnstile};
 use xc_core::restarts::{Held, cut_restart, end_restart, hold};
-use xc_core::{Driver, Reread, State, reread, turns};
+use xc_core::{Driver, Reread, State, read_anew, turns};
 
 /// What came of turns in which a restart was to be made.
 #[derive(Clone, Copy)]
@@ -97,7 +97,7 @@ fn go_on<D: Disk + Drop, G: Gate, R: Wait>(
 {
     let mut driver = driver;
     let held = &mut *driver;
-    match reread(&mut held.p, fabric, asked, gate) {
+    match read_anew(&mut held.p, fabric, asked, gate) {
         Reread::Warm(rolling) => {
             held.rolling = rolling;
             resume(pass, turns, fabric, asked, driver, gate, rt)

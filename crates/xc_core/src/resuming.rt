@@ -97,7 +97,7 @@ pub enum Reread {
 
 /// Settles a Provisioner that was taken out for a restart, and halts it where it isn't halted; then reads its journal anew, and finds how its
 /// registers go on. This is done outside of any turn. It takes at most 131,082 of the disk's room.
-pub fn reread<D: Disk, G: Gate>(
+pub fn read_anew<D: Disk, G: Gate>(
     p: &mut Provisioner<D>,
     fabric: &Fabric,
     asked: &Op,

@@ -3,7 +3,7 @@ use Rattle.fabric_words.specs.Seats.{MoverAt}
 use Rattle.xc_core.specs.declared.provisioner.Provisioner.{Provisioner}
 use Rattle.xc_core.specs.declared.second.Second.{Second}
 use Rattle.xc_core.proofs.Restored.{halted_now, was_astray, was_faulty, was_resumed, was_stopped, was_unsettled}
-use Rattle.xc_core.proofs.resuming.reread.Goals as goal
+use Rattle.xc_core.proofs.resuming.read_anew.Goals as goal
 
 pub make_halted-requires : goal.make_halted-requires
 make_halted-requires g c = let w = c.requires.held in record { home = (w.3.out.now, elim w.3.stage [ inl a ↦ inl a.0 | inr b ↦ inr b.0 ]) }
