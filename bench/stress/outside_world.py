@@ -133,8 +133,9 @@ def peer(folder):
 
 
 def files_of(folder):
-    """Each file's name, bytes and time of change."""
-    return {name: (content(os.path.join(folder, name)), os.stat(os.path.join(folder, name)).st_mtime_ns) for name in sorted(os.listdir(folder))}
+    """Each file's bytes and time of change by its name, but for outputs: a server empties those when its workers begin."""
+    paths = {name: os.path.join(folder, name) for name in os.listdir(folder) if not name.endswith(".out")}
+    return {name: (content(path), os.stat(path).st_mtime_ns) for name, path in paths.items()}
 
 
 def check(folder):
