@@ -18,7 +18,8 @@ TEXT = """# Wrong bodies
 
 `tools/documents --write` writes this page from `docs/wrong_bodies.tsv` and from the folders of edits. A wrong body is an edit of a source, in its crate's `must-fail/`
 (the gate tries those), `further-edits/` (`tools/further-edits` tries those) or `accepted-edits/`: the prover is to refuse the edits of the former two and accepts
-those of the last. The table lists what was tried last, by somebody who wrote none of the code, after a reading of every public call against its specification.
+those of the last. The table lists what was tried last: most by somebody who wrote none of the code, after a reading of public calls against their specification,
+and those of new calls and laws by who wrote these.
 
 ## Accepted
 
