@@ -20,10 +20,12 @@ use Rattle.xc_core.specs.Provisioners.{Boxed}
 use Rattle.xc_core.specs.declared.turns.Took.{Took}
 use Rattle.xc_core.specs.declared.turns.Took.TheVariants as took
 use Rattle.xc_core.specs.States.{Opening}
-use Rattle.xc_core.specs.declared.restarts.Restarting.{Restarting}
-use Rattle.xc_core.specs.declared.restarts.Restarting.TheVariants as restarting
-use Rattle.xc_core.specs.Seeing.{HasRestart, HasTaken, IsDueFor, IsOfStop, Saw, Turned, TurnedBack, entry, refused}
-use Rattle.xc_core.specs.Turns.{CutIs, DoneIs, RestartCutIs, RestartIs, RestartedIs, TookIs}
+use Rattle.xc_core.specs.declared.provisioner.Provisioner.{Provisioner}
+use Rattle.xc_core.specs.declared.restarts.Held.{Held}
+use Rattle.xc_core.specs.declared.restarts.Held.TheVariants as held
+use Rattle.xc_core.specs.Begins.{plan_of}
+use Rattle.xc_core.specs.Seeing.{HasFailed, HasHeld, HasPlan, IsDueFor, IsOfStop, Saw, Turned, TurnedBack, entry, refused}
+use Rattle.xc_core.specs.Turns.{CutIs, DoneIs, FailedIs, HoldIs, RestartCutIs, RestartedIs, TookIs}
 use Rattle.craft_session.specs.declared.change.Changed.{Changed}
 use Rattle.craft_session.specs.declared.change.Changed.TheVariants.{Done, Denied, Stopped}
 use Rattle.craft_session.specs.declared.mend.Mended.{Mended}
@@ -157,18 +159,19 @@ module _ (o : Opening) (own : ℕ) (h : List Entry) where
     pub mend_stopped : MendedIs o own h op seen mended.Stopped → ChangedIs o own h op seen Stopped
     mend_stopped x = inr (passed_mended (entry own Restart Cut) seen x.0, due_now d op (h ++ x.0.passed) apt x.1)
 
-  -- the Provisioner was taken, and the work carried out
+  -- by a fault of the journal, behind a plan
+  pub changed_fault : {D : Type 0} (told : Type 0) (state : D → DiskState) (op : Op) (p : Provisioner D) (seen : List Gv) → (IsStopped h → ⊥) → FailedIs told state o own h op DiskFault p seen → ChangedIs o own h op seen (Denied DiskFault)
+  changed_fault told state op p seen unstopped x = (turned_mended (entry own op (Failed DiskFault)) seen x.0, change_at (h ++ x.0.later) (Failed DiskFault) (λ stopped. unstopped (x.2 stopped)) (λ is. let y : Failed DiskFault ≡ Failed JournalAstray = is in cc))
+
+  -- the Provisioner was taken, and the work planned
   module _ {D : Type 0} (told : Type 0) (state : D → DiskState) (op : Op) (seen : List Gv) (t : Took D) (at : TookIs told state o own h op seen t) where
-    pub took_rolling : (d : Boxed D) → t ≡ took.Rolling d → (turn : Turned o own h (entry own op Taken) seen) × HasTaken told state o own op ((h ++ turn.later) ++ entry own op Taken ∷ []) d.value.p d.value.rolling
-    took_rolling d is = subst (λ (x : Took D). TookIs told state o own h op seen x) is at
+    pub took_rolling : (d : Boxed D) (bytes : List ℕ) → t ≡ took.Rolling d bytes → (turn : Turned o own h (entry own op Taken) seen) × HasPlan told state o own ((h ++ turn.later) ++ entry own op Taken ∷ []) d.value.p (plan_of op d.value.rolling bytes)
+    took_rolling d bytes is = subst (λ (x : Took D). TookIs told state o own h op seen x) is at
 
     pub took_denied : (q : Cause) → t ≡ took.Denied q → ChangedIs o own h op seen (Denied q)
     took_denied q is =
         let x = subst (λ (y : Took D). TookIs told state o own h op seen y) is at in
-        (turned_mended (entry own op (refused q)) seen x.0, change_at (h ++ x.0.later) (refused q) x.1 (refused_astray q x.2))
-
-    pub took_stopped : t ≡ took.Stopped → ChangedIs o own h op seen Stopped
-    took_stopped is = changed_cut op seen (subst (λ (x : Took D). TookIs told state o own h op seen x) is at)
+        (turned_mended (entry own op (refused q)) seen x.0, change_at (h ++ x.0.later) (refused q) x.1 (refused_astray q (λ astray. x.2 (inr astray))))
 
     pub took_halted : t ≡ took.Halted → TurnedBack o own h seen
     took_halted is = (subst (λ (x : Took D). TookIs told state o own h op seen x) is at).0
@@ -196,22 +199,19 @@ module _ (o : Opening) (own : ℕ) (h : List Entry) where
   pub mended_cut : (asked : Op) (seen : List Gv) → RestartCutIs o own h asked seen → MendedIs o own h asked seen mended.Stopped
   mended_cut asked seen x = (turned_passed (entry own Restart Cut) seen x.0, x.1)
 
-  module _ {D : Type 0} (told : Type 0) (state : D → DiskState) (asked : Op) (seen : List Gv) (t : Restarting D) (at : RestartIs told state o own h asked seen t) where
-    pub restart_rolling : (d : Boxed D) → t ≡ restarting.Rolling d → (turn : Turned o own h (entry own Restart Taken) seen) × HasRestart told state o own asked ((h ++ turn.later) ++ entry own Restart Taken ∷ []) d.value.p d.value.rolling
-    restart_rolling d is = subst (λ (x : Restarting D). RestartIs told state o own h asked seen x) is at
+  module _ {D : Type 0} (told : Type 0) (state : D → DiskState) (asked : Op) (seen : List Gv) where
+    -- it was taken out for one
+    pub held_out : (t : Held D) (d : Boxed D) → t ≡ held.Held d → HoldIs told state o own h asked seen t → (turn : Turned o own h (entry own Restart Taken) seen) × HasHeld told state o own asked ((h ++ turn.later) ++ entry own Restart Taken ∷ []) d.value.p
+    held_out t d is at = subst (λ (x : Held D). HoldIs told state o own h asked seen x) is at
 
-    pub restart_failed : (q : Cause) → t ≡ restarting.Failed q → MendedIs o own h asked seen (mended.Denied q)
-    restart_failed q is =
-        let x = subst (λ (y : Restarting D). RestartIs told state o own h asked seen y) is at in
-        (turned_passed (entry own asked (Failed q)) seen x.0, x.1, x.2)
+    pub held_waits : (t : Held D) → t ≡ held.Waits → HoldIs told state o own h asked seen t → MendedIs o own h asked seen mended.Waits
+    held_waits t is at = turned_back_passed seen (subst (λ (x : Held D). HoldIs told state o own h asked seen x) is at).0
 
-    pub restart_stopped : t ≡ restarting.Stopped → MendedIs o own h asked seen mended.Stopped
-    restart_stopped is =
-        let x = subst (λ (y : Restarting D). RestartIs told state o own h asked seen y) is at in
-        (turned_passed (entry own Restart Cut) seen x.0, x.1)
-
-    pub restart_waits : t ≡ restarting.Waits → MendedIs o own h asked seen mended.Waits
-    restart_waits is = turned_back_passed seen (subst (λ (x : Restarting D). RestartIs told state o own h asked seen x) is at).0
+    -- its journal failed, or reads otherwise than it was written
+    pub mended_fault : (q : Cause) (p : Provisioner D) → HasFailed told state o own Restart asked q h p → FailedIs told state o own h asked q p seen → MendedIs o own h asked seen (mended.Denied q)
+    mended_fault q p failed x =
+        let then_failed = x.1 Restart failed in
+        (turned_passed (entry own asked (Failed q)) seen x.0, failed.fault, elim then_failed.upon [ inl a ↦ inl a.0 | inr b ↦ b.1 ])
 
   -- INIT-SYS: what came of it, behind turns that entered nothing
   module _ (seen then_seen : List Gv) (b : PassedBy o own h seen) (how : Mended) (x : MendedIs o own (h ++ b.passed) Restart then_seen how) where

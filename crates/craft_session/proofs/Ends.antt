@@ -11,10 +11,10 @@ use Rattle.dxc_outside.specs.declared.send.Sent.TheVariants.{Whole, Cut as Sent_
 use Rattle.dxc_outside.specs.Links.{LinkState}
 use Rattle.roll_engine.specs.declared.answer.Advance.{Advance}
 use Rattle.roll_engine.specs.declared.answer.Advance.TheVariants as advance
-use Rattle.xc_core.specs.declared.restarts.Restarting.{Restarting}
-use Rattle.xc_core.specs.declared.restarts.Restarting.TheVariants as restarting
-use Rattle.xc_core.specs.declared.turns.Took.{Took}
-use Rattle.xc_core.specs.declared.turns.Took.TheVariants as took
+use Rattle.xc_core.specs.declared.noting.Noted.{Noted}
+use Rattle.xc_core.specs.declared.noting.Noted.TheVariants as noted
+use Rattle.xc_core.specs.declared.resuming.Reread.{Reread}
+use Rattle.xc_core.specs.declared.resuming.Reread.TheVariants as reread
 use Rattle.craft_session.specs.declared.change.Changed.{Changed}
 use Rattle.craft_session.specs.declared.change.Changed.TheVariants as changed
 use Rattle.craft_session.specs.declared.end.SessionEnd.{SessionEnd}
@@ -40,13 +40,13 @@ pub some_there : {A : Type 0} (o : Option A) (x : A) → o ≡ Some x → o ≢ 
 some_there o x is = apart is_some o (Some x) None is refl refl
 
 -- whether no stop came
-abbrev pub took_goes : {D : Type 0} → Took D → Bool
-took_goes took.Stopped = false
-took_goes _ = true
+abbrev pub noted_goes : Noted → Bool
+noted_goes noted.Stopped = false
+noted_goes _ = true
 
-abbrev pub restarting_goes : {D : Type 0} → Restarting D → Bool
-restarting_goes restarting.Stopped = false
-restarting_goes _ = true
+abbrev pub reread_goes : Reread → Bool
+reread_goes reread.Stopped = false
+reread_goes _ = true
 
 abbrev pub advance_goes : Advance → Bool
 advance_goes advance.Stopped = false

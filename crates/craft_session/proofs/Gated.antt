@@ -1,11 +1,12 @@
 -- Where the gate was asked for entries, one turn longer.
 use Rattle.std.specs.Prelude.{replicate}
-use Rattle.std.proofs.Common.{◌≡◌, ◌≢◌, ℕ, ◌+◌, Bool, true, false, List, [], ◌∷◌, ◌++◌, append-nil, append_assoc, sym, subst, inl, inr}
+use Rattle.std.proofs.Common.{◌≡◌, ◌≢◌, ℕ, ◌+◌, Bool, true, false, List, [], ◌∷◌, ◌++◌, append-nil, append_assoc, ◌⊎◌, refl, sym, subst, inl, inr}
 use base.Stored.{Gv}
 use Rattle.turnstile.specs.Turning.{Each}
 use Rattle.dxc_disk.specs.Disks.{DiskState}
 use Rattle.dxc_outside.specs.declared.gate.GatePlace.{GatePlace}
 use Rattle.dxc_outside.specs.declared.gate.GatePlace.TheVariants.{Journal, Register}
+use Rattle.dxc_model.specs.declared.cause.Cause.{Cause}
 use Rattle.dxc_model.specs.declared.entry.Entry.{Entry}
 use Rattle.dxc_model.specs.declared.entry.Outcome.TheVariants.{Done, Failed, Restarted, Cut, Taken}
 use Rattle.dxc_model.specs.declared.op.Op.{Op}
@@ -13,27 +14,25 @@ use Rattle.dxc_model.specs.declared.op.Op.TheVariants.{Restart}
 use Rattle.user_admin.specs.declared.op.UserEntry.{UserEntry}
 use Rattle.user_admin.specs.Histories.{Opening as UsersOpening}
 use Rattle.user_admin.specs.Turns.{Saw as SawUsers, Turned as UsersTurned}
-use Rattle.xc_core.specs.declared.restarts.Restarting.{Restarting}
-use Rattle.xc_core.specs.declared.restarts.Restarting.TheVariants as restarting
+use Rattle.xc_core.specs.declared.restarts.Held.{Held}
+use Rattle.xc_core.specs.declared.restarts.Held.TheVariants as held
 use Rattle.xc_core.specs.declared.turns.Took.{Took}
 use Rattle.xc_core.specs.declared.turns.Took.TheVariants as took
-use Rattle.xc_core.specs.Askings.{RestartAsked, asked_at_take, asked_before}
 use Rattle.xc_core.specs.Seeing.{Saw, Turned, TurnedBack, entry, refused}
 use Rattle.xc_core.specs.States.{Opening}
-use Rattle.xc_core.specs.Turns.{DoneIs, RestartIs, RestartedIs, TookIs}
+use Rattle.xc_core.specs.Turns.{DoneIs, HoldIs, RestartedIs, TookIs}
 use Rattle.craft_session.specs.Askings.{AskedToStop, asked_for}
-use Rattle.craft_session.specs.Gated.{AreEntered, AreUsersEntered, BothEntered, Entered, IsGated, IsUserGated, NothingAsked, UsersEntered, are_gated_on, at_state, at_users, by_others, changes, denies, fails_before, fails_behind, gated_on, restarts, stops_between, stops_first, stops_last, takes}
+use Rattle.craft_session.specs.Gated.{AreEntered, AreUsersEntered, BothEntered, Entered, IsGated, IsUserGated, NothingAsked, UsersEntered, after_journal, are_gated_on, at_state, at_users, by_others, changes, denies, fails_before, fails_behind, gated_on, restarts, stops_between, stops_first, stops_last, takes}
 use Rattle.craft_session.specs.Seats.{IsSameSeat, IsSameUserSeat, SeatAt, UserSeatAt}
-use Rattle.craft_session.proofs.Gating.{failed_asked}
 
 -- whether the place has the Provisioner out behind the turn
 abbrev pub takes_out : {D : Type 0} → Took D → Bool
-takes_out (took.Rolling d) = true
+takes_out (took.Rolling d bytes) = true
 takes_out _ = false
 
-abbrev pub restarts_out : {D : Type 0} → Restarting D → Bool
-restarts_out (restarting.Rolling d) = true
-restarts_out _ = false
+abbrev pub holds_out : {D : Type 0} → Held D → Bool
+holds_out (held.Held d) = true
+holds_out held.Waits = false
 
 module _ (o : Opening) (place : ℕ) (asked : List GatePlace → Type 0) (h : List Entry) (seen : List Gv) where
   pub entered_none : asked [] → Saw o seen h → Entered o place asked false false h seen
@@ -53,43 +52,49 @@ module _ (o : Opening) (place : ℕ) (asked : List GatePlace → Type 0) (h : Li
     gated = gated_on out out then_out t.later (e ∷ []) [] ps (by_others out t.later t.others) gated;
   }
 
-  -- a work was driven to its end, or to a stop
-  pub entered_change : (op : Op) (writes : ℕ) → asked (asked_for writes) → DoneIs o place h op seen → Entered o place asked true false h seen
-  entered_change op writes were x = entered_at true false (entry place op (Done x.0)) (asked_for writes) (changes op x.0 writes) were x.1
-
-  pub entered_restart : (op : Op) (writes : ℕ) → asked (asked_for writes) → RestartedIs o place h op seen → Entered o place asked true false h seen
-  entered_restart op writes were x = entered_at true false (entry place Restart (Restarted x.0)) (asked_for writes) (restarts x.0 writes) were x.1
-
-  pub entered_stop : (op : Op) (writes : ℕ) → AskedToStop asked writes → Turned o place h (entry place op Cut) seen → Entered o place asked true false h seen
-  entered_stop op writes were t = elim were [
-    | inl y ↦ entered_at true false (entry place op Cut) (replicate (y.0 + 1) Register) (stops_between op y.0) y.2 t
-    | inr y ↦ entered_at true false (entry place op Cut) (asked_for writes) (stops_last op writes) y t
-  ]
-
   module _ {D : Type 0} (told : Type 0) (state : D → DiskState) (op : Op) where
-    take_by : (t : Took D) → asked (asked_at_take t) → TookIs told state o place h op seen t → Entered o place asked false (takes_out t) h seen
-    take_by (took.Rolling d) were x = entered_at false true (entry place op Taken) (Journal ∷ []) (takes op) were x.0
-    take_by (took.Denied q) were x = entered_at false false (entry place op (refused q)) (asked_before q) (denies op q) were x.0
-    take_by took.Stopped were x = entered_at false false (entry place op Cut) (Journal ∷ []) (stops_first op) were x.0
+    take_by : (t : Took D) → asked [] → TookIs told state o place h op seen t → Entered o place asked false (takes_out t) h seen
+    take_by (took.Rolling d bytes) were x = entered_at false true (entry place op Taken) [] (takes op) were x.0
+    take_by (took.Denied q) were x = entered_at false false (entry place op (refused q)) [] (denies op q) were x.0
     take_by took.Halted were x = entered_back were x.0
     take_by took.Waits were x = entered_back were x.0
 
     -- the turn in which a change was to begin
-    pub entered_take : (t : Took D) (out : Bool) → takes_out t ≡ out → asked (asked_at_take t) → TookIs told state o place h op seen t → Entered o place asked false out h seen
+    pub entered_take : (t : Took D) (out : Bool) → takes_out t ≡ out → asked [] → TookIs told state o place h op seen t → Entered o place asked false out h seen
     entered_take t out is were x = subst (λ (b : Bool). Entered o place asked false b h seen) is (take_by t were x)
 
-    mend_by : (t : Restarting D) → RestartAsked asked t → RestartIs told state o place h op seen t → Entered o place asked false (restarts_out t) h seen
-    mend_by (restarting.Rolling d) were x = entered_at false true (entry place Restart Taken) (Journal ∷ []) (takes Restart) were x.0
-    mend_by (restarting.Failed q) were x = elim (failed_asked D asked q were) [
-      | inl none ↦ entered_at false false (entry place op (Failed q)) [] (fails_before op q) none x.0
-      | inr one ↦ entered_at false false (entry place op (Failed q)) (Journal ∷ []) (fails_behind op q) one x.0
-    ]
-    mend_by restarting.Stopped were x = entered_at false false (entry place Restart Cut) (Journal ∷ []) (stops_first Restart) were x.0
-    mend_by restarting.Waits were x = entered_back were x.0
+    hold_by : (t : Held D) → asked [] → HoldIs told state o place h op seen t → Entered o place asked false (holds_out t) h seen
+    hold_by (held.Held d) were x = entered_at false true (entry place Restart Taken) [] (takes Restart) were x.0
+    hold_by held.Waits were x = entered_back were x.0
 
     -- that in which a restart was
-    pub entered_mend : (t : Restarting D) (out : Bool) → restarts_out t ≡ out → RestartAsked asked t → RestartIs told state o place h op seen t → Entered o place asked false out h seen
-    entered_mend t out is were x = subst (λ (b : Bool). Entered o place asked false b h seen) is (mend_by t were x)
+    pub entered_hold : (t : Held D) (out : Bool) → holds_out t ≡ out → asked [] → HoldIs told state o place h op seen t → Entered o place asked false out h seen
+    entered_hold t out is were x = subst (λ (b : Bool). Entered o place asked false b h seen) is (hold_by t were x)
+
+-- the journal was called outside of any turn
+module _ (o : Opening) (place : ℕ) (asked : List GatePlace → Type 0) (h : List Entry) (seen : List Gv) where
+  -- a work was driven to its end, or to a stop
+  pub entered_change : (op : Op) (writes : ℕ) → asked (asked_for writes) → DoneIs o place h op seen → Entered o place (after_journal asked) true false h seen
+  entered_change op writes were x = entered_at o place (after_journal asked) h seen true false (entry place op (Done x.0)) (Journal ∷ asked_for writes) (changes op x.0 writes) (asked_for writes, refl, were) x.1
+
+  pub entered_restart : (op : Op) (writes : ℕ) → asked (asked_for writes) → RestartedIs o place h op seen → Entered o place (after_journal asked) true false h seen
+  entered_restart op writes were x = entered_at o place (after_journal asked) h seen true false (entry place Restart (Restarted x.0)) (Journal ∷ asked_for writes) (restarts x.0 writes) (asked_for writes, refl, were) x.1
+
+  pub entered_stop : (op : Op) (writes : ℕ) → AskedToStop asked writes → Turned o place h (entry place op Cut) seen → Entered o place (after_journal asked) true false h seen
+  entered_stop op writes were t = elim were [
+    | inl y ↦ entered_at o place (after_journal asked) h seen true false (entry place op Cut) (Journal ∷ replicate (y.0 + 1) Register) (stops_between op y.0) (replicate (y.0 + 1) Register, refl, y.2) t
+    | inr y ↦ entered_at o place (after_journal asked) h seen true false (entry place op Cut) (Journal ∷ asked_for writes) (stops_last op writes) (asked_for writes, refl, y) t
+  ]
+
+  -- it failed, or the gate stopped there
+  pub entered_fault : (op : Op) (q : Cause) → asked [] ⊎ asked (Journal ∷ []) → Turned o place h (entry place op (Failed q)) seen → Entered o place asked true false h seen
+  entered_fault op q were t = elim were [
+    | inl none ↦ entered_at o place asked h seen true false (entry place op (Failed q)) [] (fails_before op q) none t
+    | inr one ↦ entered_at o place asked h seen true false (entry place op (Failed q)) (Journal ∷ []) (fails_behind op q) one t
+  ]
+
+  pub entered_unnoted : (op : Op) → asked (Journal ∷ []) → Turned o place h (entry place op Cut) seen → Entered o place asked true false h seen
+  entered_unnoted op were t = entered_at o place asked h seen true false (entry place op Cut) (Journal ∷ []) (stops_first op) were t
 
 -- a turn at the users
 pub users_entered_at : (o : UsersOpening) (place : ℕ) (asked : List GatePlace → Type 0) (h : List UserEntry) (seen : List Gv) (e : UserEntry) (ps : List GatePlace) → ((es : List UserEntry) → Each (λ x. x.place ≢ place) es → IsUserGated place (es ++ e ∷ []) ps) → asked ps → UsersTurned o place h e seen → UsersEntered o place asked h seen
@@ -150,9 +155,19 @@ module _ {X : Type 0} (asked : X → X → List GatePlace → Type 0) (on : (a b
         gated = gated_on first between last x.entries y.entries x.places y.places x.gated y.gated;
       }
 
+  -- the work behind the journal
+  pub entered_noted : (a b c : X) (o : Opening) (place : ℕ) (h : List Entry) (seen : List Gv) → asked a b (Journal ∷ []) → Entered o place (after_journal (asked b c)) true false h seen → Entered o place (asked a c) true false h seen
+  entered_noted a b c o place h seen first x = record {
+    entries = x.entries;
+    saw = x.saw;
+    places = x.places;
+    were = subst (λ (ps : List GatePlace). asked a c ps) (sym x.were.1) (on a b c (Journal ∷ []) x.were.0 first x.were.2);
+    gated = x.gated;
+  }
+
   -- behind other turns that in which a change was to begin
   pub entered_take_on : (a b c : X) (o : Opening) (place n : ℕ) (h : List Entry) (mid seen : List Gv) {D : Type 0} (told : Type 0) (state : D → DiskState) (op : Op) (t : Took D) (out : Bool) → takes_out t ≡ out → n ≡ place → Entered o place (asked a b) false false h mid
-      → asked b c (asked_at_take t) → ((k : List Entry) → Saw o mid k → TookIs told state o n k op seen t) → Entered o place (asked a c) false out h seen
+      → asked b c [] → ((k : List Entry) → Saw o mid k → TookIs told state o n k op seen t) → Entered o place (asked a c) false out h seen
   entered_take_on a b c o place n h mid seen told state op t out is same x were turn = entered_on a b c o place n false false out h mid seen same x (λ k saw. entered_take o n (asked b c) k seen told state op t out is were (turn k saw))
 
   -- turns of one seat behind those of both

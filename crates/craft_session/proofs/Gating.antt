@@ -1,6 +1,6 @@
 -- Where commands asked the gate.
 use Rattle.std.specs.Prelude.{replicate}
-use Rattle.std.proofs.Common.{◌≡◌, ◌⊎◌, ◌≤◌, ◌<◌, ℕ, ◌+◌, ◌-◌, arith, length, length-append, List, [], ◌∷◌, ◌++◌, append-nil, append_assoc, refl, sym, ◌∙◌, ap, subst, inl, inr}
+use Rattle.std.proofs.Common.{◌≡◌, ◌⊎◌, ◌≤◌, ◌<◌, ℕ, ◌+◌, ◌-◌, arith, length, length-append, List, [], ◌∷◌, ◌++◌, append-nil, refl, sym, ◌∙◌, ap, subst, inl, inr}
 use Rattle.std.proofs.lemmas.List.{replicate-append-replicate}
 use Rattle.dxc_outside.specs.declared.gate.GatePlace.{GatePlace}
 use Rattle.dxc_outside.specs.declared.gate.GatePlace.TheVariants.{Journal, Register, Finish}
@@ -12,13 +12,13 @@ use Rattle.roll_engine.specs.declared.answer.Advance.{Advance}
 use Rattle.roll_engine.specs.declared.answer.Advance.TheVariants as advance
 use Rattle.roll_engine.specs.Answers.{asked_at}
 use Rattle.dxc_num.specs.declared.register.RegWrite.{RegWrite}
-use Rattle.xc_core.specs.declared.restarts.Restarting.TheVariants as restarting
-use Rattle.xc_core.specs.Askings.{RestartAsked, asked_before}
+use Rattle.xc_core.specs.declared.resuming.Reread.TheVariants as reread
+use Rattle.xc_core.specs.Askings.{RereadAsked}
 use Rattle.craft_session.specs.declared.change.Changed.{Changed}
 use Rattle.craft_session.specs.declared.change.Changed.TheVariants.{Done, Denied, Stopped}
 use Rattle.craft_session.specs.declared.mend.Mended.{Mended}
 use Rattle.craft_session.specs.declared.mend.Mended.TheVariants as mended
-use Rattle.craft_session.specs.Askings.{AreMendings, AskedToStop, ChangeAsked, MendAsked, RollAsked, asked_for, one_mending}
+use Rattle.craft_session.specs.Askings.{AreMendings, AskedBehind, AskedToStop, ChangeAsked, MendAsked, RollAsked, asked_for, one_mending}
 
 -- a gate between two moments, and on from there
 module _ {X : Type 0} (asked : X → X → List GatePlace → Type 0) (on : (a b c : X) (xs ys : List GatePlace) → asked a b xs → asked b c ys → asked a c (xs ++ ys)) (a b c : X) where
@@ -107,28 +107,20 @@ module _ {X : Type 0} (asked : X → X → List GatePlace → Type 0) (on : (a b
         (front, mends, elim (subst (λ (y : Mended). MendAsked (asked b c) y) is next) [ inl one ↦ inl (on a b c front (Journal ∷ []) first one) | inr x ↦ inr (x.0, elim x.1 [ inl y ↦ inl (y.0, y.1, on a b c front _ first y.2) | inr y ↦ inr (on a b c front _ first y) ]) ])
 
     -- the change's own turn
-    pub denied_asked : (q : Cause) → asked b c (asked_before q) → ChangeAsked (asked a c) (Denied q)
-    denied_asked DiskFault next = (front, mends, inr (on a b c front (Journal ∷ []) first next))
-    denied_asked _ next = (front, mends, inl (nothing_more front first next))
+    pub denied_asked : (q : Cause) → asked b c [] → ChangeAsked (asked a c) (Denied q)
+    denied_asked q next = (front, mends, inl (nothing_more front first next))
 
-    pub stopped_asked : asked b c (Journal ∷ []) → ChangeAsked (asked a c) Stopped
-    stopped_asked next = (front, mends, inl (on a b c front (Journal ∷ []) first next))
+    -- and what came of its journal and its work
+    pub carried_asked : (how : Changed) → AskedBehind (asked b c) [] how → ChangeAsked (asked a c) how
+    carried_asked Done x = (front, mends, (x.0, on a b c front (Journal ∷ asked_for x.0) first x.1))
+    carried_asked (Denied q) x = (front, mends, elim x [ inl none ↦ inl (nothing_more front first none) | inr one ↦ inr (on a b c front (Journal ∷ []) first one) ])
+    carried_asked Stopped x = (front, mends, elim x [ inl one ↦ inl (on a b c front (Journal ∷ []) first one) | inr y ↦ inr (y.0, elim y.1 [ inl z ↦ inl (z.0, z.1, on a b c front _ first z.2) | inr z ↦ inr (on a b c front _ first z) ]) ])
 
-  -- its work was driven
-  pub rolled_asked : (front : List GatePlace) (writes : ℕ) (how : Changed) → AreMendings front → asked a b (front ++ (Journal ∷ [])) → ((how ≡ Done) × RollAsked (asked b c) writes Go) ⊎ ((how ≡ Stopped) × RollAsked (asked b c) writes Stop) → ChangeAsked (asked a c) how
-  rolled_asked front writes how mends first next = elim next [
-    | inl x ↦ subst (λ (y : Changed). ChangeAsked (asked a c) y) (sym x.0) (front, mends, (writes, same_as a c _ _ (append_assoc front (Journal ∷ []) (asked_for writes)) (on a b c (front ++ (Journal ∷ [])) (asked_for writes) first x.1)))
-    | inr x ↦ subst (λ (y : Changed). ChangeAsked (asked a c) y) (sym x.0) (
-      front,
-      mends,
-      inr (
-        writes,
-        elim x.1 [
-          | inl y ↦ inl (y.0, y.1, same_as a c _ _ (append_assoc front (Journal ∷ []) (replicate (y.0 + 1) Register)) (on a b c (front ++ (Journal ∷ [])) (replicate (y.0 + 1) Register) first y.2))
-          | inr y ↦ inr (same_as a c _ _ (append_assoc front (Journal ∷ []) (asked_for writes)) (on a b c (front ++ (Journal ∷ [])) (asked_for writes) first y))
-        ],
-      ),
-    )
+  -- its work was driven behind the journal
+  pub driven_asked : (writes : ℕ) (how : Changed) → asked a b (Journal ∷ []) → ((how ≡ Done) × RollAsked (asked b c) writes Go) ⊎ ((how ≡ Stopped) × RollAsked (asked b c) writes Stop) → AskedBehind (asked a c) [] how
+  driven_asked writes how first next = elim next [
+    | inl x ↦ subst (λ (y : Changed). AskedBehind (asked a c) [] y) (sym x.0) (writes, on a b c (Journal ∷ []) (asked_for writes) first x.1)
+    | inr x ↦ subst (λ (y : Changed). AskedBehind (asked a c) [] y) (sym x.0) (inr (writes, stop_behind (Journal ∷ []) writes first x.1))
   ]
 
 -- nothing was asked yet
@@ -140,7 +132,7 @@ pub roll_done : (asked : List GatePlace → Type 0) (writes : ℕ) (how : Pass1)
 roll_done asked writes Go x = x
 roll_done asked writes Stop x = inr x
 
--- a restart that failed
-pub failed_asked : (D : Type 0) (asked : List GatePlace → Type 0) (q : Cause) → RestartAsked {D = D} asked (restarting.Failed q) → asked [] ⊎ asked (Journal ∷ [])
-failed_asked D asked DiskFault x = x
-failed_asked D asked _ x = inr x
+-- a restart that failed, or at which the gate stopped
+pub failed_asked : (asked : List GatePlace → Type 0) (q : Cause) → RereadAsked asked (reread.Failed q) → asked [] ⊎ asked (Journal ∷ [])
+failed_asked asked DiskFault x = x
+failed_asked asked _ x = inr x

@@ -19,27 +19,30 @@ use Rattle.user_admin.specs.Histories.{IsReading, Opening as UsersOpening}
 use Rattle.user_admin.specs.Openings.{asked_before as users_asked_before}
 use Rattle.user_admin.specs.States.{entry as user_entry, refused as user_refused}
 use Rattle.user_admin.specs.Turns.{Saw as SawUsers}
-use Rattle.xc_core.specs.Askings.{asked_before}
 use Rattle.xc_core.specs.Seeing.{Saw, entry, refused}
 use Rattle.xc_core.specs.States.{Opening}
 use Rattle.craft_session.specs.Askings.{asked_for}
 use Rattle.craft_session.specs.Seats.{SeatAt, UserSeatAt}
 
--- Entries, and where the place asked its gate for its own, in this order. Whether it has the Provisioner out is told before them and behind them: a
--- change or a restart takes it behind one asking, and ends behind those of its work.
+-- Entries, and where the place asked its gate for its own, in this order. Whether it has the Provisioner out is told before them and behind them:
+-- all that is asked is asked while it has, before the journal is called and for the work. No turn asks.
 pub data IsGated (place : ℕ) : Bool → List Entry → List GatePlace → Bool → Type 0 where
   by_others : (out : Bool) (es : List Entry) → Each (λ e. e.place ≢ place) es → IsGated place out es [] out
   answers : (op : Op) → IsGated place false (entry place op Answered ∷ []) [] false
-  denies : (op : Op) (q : Cause) → IsGated place false (entry place op (refused q) ∷ []) (asked_before q) false
-  fails_before : (op : Op) (q : Cause) → IsGated place false (entry place op (Failed q) ∷ []) [] false
-  fails_behind : (op : Op) (q : Cause) → IsGated place false (entry place op (Failed q) ∷ []) (Journal ∷ []) false
-  takes : (op : Op) → IsGated place false (entry place op Taken ∷ []) (Journal ∷ []) true
-  changes : (op : Op) (c : Change) (writes : ℕ) → IsGated place true (entry place op (Done c) ∷ []) (asked_for writes) false
-  restarts : (c : Option Change) (writes : ℕ) → IsGated place true (entry place Restart (Restarted c) ∷ []) (asked_for writes) false
-  stops_first : (op : Op) → IsGated place false (entry place op Cut ∷ []) (Journal ∷ []) false
-  stops_between : (op : Op) (made : ℕ) → IsGated place true (entry place op Cut ∷ []) (replicate (made + 1) Register) false
-  stops_last : (op : Op) (writes : ℕ) → IsGated place true (entry place op Cut ∷ []) (asked_for writes) false
+  denies : (op : Op) (q : Cause) → IsGated place false (entry place op (refused q) ∷ []) [] false
+  takes : (op : Op) → IsGated place false (entry place op Taken ∷ []) [] true
+  fails_before : (op : Op) (q : Cause) → IsGated place true (entry place op (Failed q) ∷ []) [] false
+  fails_behind : (op : Op) (q : Cause) → IsGated place true (entry place op (Failed q) ∷ []) (Journal ∷ []) false
+  changes : (op : Op) (c : Change) (writes : ℕ) → IsGated place true (entry place op (Done c) ∷ []) (Journal ∷ asked_for writes) false
+  restarts : (c : Option Change) (writes : ℕ) → IsGated place true (entry place Restart (Restarted c) ∷ []) (Journal ∷ asked_for writes) false
+  stops_first : (op : Op) → IsGated place true (entry place op Cut ∷ []) (Journal ∷ []) false
+  stops_between : (op : Op) (made : ℕ) → IsGated place true (entry place op Cut ∷ []) (Journal ∷ replicate (made + 1) Register) false
+  stops_last : (op : Op) (writes : ℕ) → IsGated place true (entry place op Cut ∷ []) (Journal ∷ asked_for writes) false
   gated_on : (before between behind : Bool) (es fs : List Entry) (ps qs : List GatePlace) → IsGated place before es ps between → IsGated place between fs qs behind → IsGated place before (es ++ fs) (ps ++ qs) behind
+
+-- it was asked so, and at the journal before
+abbrev pub after_journal : (List GatePlace → Type 0) → List GatePlace → Type 0
+after_journal asked places = (behind : List GatePlace) × (places ≡ Journal ∷ behind) × asked behind
 
 -- what one turn at the users asked; where a stop came it has no entry
 pub data IsUserGated (place : ℕ) : List UserEntry → List GatePlace → Type 0 where

@@ -1,4 +1,4 @@
-//! A changing command: planned in one turn, driven to its end, and taken by the table in another.
+//! A changing command: planned in one turn, journalled and driven to its end outside of any, and taken by the table in another.
 ghost use Rattle.std.specs.Prelude.{◌≡◌, ◌≢◌, ◌≤◌, ◌⊎◌, false, true, List, [], length, Option};
 ghost use Rattle.dxc_causes.specs.Causes.{Rose};
 ghost use Rattle.dxc_model.specs.declared.entry.Entry.{Entry};
@@ -9,13 +9,14 @@ ghost use Rattle.roll_engine.specs.Rollings.{rest_of};
 ghost use Rattle.xc_core.specs.Reckonings.{Past};
 ghost use Rattle.xc_core.specs.Provisioners.{Rolls, ground_of};
 ghost use Rattle.xc_core.specs.Restarts.{Resumes};
+ghost use Rattle.xc_core.specs.Begins.{plan_of};
 ghost use Rattle.xc_core.specs.Drives.{CanDrive};
-ghost use Rattle.xc_core.specs.Seeing.{HasTaken, Saw};
+ghost use Rattle.xc_core.specs.Seeing.{HasPlan, HasTaken, Saw};
 ghost use Rattle.xc_core.specs.States.{opening_of};
 ghost use Rattle.xc_core.specs.Turns.{HasPass, SawNoneAstray};
-ghost use Rattle.craft_session.specs.Askings.{ChangeAsked, RollAsked};
+ghost use Rattle.craft_session.specs.Askings.{AskedBehind, ChangeAsked, RollAsked};
 ghost use Rattle.craft_session.specs.Changing.{ChangedIs};
-ghost use Rattle.craft_session.specs.Gated.{Entered};
+ghost use Rattle.craft_session.specs.Gated.{Entered, after_journal};
 
 use crate::mend::{Mended, mend};
 use dxc_disk::Disk;
@@ -26,7 +27,7 @@ use roll_engine::{Advance, Rolling};
 use std::sync::Wait;
 use turnstile::{Pass, Rest, Turnstile};
 use xc_core::turns::{self, Took};
-use xc_core::{Driver, Provisioner, State, drive};
+use xc_core::{Driver, Noted, Provisioner, State, drive, note};
 
 /// What came of a changing command.
 #[derive(Clone, Copy)]
@@ -75,8 +76,8 @@ pub fn roll<D: Disk, G: Gate, R: Wait>(
     unreachable!()
 }
 
-/// Drives a planned work, and lets the table take its change.
-fn carry_out<D: Disk + Drop, G: Gate, R: Wait>(
+/// Drives a work whose record is in the journal, and lets the table take its change.
+fn drive_out<D: Disk + Drop, G: Gate, R: Wait>(
     pass: &mut Pass,
     turns: &Turnstile<State<D>>,
     fabric: &Fabric,
@@ -98,12 +99,8 @@ fn carry_out<D: Disk + Drop, G: Gate, R: Wait>(
     ensures done { result ≢ Changed.Stopped → G.stops gate.new ≡ G.stops gate.old }
     ensures stopped { result ≡ Changed.Stopped → Rose (G.stops gate.old) (G.stops gate.new) }
     ensures later { G.stops gate.old ≤ G.stops gate.new }
-    ensures asked { ((result ≡ Changed.Done) × RollAsked (G.asked gate.old gate.new)
-        (length (rest_of driver.value.rolling)) Pass1.Go) ⊎ ((result ≡ Changed.Stopped) × RollAsked
-        (G.asked gate.old gate.new) (length (rest_of driver.value.rolling)) Pass1.Stop) }
-    ensures entered { (h : List Entry) → Saw (opening_of D.state turns.now.first) pass.old.seen h
-        → Entered (opening_of D.state turns.now.first) pass.old.number (G.asked gate.old gate.new)
-        true false h pass.new.seen }
+    ensures asked { ((result ≡ Changed.Done) × RollAsked (G.asked gate.old gate.new) (length (rest_of driver.value.rolling)) Pass1.Go) ⊎ ((result ≡ Changed.Stopped) × RollAsked (G.asked gate.old gate.new) (length (rest_of driver.value.rolling)) Pass1.Stop) }
+    ensures entered { (h : List Entry) → Saw (opening_of D.state turns.now.first) pass.old.seen h → Entered (opening_of D.state turns.now.first) pass.old.number (after_journal (G.asked gate.old gate.new)) true false h pass.new.seen }
 {
     let mut driver = driver;
     let held = &mut *driver;
@@ -113,6 +110,44 @@ fn carry_out<D: Disk + Drop, G: Gate, R: Wait>(
             Changed::Done
         }
         Pass1::Stop => {
+            turns::cut(pass, turns, op, driver, rt);
+            Changed::Stopped
+        }
+    }
+}
+
+/// Journals a planned change, outside of any turn, drives its work, and brings the Provisioner home whatever came of it.
+fn carry_out<D: Disk + Drop, G: Gate, R: Wait>(
+    pass: &mut Pass,
+    turns: &Turnstile<State<D>>,
+    fabric: &Fabric,
+    op: &Op,
+    driver: Box<Driver<D>>,
+    bytes: &[u8; 64],
+    gate: &mut G,
+    rt: &R,
+) -> Changed
+    requires pass { HasPass turns.now pass.old }
+    requires fabric { (opening_of D.state turns.now.first).site.fabric ≡ fabric.now }
+    requires planned { (h : List Entry) × Saw (opening_of D.state turns.now.first) pass.old.seen h × HasPlan D.told D.state (opening_of D.state turns.now.first) pass.old.number h driver.value.p (plan_of op.now driver.value.rolling bytes.now) }
+    ensures pass { HasPass turns.now pass.new × (pass.new.number ≡ pass.old.number) }
+    ensures changed { (h : List Entry) → Saw (opening_of D.state turns.now.first) pass.old.seen h → ChangedIs (opening_of D.state turns.now.first) pass.old.number h op.now pass.new.seen result }
+    ensures astray { SawNoneAstray D.told pass.new.seen }
+    ensures done { result ≢ Changed.Stopped → G.stops gate.new ≡ G.stops gate.old }
+    ensures stopped { result ≡ Changed.Stopped → Rose (G.stops gate.old) (G.stops gate.new) }
+    ensures later { G.stops gate.old ≤ G.stops gate.new }
+    ensures asked { AskedBehind (G.asked gate.old gate.new) [] result }
+    ensures entered { (h : List Entry) → Saw (opening_of D.state turns.now.first) pass.old.seen h → Entered (opening_of D.state turns.now.first) pass.old.number (G.asked gate.old gate.new) true false h pass.new.seen }
+{
+    let mut driver = driver;
+    let held = &mut *driver;
+    match note(&mut held.p, &held.rolling, op, bytes, gate) {
+        Noted::Rolling => drive_out(pass, turns, fabric, op, driver, gate, rt),
+        Noted::Fault => {
+            turns::fail(pass, turns, op, Cause::DiskFault, driver, rt);
+            Changed::Denied(Cause::DiskFault)
+        }
+        Noted::Stopped => {
             turns::cut(pass, turns, op, driver, rt);
             Changed::Stopped
         }
@@ -149,12 +184,11 @@ pub fn change<D: Disk + Drop, G: Gate, R: Wait>(
 {
     let mut rest = Rest::new();
     for _ in rt.forever() {
-        match turns::take(pass, turns, op, gate, rt) {
-            Took::Rolling(driver) => {
-                return carry_out(pass, turns, fabric, op, driver, gate, rt);
+        match turns::take(pass, turns, op, rt) {
+            Took::Rolling(driver, bytes) => {
+                return carry_out(pass, turns, fabric, op, driver, &bytes, gate, rt);
             }
             Took::Denied(cause) => return Changed::Denied(cause),
-            Took::Stopped => return Changed::Stopped,
             Took::Halted => match mend(pass, turns, fabric, op, gate, rt) {
                 Mended::Ready | Mended::Waits => {}
                 Mended::Denied(cause) => return Changed::Denied(cause),

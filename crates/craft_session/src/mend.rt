@@ -1,16 +1,16 @@
-//! A restart: begun in one turn, driven to its end, and ended in another.
+//! A restart: begun in one turn, its journal read and the rest of a work driven outside of any, and ended in another.
 ghost use Rattle.std.specs.Prelude.{◌≡◌, ◌≢◌, ◌≤◌, ◌⊎◌, false, true, List, length};
 ghost use Rattle.dxc_causes.specs.Causes.{Rose};
 ghost use Rattle.dxc_model.specs.declared.entry.Entry.{Entry};
 ghost use Rattle.dxc_model.specs.declared.op.Op.TheVariants.{Restart};
 ghost use Rattle.dxc_model.specs.Steps.{IsDriven};
-ghost use Rattle.xc_core.specs.Seeing.{HasRestart, Saw};
+ghost use Rattle.xc_core.specs.Seeing.{HasHeld, HasRestart, Saw};
 ghost use Rattle.xc_core.specs.States.{opening_of};
 ghost use Rattle.xc_core.specs.Turns.{HasPass, SawNoneAstray};
 ghost use Rattle.roll_engine.specs.Rollings.{rest_of};
 ghost use Rattle.craft_session.specs.Askings.{MendAsked, RollAsked, WarmAsked};
 ghost use Rattle.craft_session.specs.Changing.{MendedIs, WarmRestartIs};
-ghost use Rattle.craft_session.specs.Gated.{Entered};
+ghost use Rattle.craft_session.specs.Gated.{Entered, after_journal};
 
 use crate::change::{Changed, roll};
 use dxc_disk::Disk;
@@ -19,8 +19,8 @@ use dxc_outside::{Gate, Pass1};
 use fabric_words::Fabric;
 use std::sync::Wait;
 use turnstile::{Pass, Rest, Turnstile};
-use xc_core::restarts::{Restarting, cut_restart, end_restart, restart};
-use xc_core::{Driver, State};
+use xc_core::restarts::{Held, cut_restart, end_restart, hold};
+use xc_core::{Driver, Reread, State, read_anew, turns};
 
 /// What came of turns in which a restart was to be made.
 #[derive(Clone, Copy)]
@@ -58,12 +58,8 @@ fn resume<D: Disk + Drop, G: Gate, R: Wait>(
     ensures going { result ≢ Mended.Stopped → G.stops gate.new ≡ G.stops gate.old }
     ensures stopped { result ≡ Mended.Stopped → Rose (G.stops gate.old) (G.stops gate.new) }
     ensures later { G.stops gate.old ≤ G.stops gate.new }
-    ensures asked { ((result ≡ Mended.Ready) × RollAsked (G.asked gate.old gate.new)
-        (length (rest_of driver.value.rolling)) Pass1.Go) ⊎ ((result ≡ Mended.Stopped) × RollAsked
-        (G.asked gate.old gate.new) (length (rest_of driver.value.rolling)) Pass1.Stop) }
-    ensures entered { (h : List Entry) → Saw (opening_of D.state turns.now.first) pass.old.seen h
-        → Entered (opening_of D.state turns.now.first) pass.old.number (G.asked gate.old gate.new)
-        true false h pass.new.seen }
+    ensures asked { ((result ≡ Mended.Ready) × RollAsked (G.asked gate.old gate.new) (length (rest_of driver.value.rolling)) Pass1.Go) ⊎ ((result ≡ Mended.Stopped) × RollAsked (G.asked gate.old gate.new) (length (rest_of driver.value.rolling)) Pass1.Stop) }
+    ensures entered { (h : List Entry) → Saw (opening_of D.state turns.now.first) pass.old.seen h → Entered (opening_of D.state turns.now.first) pass.old.number (after_journal (G.asked gate.old gate.new)) true false h pass.new.seen }
 {
     let mut driver = driver;
     let held = &mut *driver;
@@ -73,6 +69,48 @@ fn resume<D: Disk + Drop, G: Gate, R: Wait>(
             Mended::Ready
         }
         Pass1::Stop => {
+            cut_restart(pass, turns, asked, driver, rt);
+            Mended::Stopped
+        }
+    }
+}
+
+/// Settles and reads the journal of a Provisioner that was taken out for a restart, outside of any turn, drives the rest of its last work, and
+/// brings it home whatever came of it.
+fn go_on<D: Disk + Drop, G: Gate, R: Wait>(
+    pass: &mut Pass,
+    turns: &Turnstile<State<D>>,
+    fabric: &Fabric,
+    asked: &Op,
+    driver: Box<Driver<D>>,
+    gate: &mut G,
+    rt: &R,
+) -> Mended
+    requires pass { HasPass turns.now pass.old }
+    requires fabric { (opening_of D.state turns.now.first).site.fabric ≡ fabric.now }
+    requires asked { IsDriven asked.now }
+    requires held { (h : List Entry) × Saw (opening_of D.state turns.now.first) pass.old.seen h × HasHeld D.told D.state (opening_of D.state turns.now.first) pass.old.number asked.now h driver.value.p }
+    ensures pass { HasPass turns.now pass.new × (pass.new.number ≡ pass.old.number) }
+    ensures mended { (h : List Entry) → Saw (opening_of D.state turns.now.first) pass.old.seen h → MendedIs (opening_of D.state turns.now.first) pass.old.number h asked.now pass.new.seen result }
+    ensures astray { SawNoneAstray D.told pass.new.seen }
+    ensures going { result ≢ Mended.Stopped → G.stops gate.new ≡ G.stops gate.old }
+    ensures stopped { result ≡ Mended.Stopped → Rose (G.stops gate.old) (G.stops gate.new) }
+    ensures later { G.stops gate.old ≤ G.stops gate.new }
+    ensures asked { MendAsked (G.asked gate.old gate.new) result }
+    ensures entered { (h : List Entry) → Saw (opening_of D.state turns.now.first) pass.old.seen h → Entered (opening_of D.state turns.now.first) pass.old.number (G.asked gate.old gate.new) true false h pass.new.seen }
+{
+    let mut driver = driver;
+    let held = &mut *driver;
+    match read_anew(&mut held.p, fabric, asked, gate) {
+        Reread::Warm(rolling) => {
+            held.rolling = rolling;
+            resume(pass, turns, fabric, asked, driver, gate, rt)
+        }
+        Reread::Failed(cause) => {
+            turns::fail(pass, turns, asked, cause, driver, rt);
+            Mended::Denied(cause)
+        }
+        Reread::Stopped => {
             cut_restart(pass, turns, asked, driver, rt);
             Mended::Stopped
         }
@@ -105,11 +143,9 @@ pub fn mend<D: Disk + Drop, G: Gate, R: Wait>(
         → Entered (opening_of D.state turns.now.first) pass.old.number (G.asked gate.old gate.new)
         false false h pass.new.seen }
 {
-    match restart(pass, turns, fabric, asked, gate, rt) {
-        Restarting::Rolling(driver) => resume(pass, turns, fabric, asked, driver, gate, rt),
-        Restarting::Failed(cause) => Mended::Denied(cause),
-        Restarting::Stopped => Mended::Stopped,
-        Restarting::Waits => Mended::Waits,
+    match hold(pass, turns, asked, rt) {
+        Held::Held(driver) => go_on(pass, turns, fabric, asked, driver, gate, rt),
+        Held::Waits => Mended::Waits,
     }
 }
 

@@ -14,7 +14,6 @@ use Rattle.dxc_model.specs.declared.op.Op.{Op}
 use Rattle.dxc_model.specs.declared.op.Op.TheVariants.{Restart}
 use Rattle.user_admin.specs.declared.op.UserEntry.{UserEntry}
 use Rattle.user_admin.specs.Openings.{asked_before as users_asked_before}
-use Rattle.xc_core.specs.Askings.{asked_before}
 use Rattle.xc_core.specs.Seeing.{entry, refused}
 use Rattle.craft_session.specs.Askings.{asked_for}
 use Rattle.craft_session.specs.Gated.{AreGated, IsGated, IsUserGated, answers, are_gated_on, at_state, at_users, by_others, changes, denies, fails_before, fails_behind, gated_on, restarts, stops_between, stops_first, stops_last, takes, users_changed, users_denied, users_kept, users_read, users_stopped}
@@ -70,10 +69,13 @@ ends_journal : ends_in (Journal ∷ []) ≡ 0
 unfolding ends_in
 ends_journal = refl
 
-ends_before : (q : Cause) → ends_in (asked_before q) ≡ 0
+ends_behind : (writes : ℕ) → ends_in (Journal ∷ asked_for writes) ≡ 1
 unfolding ends_in
-ends_before DiskFault = refl
-ends_before _ = refl
+ends_behind writes = ends_work writes
+
+ends_stopped : (writes : ℕ) → ends_in (Journal ∷ replicate writes Register) ≡ 0
+unfolding ends_in
+ends_stopped writes = ends_writes writes
 
 users_ends_before : (q : Cause) → ends_in (users_asked_before q) ≡ 0
 unfolding ends_in
@@ -109,15 +111,15 @@ no_entry place ps none = by_counts place [] ps 0 0 0 (count_others effect_in pla
 gated_counts : (place : ℕ) (before behind : Bool) (es : List Entry) (ps : List GatePlace) → IsGated place before es ps behind → AsksForEffects place es ps
 gated_counts place _ _ _ _ (by_others out es others) = counts_none place es others
 gated_counts place _ _ _ _ (answers op) = one_entry place op Answered [] 0 ends_none (omega arith) (omega arith)
-gated_counts place _ _ _ _ (denies op q) = let none = refused_effect q in one_entry place op (refused q) (asked_before q) 0 (ends_before q) (omega (arith, none)) (omega arith)
+gated_counts place _ _ _ _ (denies op q) = let none = refused_effect q in one_entry place op (refused q) [] 0 ends_none (omega (arith, none)) (omega arith)
+gated_counts place _ _ _ _ (takes op) = one_entry place op Taken [] 0 ends_none (omega arith) (omega arith)
 gated_counts place _ _ _ _ (fails_before op q) = one_entry place op (Failed q) [] 0 ends_none (omega arith) (omega arith)
 gated_counts place _ _ _ _ (fails_behind op q) = one_entry place op (Failed q) (Journal ∷ []) 0 ends_journal (omega arith) (omega arith)
-gated_counts place _ _ _ _ (takes op) = one_entry place op Taken (Journal ∷ []) 0 ends_journal (omega arith) (omega arith)
-gated_counts place _ _ _ _ (changes op c writes) = one_entry place op (Done c) (asked_for writes) 1 (ends_work writes) (omega arith) (omega arith)
-gated_counts place _ _ _ _ (restarts c writes) = one_entry place Restart (Restarted c) (asked_for writes) 1 (ends_work writes) (omega arith) (omega arith)
+gated_counts place _ _ _ _ (changes op c writes) = one_entry place op (Done c) (Journal ∷ asked_for writes) 1 (ends_behind writes) (omega arith) (omega arith)
+gated_counts place _ _ _ _ (restarts c writes) = one_entry place Restart (Restarted c) (Journal ∷ asked_for writes) 1 (ends_behind writes) (omega arith) (omega arith)
 gated_counts place _ _ _ _ (stops_first op) = one_entry place op Cut (Journal ∷ []) 0 ends_journal (omega arith) (omega arith)
-gated_counts place _ _ _ _ (stops_between op made) = one_entry place op Cut (replicate (made + 1) Register) 0 (ends_writes (made + 1)) (omega arith) (omega arith)
-gated_counts place _ _ _ _ (stops_last op writes) = one_entry place op Cut (asked_for writes) 1 (ends_work writes) (omega arith) (omega arith)
+gated_counts place _ _ _ _ (stops_between op made) = one_entry place op Cut (Journal ∷ replicate (made + 1) Register) 0 (ends_stopped (made + 1)) (omega arith) (omega arith)
+gated_counts place _ _ _ _ (stops_last op writes) = one_entry place op Cut (Journal ∷ asked_for writes) 1 (ends_behind writes) (omega arith) (omega arith)
 gated_counts place _ _ _ _ (gated_on before between behind es fs ps qs x y) = counts_join place es fs ps qs (gated_counts place before between es ps x) (gated_counts place between behind fs qs y)
 
 users_counts : (place users_place : ℕ) (us : List UserEntry) (ps : List GatePlace) → IsUserGated users_place us ps → AsksForEffects place [] ps

@@ -11,7 +11,7 @@ ghost use Rattle.craft_session.specs.Seats.{IsSeated};
 
 use anyhow::{Result, bail};
 use dxc_disk::Disk;
-use dxc_model::Op;
+use dxc_model::{Cause, Op};
 use dxc_num::Port;
 use dxc_outside::MemGate;
 use fabric_words::{Fabric, WorkerSeat};
@@ -21,7 +21,7 @@ use std::sync::Wait;
 use turnstile::{Pass, Turnstile};
 use worked_frames::{follow, hold};
 use xc_core::turns::{self, Took};
-use xc_core::{Driver, State, drive};
+use xc_core::{Driver, Noted, State, drive, note};
 
 /// What mover and worker came to.
 #[derive(Clone, Copy, PartialEq, Eq)]
@@ -59,9 +59,22 @@ pub fn change_beside<D: Disk + Drop, R: Wait>(
     ensures seated { IfOk result (λ b. IsSeated D.told D.state pass.new turns.now fabric.now) }
 {
     let mut gate = MemGate::new(Vec::new(alloc));
-    let Took::Rolling(driver) = turns::take(pass, turns, op, &mut gate, rt) else {
+    let Took::Rolling(driver, bytes) = turns::take(pass, turns, op, rt) else {
         bail!("no work came of it");
     };
+    let mut driver = driver;
+    let out = &mut *driver;
+    match note(&mut out.p, &out.rolling, op, &bytes, &mut gate) {
+        Noted::Rolling => {}
+        Noted::Fault => {
+            turns::fail(pass, turns, op, Cause::DiskFault, driver, rt);
+            bail!("its record wasn't appended");
+        }
+        Noted::Stopped => {
+            turns::cut(pass, turns, op, driver, rt);
+            bail!("the gate stopped before the journal");
+        }
+    }
     let held = hold(fabric, reader, output);
     Ok(drive_beside(pass, turns, fabric, op, driver, reader, held, &mut gate, rt))
 }

@@ -1,20 +1,13 @@
 -- Where the gate was asked.
-use Rattle.std.proofs.Common.{◌≡◌, ◌≢◌, List, [], Err, refl}
-use Rattle.dxc_model.specs.declared.cause.Cause.{Cause}
-use Rattle.dxc_model.specs.declared.cause.Cause.TheVariants.{DiskFault}
-use Rattle.dxc_disk.specs.Disks.{DiskState}
+use Rattle.std.proofs.Common.{List, [], Err}
 use Rattle.dxc_outside.specs.declared.gate.GatePlace.{GatePlace}
 use Rattle.xc_core.specs.declared.fault.OpenFault.{OpenFault}
 use Rattle.xc_core.specs.declared.fault.OpenFault.TheVariants as fault
-use Rattle.xc_core.specs.Askings.{OpenAsked, asked_before}
+use Rattle.dxc_disk.specs.Disks.{DiskState}
+use Rattle.xc_core.specs.Askings.{OpenAsked}
 use Rattle.xc_core.specs.Openings.{IsStopFault}
 
--- what isn't a fault of the disk was told before the gate was asked
-pub not_asked : (q : Cause) → q ≢ DiskFault → asked_before q ≡ []
-not_asked DiskFault not = absurd (not refl)
-not_asked _ not = refl
-
--- nor was it for a fault that isn't its stop
+-- it wasn't for a fault that isn't its stop
 pub none_asked : {D : Type 0} (state : D → DiskState) (asked : List GatePlace → Type 0) (e : OpenFault D) → (IsStopFault e → ⊥) → asked [] → OpenAsked state asked (Err e)
 none_asked state asked (fault.Journal j) not is = is
 none_asked state asked (fault.BadRecord i d) not is = is

@@ -94,8 +94,8 @@ module _ {D : Type 0} (told : Type 0) (state : D → DiskState) where
         let counted = changes_counted o.first t.now (changes_of h) t.reckoned in
         omega (arith, none, number, counted, holds)
 
-    pub waits_own : (e : Entry) → e.place ≡ own → e.op ≡ op → BringsHome e.outcome → WaitsFor (holder None h) e
-    waits_own e place same brings = subst (λ (x : Option Entry). WaitsFor x e) (sym t.held) (inr (place, same, brings))
+    pub waits_own : (e : Entry) → e.place ≡ own → BringsHome op e.op e.outcome → WaitsFor (holder None h) e
+    waits_own e place brings = subst (λ (x : Option Entry). WaitsFor x e) (sym t.held) (inr (place, brings))
 
     pub home_now : (e : Entry) → e.place ≡ own → holder None (h ++ e ∷ []) ≡ None
     home_now e place = holder_more None h e ∙ ap (λ (x : Option Entry). holder_after x e) t.held ∙ brought own op e place
@@ -129,7 +129,7 @@ module _ {D : Type 0} (told : Type 0) (state : D → DiskState) where
           table = sym same_table;
           reports = st.reports ∙ ap recent_of (sym unchanged);
           legal = legal_more (rules_of o) h e st.legal fits;
-          turns = turns_more None h e st.turns (waits_own e place same (subst BringsHome (sym cut) tt));
+          turns = turns_more None h e st.turns (waits_own e place (subst (BringsHome op e.op) (sym cut) same));
           paid = paid_now e q journal none costs counts;
           astray = astray_more told h e st.astray (λ k x. let y : Cut ≡ Failed JournalAstray = sym cut ∙ x in cc);
           home = (home_now e place, subst (λ (x : Provisioner D). IsHomeAfter told state o t.now (h ++ e ∷ []) x) (sym is) (in_now t.now e q ground journal none costs (inr (halted, lasts_now (λ y. IsCut y ⊎ IsFailedRestart y) IsRestarted h e (inl cut))) (doubts_cut h e q cut doubt)));
@@ -156,7 +156,7 @@ module _ {D : Type 0} (told : Type 0) (state : D → DiskState) where
               table = is;
               reports = ap (with_one t.change) st.reports ∙ recent_more (changes_of h) t.change ∙ ap recent_of (sym one);
               legal = legal_more (rules_of o) h e st.legal (fits_by (rules_of o) h e (effect (table_after o.first.fold.table h) t.change, (granted_here, refl)) (limit_met told state o h b t.out.reckoned op t.change None (Done t.change) granted_here (inl t.within) refl) tt);
-              turns = turns_more None h e st.turns (waits_own o s h st own op p t.out e refl refl tt);
+              turns = turns_more None h e st.turns (waits_own o s h st own op p t.out e refl refl);
               paid = paid_now o s h st own op p t.out e d.value.p journal refl refl counts;
               astray = astray_more told h e st.astray (λ k x. let y : Done t.change ≡ Failed JournalAstray = x in cc);
               home = (

@@ -10,6 +10,8 @@ pub mod Halting
 pub mod Entries
 pub mod Standing
 pub mod Away
+pub mod Copying
+pub mod Homing
 pub mod Within
 pub mod Turning
 pub mod Reported

@@ -1,49 +1,44 @@
 -- A state whose Provisioner waited for a restart, or was asked for one, an entry later: a lemma for each outcome of a restart.
-use Rattle.std.specs.Prelude.{min}
-use Rattle.std.proofs.Common.{◌≡◌, ◌≢◌, ℕ, ◌+◌, ◌≤◌, ◌⊎◌, true, List, [], ◌∷◌, ◌++◌, Option, Some, None, refl, sym, ◌∙◌, ap, subst, inl, inr}
-use Rattle.dxc_causes.specs.Causes.{Rose, last}
-use Rattle.dxc_disk.specs.Disks.{CountsOn, DiskState, Spends}
+use Rattle.std.proofs.Common.{◌≡◌, ◌≢◌, ℕ, ◌+◌, ◌⊎◌, true, List, [], ◌∷◌, ◌++◌, Option, Some, None, refl, sym, ◌∙◌, ap, subst, inl, inr}
+use Rattle.dxc_disk.specs.Disks.{CountsOn, DiskState}
 use Rattle.dbchg_reports.specs.Recent.{recent_of, with_one}
 use Rattle.dbchg_reports.proofs.Keeping.{recent_more}
 use Rattle.dxc_model.specs.declared.op.Op.{Op}
 use Rattle.dxc_model.specs.declared.op.Op.TheVariants.{Restart}
 use Rattle.dxc_model.specs.declared.op.Change.{Change}
 use Rattle.dxc_model.specs.declared.cause.Cause.{Cause}
-use Rattle.dxc_model.specs.declared.cause.Cause.TheVariants.{DiskFault, JournalAstray}
-use Rattle.dxc_model.specs.declared.entry.Outcome.TheVariants.{Failed, Restarted, Cut, Taken}
+use Rattle.dxc_model.specs.declared.cause.Cause.TheVariants.{JournalAstray}
+use Rattle.dxc_model.specs.declared.entry.Outcome.TheVariants.{Failed, Restarted, Cut}
 use Rattle.dxc_model.specs.declared.entry.Entry.{Entry}
 use Rattle.dxc_model.specs.Tables.{Board}
 use Rattle.dxc_model.specs.Verdicts.{Grants, effect}
-use Rattle.dxc_model.specs.Steps.{IsDriven, IsFault}
-use Rattle.dxc_model.specs.Histories.{Fits, IsCut, IsFailedRestart, IsInDoubt, IsRestartDue, IsRestarted, IsSettling, IsDoubtful, IsStopped, KeepsLimit, KeepsTurns, changes_of, table_after}
+use Rattle.dxc_model.specs.Histories.{Fits, IsCut, IsFailedRestart, IsInDoubt, IsRestartDue, IsRestarted, IsSettling, IsDoubtful, KeepsTurns, changes_of, table_after}
 use Rattle.dxc_model.proofs.Growth.{fits_by, legal_more, turns_more}
-use Rattle.dxc_model.proofs.Lasting.{lasts_before, lasts_more, lasts_no_more, lasts_now}
+use Rattle.dxc_model.proofs.Lasting.{lasts_more, lasts_no_more, lasts_now}
 use Rattle.dxc_model.proofs.Verdicts.{own_verdict}
 use Rattle.roll_engine.specs.Rollings.{RollingAt}
 use Rattle.turnstile.specs.Turning.{Each}
-use Rattle.xc_recovery.specs.Placings.{IsPlaced}
 use Rattle.xc_core.specs.declared.provisioner.Provisioner.{Provisioner}
-use Rattle.xc_core.specs.declared.state.Home.TheVariants.{In, Out}
+use Rattle.xc_core.specs.declared.state.Home.TheVariants.{In}
 use Rattle.xc_core.specs.declared.state.State.{State}
 use Rattle.xc_core.specs.Reckonings.{Past, ReckonsTo}
-use Rattle.xc_core.specs.Provisioners.{Boxed, IsHome, StillDoubts, ground_of}
+use Rattle.xc_core.specs.Provisioners.{Boxed, ground_of}
 use Rattle.xc_core.specs.Restarts.{IsHalted, Resumes, TakesUp}
 use Rattle.xc_core.specs.Endings.{Ends, reports_with}
-use Rattle.xc_core.specs.States.{DoubtsUnsettled, Opening, HomeIs, IsReadyOrHalted, IsUnsettled, LimitBehind, StandsFor, faults_in, most_room, rules_of, with_home}
+use Rattle.xc_core.specs.States.{DoubtsUnsettled, Opening, HomeIs, IsReadyOrHalted, IsUnsettled, StandsFor, rules_of, with_home}
 use Rattle.xc_core.specs.Seeing.{HasRestart, IsDueFor, IsOfStop, entry}
 use Rattle.xc_core.proofs.Away.{comes_halted, home_now, in_now, out_moved, out_since, out_table, paid_now, read_since, waits_own}
-use Rattle.xc_core.proofs.Entries.{AreReads, answered_not_restarted, answered_not_settling, astray_more, changes_one, changes_same, cut_settles_not, doubts_left, doubts_more, failed_settles_not, lasts_reading, one_fault, taken_settles_not, unsettled_more}
+use Rattle.xc_core.proofs.Entries.{AreReads, answered_not_restarted, answered_not_settling, astray_more, changes_one, changes_same, cut_settles_not, lasts_reading, unsettled_more}
 use Rattle.xc_core.proofs.Halting.{resumes_halted}
-use Rattle.xc_core.proofs.Meeting.{meets_one}
 use Rattle.xc_core.proofs.Reckoning.{reckons_more}
-use Rattle.xc_core.proofs.Standing.{IsIn, home_by, no_fault, out_of, stands_out, table_is}
+use Rattle.xc_core.proofs.Standing.{table_is}
 
 -- a change that a restart takes up is in doubt
 doubt_of : (t : Board) (h : List Entry) (op : Op) (c : Change) → Grants t op c → IsUnsettled h op → IsInDoubt t h c
 doubt_of t h op c granted l = record { before = l.before; entry = l.entry; behind = l.behind; whole = l.whole; has = (l.has.0, subst (λ (x : Op). Grants t x c) (sym l.has.1) granted); lasting = l.lasting }
 
 -- a change that a restart takes up is of an operation in doubt, which a stop came after
-of_stop : {D : Type 0} (h : List Entry) (b : Past) (p : Provisioner D) (lacking : Option Change) (g : Past) → p.halted ≡ true → TakesUp b p.doubt lacking g → DoubtsUnsettled h p → IsOfStop lacking h
+pub of_stop : {D : Type 0} (h : List Entry) (b : Past) (p : Provisioner D) (lacking : Option Change) (g : Past) → p.halted ≡ true → TakesUp b p.doubt lacking g → DoubtsUnsettled h p → IsOfStop lacking h
 of_stop h b p None g halted taken doubts = tt
 of_stop h b p (Some c) g halted (op, here, granted, met, same) doubts = (doubts op here).1 halted
 
@@ -53,11 +48,11 @@ stopped_since None h later reads was = tt
 stopped_since (Some c) h later reads was = lasts_reading IsCut IsRestarted answered_not_restarted h later reads was
 
 -- a restart is due still behind an entry that isn't one
-due_more : (asked : Op) (h : List Entry) (e : Entry) → (IsRestarted e → ⊥) → IsDueFor asked h → IsDueFor asked (h ++ e ∷ [])
+pub due_more : (asked : Op) (h : List Entry) (e : Entry) → (IsRestarted e → ⊥) → IsDueFor asked h → IsDueFor asked (h ++ e ∷ [])
 due_more asked h e not due = elim due [ inl is ↦ inl is | inr lasts ↦ inr (lasts_more (λ x. IsCut x ⊎ IsFailedRestart x) IsRestarted h e lasts not) ]
 
 -- and behind one that is a restart that failed
-due_now : (own : ℕ) (asked : Op) (q : Cause) (h : List Entry) → IsDueFor asked h → IsRestartDue (h ++ entry own asked (Failed q) ∷ [])
+pub due_now : (own : ℕ) (asked : Op) (q : Cause) (h : List Entry) → IsDueFor asked h → IsRestartDue (h ++ entry own asked (Failed q) ∷ [])
 due_now own asked q h due = elim due [
   | inl is ↦ lasts_now (λ x. IsCut x ⊎ IsFailedRestart x) IsRestarted h (entry own asked (Failed q)) (inr (is, (q, refl)))
   | inr lasts ↦ lasts_more (λ x. IsCut x ⊎ IsFailedRestart x) IsRestarted h (entry own asked (Failed q)) lasts (λ x. let y : Failed q ≡ Restarted x.0 = x.1 in cc)
@@ -68,70 +63,6 @@ module _ {D : Type 0} (told : Type 0) (state : D → DiskState) where
     -- what a turn finds that takes the Provisioner for a restart
     pub found_stage : (d : Boxed D) → s.home ≡ In d → IsReadyOrHalted told state st.now h d.value.p
     found_stage d is = let at : HomeIs told state o st.now h (In d) = subst (HomeIs told state o st.now h) is st.home in at.1.stage
-
-    -- p is what calls left of the Provisioner q, which was home
-    module _ (q p : Provisioner D) (was : IsIn told state o h q) (ground : ground_of p ≡ ground_of q) (later : (state q.journal.0).faults ≤ (state p.journal.0).faults) (spent : Spends most_room (state q.journal.0) (state p.journal.0))
-        (kept : StillDoubts q p) (own : ℕ) where
-      -- what is in doubt
-      left : DoubtsUnsettled h p
-      left = doubts_left h q p kept was.doubt
-
-      -- the rest of the last record's work is found, and the turn ends with it
-      pub restart_taken : StandsFor told state o (with_home Out s) (h ++ entry own Restart Taken ∷ [])
-      restart_taken = stands_out told state o s h st q p was ground later spent Restart own (fits_by (rules_of o) h (entry own Restart Taken) (table_after o.first.fold.table h, (inl refl, refl)) (λ c granted. absurd granted.apt) tt)
-
-      pub has_restart : (asked : Op) → IsDueFor asked h → (lacking : Option Change) (g : Past) (r : RollingAt) → Resumes told state st.now lacking g p r → HasRestart told state o own asked (h ++ entry own Restart Taken ∷ []) p r
-      has_restart asked due lacking g r resumes = record {
-        out = out_of told state o s h st q p was ground later spent Restart own;
-        lacking = lacking;
-        behind = g;
-        resumes = resumes;
-        of_stop = of_stop (h ++ entry own Restart Taken ∷ []) st.now p lacking g resumes.halted resumes.taken (doubts_more h (entry own Restart Taken) p (taken_settles_not own Restart) left);
-        doubt = doubts_more h (entry own Restart Taken) p (taken_settles_not own Restart) left;
-        due = due_more asked h (entry own Restart Taken) (λ x. let y : Taken ≡ Restarted x.0 = x.1 in cc) due;
-      }
-
-      module _ (counts : CountsOn (state p.journal.0)) where
-        -- a stop came in it
-        pub restart_stopped : IsHalted told state st.now p → (d : Boxed D) → d.value.p ≡ p → StandsFor told state o (with_home (In d) s) (h ++ entry own Restart Cut ∷ [])
-        restart_stopped halted d same =
-            let e = entry own Restart Cut in
-            home_by told state o s h st q p was ground later spent counts e refl refl refl (fits_by (rules_of o) h e (table_after o.first.fold.table h, (inl refl, refl)) (λ c granted. absurd granted.apt) tt)
-            (λ t x. let y : Cut ≡ Failed JournalAstray = x in cc) (no_fault told state o s h st q p was ground later spent e refl)
-            (inr (halted, lasts_now (λ x. IsCut x ⊎ IsFailedRestart x) IsRestarted h e (inl refl)))
-            (doubts_more h e p (cut_settles_not own Restart) left) d same
-
-        -- it failed: the operation that asked for it is entered so
-        module _ (asked : Op) (driven : IsDriven asked) (cause : Cause) (fault : IsFault cause) where
-          limits_fault : IsPlaced st.now.fold.table st.now.fold.colours → (c : Change) → Grants (table_after o.first.fold.table h) asked c → (met : Option Cause) × LimitBehind o.first (changes_of h) c met × KeepsLimit met (Failed cause)
-          limits_fault placed c granted =
-              let back : Grants st.now.fold.table asked c = subst (λ (t : Board). Grants t asked c) (sym (table_is told state o s h st) ∙ st.table) granted in
-              let m = meets_one st.now asked c placed back in
-              (m.0, (st.now, st.reckoned, m.1), inl fault)
-
-          failed_home : IsPlaced st.now.fold.table st.now.fold.colours → (told → cause ≢ JournalAstray) → min (o.faults + faults_in (h ++ entry own asked (Failed cause) ∷ [])) last ≤ (state p.journal.0).faults → IsReadyOrHalted told state st.now (h ++ entry own asked (Failed cause) ∷ []) p
-              → (d : Boxed D) → d.value.p ≡ p → StandsFor told state o (with_home (In d) s) (h ++ entry own asked (Failed cause) ∷ [])
-          failed_home placed not_astray faults stage d same =
-              let e = entry own asked (Failed cause) in
-              home_by told state o s h st q p was ground later spent counts e refl refl refl (fits_by (rules_of o) h e (table_after o.first.fold.table h, (inr (fault, driven), refl)) (limits_fault placed) tt)
-              (λ t x. not_astray t (let y : Failed cause ≡ Failed JournalAstray = x in cc)) faults stage
-              (doubts_more h e p (failed_settles_not own asked cause) left) d same
-
-          pub restart_failed : IsDueFor asked h → IsHalted told state st.now p → (told → cause ≢ JournalAstray) → min (o.faults + faults_in (h ++ entry own asked (Failed cause) ∷ [])) last ≤ (state p.journal.0).faults
-              → (d : Boxed D) → d.value.p ≡ p → StandsFor told state o (with_home (In d) s) (h ++ entry own asked (Failed cause) ∷ [])
-          restart_failed due halted not_astray faults = failed_home halted.past.placed not_astray faults (inr (halted, due_now own asked cause h due))
-
-          -- before it, so that the Provisioner is home as it was
-          pub restart_unsettled : IsHome told state st.now p → (IsStopped h → ⊥) → (told → cause ≢ JournalAstray) → min (o.faults + faults_in (h ++ entry own asked (Failed cause) ∷ [])) last ≤ (state p.journal.0).faults
-              → (d : Boxed D) → d.value.p ≡ p → StandsFor told state o (with_home (In d) s) (h ++ entry own asked (Failed cause) ∷ [])
-          restart_unsettled home unstopped not_astray faults = failed_home home.past.placed not_astray faults (inl (home, λ stopped. unstopped (lasts_before IsCut IsRestarted h (entry own asked (Failed cause)) stopped (λ x. let y : Failed cause ≡ Cut = x in cc))))
-
-      -- the disk counted its fault, or the journal is astray
-      pub rose_now : (asked : Op) → Rose (state q.journal.0).faults (state p.journal.0).faults → min (o.faults + faults_in (h ++ entry own asked (Failed DiskFault) ∷ [])) last ≤ (state p.journal.0).faults
-      rose_now asked rose = one_fault o.faults (state q.journal.0).faults (state p.journal.0).faults h (entry own asked (Failed DiskFault)) refl was.faults rose
-
-      pub astray_now : (asked : Op) → min (o.faults + faults_in (h ++ entry own asked (Failed JournalAstray) ∷ [])) last ≤ (state p.journal.0).faults
-      astray_now asked = no_fault told state o s h st q p was ground later spent (entry own asked (Failed JournalAstray)) refl
 
   -- a place that took the Provisioner for a restart finds all else as it was
   pub restart_since : (o : Opening) (own : ℕ) (asked : Op) (h later : List Entry) (p : Provisioner D) → Each (λ e. e.place ≢ own) later → KeepsTurns None (h ++ later) → (r : RollingAt) → HasRestart told state o own asked h p r → HasRestart told state o own asked (h ++ later) p r
@@ -201,7 +132,7 @@ module _ {D : Type 0} (told : Type 0) (state : D → DiskState) where
               table = end.table_is;
               reports = reports l;
               legal = legal_more (rules_of o) h e st.legal (fits l taken);
-              turns = turns_more None h e st.turns (waits_own told state o s h st own Restart p t.out e refl refl tt);
+              turns = turns_more None h e st.turns (waits_own told state o s h st own Restart p t.out e refl refl);
               paid = paid_now told state o s h st own Restart p t.out e d.value.p journal refl refl counts;
               astray = astray_more told h e st.astray (λ k x. let y : Restarted l ≡ Failed JournalAstray = x in cc);
               home = (

@@ -1,5 +1,5 @@
--- What a turn does in which a restart was to begin.
-use Rattle.std.proofs.Common.{◌≡◌, ◌⊎◌, ◌≤◌, ◌+◌, ℕ, arith, true, false, List, Option, refl, sym, ◌∙◌, inl, inr}
+-- What a turn does in which a restart was to begin, and what comes of the Provisioner that it takes out.
+use Rattle.std.proofs.Common.{◌≡◌, ◌⊎◌, ◌≤◌, ◌+◌, ℕ, arith, true, false, List, Option, refl, sym, ◌∙◌, ap, subst, inl, inr}
 use Rattle.dxc_causes.specs.Causes.{Rose}
 use Rattle.dxc_disk.specs.Disks.{CountsOn, DiskState, Spends}
 use Rattle.dxc_disk.proofs.DiskSteps.{spends_more, spends_on}
@@ -11,17 +11,19 @@ use Rattle.dxc_model.specs.declared.entry.Entry.{Entry}
 use Rattle.dxc_model.specs.Steps.{IsDriven}
 use Rattle.dxc_model.specs.Tables.{Board}
 use Rattle.xc_core.specs.declared.provisioner.Provisioner.{Provisioner}
-use Rattle.xc_core.specs.declared.restarts.Restarting.TheVariants as restarting
+use Rattle.xc_core.specs.declared.restarts.Held.TheVariants as held
 use Rattle.xc_core.specs.declared.state.Home.TheVariants.{In, Out}
 use Rattle.xc_core.specs.declared.state.State.{State}
 use Rattle.xc_core.specs.Reckonings.{Past}
-use Rattle.xc_core.specs.Provisioners.{Boxed, IsHome, StillDoubts, ground_of}
+use Rattle.xc_core.specs.Provisioners.{Boxed, IsHome, KeepsPast, StillDoubts, ground_of}
 use Rattle.xc_core.specs.Restarts.{IsHalted, Resumes}
-use Rattle.xc_core.specs.Seeing.{IsDueFor}
-use Rattle.xc_core.specs.States.{Opening, StandsFor, most_room, with_home}
-use Rattle.xc_core.specs.Turns.{RestartingIs}
-use Rattle.xc_core.proofs.Restarting.{astray_now, found_stage, has_restart, restart_failed, restart_stopped, restart_taken, restart_unsettled, rose_now}
-use Rattle.xc_core.proofs.Standing.{IsIn, found_in}
+use Rattle.roll_engine.specs.Rollings.{RollingAt}
+use Rattle.xc_core.specs.Seeing.{HasFailed, HasHeld, HasRestart, HasStopped, IsDueFor}
+use Rattle.xc_core.specs.States.{IsReadyOrHalted, Opening, StandsFor, most_room, with_home}
+use Rattle.xc_core.specs.Turns.{HeldIs}
+use Rattle.xc_core.proofs.Copying.{room_copied, stage_second}
+use Rattle.xc_core.proofs.Homing.{held_failed, held_resumed, held_stopped, held_taken}
+use Rattle.xc_core.proofs.Restarting.{found_stage}
 use Rattle.xc_core.proofs.Within.{stands_back}
 
 -- what settling and recovering take of the room
@@ -47,82 +49,56 @@ module _ {D : Type 0} (told : Type 0) (state : D → DiskState) (counts : (d : D
   ]
 
   -- nothing is done where it is ready, and no restart was asked for
-  pub was_ready : (own : ℕ) (asked : Op) → ((p.halted ≡ true) ⊎ (asked ≡ Restart) → ⊥) → RestartingIs told state o own h asked (with_home (In d) s) restarting.Waits
+  pub was_ready : (own : ℕ) (asked : Op) → ((p.halted ≡ true) ⊎ (asked ≡ Restart) → ⊥) → HeldIs told state o own h asked (with_home (In d) s) held.Waits
   was_ready own asked not = (stands_back told state counts o s h st (In d) is, inr (λ same. not (inr same), elim (found_stage told state o s h st d is) [ inl a ↦ a.1 | inr b ↦ absurd (not (inl b.0.halted)) ]))
 
-  abbrev was : IsIn told state o h p
-  was = found_in told state o s h st d is
+  -- it keeps what stands behind the changes
+  pub keeps_found : KeepsPast st.now p
+  keeps_found = elim (found_stage told state o s h st d is) [ inl a ↦ a.0.past | inr a ↦ a.0.past ]
 
-  -- m is what settling left of it
-  module _ (m : Provisioner D) (ground : ground_of m ≡ ground_of p) (kept : StillDoubts p m) (later : (state p.journal.0).faults ≤ (state m.journal.0).faults) (spent : Spends 3 (state p.journal.0) (state m.journal.0)) (own : ℕ) (asked : Op) (driven : IsDriven asked)
-      (why : (p.halted ≡ true) ⊎ (asked ≡ Restart)) where
-    -- the settling failed
-    pub was_unsettled : (p.halted ≡ false) × ((b : Past) → IsHome told state b p → IsHome told state b m) → Rose (state p.journal.0).faults (state m.journal.0).faults → (e : Boxed D) → e.value.p ≡ m → RestartingIs told state o own h asked (with_home (In e) s) (restarting.Failed DiskFault)
-    was_unsettled unsettled rose e same = elim (found_stage told state o s h st d is) [
-      | inl a ↦ (
-        restart_unsettled told state o s h st p m was ground later (settled_room (state p.journal.0) (state m.journal.0) spent) kept own (counts m.journal.0) asked driven DiskFault (inl refl) (unsettled.1 st.now a.0) a.1 (λ t x. let y : DiskFault ≡ JournalAstray = x in cc)
-            (rose_now told state o s h st p m was ground later (settled_room (state p.journal.0) (state m.journal.0) spent) kept own asked rose) e same,
-        inl refl,
-        due_found asked why,
-      )
-      | inr b ↦ absurd (let e : false ≡ true = sym unsettled.0 ∙ b.0.halted in cc)
-    ]
+  -- or it is taken out, with a copy of the table
+  pub was_taken : (own : ℕ) (asked : Op) → (p.halted ≡ true) ⊎ (asked ≡ Restart) → (e : Board) → e ≡ s.table → (f : Boxed D) → f.value.p ≡ record p { second = record p.second { expected = e } } → HeldIs told state o own h asked (with_home Out s) (held.Held f)
+  was_taken own asked why e copied f same =
+      let room = room_copied st.now p keeps_found e (copied ∙ st.table) in
+      held_taken told state o s h st d is own asked (due_found asked why) f (ap (λ (x : Provisioner D). x.journal) same) (ap (λ (x : Provisioner D). ground_of x) same) (ap (λ (x : Provisioner D). x.doubt) same) (ap (λ (x : Provisioner D). x.halted) same)
+      (subst (λ (x : Provisioner D). IsReadyOrHalted told state st.now h x) (sym same) (stage_second told state st.now p (record p.second { expected = e }) room h (found_stage told state o s h st d is)))
+      (ap (λ (x : Provisioner D). x.second.expected) same ∙ copied)
 
-    -- settled and halted, it may be recovered
-    module _ (halted : (b : Past) → IsHome told state b p ⊎ IsHalted told state b p → IsHalted told state b m) where
-      pub halted_now : IsHalted told state st.now m
-      halted_now = halted st.now (found_home).1
+-- what settling and recovering left of a Provisioner that was taken out: m behind the one, q behind both
+module _ {D : Type 0} (told : Type 0) (state : D → DiskState) (o : Opening) (own : ℕ) (asked : Op) (h : List Entry) (p m : Provisioner D) (x : HasHeld told state o own asked h p) (driven : IsDriven asked)
+    (ground : ground_of m ≡ ground_of p) (kept : StillDoubts p m) (later : (state p.journal.0).faults ≤ (state m.journal.0).faults) (spent : Spends 3 (state p.journal.0) (state m.journal.0)) where
+  -- the settling failed
+  pub was_unsettled : (p.halted ≡ false) × ((b : Past) → IsHome told state b p → IsHome told state b m) → Rose (state p.journal.0).faults (state m.journal.0).faults → HasFailed told state o own Restart asked DiskFault h m
+  was_unsettled unsettled rose = held_failed told state o own asked DiskFault h p m x ground later (settled_room (state p.journal.0) (state m.journal.0) spent) kept driven (inl refl) (λ _. rose) (λ t y. let z : DiskFault ≡ JournalAstray = y in cc)
+      (elim x.stage [ inl a ↦ inl (unsettled.1 x.out.now a.0, a.1) | inr b ↦ absurd (let e : false ≡ true = sym unsettled.0 ∙ b.0.halted in cc) ])
 
-      pub may_recover : (t : Board) → t ≡ s.table → (b : Past) × IsHalted told state b m × (b.fold.table ≡ t)
-      may_recover t same = (st.now, halted_now, sym (same ∙ st.table))
+  module _ (halted : (b : Past) → IsHome told state b p ⊎ IsHalted told state b p → IsHalted told state b m) where
+    pub halted_now : IsHalted told state x.out.now m
+    halted_now = halted x.out.now (elim x.stage [ inl a ↦ inl a.0 | inr b ↦ inr b.0 ])
 
-      -- q is what the recovery left of it
-      module _ (e : Boxed D) (same_ground : ground_of e.value.p ≡ ground_of m) (same_doubt : e.value.p.doubt ≡ m.doubt) (then_later : (state m.journal.0).faults ≤ (state e.value.p.journal.0).faults) (recovered : Spends 131_079 (state m.journal.0) (state e.value.p.journal.0))
-          (still : (b : Past) → IsHalted told state b m → b.fold.table ≡ s.table → IsHalted told state b e.value.p) where
-        abbrev q : Provisioner D
-        q = e.value.p
+    module _ (q : Provisioner D) (same_ground : ground_of q ≡ ground_of m) (same_doubt : q.doubt ≡ m.doubt) (then_later : (state m.journal.0).faults ≤ (state q.journal.0).faults) (recovered : Spends 131_079 (state m.journal.0) (state q.journal.0)) (still : IsHalted told state x.out.now q) where
+      all_ground : ground_of q ≡ ground_of p
+      all_ground = same_ground ∙ ground
 
-        all_ground : ground_of q ≡ ground_of p
-        all_ground = same_ground ∙ ground
+      all_later : (state p.journal.0).faults ≤ (state q.journal.0).faults
+      all_later = omega (arith, later, then_later)
 
-        all_later : (state p.journal.0).faults ≤ (state q.journal.0).faults
-        all_later = omega (arith, later, then_later)
+      all_spent : Spends most_room (state p.journal.0) (state q.journal.0)
+      all_spent = restart_room (state p.journal.0) (state m.journal.0) (state q.journal.0) spent recovered
 
-        all_spent : Spends most_room (state p.journal.0) (state q.journal.0)
-        all_spent = restart_room (state p.journal.0) (state m.journal.0) (state q.journal.0) spent recovered
+      all_kept : StillDoubts p q
+      all_kept y here = let k = kept y (sym same_doubt ∙ here) in (k.0, λ marked. k.1 halted_now.halted)
 
-        all_kept : StillDoubts p q
-        all_kept x here = let k = kept x (sym same_doubt ∙ here) in (k.0, λ halted. k.1 halted_now.halted)
+      pub was_resumed : (r : RollingAt) (l : Option Change) (g : Past) → Resumes told state x.out.now l g q r → HasRestart told state o own asked h q r
+      was_resumed r l g resumes = held_resumed told state o own asked h p q x all_ground all_later all_spent all_kept r l g resumes
 
-        halted_then : IsHalted told state st.now q
-        halted_then = still st.now halted_now (sym st.table)
+      pub was_stopped : HasStopped told state o own asked h q
+      was_stopped = held_stopped told state o own asked h p q x all_ground all_later all_spent all_kept still
 
-        -- the rest of the last record's work is found
-        pub was_resumed : ((b : Past) → IsHalted told state b m → b.fold.table ≡ s.table → (l : Option Change) × (g : Past) × Resumes told state b l g q e.value.rolling) → RestartingIs told state o own h asked (with_home Out s) (restarting.Rolling e)
-        was_resumed resumes =
-            let x = resumes st.now halted_now (sym st.table) in (
-              restart_taken told state o s h st p q was all_ground all_later all_spent all_kept own,
-              has_restart told state o s h st p q was all_ground all_later all_spent all_kept own asked (due_found asked why) x.0 x.1 e.value.rolling x.2,
-            )
+      -- the disk failed
+      pub was_faulty : Rose (state m.journal.0).faults (state q.journal.0).faults → HasFailed told state o own Restart asked DiskFault h q
+      was_faulty rose = held_failed told state o own asked DiskFault h p q x all_ground all_later all_spent all_kept driven (inl refl) (λ _. omega (arith, later, rose)) (λ t y. let z : DiskFault ≡ JournalAstray = y in cc) (inr still)
 
-        -- the gate stopped
-        pub was_stopped : RestartingIs told state o own h asked (with_home (In e) s) restarting.Stopped
-        was_stopped = (restart_stopped told state o s h st p q was all_ground all_later all_spent all_kept own (counts q.journal.0) halted_then e refl, due_found asked why)
-
-        -- the disk failed
-        pub was_faulty : Rose (state m.journal.0).faults (state q.journal.0).faults → RestartingIs told state o own h asked (with_home (In e) s) (restarting.Failed DiskFault)
-        was_faulty rose = (
-          restart_failed told state o s h st p q was all_ground all_later all_spent all_kept own (counts q.journal.0) asked driven DiskFault (inl refl) (due_found asked why) halted_then (λ t x. let y : DiskFault ≡ JournalAstray = x in cc)
-              (rose_now told state o s h st p q was all_ground all_later all_spent all_kept own asked (omega (arith, later, rose))) e refl,
-          inl refl,
-          due_found asked why,
-        )
-
-        -- the journal reads otherwise than it was written
-        pub was_astray : (told → ⊥) → RestartingIs told state o own h asked (with_home (In e) s) (restarting.Failed JournalAstray)
-        was_astray never = (
-          restart_failed told state o s h st p q was all_ground all_later all_spent all_kept own (counts q.journal.0) asked driven JournalAstray (inr refl) (due_found asked why) halted_then (λ t x. never t)
-              (astray_now told state o s h st p q was all_ground all_later all_spent all_kept own asked) e refl,
-          inr refl,
-          due_found asked why,
-        )
+      -- the journal reads otherwise than it was written
+      pub was_astray : (told → ⊥) → HasFailed told state o own Restart asked JournalAstray h q
+      was_astray never = held_failed told state o own asked JournalAstray h p q x all_ground all_later all_spent all_kept driven (inr refl) (λ is. absurd (let z : JournalAstray ≡ DiskFault = is in cc)) (λ t y. never t) (inr still)

@@ -1,38 +1,37 @@
 -- A state whose Provisioner was home and ready, one entry later: a lemma for each outcome. None but these, those of a Provisioner that was taken out or is halted, and the one of an opening, makes a `StandsFor`.
 use Rattle.std.specs.Prelude.{min}
 use Rattle.std.proofs.Common.{◌≡◌, ◌≢◌, ℕ, ◌+◌, ◌≤◌, arith, ◌⊎◌, true, false, List, [], ◌∷◌, ◌++◌, Option, Some, None, Ok, Err, refl, sym, ◌∙◌, ap, subst, inl, inr}
-use Rattle.dxc_causes.specs.Causes.{Rose, last}
+use Rattle.dxc_causes.specs.Causes.{last}
 use Rattle.dxc_disk.specs.Disks.{CountsOn, DiskState, Spends}
 use Rattle.dbchg_reports.specs.Recent.{recent_of}
 use Rattle.dxc_model.specs.declared.op.Op.{Op}
 use Rattle.dxc_model.specs.declared.op.Change.{Change}
 use Rattle.dxc_model.specs.declared.cause.Cause.{Cause}
-use Rattle.dxc_model.specs.declared.cause.Cause.TheVariants.{DiskFault, JournalAstray}
+use Rattle.dxc_model.specs.declared.cause.Cause.TheVariants.{JournalAstray}
 use Rattle.dxc_model.specs.declared.entry.Outcome.{Outcome}
 use Rattle.dxc_model.specs.declared.entry.Outcome.TheVariants.{Denied, Failed, Answered, Cut, Taken}
 use Rattle.dxc_model.specs.declared.entry.Entry.{Entry}
 use Rattle.dxc_model.specs.Tables.{Board}
 use Rattle.dxc_model.specs.Verdicts.{Grants, Refuses}
 use Rattle.dxc_model.specs.Steps.{IsRetrieval, made}
-use Rattle.dxc_model.specs.Histories.{Fits, KeepsLimit, WaitsFor, IsCut, IsDoubtful, IsRestarted, IsFailedRestart, IsSettling, IsStopped, IsRestartDue, changes_of, holder, holder_after, table_after, taker}
+use Rattle.dxc_model.specs.Histories.{Fits, KeepsLimit, WaitsFor, IsCut, IsRestarted, IsFailedRestart, IsSettling, IsStopped, IsRestartDue, changes_of, holder, holder_after, table_after, taker}
 use Rattle.dxc_model.proofs.FirstCauses.{changes}
 use Rattle.dxc_model.proofs.Growth.{fits_by, holder_more, legal_more, turns_more}
-use Rattle.dxc_model.proofs.Lasting.{lasts_before, lasts_more, lasts_now}
+use Rattle.dxc_model.proofs.Lasting.{lasts_before, lasts_more}
 use Rattle.dxc_model.proofs.Standings.{reading_fits}
-use Rattle.roll_engine.specs.Rollings.{RollingAt}
 use Rattle.xc_core.specs.declared.provisioner.Provisioner.{Provisioner}
 use Rattle.xc_core.specs.declared.state.Home.{Home}
 use Rattle.xc_core.specs.declared.state.Home.TheVariants.{In, Out}
 use Rattle.xc_core.specs.declared.state.State.{State}
-use Rattle.xc_core.specs.Reckonings.{HasWork, Meets, Past, ReckonsTo}
-use Rattle.xc_core.specs.Provisioners.{Boxed, IsHome, Rolls, ground_of, with_halt}
+use Rattle.xc_core.specs.Reckonings.{Meets, Past, ReckonsTo}
+use Rattle.xc_core.specs.Provisioners.{Boxed, IsHome, ground_of, with_halt}
 use Rattle.xc_core.specs.Restarts.{IsHalted}
 use Rattle.xc_core.proofs.Halting.{halted_home}
 use Rattle.xc_core.proofs.Pasts.{past_marked}
-use Rattle.xc_core.specs.Begins.{IsOverLimit, IsWithin, MayDoubt}
+use Rattle.xc_core.specs.Begins.{IsOverLimit}
 use Rattle.xc_core.specs.States.{DoubtsUnsettled, Opening, IsHomeAfter, IsPaid, LimitBehind, SpendsOf, rules_of, HomeIs, StandsFor, cost, fault_in, faults_in, most_room, room_in, with_home}
-use Rattle.xc_core.specs.Seeing.{HasTaken, IsOut, Rests, entry}
-use Rattle.xc_core.proofs.Entries.{answered_settles_not, astray_more, changes_same, cut_settles_not, denied_settles_not, doubts_cut, doubts_more, doubts_ready, failed_settles_not, held_still, limit_no_fault, limit_not_astray, one_fault, over_limit, paid_counted, paid_same, room_more, same_faults, spends_at, spends_one, unsettled_more, waits_reading}
+use Rattle.xc_core.specs.Seeing.{IsOut, Rests, entry}
+use Rattle.xc_core.proofs.Entries.{answered_settles_not, astray_more, changes_same, denied_settles_not, doubts_more, failed_settles_not, held_still, limit_no_fault, limit_not_astray, over_limit, paid_counted, paid_same, room_more, same_faults, spends_at, spends_one, waits_reading}
 use Rattle.xc_core.proofs.Granting.{granted_once}
 use Rattle.xc_core.proofs.Reckoning.{reckoned_table}
 
@@ -188,53 +187,3 @@ module _ {D : Type 0} (told : Type 0) (state : D → DiskState) where
             home_same e refl refl refl
             (fits_by (rules_of o) h e (table_after o.first.fold.table h, (inl (over_limit st.now op c over, (over.0, granted)), refl)) (limit_met o h st.now st.reckoned op over.0 (Some c) (Failed c) granted over.2 (inr refl)) tt)
             (limit_not_astray c (over_limit st.now op c over)) (limit_no_fault c (over_limit st.now op c over)) (λ x. let y : Failed c ≡ Cut = x in cc) (failed_settles_not own op c) is
-
-        -- the disk failed
-        pub stands_faulted : IsWithin st.now op → MayDoubt op q p → Rose (state q.journal.0).faults (state p.journal.0).faults → IsHome told state st.now p → (d : Boxed D) → d.value.p ≡ p → StandsFor told state o (with_home (In d) s) (h ++ entry own op (Failed DiskFault) ∷ [])
-        stands_faulted within may rose home =
-            let e = entry own op (Failed DiskFault) in
-            let granted = there (λ t. Grants t op within.0) within.1 in
-            home_by q p ready.is_in ground later spent counts e refl refl refl
-            (fits_by (rules_of o) h e (table_after o.first.fold.table h, (inr (inl refl, inr (changes (table_after o.first.fold.table h).shape op granted.apt)), refl)) (limit_met o h st.now st.reckoned op within.0 None (Failed DiskFault) granted (inl within.2) (inl (inl refl))) tt)
-            (λ t x. let y : Failed DiskFault ≡ Failed JournalAstray = x in cc)
-            (one_fault o.faults (state q.journal.0).faults (state p.journal.0).faults h e refl ready.is_in.faults rose)
-            (inl (home, λ stopped. ready.unstopped (lasts_before IsCut IsRestarted h e stopped (λ x. let y : Failed DiskFault ≡ Cut = x in cc))))
-            (doubts_ready (h ++ e ∷ []) p home.ready (λ x asked. elim may [
-              | inl old ↦ unsettled_more h e x (failed_settles_not own op DiskFault) (ready.is_in.doubt x (sym old.doubt ∙ asked)).0
-              | inr other ↦ elim other [
-                | inl none ↦ absurd (let k : None ≡ Some x = sym none.1 ∙ asked in cc)
-                | inr new ↦ lasts_now (λ y. IsDoubtful y × (y.op ≡ x)) IsSettling h e (inr refl, (let k : Some op ≡ Some x = sym new.1 ∙ asked in cc))
-              ]
-            ]))
-
-        -- a stop came before its record was in the journal, where m is what its plan left
-        pub stands_held : IsWithin st.now op → (m : Provisioner D) → IsHome told state st.now m → m.doubt ≡ q.doubt → p ≡ with_halt true m → (d : Boxed D) → d.value.p ≡ p → StandsFor told state o (with_home (In d) s) (h ++ entry own op Cut ∷ [])
-        stands_held within m home doubt is =
-            let e = entry own op Cut in
-            let granted = there (λ t. Grants t op within.0) within.1 in
-            home_by q p ready.is_in ground later spent counts e refl refl refl
-            (fits_by (rules_of o) h e (table_after o.first.fold.table h, (inr (within.0, granted), refl)) (limit_met o h st.now st.reckoned op within.0 None Cut granted (inl within.2) refl) tt)
-            (λ t x. let y : Cut ≡ Failed JournalAstray = x in cc) (no_fault q p ready.is_in ground later spent e refl)
-            (inr (
-              subst (λ (x : Provisioner D). IsHalted told state st.now x) (sym is) (marked_home st.now m home),
-              lasts_now (λ x. IsCut x ⊎ IsFailedRestart x) IsRestarted h e (inl refl),
-            ))
-            (doubts_cut h e p refl (λ x asked. unsettled_more h e x (cut_settles_not own op) (ready.is_in.doubt x (sym doubt ∙ (sym (ap (λ (y : Provisioner D). y.doubt) is) ∙ asked))).0))
-
-      -- its work is planned, and the turn ends with it
-      module _ (c : Change) (r : RollingAt) (meets : HasWork st.now c None) (rolls : Rolls told state st.now op c p r) where
-        pub stands_taken : StandsFor told state o (with_home Out s) (h ++ entry own op Taken ∷ [])
-        stands_taken =
-            let e = entry own op Taken in
-            let granted = there (λ t. Grants t op c) rolls.granted in
-            stands_out q p ready.is_in ground later spent op own
-            (fits_by (rules_of o) h e (table_after o.first.fold.table h, (inr (c, granted), refl)) (limit_met o h st.now st.reckoned op c None Taken granted (inl meets) refl) tt)
-
-        pub has_taken : HasTaken told state o own op (h ++ entry own op Taken ∷ []) p r
-        has_taken = record {
-          out = out_of q p ready.is_in ground later spent op own;
-          change = c;
-          within = meets;
-          rolls = rolls;
-          unstopped = λ stopped. ready.unstopped (lasts_before IsCut IsRestarted h (entry own op Taken) stopped (λ x. let y : Taken ≡ Cut = x in cc));
-        }

@@ -21,11 +21,11 @@ use Rattle.xc_recovery.proofs.Placing.{effect_shape}
 use Rattle.xc_core.specs.declared.state.State.{State}
 use Rattle.xc_core.specs.declared.turns.Took.{Took}
 use Rattle.xc_core.specs.declared.turns.Took.TheVariants as took
-use Rattle.xc_core.specs.declared.restarts.Restarting.{Restarting}
-use Rattle.xc_core.specs.declared.restarts.Restarting.TheVariants as restarting
+use Rattle.xc_core.specs.declared.restarts.Held.{Held}
+use Rattle.xc_core.specs.declared.restarts.Held.TheVariants as held
 use Rattle.xc_core.specs.States.{IsNeverAstray, Opening, Stands, StandsFor, began, opening_in, opening_of}
 use Rattle.xc_core.specs.Seeing.{IsHistory, Rests, Saw, Turned, TurnedBack, codes, entry, entry_coded, place_of, refused}
-use Rattle.xc_core.specs.Turns.{AreNumbered, HasPass, RestartIs, RestartingIs, SawNoneAstray, TakenIs, TookIs, outcome_of, restart_entry_of}
+use Rattle.xc_core.specs.Turns.{AreNumbered, HasPass, HeldIs, HoldIs, SawNoneAstray, TakenIs, TookIs, held_entry_of, outcome_of}
 use Rattle.xc_core.proofs.Standing.{stands_read, table_is}
 
 -- no entry changes the shape
@@ -217,59 +217,46 @@ module _ {D : Type 0} (told : Type 0) (state : D → DiskState) where
 
     -- a turn that ends with an entry
     pub taken_stands : (op : Op) (y : State D) (t : Took D) (out : Outcome) → outcome_of t ≡ Some out → TakenIs told state o own (h ++ f.later) op y t → StandsFor told state o y ((h ++ f.later) ++ entry own op out ∷ [])
-    taken_stands op y (took.Rolling d) out is at = entered y op op out outcome.Taken (outcome_entry op out outcome.Taken is) at.0
+    taken_stands op y (took.Rolling d bytes) out is at = entered y op op out outcome.Taken (outcome_entry op out outcome.Taken is) at.0
     taken_stands op y (took.Denied q) out is at = entered y op op out (refused q) (outcome_entry op out (refused q) is) at.0
-    taken_stands op y took.Stopped out is at = entered y op op out outcome.Cut (outcome_entry op out outcome.Cut is) at.0
     taken_stands op y took.Halted out is at = absurd cc
     taken_stands op y took.Waits out is at = absurd cc
 
     -- or with none
     pub waits_stands : (op : Op) (y : State D) (t : Took D) → outcome_of t ≡ None → TakenIs told state o own (h ++ f.later) op y t → StandsFor told state o y (h ++ f.later)
-    waits_stands op y (took.Rolling d) is at = absurd cc
+    waits_stands op y (took.Rolling d bytes) is at = absurd cc
     waits_stands op y (took.Denied q) is at = absurd cc
-    waits_stands op y took.Stopped is at = absurd cc
     waits_stands op y took.Halted is at = at.0
     waits_stands op y took.Waits is at = at.0
 
     pub took_entry : (op : Op) (y : State D) (t : Took D) (out : Outcome) (then_seen : List Gv) → outcome_of t ≡ Some out → TakenIs told state o own (h ++ f.later) op y t → then_seen ≡ in_turn ++ entry_coded.code (entry own op out) ∷ [] → TookIs told state o own h op then_seen t
-    took_entry op y (took.Rolling d) out then_seen is at seen = (turned y (entry own op outcome.Taken) then_seen at.0 (entered_code op op out outcome.Taken then_seen (outcome_entry op out outcome.Taken is) seen), at.1)
+    took_entry op y (took.Rolling d bytes) out then_seen is at seen = (turned y (entry own op outcome.Taken) then_seen at.0 (entered_code op op out outcome.Taken then_seen (outcome_entry op out outcome.Taken is) seen), at.1)
     took_entry op y (took.Denied q) out then_seen is at seen = (turned y (entry own op (refused q)) then_seen at.0 (entered_code op op out (refused q) then_seen (outcome_entry op out (refused q) is) seen), at.1, at.2)
-    took_entry op y took.Stopped out then_seen is at seen = (turned y (entry own op outcome.Cut) then_seen at.0 (entered_code op op out outcome.Cut then_seen (outcome_entry op out outcome.Cut is) seen), at.1)
     took_entry op y took.Halted out then_seen is at seen = absurd cc
     took_entry op y took.Waits out then_seen is at seen = absurd cc
 
     pub took_back : (op : Op) (y : State D) (t : Took D) (then_seen : List Gv) → outcome_of t ≡ None → TakenIs told state o own (h ++ f.later) op y t → then_seen ≡ in_turn → TookIs told state o own h op then_seen t
-    took_back op y (took.Rolling d) then_seen is at seen = absurd cc
+    took_back op y (took.Rolling d bytes) then_seen is at seen = absurd cc
     took_back op y (took.Denied q) then_seen is at seen = absurd cc
-    took_back op y took.Stopped then_seen is at seen = absurd cc
     took_back op y took.Halted then_seen is at seen = (turned_back y then_seen at.0 seen, at.1)
     took_back op y took.Waits then_seen is at seen = (turned_back y then_seen at.0 seen, at.1)
 
     -- a turn in which a restart was to begin
-    pub restarting_stands : (asked : Op) (y : State D) (t : Restarting D) (op : Op) (out : Outcome) → restart_entry_of asked t ≡ Some (ends op out) → RestartingIs told state o own (h ++ f.later) asked y t → StandsFor told state o y ((h ++ f.later) ++ entry own op out ∷ [])
-    restarting_stands asked y (restarting.Rolling d) op out is at = entered y op Restart out outcome.Taken is at.0
-    restarting_stands asked y (restarting.Failed q) op out is at = entered y op asked out (outcome.Failed q) is at.0
-    restarting_stands asked y restarting.Stopped op out is at = entered y op Restart out outcome.Cut is at.0
-    restarting_stands asked y restarting.Waits op out is at = absurd cc
+    pub held_stands : (asked : Op) (y : State D) (t : Held D) (op : Op) (out : Outcome) → held_entry_of t ≡ Some (ends op out) → HeldIs told state o own (h ++ f.later) asked y t → StandsFor told state o y ((h ++ f.later) ++ entry own op out ∷ [])
+    held_stands asked y (held.Held d) op out is at = entered y op Restart out outcome.Taken is at.0
+    held_stands asked y held.Waits op out is at = absurd cc
 
-    pub no_restart_stands : (asked : Op) (y : State D) (t : Restarting D) → restart_entry_of asked t ≡ None → RestartingIs told state o own (h ++ f.later) asked y t → StandsFor told state o y (h ++ f.later)
-    no_restart_stands asked y (restarting.Rolling d) is at = absurd cc
-    no_restart_stands asked y (restarting.Failed q) is at = absurd cc
-    no_restart_stands asked y restarting.Stopped is at = absurd cc
-    no_restart_stands asked y restarting.Waits is at = at.0
+    pub not_held_stands : (asked : Op) (y : State D) (t : Held D) → held_entry_of t ≡ None → HeldIs told state o own (h ++ f.later) asked y t → StandsFor told state o y (h ++ f.later)
+    not_held_stands asked y (held.Held d) is at = absurd cc
+    not_held_stands asked y held.Waits is at = at.0
 
-    pub restart_entry : (asked : Op) (y : State D) (t : Restarting D) (op : Op) (out : Outcome) (then_seen : List Gv) → restart_entry_of asked t ≡ Some (ends op out) → RestartingIs told state o own (h ++ f.later) asked y t → then_seen ≡ in_turn ++ entry_coded.code (entry own op out) ∷ []
-        → RestartIs told state o own h asked then_seen t
-    restart_entry asked y (restarting.Rolling d) op out then_seen is at seen = (turned y (entry own Restart outcome.Taken) then_seen at.0 (entered_code op Restart out outcome.Taken then_seen is seen), at.1)
-    restart_entry asked y (restarting.Failed q) op out then_seen is at seen = (turned y (entry own asked (outcome.Failed q)) then_seen at.0 (entered_code op asked out (outcome.Failed q) then_seen is seen), at.1, at.2)
-    restart_entry asked y restarting.Stopped op out then_seen is at seen = (turned y (entry own Restart outcome.Cut) then_seen at.0 (entered_code op Restart out outcome.Cut then_seen is seen), at.1)
-    restart_entry asked y restarting.Waits op out then_seen is at seen = absurd cc
+    pub held_entry : (asked : Op) (y : State D) (t : Held D) (op : Op) (out : Outcome) (then_seen : List Gv) → held_entry_of t ≡ Some (ends op out) → HeldIs told state o own (h ++ f.later) asked y t → then_seen ≡ in_turn ++ entry_coded.code (entry own op out) ∷ [] → HoldIs told state o own h asked then_seen t
+    held_entry asked y (held.Held d) op out then_seen is at seen = (turned y (entry own Restart outcome.Taken) then_seen at.0 (entered_code op Restart out outcome.Taken then_seen is seen), at.1)
+    held_entry asked y held.Waits op out then_seen is at seen = absurd cc
 
-    pub restart_back : (asked : Op) (y : State D) (t : Restarting D) (then_seen : List Gv) → restart_entry_of asked t ≡ None → RestartingIs told state o own (h ++ f.later) asked y t → then_seen ≡ in_turn → RestartIs told state o own h asked then_seen t
-    restart_back asked y (restarting.Rolling d) then_seen is at seen = absurd cc
-    restart_back asked y (restarting.Failed q) then_seen is at seen = absurd cc
-    restart_back asked y restarting.Stopped then_seen is at seen = absurd cc
-    restart_back asked y restarting.Waits then_seen is at seen = (turned_back y then_seen at.0 seen, at.1)
+    pub held_back : (asked : Op) (y : State D) (t : Held D) (then_seen : List Gv) → held_entry_of t ≡ None → HeldIs told state o own (h ++ f.later) asked y t → then_seen ≡ in_turn → HoldIs told state o own h asked then_seen t
+    held_back asked y (held.Held d) then_seen is at seen = absurd cc
+    held_back asked y held.Waits then_seen is at seen = (turned_back y then_seen at.0 seen, at.1)
 
   -- a retrieval
   pub turned_read : (o : Opening) (own : ℕ) (h : List Entry) (x : State D) (in_turn : List Gv) (f : FoundAt o own h x in_turn) → Rests own h → (op : Op) → IsRetrieval op → StandsFor told state o x ((h ++ f.later) ++ entry own op outcome.Answered ∷ [])

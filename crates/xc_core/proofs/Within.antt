@@ -1,6 +1,5 @@
 -- What a turn does with the state.
-use Rattle.std.proofs.Common.{◌≡◌, ◌≢◌, ◌≤◌, ◌⊎◌, ℕ, true, false, List, [], ◌∷◌, ◌++◌, refl, sym, ◌∙◌, ap, subst, inl, inr}
-use Rattle.dxc_causes.specs.Causes.{Rose}
+use Rattle.std.proofs.Common.{◌≡◌, ◌≤◌, ◌⊎◌, ℕ, true, false, List, [], ◌∷◌, ◌++◌, refl, sym, ◌∙◌, ap, subst, inl, inr}
 use Rattle.dxc_disk.specs.Disks.{CountsOn, DiskState, Spends}
 use Rattle.dxc_model.specs.declared.cause.Cause.{Cause}
 use Rattle.dxc_model.specs.declared.cause.Cause.TheVariants.{DiskFault, NoMiddle, SwitchLimit, JournalAstray}
@@ -11,7 +10,7 @@ use Rattle.dxc_model.specs.declared.entry.Entry.{Entry}
 use Rattle.dxc_model.specs.Denials.{Holds}
 use Rattle.dxc_model.specs.Tables.{Board}
 use Rattle.dxc_model.specs.Verdicts.{Refuses}
-use Rattle.dxc_model.specs.Steps.{IsLimit}
+use Rattle.dxc_model.specs.Steps.{IsFault, IsLimit}
 use Rattle.dxc_model.proofs.FirstCauses.{refusals_are_first}
 use Rattle.roll_engine.specs.Rollings.{RollingAt}
 use Rattle.roll_engine.specs.UnderWay.{unmade}
@@ -24,14 +23,14 @@ use Rattle.xc_core.specs.declared.state.Home.TheVariants.{In, Out}
 use Rattle.xc_core.specs.declared.state.State.{State}
 use Rattle.xc_core.specs.declared.turns.Took.TheVariants as took
 use Rattle.xc_core.specs.Reckonings.{Past}
-use Rattle.xc_core.specs.Provisioners.{Boxed, IsHome, ground_of, with_halt}
-use Rattle.xc_core.specs.Begins.{IsCopied, IsOverLimit, IsPlanned, IsWithin, MayDoubt, MayNote, Starts, plan_of}
+use Rattle.xc_core.specs.Provisioners.{Boxed, IsHome, ground_of}
+use Rattle.xc_core.specs.Begins.{IsCopied, IsOverLimit, IsPlanned, MayNote, plan_of}
 use Rattle.xc_core.specs.States.{HomeIs, IsLent, Opening, StandsFor, most_room, with_home}
 use Rattle.xc_core.specs.Seeing.{entry, refused}
 use Rattle.xc_core.specs.Turns.{TakenIs}
 use Rattle.xc_core.proofs.Entries.{over_limit}
 use Rattle.xc_core.proofs.Restarting.{found_stage}
-use Rattle.xc_core.proofs.Standing.{IsReadyAfter, has_taken, ready_home, stands_denied, stands_failed, stands_faulted, stands_held, stands_taken}
+use Rattle.xc_core.proofs.Standing.{IsReadyAfter, ready_home, stands_denied, stands_failed}
 
 -- what the table says is entered as denied
 denied_by : (t : Board) (op : Op) (q : Cause) → Holds t op q → refused q ≡ outcome.Denied q
@@ -44,11 +43,18 @@ denied_by t op _ h = refl
 refused_denied : (t : Board) (op : Op) (q : Cause) → Refuses t op q → refused q ≡ outcome.Denied q
 refused_denied t op q r = denied_by t op q ((refusals_are_first t op q r.apt).0 r).holds
 
-refused_not_astray : (t : Board) (op : Op) (q : Cause) → Refuses t op q → q ≢ JournalAstray
-refused_not_astray t op q r = λ is. absurd (subst (λ (x : Cause). Holds t op x) is ((refusals_are_first t op q r.apt).0 r).holds)
+-- and no fault
+fault_holds_not : (t : Board) (op : Op) (q : Cause) → IsFault q → Holds t op q → ⊥
+fault_holds_not t op q fault h = elim fault [ inl is ↦ subst (λ (x : Cause). Holds t op x) is h | inr is ↦ subst (λ (x : Cause). Holds t op x) is h ]
 
-limit_no_astray : (q : Cause) → IsLimit q → q ≢ JournalAstray
-limit_no_astray q l = elim l [ inl out ↦ (λ is. let no_limit : NoMiddle ≡ JournalAstray = sym out ∙ is in cc) | inr many ↦ (λ is. let no_limit : SwitchLimit ≡ JournalAstray = sym many ∙ is in cc) ]
+refused_no_fault : (t : Board) (op : Op) (q : Cause) → Refuses t op q → IsFault q → ⊥
+refused_no_fault t op q r = λ fault. fault_holds_not t op q fault ((refusals_are_first t op q r.apt).0 r).holds
+
+limit_not_fault : (q : Cause) → IsLimit q → IsFault q → ⊥
+limit_not_fault q l = λ fault. elim l [
+  | inl out ↦ elim fault [ inl is ↦ (let e : NoMiddle ≡ DiskFault = sym out ∙ is in cc) | inr is ↦ (let e : NoMiddle ≡ JournalAstray = sym out ∙ is in cc) ]
+  | inr many ↦ elim fault [ inl is ↦ (let e : SwitchLimit ≡ DiskFault = sym many ∙ is in cc) | inr is ↦ (let e : SwitchLimit ≡ JournalAstray = sym many ∙ is in cc) ]
+]
 
 -- and a limit as failed
 refused_limit : (q : Cause) → IsLimit q → refused q ≡ outcome.Failed q
@@ -99,14 +105,6 @@ module _ {D : Type 0} (told : Type 0) (state : D → DiskState) (counts : (d : D
       abbrev was : IsReadyAfter told state o st.now h p
       was = ready_home told state o s h st d is ready
 
-      -- its work is planned, and its record is in the journal
-      pub was_planned : ((b : Past) → IsHome told state b p → b.fold.table ≡ s.table → Starts told state b op q r) → TakenIs told state o own h op (with_home Out s) (took.Rolling e)
-      was_planned starts =
-          let x = starts st.now was.home (sym st.table) in (
-            stands_taken told state o s h st own op p q was ground later spent x.change r x.within x.rolls,
-            has_taken told state o s h st own op p q was ground later spent x.change r x.within x.rolls,
-          )
-
       entered : (x y : Outcome) → x ≡ y → StandsFor told state o (with_home (In e) s) (h ++ entry own op y ∷ []) → StandsFor told state o (with_home (In e) s) (h ++ entry own op x ∷ [])
       entered x y same at = subst (λ (z : Outcome). StandsFor told state o (with_home (In e) s) (h ++ entry own op z ∷ [])) (sym same) at
 
@@ -120,31 +118,13 @@ module _ {D : Type 0} (told : Type 0) (state : D → DiskState) (counts : (d : D
               | inr l ↦ entered (refused cause) (outcome.Failed cause) (refused_limit cause (over_limit st.now op cause l)) (stands_failed told state o s h st own op p q was ground later spent on cause l same e refl)
             ],
             was.unstopped,
-            elim x [ inl refuses ↦ refused_not_astray st.now.fold.table op cause refuses | inr l ↦ limit_no_astray cause (over_limit st.now op cause l) ],
+            elim x [ inl refuses ↦ refused_no_fault st.now.fold.table op cause refuses | inr l ↦ limit_not_fault cause (over_limit st.now op cause l) ],
           )
-
-      -- the disk failed
-      pub was_faulted : ((b : Past) → IsHome told state b p → b.fold.table ≡ s.table → IsHome told state b q × IsWithin b op × MayDoubt op p q) → Rose (state p.journal.0).faults (state q.journal.0).faults → TakenIs told state o own h op (with_home (In e) s) (took.Denied DiskFault)
-      was_faulted faults rose =
-          let x = faults st.now was.home (sym st.table) in (
-            stands_faulted told state o s h st own op p q was ground later spent (counts q.journal.0) x.1 x.2 rose x.0 e refl,
-            was.unstopped,
-            λ is. let no_fault : DiskFault ≡ JournalAstray = is in cc,
-          )
-
-      -- the gate stopped before its record was journalled
-      pub was_held : ((b : Past) → IsHome told state b p → b.fold.table ≡ s.table → IsHome told state b q × IsWithin b op) → q.doubt ≡ p.doubt → (f : Boxed D) → f.value.p ≡ with_halt true q → TakenIs told state o own h op (with_home (In f) s) took.Stopped
-      was_held holds doubt f marked =
-          let x = holds st.now was.home (sym st.table) in
-          (stands_held told state o s h st own op p (with_halt true q) was ground later spent (counts q.journal.0) x.1 q x.0 doubt refl f marked, was.unstopped)
 
 -- what was journalled after a plan that left the journal as it was
 module _ {D : Type 0} (state : D → DiskState) (p m q : Provisioner D) (journal : m.journal ≡ p.journal) where
   pub later_from : (state m.journal.0).faults ≤ (state q.journal.0).faults → (state p.journal.0).faults ≤ (state q.journal.0).faults
   later_from later = subst (λ (j : D × Book). (state j.0).faults ≤ (state q.journal.0).faults) journal later
-
-  pub rose_from : Rose (state m.journal.0).faults (state q.journal.0).faults → Rose (state p.journal.0).faults (state q.journal.0).faults
-  rose_from rose = subst (λ (j : D × Book). Rose (state j.0).faults (state q.journal.0).faults) journal rose
 
   pub spent_from : Spends 4_600_114 (state m.journal.0) (state q.journal.0) → Spends most_room (state p.journal.0) (state q.journal.0)
   spent_from spent = subst (λ (j : D × Book). Spends most_room (state j.0) (state q.journal.0)) journal spent

@@ -1,5 +1,5 @@
 -- What a place knows of the history, and what one of its turns does to it.
-use Rattle.std.specs.Prelude.{◌≡◌, ◌≢◌, ◌⊎◌, ℕ, ◌+◌, ◌≤◌, min, List, [], ◌∷◌, ◌++◌, map, Option, Some, None}
+use Rattle.std.specs.Prelude.{◌≡◌, ◌≢◌, ◌⊎◌, ℕ, ◌+◌, ◌≤◌, min, slice_index, true, List, [], ◌∷◌, ◌++◌, map, Option, Some, None}
 use Rattle.std.specs.Coded.{Coded}
 use base.Stored.{Gv}
 use Rattle.turnstile.specs.Turning.{Each}
@@ -14,13 +14,16 @@ use Rattle.dxc_model.specs.declared.op.Change.{Change}
 use Rattle.dxc_model.specs.declared.entry.Outcome.{Outcome}
 use Rattle.dxc_model.specs.declared.entry.Outcome.TheVariants.{Denied, Failed, Taken}
 use Rattle.dxc_model.specs.declared.entry.Entry.{Entry}
+use Rattle.dxc_model.specs.Steps.{IsDriven, IsFault}
 use Rattle.dxc_model.specs.Histories.{IsLegal, IsRestartDue, IsStopped, KeepsTurns, holder, changes_of}
 use Rattle.roll_engine.specs.Rollings.{RollingAt}
+use Rattle.journal_core.specs.Records.{set_seal}
 use Rattle.xc_core.specs.declared.provisioner.Provisioner.{Provisioner}
+use Rattle.xc_core.specs.Begins.{MayNote, Plan}
 use Rattle.xc_core.specs.Reckonings.{HasWork, Past, ReckonsTo}
-use Rattle.xc_core.specs.Provisioners.{Rolls, ground_of}
-use Rattle.xc_core.specs.Restarts.{Resumes}
-use Rattle.xc_core.specs.States.{DoubtsUnsettled, Opening, began, IsPaid, SpendsOf, faults_in, most_room, room_in, rules_of}
+use Rattle.xc_core.specs.Provisioners.{IsHome, Rolls, ground_of}
+use Rattle.xc_core.specs.Restarts.{IsHalted, Resumes}
+use Rattle.xc_core.specs.States.{DoubtsUnsettled, IsReadyOrHalted, IsUnsettled, Opening, began, IsPaid, SpendsOf, faults_in, most_room, room_in, rules_of}
 
 abbrev pub entry_coded : Coded Entry
 entry_coded = entry_row.the_row.coded
@@ -105,3 +108,40 @@ module _ {D : Type 0} (told : Type 0) (state : D → DiskState) where
     pub of_stop : IsOfStop lacking h
     pub doubt : DoubtsUnsettled h p
     pub due : IsDueFor asked h
+
+  -- For a change, whose work is planned: the journal wasn't called since.
+  pub record HasPlan (o : Opening) (own : ℕ) (h : List Entry) (p : Provisioner D) (plan : Plan) : Type 0 where
+    pub out : IsOut o own plan.op h p
+    pub unspent : SpendsOf o (room_in h) (state p.journal.0)
+    pub may : MayNote told state out.now p plan
+    pub sealed : slice_index plan.bytes 0 ≡ set_seal
+    pub doubt : (x : Op) → p.doubt ≡ Some x → IsUnsettled h x
+    pub unstopped : IsStopped h → ⊥
+
+  -- For a restart: the journal wasn't called since, and the table is copied to compare with.
+  pub record HasHeld (o : Opening) (own : ℕ) (asked : Op) (h : List Entry) (p : Provisioner D) : Type 0 where
+    pub out : IsOut o own Restart h p
+    pub unspent : SpendsOf o (room_in h) (state p.journal.0)
+    pub stage : IsReadyOrHalted told state out.now h p
+    pub copied : p.second.expected ≡ out.now.fold.table
+    pub doubt : DoubtsUnsettled h p
+    pub due : IsDueFor asked h
+
+  -- The gate stopped before its journal was read: it is halted.
+  pub record HasStopped (o : Opening) (own : ℕ) (asked : Op) (h : List Entry) (p : Provisioner D) : Type 0 where
+    pub out : IsOut o own Restart h p
+    pub halted : IsHalted told state out.now p
+    pub doubt : DoubtsUnsettled h p
+    pub due : IsDueFor asked h
+
+  -- It was taken for one operation, its journal failed, or reads otherwise than it was written, and it has to come home by an entry of
+  -- the operation that this is told to: the same, or the one that waited for the restart.
+  pub record HasFailed (o : Opening) (own : ℕ) (taken op : Op) (cause : Cause) (h : List Entry) (p : Provisioner D) : Type 0 where
+    pub out : IsOut o own taken h p
+    pub upon : ((op ≡ taken) × (IsStopped h → ⊥)) ⊎ ((taken ≡ Restart) × IsDueFor op h)
+    pub fault : IsFault cause
+    pub driven : IsDriven op
+    pub counted : cause ≡ DiskFault → min (o.faults + (faults_in h + 1)) last ≤ (state p.journal.0).faults
+    pub astray : told → cause ≢ JournalAstray
+    pub stage : (IsHome told state out.now p × (IsStopped h → ⊥)) ⊎ (IsHalted told state out.now p × IsDueFor op h)
+    pub doubt : (x : Op) → p.doubt ≡ Some x → (((x ≡ op) × (cause ≡ DiskFault)) ⊎ IsUnsettled h x) × (p.halted ≡ true → IsStopped h)

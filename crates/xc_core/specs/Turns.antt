@@ -10,12 +10,13 @@ use Rattle.dbchg_reports.specs.Recent.{SinceIs, recent_of}
 use Rattle.dxc_num.specs.Dimensions.{Dimensions, IsWorking}
 use Rattle.dxc_model.specs.declared.conn.Conn.{Conn}
 use Rattle.dxc_model.specs.declared.op.Selection.{Selection}
-use Rattle.dxc_model.specs.declared.cause.Cause.TheVariants.{JournalAstray}
+use Rattle.dxc_model.specs.declared.cause.Cause.{Cause}
 use Rattle.dxc_model.specs.declared.op.Op.{Op}
 use Rattle.dxc_model.specs.declared.op.Op.TheVariants.{Look, Restart, Rows}
 use Rattle.dxc_model.specs.declared.op.Change.{Change}
 use Rattle.dxc_model.specs.declared.entry.Outcome.{Outcome}
 use Rattle.dxc_model.specs.declared.entry.Outcome.TheVariants.{Answered, Cut, Done, Failed, Restarted, Taken}
+use Rattle.journal_core.specs.declared.book.Book.{Book}
 use Rattle.dxc_model.specs.declared.entry.Entry.{Entry}
 use Rattle.dxc_model.specs.Equipment.{has_bit}
 use Rattle.dxc_model.specs.Tables.{Board, rows}
@@ -26,11 +27,17 @@ use Rattle.xc_core.specs.declared.state.State.{State}
 use Rattle.xc_core.specs.declared.turns.Inventory.{Inventory}
 use Rattle.xc_core.specs.declared.turns.Looked.{Looked}
 use Rattle.xc_core.specs.declared.turns.Took.{Took}
-use Rattle.xc_core.specs.declared.turns.Took.TheVariants.{Rolling, Denied, Stopped, Halted, Waits}
-use Rattle.xc_core.specs.declared.restarts.Restarting.{Restarting}
-use Rattle.xc_core.specs.declared.restarts.Restarting.TheVariants as restarting
+use Rattle.xc_core.specs.declared.turns.Took.TheVariants.{Rolling, Denied, Halted, Waits}
+use Rattle.xc_core.specs.declared.provisioner.Provisioner.{Provisioner}
+use Rattle.xc_core.specs.declared.restarts.Held.{Held}
+use Rattle.xc_core.specs.declared.restarts.Held.TheVariants as held
+use Rattle.xc_core.specs.declared.resuming.Reread.{Reread}
+use Rattle.xc_core.specs.declared.resuming.Reread.TheVariants as reread
+use Rattle.xc_core.specs.declared.state.Home.{Home}
+use Rattle.xc_core.specs.declared.state.Home.TheVariants.{In, Out}
+use Rattle.xc_core.specs.Begins.{plan_of}
 use Rattle.xc_core.specs.States.{IsLent, IsNeverAstray, Opening, StandsFor}
-use Rattle.xc_core.specs.Seeing.{HasRestart, HasTaken, IsDueFor, IsOfStop, Turned, TurnedBack, codes, entry, refused}
+use Rattle.xc_core.specs.Seeing.{HasFailed, HasHeld, HasPlan, HasRestart, HasStopped, IsDueFor, IsOfStop, Turned, TurnedBack, codes, entry, refused}
 
 -- each entry that was seen carries the number of one of so many passes
 abbrev pub AreNumbered : ℕ → List Gv → Type 0
@@ -46,18 +53,28 @@ SawNoneAstray told seen = told → (h : List Entry) → seen ≡ codes h → IsN
 
 -- the outcome with which a turn ends in which a change was to begin; none where it is given back
 abbrev pub outcome_of : {D : Type 0} → Took D → Option Outcome
-outcome_of (Rolling d) = Some Taken
+outcome_of (Rolling d bytes) = Some Taken
 outcome_of (Denied q) = Some (refused q)
-outcome_of Stopped = Some Cut
 outcome_of Halted = None
 outcome_of Waits = None
 
 -- operation and outcome of the entry with which a turn ends in which a restart was to begin; none where it is given back
-abbrev pub restart_entry_of : {D : Type 0} → Op → Restarting D → Option (Op × Outcome)
-restart_entry_of asked (restarting.Rolling d) = Some (Restart, Taken)
-restart_entry_of asked (restarting.Failed q) = Some (asked, Failed q)
-restart_entry_of asked restarting.Stopped = Some (Restart, Cut)
-restart_entry_of asked restarting.Waits = None
+abbrev pub held_entry_of : {D : Type 0} → Held D → Option (Op × Outcome)
+held_entry_of (held.Held d) = Some (Restart, Taken)
+held_entry_of held.Waits = None
+
+-- the journal of a Provisioner that is home, and of one that this turn took out
+abbrev pub journal_home : {D : Type 0} → Home D → Option (D × Book)
+journal_home (In d) = Some d.value.p.journal
+journal_home Out = None
+
+abbrev pub journal_taken : {D : Type 0} → Home D → Took D → Option (D × Book)
+journal_taken home (Rolling d bytes) = Some d.value.p.journal
+journal_taken home _ = journal_home home
+
+abbrev pub journal_held : {D : Type 0} → Home D → Held D → Option (D × Book)
+journal_held home (held.Held d) = Some d.value.p.journal
+journal_held home held.Waits = journal_home home
 
 -- no restart may begin for this operation: a place has the Provisioner; or no stop stands last, and INIT-SYS wasn't asked for
 abbrev pub MayNotRestart : Op → List Entry → Type 0
@@ -66,33 +83,37 @@ MayNotRestart asked h = IsLent h ⊎ ((asked ≢ Restart) × (IsStopped h → �
 module _ {D : Type 0} (told : Type 0) (state : D → DiskState) where
   -- the state of a turn in which a change was to begin, behind the history
   abbrev pub TakenIs : Opening → ℕ → List Entry → Op → State D → Took D → Type 0
-  TakenIs o own h op s (Rolling d) = StandsFor told state o s (h ++ entry own op Taken ∷ []) × HasTaken told state o own op (h ++ entry own op Taken ∷ []) d.value.p d.value.rolling
-  TakenIs o own h op s (Denied q) = StandsFor told state o s (h ++ entry own op (refused q) ∷ []) × (IsStopped h → ⊥) × (q ≢ JournalAstray)
-  TakenIs o own h op s Stopped = StandsFor told state o s (h ++ entry own op Cut ∷ []) × (IsStopped h → ⊥)
+  TakenIs o own h op s (Rolling d bytes) = StandsFor told state o s (h ++ entry own op Taken ∷ []) × HasPlan told state o own (h ++ entry own op Taken ∷ []) d.value.p (plan_of op d.value.rolling bytes)
+  TakenIs o own h op s (Denied q) = StandsFor told state o s (h ++ entry own op (refused q) ∷ []) × (IsStopped h → ⊥) × (IsFault q → ⊥)
   TakenIs o own h op s Halted = StandsFor told state o s h × IsRestartDue h
   TakenIs o own h op s Waits = StandsFor told state o s h × IsLent h
 
   -- what the place has seen behind it
   abbrev pub TookIs : Opening → ℕ → List Entry → Op → List Gv → Took D → Type 0
-  TookIs o own h op then_seen (Rolling d) = (t : Turned o own h (entry own op Taken) then_seen) × HasTaken told state o own op ((h ++ t.later) ++ entry own op Taken ∷ []) d.value.p d.value.rolling
-  TookIs o own h op then_seen (Denied q) = (t : Turned o own h (entry own op (refused q)) then_seen) × (IsStopped (h ++ t.later) → ⊥) × (q ≢ JournalAstray)
-  TookIs o own h op then_seen Stopped = (t : Turned o own h (entry own op Cut) then_seen) × (IsStopped (h ++ t.later) → ⊥)
+  TookIs o own h op then_seen (Rolling d bytes) = (t : Turned o own h (entry own op Taken) then_seen) × HasPlan told state o own ((h ++ t.later) ++ entry own op Taken ∷ []) d.value.p (plan_of op d.value.rolling bytes)
+  TookIs o own h op then_seen (Denied q) = (t : Turned o own h (entry own op (refused q)) then_seen) × (IsStopped (h ++ t.later) → ⊥) × (IsFault q → ⊥)
   TookIs o own h op then_seen Halted = (t : TurnedBack o own h then_seen) × IsRestartDue (h ++ t.later)
   TookIs o own h op then_seen Waits = (t : TurnedBack o own h then_seen) × IsLent (h ++ t.later)
 
   -- the state of a turn in which a restart was to begin
-  abbrev pub RestartingIs : Opening → ℕ → List Entry → Op → State D → Restarting D → Type 0
-  RestartingIs o own h asked s (restarting.Rolling d) = StandsFor told state o s (h ++ entry own Restart Taken ∷ []) × HasRestart told state o own asked (h ++ entry own Restart Taken ∷ []) d.value.p d.value.rolling
-  RestartingIs o own h asked s (restarting.Failed q) = StandsFor told state o s (h ++ entry own asked (Failed q) ∷ []) × IsFault q × IsDueFor asked h
-  RestartingIs o own h asked s restarting.Stopped = StandsFor told state o s (h ++ entry own Restart Cut ∷ []) × IsDueFor asked h
-  RestartingIs o own h asked s restarting.Waits = StandsFor told state o s h × MayNotRestart asked h
+  abbrev pub HeldIs : Opening → ℕ → List Entry → Op → State D → Held D → Type 0
+  HeldIs o own h asked s (held.Held d) = StandsFor told state o s (h ++ entry own Restart Taken ∷ []) × HasHeld told state o own asked (h ++ entry own Restart Taken ∷ []) d.value.p
+  HeldIs o own h asked s held.Waits = StandsFor told state o s h × MayNotRestart asked h
 
   -- what the place has seen behind it
-  abbrev pub RestartIs : Opening → ℕ → List Entry → Op → List Gv → Restarting D → Type 0
-  RestartIs o own h asked then_seen (restarting.Rolling d) = (t : Turned o own h (entry own Restart Taken) then_seen) × HasRestart told state o own asked ((h ++ t.later) ++ entry own Restart Taken ∷ []) d.value.p d.value.rolling
-  RestartIs o own h asked then_seen (restarting.Failed q) = (t : Turned o own h (entry own asked (Failed q)) then_seen) × IsFault q × IsDueFor asked (h ++ t.later)
-  RestartIs o own h asked then_seen restarting.Stopped = (t : Turned o own h (entry own Restart Cut) then_seen) × IsDueFor asked (h ++ t.later)
-  RestartIs o own h asked then_seen restarting.Waits = (t : TurnedBack o own h then_seen) × MayNotRestart asked (h ++ t.later)
+  abbrev pub HoldIs : Opening → ℕ → List Entry → Op → List Gv → Held D → Type 0
+  HoldIs o own h asked then_seen (held.Held d) = (t : Turned o own h (entry own Restart Taken) then_seen) × HasHeld told state o own asked ((h ++ t.later) ++ entry own Restart Taken ∷ []) d.value.p
+  HoldIs o own h asked then_seen held.Waits = (t : TurnedBack o own h then_seen) × MayNotRestart asked (h ++ t.later)
+
+  -- what settling and reading left of a Provisioner that was taken out for a restart, outside of any turn
+  abbrev pub RereadIs : Opening → ℕ → Op → List Entry → Provisioner D → Reread → Type 0
+  RereadIs o own asked h p (reread.Warm r) = HasRestart told state o own asked h p r
+  RereadIs o own asked h p (reread.Failed q) = HasFailed told state o own Restart asked q h p
+  RereadIs o own asked h p reread.Stopped = HasStopped told state o own asked h p
+
+  -- by a fault of the journal it came home; what was known of it holds then, and no stop came
+  abbrev pub FailedIs : Opening → ℕ → List Entry → Op → Cause → Provisioner D → List Gv → Type 0
+  FailedIs o own h op cause p then_seen = (t : Turned o own h (entry own op (Failed cause)) then_seen) × ((taken : Op) → HasFailed told state o own taken op cause h p → HasFailed told state o own taken op cause (h ++ t.later) p) × (IsStopped (h ++ t.later) → IsStopped h)
 
 -- what a restart that was begun so takes up at its end
 abbrev pub TakesUpOfStop : {D : Type 0} → DiskOf D → State D → Driver D → Option Change → Type 0

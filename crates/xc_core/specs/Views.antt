@@ -1,9 +1,10 @@
 -- What a pass has seen of a turnstile's history, and what holds after it.
-use Rattle.std.specs.Prelude.{◌≡◌, ℕ, List}
+use Rattle.std.specs.Prelude.{◌≡◌, ◌⊎◌, ℕ, List}
 use Rattle.std.specs.List.{AllByRecursion}
 use Rattle.turnstile.specs.Passing.{Gate, Token}
 use Rattle.dxc_num.specs.Dimensions.{Dimensions}
 use Rattle.dxc_disk.specs.declared.disk.Disk.{Ghosts as DiskOf}
+use Rattle.dxc_model.specs.declared.cause.Cause.{Cause}
 use Rattle.dxc_model.specs.declared.conn.Conn.{Conn}
 use Rattle.dxc_model.specs.declared.entry.Entry.{Entry}
 use Rattle.dxc_model.specs.declared.op.Change.{Change}
@@ -12,14 +13,16 @@ use Rattle.dxc_model.specs.declared.op.Selection.{Selection}
 use Rattle.dxc_model.specs.Operations.{IsApt, op_of}
 use Rattle.dxc_model.specs.Tables.{Board, IsOfShape, rows}
 use Rattle.xc_core.specs.declared.provisioner.Driver.{Driver}
-use Rattle.xc_core.specs.declared.restarts.Restarting.{Restarting}
+use Rattle.xc_core.specs.declared.provisioner.Provisioner.{Provisioner}
+use Rattle.xc_core.specs.declared.restarts.Held.{Held}
 use Rattle.xc_core.specs.declared.state.State.{State}
 use Rattle.xc_core.specs.declared.turns.Inventory.{Inventory}
 use Rattle.xc_core.specs.declared.turns.Looked.{Looked}
 use Rattle.xc_core.specs.declared.turns.Took.{Took}
-use Rattle.xc_core.specs.Seeing.{HasRestart, HasTaken, Rests, Saw}
+use Rattle.xc_core.specs.Seeing.{HasFailed, HasPlan, HasRestart, HasStopped, HasTaken, Rests, Saw}
+use Rattle.xc_core.specs.Begins.{plan_of}
 use Rattle.xc_core.specs.States.{Opening, opening_of}
-use Rattle.xc_core.specs.Turns.{CutIs, DoneIs, InventoryIs, LookIs, MarkIs, RestartCutIs, RestartIs, RestartedIs, RowsAre, TookIs}
+use Rattle.xc_core.specs.Turns.{CutIs, DoneIs, FailedIs, HoldIs, InventoryIs, LookIs, MarkIs, RestartCutIs, RestartedIs, RowsAre, TookIs}
 
 -- where the history began, and whose pass it is
 pub record View : Type 0 where
@@ -57,12 +60,35 @@ OutFor g op d v h = HasTaken g.told g.state v.opening v.own op h d.p d.rolling
 abbrev pub OutToRestart : {D : Type 0} → DiskOf D → Op → Driver D → View → List Entry → Type 0
 OutToRestart g asked d v h = HasRestart g.told g.state v.opening v.own asked h d.p d.rolling
 
+-- it has to come home by this fault, and the entry is of this operation
+pub record Failing (D : Type 0) : Type 0 where
+  pub op : Op
+  pub cause : Cause
+  pub p : Provisioner D
+
+abbrev pub failing : {D : Type 0} → Op → Cause → Driver D → Failing D
+failing op cause d = record { op = op; cause = cause; p = d.p }
+
+abbrev pub FailedFor : {D : Type 0} → DiskOf D → Failing D → View → List Entry → Type 0
+FailedFor g f v h = (taken : Op) × HasFailed g.told g.state v.opening v.own taken f.op f.cause h f.p
+
+-- or by a stop: of a change, before its record was in the journal or when its work was under way
+abbrev pub CutFor : {D : Type 0} → DiskOf D → Op → Driver D → View → List Entry → Type 0
+CutFor g op d v h = ((bytes : List ℕ) × HasPlan g.told g.state v.opening v.own h d.p (plan_of op d.rolling bytes)) ⊎ HasTaken g.told g.state v.opening v.own op h d.p d.rolling
+
+-- of a restart, before the journal was read or when the rest of a work was under way
+abbrev pub CutToRestart : {D : Type 0} → DiskOf D → Op → Driver D → View → List Entry → Type 0
+CutToRestart g asked d v h = HasStopped g.told g.state v.opening v.own asked h d.p ⊎ HasRestart g.told g.state v.opening v.own asked h d.p d.rolling
+
 -- what a turn comes to, by what the pass has seen then
 abbrev pub Takes : {D : Type 0} → DiskOf D → Op → (next : Token) → Took D → View → List Entry → Type 0
 Takes g op next took v h = TookIs g.told g.state v.opening v.own h op next.seen took
 
-abbrev pub Restarts : {D : Type 0} → DiskOf D → Op → (next : Token) → Restarting D → View → List Entry → Type 0
-Restarts g asked next answer v h = RestartIs g.told g.state v.opening v.own h asked next.seen answer
+abbrev pub Holds : {D : Type 0} → DiskOf D → Op → (next : Token) → Held D → View → List Entry → Type 0
+Holds g asked next answer v h = HoldIs g.told g.state v.opening v.own h asked next.seen answer
+
+abbrev pub Fails : {D : Type 0} → DiskOf D → Failing D → (next : Token) → View → List Entry → Type 0
+Fails g f next v h = FailedIs g.told g.state v.opening v.own h f.op f.cause f.p next.seen
 
 abbrev pub Brings : Op → (next : Token) → View → List Entry → Type 0
 Brings op next v h = DoneIs v.opening v.own h op next.seen

@@ -1,4 +1,4 @@
-//! What a restart does with the state within one turn.
+//! What a restart does with the state within its turns, and with the Provisioner between them.
 ghost use Rattle.std.specs.Prelude.{◌≡◌, ◌≢◌, ◌≤◌, ◌⊎◌, ◌++◌, ◌∷◌, ◌↔◌, List, [], ℕ, true, false, IsTrue, IsErr, Option, OnErr, OnOk, Some};
 ghost use Rattle.dxc_causes.specs.Causes.{HasCause, Rose};
 ghost use Rattle.dxc_disk.specs.Disks.{Spends};
@@ -11,28 +11,29 @@ ghost use Rattle.roll_engine.specs.Rollings.{RollingAt, rest_of};
 ghost use Rattle.xc_core.specs.Reckonings.{Past};
 ghost use Rattle.xc_core.specs.Provisioners.{HasNoDoubt, IsHome, StillDoubts, ground_of};
 ghost use Rattle.xc_core.specs.Restarts.{IsHalted};
-ghost use Rattle.xc_core.specs.Askings.{RestartAsked};
-ghost use Rattle.xc_core.specs.Seeing.{HasRestart, entry};
+ghost use Rattle.xc_core.specs.Askings.{RereadAsked};
+ghost use Rattle.xc_core.specs.Seeing.{HasHeld, HasRestart, HasStopped, entry};
 ghost use Rattle.xc_core.specs.States.{Opening, StandsFor};
-ghost use Rattle.xc_core.specs.Turns.{RestartingIs, TakesUpOfStop, restart_entry_of as entry_for};
+ghost use Rattle.xc_core.specs.Turns.{HeldIs, RereadIs, TakesUpOfStop, held_entry_of as entry_for, journal_held, journal_home};
 
 use crate::provisioner::{Driver, Provisioner, halt, settle};
 use crate::recovery::{Recovered, end_recovery, recover};
-use crate::restarts::Restarting;
+use crate::restarts::Held;
 use crate::state::State;
 use dxc_disk::{Disk, DiskFault};
 use dxc_model::{Cause, Change, Op, Outcome};
 use dxc_outside::Gate;
 use fabric_words::Fabric;
+use roll_engine::Rolling;
 
 // Settles the Provisioner and halts it, where it isn't halted: what a failed call left in doubt isn't taken up then.
 fn make_halted<D: Disk>(p: &mut Provisioner<D>) -> Result<(), DiskFault>
     requires home { (b : Past) × (IsHome D.told D.state b p.old ⊎ IsHalted D.told D.state b p.old) }
     ensures ground { ground_of p.new ≡ ground_of p.old }
-    ensures halted { OnOk result ((b : Past) → IsHome D.told D.state b p.old
-        ⊎ IsHalted D.told D.state b p.old → IsHalted D.told D.state b p.new) }
-    ensures unsettled { OnErr result ((p.old.halted ≡ false)
-        × ((b : Past) → IsHome D.told D.state b p.old → IsHome D.told D.state b p.new)) }
+    ensures halted { OnOk result ((b : Past) → IsHome D.told D.state b p.old ⊎ IsHalted D.told D.state b p.old → IsHalted D.told D.state b p.new) }
+    ensures unsettled { OnErr result ((p.old.halted ≡ false) × ((b : Past) → IsHome D.told D.state b p.old → IsHome D.told D.state b p.new)) }
+    ensures second { p.new.second ≡ p.old.second }
+    ensures mover { p.new.mover ≡ p.old.mover }
     ensures doubt { StillDoubts p.old p.new }
     ensures settled { OnOk result (p.old.halted ≡ false → HasNoDoubt p.new) }
     ensures cause { HasCause (D.state p.old.journal.0).faults (D.state p.new.journal.0).faults
@@ -54,58 +55,75 @@ fn goes_for<D: Disk>(p: &Provisioner<D>, asked: &Op) -> bool
     p.halted() || matches!(asked, Op::Restart)
 }
 
-/// Takes the Provisioner out and finds how its registers go on. For an operation that isn't INIT-SYS this is done only where it is
-/// halted. Where they don't go on, it is home again.
-pub fn restart<D: Disk + Drop, G: Gate>(
-    state: &mut State<D>,
-    fabric: &Fabric,
-    asked: &Op,
-    gate: &mut G,
-) -> Restarting<D>
-    requires asked { IsDriven asked.now }
-    requires stands { (o : Opening) × (h : List Entry) × StandsFor D.told D.state o state.old h
-        × (o.site.fabric ≡ fabric.now) }
-    ensures restarting { (o : Opening) → (own : ℕ) → (h : List Entry)
-        → StandsFor D.told D.state o state.old h
-        → RestartingIs D.told D.state o own h asked.now state.new result }
+/// Takes the Provisioner out for a restart, with a copy of the table. For an operation that isn't INIT-SYS this is done only where it is
+/// halted. The journal isn't called.
+pub fn hold<D: Disk + Drop>(state: &mut State<D>, asked: &Op) -> Held<D>
+    requires stands { (o : Opening) × (h : List Entry) × StandsFor D.told D.state o state.old h }
+    ensures held { (o : Opening) → (own : ℕ) → (h : List Entry) → StandsFor D.told D.state o state.old h → HeldIs D.told D.state o own h asked.now state.new result }
     ensures origin { state.new.origin ≡ state.old.origin }
-    ensures stopped { result ≡ Restarting.Stopped → Rose (G.stops gate.old) (G.stops gate.new) }
-    ensures unstopped { result ≢ Restarting.Stopped → G.stops gate.new ≡ G.stops gate.old }
-    ensures later { G.stops gate.old ≤ G.stops gate.new }
-    ensures asked { RestartAsked (G.asked gate.old gate.new) result }
+    ensures still { journal_held state.new.home result ≡ journal_home state.old.home }
 {
     let Some(mut driver) = state.take_out() else {
-        return Restarting::Waits;
+        return Held::Waits;
     };
     let held = &mut *driver;
     if !goes_for(&held.p, asked) {
         state.bring_home(driver);
-        return Restarting::Waits;
+        return Held::Waits;
     }
-    match make_halted(&mut held.p) {
+    held.p.second.expected.copy_from(&state.table);
+    Held::Held(driver)
+}
+
+/// Operation and outcome of the entry with which the turn ends; None where nothing was done.
+pub fn entry_of<D: Disk>(held: &Held<D>) -> Option<(Op, Outcome)>
+    ensures { result ≡ entry_for held.now }
+{
+    match held {
+        Held::Held(_) => Some((Op::Restart, Outcome::Taken)),
+        Held::Waits => None,
+    }
+}
+
+/// What came of a restart before its first register write.
+#[derive(Drop)]
+pub enum Reread {
+    /// The rest of the last record's work is found.
+    Warm(Rolling),
+    /// The disk failed, or the journal reads otherwise than it was written.
+    Failed(Cause),
+    /// The gate stopped. The Provisioner is halted.
+    Stopped,
+}
+
+/// Settles a Provisioner that was taken out for a restart, and halts it where it isn't halted; then reads its journal anew, and finds how its
+/// registers go on. This is done outside of any turn. It takes at most 131,082 of the disk's room.
+pub fn read_anew<D: Disk, G: Gate>(
+    p: &mut Provisioner<D>,
+    fabric: &Fabric,
+    asked: &Op,
+    gate: &mut G,
+) -> Reread
+    requires asked { IsDriven asked.now }
+    requires own { p.old.mover.fabric ≡ fabric.now }
+    requires held { (o : Opening) × (own : ℕ) × (h : List Entry) × HasHeld D.told D.state o own asked.now h p.old }
+    ensures ground { ground_of p.new ≡ ground_of p.old }
+    ensures reread { (o : Opening) → (own : ℕ) → (h : List Entry) → HasHeld D.told D.state o own asked.now h p.old → RereadIs D.told D.state o own asked.now h p.new result }
+    ensures stopped { result ≡ Reread.Stopped → Rose (G.stops gate.old) (G.stops gate.new) }
+    ensures unstopped { result ≢ Reread.Stopped → G.stops gate.new ≡ G.stops gate.old }
+    ensures later { G.stops gate.old ≤ G.stops gate.new }
+    ensures asked { RereadAsked (G.asked gate.old gate.new) result }
+{
+    let _ = asked;
+    match make_halted(p) {
         Ok(()) => {}
-        Err(DiskFault) => {
-            state.bring_home(driver);
-            return Restarting::Failed(Cause::DiskFault);
-        }
+        Err(DiskFault) => return Reread::Failed(Cause::DiskFault),
     }
-    match recover(&mut held.p, &state.table, fabric, gate) {
-        Recovered::Warm(rolling) => {
-            held.rolling = rolling;
-            Restarting::Rolling(driver)
-        }
-        Recovered::Cold(_) | Recovered::Astray(_) => {
-            state.bring_home(driver);
-            Restarting::Failed(Cause::JournalAstray)
-        }
-        Recovered::Fault => {
-            state.bring_home(driver);
-            Restarting::Failed(Cause::DiskFault)
-        }
-        Recovered::Stopped => {
-            state.bring_home(driver);
-            Restarting::Stopped
-        }
+    match recover(p, fabric, gate) {
+        Recovered::Warm(rolling) => Reread::Warm(rolling),
+        Recovered::Cold(_) | Recovered::Astray(_) => Reread::Failed(Cause::JournalAstray),
+        Recovered::Fault => Reread::Failed(Cause::DiskFault),
+        Recovered::Stopped => Reread::Stopped,
     }
 }
 
@@ -132,23 +150,9 @@ pub fn end<D: Disk + Drop>(state: &mut State<D>, driver: Box<Driver<D>>) -> Opti
 
 /// Brings the Provisioner home, halted still.
 pub fn cut<D: Disk + Drop>(state: &mut State<D>, driver: Box<Driver<D>>)
-    ensures cut { (o : Opening) → (own : ℕ) → (h : List Entry) → (asked : Op) → (r : RollingAt)
-        → StandsFor D.told D.state o state.old h
-        → HasRestart D.told D.state o own asked h driver.value.p r
-        → StandsFor D.told D.state o state.new (h ++ entry own Restart Cut ∷ []) }
+    ensures unread { (o : Opening) → (own : ℕ) → (h : List Entry) → (asked : Op) → StandsFor D.told D.state o state.old h → HasStopped D.told D.state o own asked h driver.value.p → StandsFor D.told D.state o state.new (h ++ entry own Restart Cut ∷ []) }
+    ensures cut { (o : Opening) → (own : ℕ) → (h : List Entry) → (asked : Op) → (r : RollingAt) → StandsFor D.told D.state o state.old h → HasRestart D.told D.state o own asked h driver.value.p r → StandsFor D.told D.state o state.new (h ++ entry own Restart Cut ∷ []) }
     ensures origin { state.new.origin ≡ state.old.origin }
 {
     state.bring_home(driver);
-}
-
-/// Operation and outcome of the entry with which the turn ends; None where nothing was done.
-pub fn entry_of<D: Disk>(restarting: &Restarting<D>, asked: &Op) -> Option<(Op, Outcome)>
-    ensures { result ≡ entry_for asked.now restarting.now }
-{
-    match restarting {
-        Restarting::Rolling(_) => Some((Op::Restart, Outcome::Taken)),
-        Restarting::Failed(cause) => Some((*asked, Outcome::Failed(*cause))),
-        Restarting::Stopped => Some((Op::Restart, Outcome::Cut)),
-        Restarting::Waits => None,
-    }
 }

@@ -1,13 +1,11 @@
 //! The turns of a place: each enters, does one thing with the state, and leaves with the place's entry.
-ghost use Rattle.std.specs.Prelude.{◌≡◌, ◌≢◌, ◌≤◌, [], length, vec_capacity};
-ghost use Rattle.dxc_causes.specs.Causes.{Rose};
+ghost use Rattle.std.specs.Prelude.{◌≡◌, ◌≤◌, [], length, vec_capacity};
 ghost use Rattle.dxc_num.specs.Dimensions.{ports};
 ghost use Rattle.dxc_model.specs.Histories.{kept};
 ghost use Rattle.dxc_model.specs.Operations.{IsApt};
 ghost use Rattle.roll_engine.specs.Rollings.{rest_of};
-ghost use Rattle.xc_core.specs.Askings.{asked_at_take};
 ghost use Rattle.xc_core.specs.Turns.{HasPass, IsInventoryOf, SawNoneAstray};
-ghost use Rattle.xc_core.specs.Views.{After, AreApt, AreRowsOf, AtRest, Brings, Cuts, HasSeen, Looks, Marks, OutFor, ShowsInventory, ShowsRows, Takes, Upon, shape_in};
+ghost use Rattle.xc_core.specs.Views.{After, AreApt, AreRowsOf, AtRest, Brings, CutFor, Cuts, FailedFor, Fails, HasSeen, Looks, Marks, OutFor, ShowsInventory, ShowsRows, Takes, Upon, failing, shape_in};
 
 use crate::inside;
 use crate::provisioner::Driver;
@@ -16,30 +14,26 @@ use dbchg_reports::Since;
 use dxc_disk::Disk;
 use dxc_model::{Cause, Change, Conn, Entry, Op, Outcome, Selection};
 use dxc_num::Middle;
-use dxc_outside::Gate;
 use std::sync::Wait;
 use turnstile::{Pass, Turnstile};
 
 /// What came of a turn in which a change was to begin.
 #[derive(Drop)]
 pub enum Took<D: Disk> {
-    /// The place has the Provisioner, and the change's work is planned and in the journal.
-    Rolling(Box<Driver<D>>),
+    /// The place has the Provisioner, the change's work is planned, and this is its record, which is to be journalled.
+    Rolling(Box<Driver<D>>, [u8; 64]),
     Denied(Cause),
-    /// The gate stopped. The Provisioner is home, halted.
-    Stopped,
     /// The Provisioner is home and halted: a restart is due.
     Halted,
     /// Another place has the Provisioner.
     Waits,
 }
 
-/// Takes the Provisioner out for a change.
-pub fn take<D: Disk + Drop, G: Gate, R: Wait>(
+/// Takes the Provisioner out for a change, and plans it. The journal isn't called.
+pub fn take<D: Disk + Drop, R: Wait>(
     pass: &mut Pass,
     turns: &Turnstile<State<D>>,
     op: &Op,
-    gate: &mut G,
     rt: &R,
 ) -> Took<D>
     requires pass { HasPass turns.now pass.old }
@@ -48,13 +42,9 @@ pub fn take<D: Disk + Drop, G: Gate, R: Wait>(
     ensures pass { HasPass turns.now pass.new × (pass.new.number ≡ pass.old.number) }
     ensures took { After D.Disk turns.now pass.old (Takes D.Disk op.now pass.new result) }
     ensures astray { SawNoneAstray D.told pass.new.seen }
-    ensures stopped { result ≡ Took.Stopped → Rose (G.stops gate.old) (G.stops gate.new) }
-    ensures unstopped { result ≢ Took.Stopped → G.stops gate.new ≡ G.stops gate.old }
-    ensures later { G.stops gate.old ≤ G.stops gate.new }
-    ensures asked { G.asked gate.old gate.new (asked_at_take result) }
 {
     let mut turn = turns.enter(pass, rt);
-    let took = inside::take(turn.state_mut(), op, gate);
+    let took = inside::take(turn.state_mut(), op);
     let place = pass.number();
     match inside::outcome_of(&took) {
         Some(outcome) => {
@@ -106,6 +96,39 @@ pub fn bring<D: Disk + Drop, R: Wait>(
     );
 }
 
+/// Brings the Provisioner home by a fault of its journal. The entry is of this operation: of the one for which it was taken, or of the one
+/// that waited for the restart.
+pub fn fail<D: Disk + Drop, R: Wait>(
+    pass: &mut Pass,
+    turns: &Turnstile<State<D>>,
+    op: &Op,
+    cause: Cause,
+    driver: Box<Driver<D>>,
+    rt: &R,
+)
+    requires pass { HasPass turns.now pass.old }
+    requires failed { Upon D.Disk turns.now pass.old
+        (FailedFor D.Disk (failing op.now cause driver.value)) }
+    ensures pass { HasPass turns.now pass.new × (pass.new.number ≡ pass.old.number) }
+    ensures failed { After D.Disk turns.now pass.old
+        (Fails D.Disk (failing op.now cause driver.value) pass.new) }
+    ensures astray { SawNoneAstray D.told pass.new.seen }
+{
+    let mut turn = turns.enter(pass, rt);
+    inside::fail(turn.state_mut(), driver);
+    let place = pass.number();
+    let outcome = Outcome::Failed(cause);
+    turns.leave(
+        pass,
+        turn,
+        Entry {
+            place,
+            op: *op,
+            outcome,
+        },
+    );
+}
+
 /// Brings the Provisioner home halted, after a stop.
 pub fn cut<D: Disk + Drop, R: Wait>(
     pass: &mut Pass,
@@ -115,7 +138,7 @@ pub fn cut<D: Disk + Drop, R: Wait>(
     rt: &R,
 )
     requires pass { HasPass turns.now pass.old }
-    requires taken { Upon D.Disk turns.now pass.old (OutFor D.Disk op.now driver.value) }
+    requires taken { Upon D.Disk turns.now pass.old (CutFor D.Disk op.now driver.value) }
     ensures pass { HasPass turns.now pass.new × (pass.new.number ≡ pass.old.number) }
     ensures cut { After D.Disk turns.now pass.old (Cuts op.now pass.new) }
     ensures astray { SawNoneAstray D.told pass.new.seen }

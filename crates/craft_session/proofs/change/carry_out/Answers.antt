@@ -1,58 +1,95 @@
-use Rattle.std.proofs.Common.{◌∙◌, length, refl, sym, ap, subst, inl, inr}
+use Rattle.std.proofs.Common.{List, ◌∙◌, length, refl, sym, subst, inl, inr}
+use Rattle.dxc_model.specs.declared.cause.Cause.TheVariants.{DiskFault}
+use Rattle.dxc_model.specs.declared.entry.Entry.{Entry}
+use Rattle.dxc_model.specs.Histories.{IsStopped}
 use Rattle.roll_engine.specs.Rollings.{rest_of}
 use Rattle.xc_core.specs.declared.provisioner.Driver.{Driver}
-use Rattle.xc_core.specs.Provisioners.{Ground}
-use Rattle.xc_core.specs.Seeing.{HasTaken}
+use Rattle.xc_core.specs.declared.provisioner.Provisioner.{Provisioner}
+use Rattle.xc_core.specs.Begins.{plan_of}
+use Rattle.xc_core.specs.Seeing.{HasPlan}
 use Rattle.xc_core.specs.States.{opening_of}
-use Rattle.xc_core.proofs.Away.{taken_rolls}
-use Rattle.craft_session.specs.Askings.{AskedToStop, asked_for}
-use Rattle.craft_session.proofs.Changing.{changed_cut, changed_done}
-use Rattle.craft_session.specs.declared.change.Changed.TheVariants.{Done, Stopped}
-use Rattle.craft_session.proofs.Ends.{apart, changed_goes}
-use Rattle.craft_session.proofs.Gated.{entered_change, entered_stop}
+use Rattle.xc_core.proofs.Homing.{plan_failed, plan_noted}
+use Rattle.xc_core.proofs.Turning.{saw_once}
+use Rattle.craft_session.specs.declared.change.Changed.TheVariants.{Denied, Stopped}
+use Rattle.craft_session.proofs.Changing.{changed_cut, changed_fault}
+use Rattle.craft_session.proofs.Ends.{apart, changed_goes, later_behind, noted_goes, rose_behind}
+use Rattle.craft_session.proofs.Gated.{entered_fault, entered_noted, entered_unnoted}
+use Rattle.craft_session.proofs.Gating.{driven_asked}
 use Rattle.craft_session.proofs.change.carry_out.Goals as goal
 
-pub roll-requires-clause-own : goal.roll-requires-clause-own
-roll-requires-clause-own g c = let w = c.requires.taken in ap (λ (x : Driver g.row.D.Denot). x.p.mover.fabric) c.deref_mut-held.ensures.value ∙ (ap (λ (s : Ground). s.fabric) w.2.out.ground ∙ c.requires.fabric)
+pub note-requires-clause-planned : goal.note-requires-clause-planned
+note-requires-clause-planned g c =
+    let w = c.requires.planned in
+    let v = c.deref_mut-held.result.now in
+    let plan = plan_of c.args.op.now v.rolling c.args.bytes.now in
+    let x = subst (λ (y : Driver g.row.D.Denot). HasPlan g.D.Disk.told g.D.Disk.state (opening_of g.D.Disk.state c.args.turns.now.first) c.args.pass.now.number w.0 y.p (plan_of c.args.op.now y.rolling c.args.bytes.now)) (sym c.deref_mut-held.ensures.value) w.2 in
+    (x.out.now, x.may)
 
-pub roll-requires-clause-rolls : goal.roll-requires-clause-rolls
-roll-requires-clause-rolls g c = let w = c.requires.taken in let t = subst (λ (x : Driver g.row.D.Denot). HasTaken g.D.Disk.told g.D.Disk.state (opening_of g.D.Disk.state c.args.turns.now.first) c.args.pass.now.number c.args.op.now w.0 x.p x.rolling) (sym c.deref_mut-held.ensures.value) w.2 in inl (t.out.now, c.args.op.now, t.change, t.rolls)
+pub note-requires-clause-sealed : goal.note-requires-clause-sealed
+note-requires-clause-sealed g c = c.requires.planned.2.sealed
 
-pub bring-requires-clause-taken : goal.bring-requires-clause-taken
-bring-requires-clause-taken g c =
-    let w = c.requires.taken in
-    let t = subst (λ (x : Driver g.row.D.Denot). HasTaken g.D.Disk.told g.D.Disk.state (opening_of g.D.Disk.state c.args.turns.now.first) c.args.pass.now.number c.args.op.now w.0 x.p x.rolling) (sym c.deref_mut-held.ensures.value) w.2 in
-    (w.0, w.1, taken_rolls g.D.Disk.told g.D.Disk.state (opening_of g.D.Disk.state c.args.turns.now.first) c.args.pass.now.number c.args.op.now w.0 c.deref_mut-held.result.now.p c.roll.new.p c.deref_mut-held.result.now.rolling c.roll.new.rolling t c.roll.ensures.ground c.roll.ensures.journal c.roll.ensures.rolls)
+pub drive_out-requires-clause-taken : goal.drive_out-requires-clause-taken
+drive_out-requires-clause-taken g c =
+    let w = c.requires.planned in
+    let v = c.deref_mut-held.result.now in
+    let plan = plan_of c.args.op.now v.rolling c.args.bytes.now in
+    let x = subst (λ (y : Driver g.row.D.Denot). HasPlan g.D.Disk.told g.D.Disk.state (opening_of g.D.Disk.state c.args.turns.now.first) c.args.pass.now.number w.0 y.p (plan_of c.args.op.now y.rolling c.args.bytes.now)) (sym c.deref_mut-held.ensures.value) w.2 in
+    (w.0, w.1, plan_noted g.D.Disk.told g.D.Disk.state (opening_of g.D.Disk.state c.args.turns.now.first) c.args.pass.now.number w.0 v.p c.note.new.p plan x c.note.ensures.ground c.note.ensures.fault.later c.note.ensures.room (c.in-Rolling.ensures.noted x.out.now x.may))
+
+pub fail-requires-clause-failed : goal.fail-requires-clause-failed
+fail-requires-clause-failed g c =
+    let w = c.requires.planned in
+    let v = c.deref_mut-held.result.now in
+    let plan = plan_of c.args.op.now v.rolling c.args.bytes.now in
+    let x = subst (λ (y : Driver g.row.D.Denot). HasPlan g.D.Disk.told g.D.Disk.state (opening_of g.D.Disk.state c.args.turns.now.first) c.args.pass.now.number w.0 y.p (plan_of c.args.op.now y.rolling c.args.bytes.now)) (sym c.deref_mut-held.ensures.value) w.2 in
+    let n = c.in-Fault.ensures.noted x.out.now x.may in
+    (w.0, w.1, c.args.op.now, plan_failed g.D.Disk.told g.D.Disk.state (opening_of g.D.Disk.state c.args.turns.now.first) c.args.pass.now.number w.0 v.p c.note.new.p plan x c.note.ensures.ground c.note.ensures.room c.note.ensures.fault.later (c.in-Fault.ensures.fault.cause refl) n.0 n.2)
 
 pub cut-requires-clause-taken : goal.cut-requires-clause-taken
 cut-requires-clause-taken g c =
-    let w = c.requires.taken in
-    let t = subst (λ (x : Driver g.row.D.Denot). HasTaken g.D.Disk.told g.D.Disk.state (opening_of g.D.Disk.state c.args.turns.now.first) c.args.pass.now.number c.args.op.now w.0 x.p x.rolling) (sym c.deref_mut-held.ensures.value) w.2 in
-    (w.0, w.1, taken_rolls g.D.Disk.told g.D.Disk.state (opening_of g.D.Disk.state c.args.turns.now.first) c.args.pass.now.number c.args.op.now w.0 c.deref_mut-held.result.now.p c.roll.new.p c.deref_mut-held.result.now.rolling c.roll.new.rolling t c.roll.ensures.ground c.roll.ensures.journal c.roll.ensures.rolls)
+    let w = c.requires.planned in
+    let v = c.deref_mut-held.result.now in
+    let plan = plan_of c.args.op.now v.rolling c.args.bytes.now in
+    let x = subst (λ (y : Driver g.row.D.Denot). HasPlan g.D.Disk.told g.D.Disk.state (opening_of g.D.Disk.state c.args.turns.now.first) c.args.pass.now.number w.0 y.p (plan_of c.args.op.now y.rolling c.args.bytes.now)) (sym c.deref_mut-held.ensures.value) w.2 in
+    (w.0, w.1, inl (c.args.bytes.now, subst (λ (y : Provisioner g.row.D.Denot). HasPlan g.D.Disk.told g.D.Disk.state (opening_of g.D.Disk.state c.args.turns.now.first) c.args.pass.now.number w.0 y plan) (sym (c.in-Stopped.ensures.noted x.out.now x.may)) x))
 
-pub bring-requires-clause-done : goal.bring-requires-clause-done
-bring-requires-clause-done g c = c.roll.ensures.done c.in-Go.is
+pub returns-in-Rolling : goal.returns-in-Rolling
+returns-in-Rolling g c =
+    let r = c.drive_out.ensures in
+    let unstopped = c.note.ensures.unstopped (apart noted_goes _ _ _ c.in-Rolling.is refl refl) in
+    record {
+      pass = r.pass;
+      changed = r.changed;
+      astray = r.astray;
+      done = λ not. r.done not ∙ unstopped;
+      stopped = λ is. rose_behind _ _ _ unstopped (r.stopped is);
+      later = later_behind _ _ _ unstopped r.later;
+      asked = driven_asked g.G.Gate.asked g.G.Gate.asked_on c.args.gate.now c.note.new.gate c.drive_out.new.gate (length (rest_of c.deref_mut-held.result.now.rolling)) c.drive_out.result c.note.ensures.asked r.asked;
+      entered = λ h saw. entered_noted g.G.Gate.asked g.G.Gate.asked_on c.args.gate.now c.note.new.gate c.drive_out.new.gate (opening_of g.D.Disk.state c.args.turns.now.first) c.args.pass.now.number h c.drive_out.new.pass.seen c.note.ensures.asked (r.entered h saw);
+    }
 
-pub returns-in-Go : goal.returns-in-Go
-returns-in-Go g c = record {
-  pass = c.bring.ensures.pass;
-  changed = λ h saw. changed_done (opening_of g.D.Disk.state c.args.turns.now.first) c.args.pass.now.number h c.args.op.now c.bring.new.pass.seen (c.bring.ensures.done h saw);
-  astray = c.bring.ensures.astray;
-  done = λ is. c.roll.ensures.go c.in-Go.is;
-  stopped = λ is. absurd (apart changed_goes Done Done Stopped refl refl refl is);
-  later = c.roll.ensures.later;
-  asked = inl (refl, subst (λ (x : Driver g.row.D.Denot). g.G.Gate.asked c.args.gate.now c.roll.new.gate (asked_for (length (rest_of x.rolling)))) c.deref_mut-held.ensures.value c.in-Go.ensures.asked);
-  entered = λ h saw. entered_change (opening_of g.D.Disk.state c.args.turns.now.first) c.args.pass.now.number (g.G.Gate.asked c.args.gate.now c.roll.new.gate) h c.bring.new.pass.seen c.args.op.now (length (rest_of c.deref_mut-held.result.now.rolling)) c.in-Go.ensures.asked (c.bring.ensures.done h saw);
+pub returns-in-Fault : goal.returns-in-Fault
+returns-in-Fault g c = record {
+  pass = c.fail.ensures.pass;
+  changed = λ h saw.
+      let w = c.requires.planned in
+      changed_fault (opening_of g.D.Disk.state c.args.turns.now.first) c.args.pass.now.number h g.D.Disk.told g.D.Disk.state c.args.op.now c.note.new.p c.fail.new.pass.seen (subst (λ (l : List Entry). IsStopped l → ⊥) (saw_once (opening_of g.D.Disk.state c.args.turns.now.first) c.args.pass.now.seen w.0 h w.1 saw) w.2.unstopped) (c.fail.ensures.failed h saw);
+  astray = c.fail.ensures.astray;
+  done = λ _. c.note.ensures.unstopped (apart noted_goes _ _ _ c.in-Fault.is refl refl);
+  stopped = λ is. absurd (apart changed_goes (Denied DiskFault) (Denied DiskFault) Stopped refl refl refl is);
+  later = c.note.ensures.later;
+  asked = inr c.note.ensures.asked;
+  entered = λ h saw. entered_fault (opening_of g.D.Disk.state c.args.turns.now.first) c.args.pass.now.number (g.G.Gate.asked c.args.gate.now c.note.new.gate) h c.fail.new.pass.seen c.args.op.now DiskFault (inr c.note.ensures.asked) (c.fail.ensures.failed h saw).0;
 }
 
-pub returns-in-Stop : goal.returns-in-Stop
-returns-in-Stop g c = record {
+pub returns-in-Stopped : goal.returns-in-Stopped
+returns-in-Stopped g c = record {
   pass = c.cut.ensures.pass;
   changed = λ h saw. changed_cut (opening_of g.D.Disk.state c.args.turns.now.first) c.args.pass.now.number h c.args.op.now c.cut.new.pass.seen (c.cut.ensures.cut h saw);
   astray = c.cut.ensures.astray;
   done = λ not. absurd (not refl);
-  stopped = λ is. c.roll.ensures.stop c.in-Stop.is;
-  later = c.roll.ensures.later;
-  asked = inr (refl, subst (λ (x : Driver g.row.D.Denot). AskedToStop (g.G.Gate.asked c.args.gate.now c.roll.new.gate) (length (rest_of x.rolling))) c.deref_mut-held.ensures.value c.in-Stop.ensures.asked);
-  entered = λ h saw. entered_stop (opening_of g.D.Disk.state c.args.turns.now.first) c.args.pass.now.number (g.G.Gate.asked c.args.gate.now c.roll.new.gate) h c.cut.new.pass.seen c.args.op.now (length (rest_of c.deref_mut-held.result.now.rolling)) c.in-Stop.ensures.asked (c.cut.ensures.cut h saw).0;
+  stopped = λ is. c.note.ensures.stopped c.in-Stopped.is;
+  later = c.note.ensures.later;
+  asked = inl c.note.ensures.asked;
+  entered = λ h saw. entered_unnoted (opening_of g.D.Disk.state c.args.turns.now.first) c.args.pass.now.number (g.G.Gate.asked c.args.gate.now c.note.new.gate) h c.cut.new.pass.seen c.args.op.now c.note.ensures.asked (c.cut.ensures.cut h saw).0;
 }

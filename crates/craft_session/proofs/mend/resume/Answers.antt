@@ -29,7 +29,7 @@ pub cut_restart-requires-clause-restart : goal.cut_restart-requires-clause-resta
 cut_restart-requires-clause-restart g c =
     let w = c.requires.restart in
     let t = subst (λ (x : Driver g.row.D.Denot). HasRestart g.D.Disk.told g.D.Disk.state (opening_of g.D.Disk.state c.args.turns.now.first) c.args.pass.now.number c.args.asked.now w.0 x.p x.rolling) (sym c.deref_mut-held.ensures.value) w.2 in
-    (w.0, w.1, restart_rolls g.D.Disk.told g.D.Disk.state (opening_of g.D.Disk.state c.args.turns.now.first) c.args.pass.now.number c.args.asked.now w.0 c.deref_mut-held.result.now.p c.roll.new.p c.deref_mut-held.result.now.rolling c.roll.new.rolling t c.roll.ensures.ground c.roll.ensures.journal c.roll.ensures.doubt c.roll.ensures.resumes)
+    (w.0, w.1, inr (restart_rolls g.D.Disk.told g.D.Disk.state (opening_of g.D.Disk.state c.args.turns.now.first) c.args.pass.now.number c.args.asked.now w.0 c.deref_mut-held.result.now.p c.roll.new.p c.deref_mut-held.result.now.rolling c.roll.new.rolling t c.roll.ensures.ground c.roll.ensures.journal c.roll.ensures.doubt c.roll.ensures.resumes))
 
 pub end_restart-requires-clause-done : goal.end_restart-requires-clause-done
 end_restart-requires-clause-done g c = c.roll.ensures.done c.in-Go.is

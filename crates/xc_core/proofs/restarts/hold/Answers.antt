@@ -2,56 +2,56 @@ use Rattle.std.proofs.Common.{List, ◌++◌, sym, ◌∙◌, ap, subst}
 use Rattle.dxc_model.specs.declared.entry.Entry.{Entry}
 use Rattle.xc_core.specs.declared.state.State.{State}
 use Rattle.xc_core.specs.States.{StandsFor, opening_of}
-use Rattle.xc_core.specs.Turns.{RestartIs}
-use Rattle.xc_core.proofs.Turning.{astray_back, astray_own, back_stands, found_at, leave_stands, no_restart_stands, numbered_back, numbered_own, pass_back, restart_back, restart_entry, restarting_stands, saw_once, seen_own}
-use Rattle.xc_core.proofs.restarts.restart.Goals as goal
+use Rattle.xc_core.specs.Turns.{HoldIs}
+use Rattle.xc_core.proofs.Turning.{astray_back, astray_own, back_stands, found_at, leave_stands, not_held_stands, numbered_back, numbered_own, pass_back, held_back, held_entry, held_stands, saw_once, seen_own}
+use Rattle.xc_core.proofs.restarts.hold.Goals as goal
 
-pub restart-restarting-requires-clause-stands : goal.restart-restarting-requires-clause-stands
-restart-restarting-requires-clause-stands g c =
+pub hold-held-requires : goal.hold-held-requires
+hold-held-requires g c =
     let w = c.requires.seen in
     let f = found_at g.D.Disk.told g.D.Disk.state (opening_of g.D.Disk.state c.args.turns.now.first) c.args.pass.now.number c.enter-turn.result.own c.args.turns.now.passes w.0 c.args.pass.now.seen c.enter-turn.result.seen c.enter-turn.result.state c.enter-turn.ensures.turn.1 c.enter-turn.ensures.found w.1.codes_are in
     let st = subst (λ (s : State g.row.D.Denot). StandsFor g.D.Disk.told g.D.Disk.state (opening_of g.D.Disk.state c.args.turns.now.first) s (w.0 ++ f.later)) (sym c.state_mut.ensures.value) f.stands in
-    ((opening_of g.D.Disk.state c.args.turns.now.first), w.0 ++ f.later, st, c.requires.fabric)
+    record { stands = ((opening_of g.D.Disk.state c.args.turns.now.first), w.0 ++ f.later, st) }
 
 pub leave-requires-clause-stands : goal.leave-requires-clause-stands
 leave-requires-clause-stands g c =
     let w = c.requires.seen in
     let f = found_at g.D.Disk.told g.D.Disk.state (opening_of g.D.Disk.state c.args.turns.now.first) c.args.pass.now.number c.enter-turn.result.own c.args.turns.now.passes w.0 c.args.pass.now.seen c.enter-turn.result.seen c.enter-turn.result.state c.enter-turn.ensures.turn.1 c.enter-turn.ensures.found w.1.codes_are in
     let st = subst (λ (s : State g.row.D.Denot). StandsFor g.D.Disk.told g.D.Disk.state (opening_of g.D.Disk.state c.args.turns.now.first) s (w.0 ++ f.later)) (sym c.state_mut.ensures.value) f.stands in
-    let at = c.restart-restarting.ensures.restarting (opening_of g.D.Disk.state c.args.turns.now.first) c.args.pass.now.number (w.0 ++ f.later) st in
-    let origin = c.restart-restarting.ensures.origin ∙ ap (λ (s : State g.row.D.Denot). s.origin) c.state_mut.ensures.value in
+    let at = c.hold-held.ensures.held (opening_of g.D.Disk.state c.args.turns.now.first) c.args.pass.now.number (w.0 ++ f.later) st in
+    let origin = c.hold-held.ensures.origin ∙ ap (λ (s : State g.row.D.Denot). s.origin) c.state_mut.ensures.value in
     let is = sym c.entry_of.ensures ∙ c.in-Some.is in
-    leave_stands g.D.Disk.told g.D.Disk.state (opening_of g.D.Disk.state c.args.turns.now.first) c.args.pass.now.number w.0 c.enter-turn.result.state c.enter-turn.result.seen f c.restart-restarting.new.state c.number-place.result c.in-Some.op c.in-Some.outcome (c.number-place.ensures ∙ c.enter-turn.ensures.out.0) origin (restarting_stands g.D.Disk.told g.D.Disk.state (opening_of g.D.Disk.state c.args.turns.now.first) c.args.pass.now.number w.0 c.enter-turn.result.state c.enter-turn.result.seen f c.args.asked.now c.restart-restarting.new.state c.restart-restarting.result c.in-Some.op c.in-Some.outcome is at)
+    leave_stands g.D.Disk.told g.D.Disk.state (opening_of g.D.Disk.state c.args.turns.now.first) c.args.pass.now.number w.0 c.enter-turn.result.state c.enter-turn.result.seen f c.hold-held.new.state c.number-place.result c.in-Some.op c.in-Some.outcome (c.number-place.ensures ∙ c.enter-turn.ensures.out.0) origin (held_stands g.D.Disk.told g.D.Disk.state (opening_of g.D.Disk.state c.args.turns.now.first) c.args.pass.now.number w.0 c.enter-turn.result.state c.enter-turn.result.seen f c.args.asked.now c.hold-held.new.state c.hold-held.result c.in-Some.op c.in-Some.outcome is at)
 
 pub back-requires-clause-stands : goal.back-requires-clause-stands
 back-requires-clause-stands g c =
     let w = c.requires.seen in
     let f = found_at g.D.Disk.told g.D.Disk.state (opening_of g.D.Disk.state c.args.turns.now.first) c.args.pass.now.number c.enter-turn.result.own c.args.turns.now.passes w.0 c.args.pass.now.seen c.enter-turn.result.seen c.enter-turn.result.state c.enter-turn.ensures.turn.1 c.enter-turn.ensures.found w.1.codes_are in
     let st = subst (λ (s : State g.row.D.Denot). StandsFor g.D.Disk.told g.D.Disk.state (opening_of g.D.Disk.state c.args.turns.now.first) s (w.0 ++ f.later)) (sym c.state_mut.ensures.value) f.stands in
-    let at = c.restart-restarting.ensures.restarting (opening_of g.D.Disk.state c.args.turns.now.first) c.args.pass.now.number (w.0 ++ f.later) st in
-    let origin = c.restart-restarting.ensures.origin ∙ ap (λ (s : State g.row.D.Denot). s.origin) c.state_mut.ensures.value in
+    let at = c.hold-held.ensures.held (opening_of g.D.Disk.state c.args.turns.now.first) c.args.pass.now.number (w.0 ++ f.later) st in
+    let origin = c.hold-held.ensures.origin ∙ ap (λ (s : State g.row.D.Denot). s.origin) c.state_mut.ensures.value in
     let is = sym c.entry_of.ensures ∙ c.in-None.is in
-    back_stands g.D.Disk.told g.D.Disk.state (opening_of g.D.Disk.state c.args.turns.now.first) c.args.pass.now.number w.0 c.enter-turn.result.state c.enter-turn.result.seen f c.restart-restarting.new.state origin (no_restart_stands g.D.Disk.told g.D.Disk.state (opening_of g.D.Disk.state c.args.turns.now.first) c.args.pass.now.number w.0 c.enter-turn.result.state c.enter-turn.result.seen f c.args.asked.now c.restart-restarting.new.state c.restart-restarting.result is at)
+    back_stands g.D.Disk.told g.D.Disk.state (opening_of g.D.Disk.state c.args.turns.now.first) c.args.pass.now.number w.0 c.enter-turn.result.state c.enter-turn.result.seen f c.hold-held.new.state origin (not_held_stands g.D.Disk.told g.D.Disk.state (opening_of g.D.Disk.state c.args.turns.now.first) c.args.pass.now.number w.0 c.enter-turn.result.state c.enter-turn.result.seen f c.args.asked.now c.hold-held.new.state c.hold-held.result is at)
 
-pub returns-in-Some-clause-restart : goal.returns-in-Some-clause-restart
-returns-in-Some-clause-restart g c = λ h saw.
+pub returns-in-Some-clause-held : goal.returns-in-Some-clause-held
+returns-in-Some-clause-held g c = λ h saw.
     let w = c.requires.seen in
     let f = found_at g.D.Disk.told g.D.Disk.state (opening_of g.D.Disk.state c.args.turns.now.first) c.args.pass.now.number c.enter-turn.result.own c.args.turns.now.passes w.0 c.args.pass.now.seen c.enter-turn.result.seen c.enter-turn.result.state c.enter-turn.ensures.turn.1 c.enter-turn.ensures.found w.1.codes_are in
     let st = subst (λ (s : State g.row.D.Denot). StandsFor g.D.Disk.told g.D.Disk.state (opening_of g.D.Disk.state c.args.turns.now.first) s (w.0 ++ f.later)) (sym c.state_mut.ensures.value) f.stands in
-    let at = c.restart-restarting.ensures.restarting (opening_of g.D.Disk.state c.args.turns.now.first) c.args.pass.now.number (w.0 ++ f.later) st in
+    let at = c.hold-held.ensures.held (opening_of g.D.Disk.state c.args.turns.now.first) c.args.pass.now.number (w.0 ++ f.later) st in
     let is = sym c.entry_of.ensures ∙ c.in-Some.is in
-    subst (λ (l : List Entry). RestartIs g.D.Disk.told g.D.Disk.state (opening_of g.D.Disk.state c.args.turns.now.first) c.args.pass.now.number l c.args.asked.now c.leave.new.pass.seen c.restart-restarting.result) (saw_once (opening_of g.D.Disk.state c.args.turns.now.first) c.args.pass.now.seen w.0 h w.1 saw)
-    (restart_entry g.D.Disk.told g.D.Disk.state (opening_of g.D.Disk.state c.args.turns.now.first) c.args.pass.now.number w.0 c.enter-turn.result.state c.enter-turn.result.seen f c.args.asked.now c.restart-restarting.new.state c.restart-restarting.result c.in-Some.op c.in-Some.outcome c.leave.new.pass.seen is at (seen_own g.D.Disk.told g.D.Disk.state (opening_of g.D.Disk.state c.args.turns.now.first) c.args.pass.now.number w.0 c.enter-turn.result.state c.enter-turn.result.seen f c.number-place.result c.in-Some.op c.in-Some.outcome c.leave.new.pass.seen (c.number-place.ensures ∙ c.enter-turn.ensures.out.0) c.leave.ensures.seen))
+    subst (λ (l : List Entry). HoldIs g.D.Disk.told g.D.Disk.state (opening_of g.D.Disk.state c.args.turns.now.first) c.args.pass.now.number l c.args.asked.now c.leave.new.pass.seen c.hold-held.result) (saw_once (opening_of g.D.Disk.state c.args.turns.now.first) c.args.pass.now.seen w.0 h w.1 saw)
+    (held_entry g.D.Disk.told g.D.Disk.state (opening_of g.D.Disk.state c.args.turns.now.first) c.args.pass.now.number w.0 c.enter-turn.result.state c.enter-turn.result.seen f c.args.asked.now c.hold-held.new.state c.hold-held.result c.in-Some.op c.in-Some.outcome c.leave.new.pass.seen is at (seen_own g.D.Disk.told g.D.Disk.state (opening_of g.D.Disk.state c.args.turns.now.first) c.args.pass.now.number w.0 c.enter-turn.result.state c.enter-turn.result.seen f c.number-place.result c.in-Some.op c.in-Some.outcome c.leave.new.pass.seen (c.number-place.ensures ∙ c.enter-turn.ensures.out.0) c.leave.ensures.seen))
 
-pub returns-in-None-clause-restart : goal.returns-in-None-clause-restart
-returns-in-None-clause-restart g c = λ h saw.
+pub returns-in-None-clause-held : goal.returns-in-None-clause-held
+returns-in-None-clause-held g c = λ h saw.
     let w = c.requires.seen in
     let f = found_at g.D.Disk.told g.D.Disk.state (opening_of g.D.Disk.state c.args.turns.now.first) c.args.pass.now.number c.enter-turn.result.own c.args.turns.now.passes w.0 c.args.pass.now.seen c.enter-turn.result.seen c.enter-turn.result.state c.enter-turn.ensures.turn.1 c.enter-turn.ensures.found w.1.codes_are in
     let st = subst (λ (s : State g.row.D.Denot). StandsFor g.D.Disk.told g.D.Disk.state (opening_of g.D.Disk.state c.args.turns.now.first) s (w.0 ++ f.later)) (sym c.state_mut.ensures.value) f.stands in
-    let at = c.restart-restarting.ensures.restarting (opening_of g.D.Disk.state c.args.turns.now.first) c.args.pass.now.number (w.0 ++ f.later) st in
+    let at = c.hold-held.ensures.held (opening_of g.D.Disk.state c.args.turns.now.first) c.args.pass.now.number (w.0 ++ f.later) st in
     let is = sym c.entry_of.ensures ∙ c.in-None.is in
-    subst (λ (l : List Entry). RestartIs g.D.Disk.told g.D.Disk.state (opening_of g.D.Disk.state c.args.turns.now.first) c.args.pass.now.number l c.args.asked.now c.back.new.pass.seen c.restart-restarting.result) (saw_once (opening_of g.D.Disk.state c.args.turns.now.first) c.args.pass.now.seen w.0 h w.1 saw)
-    (restart_back g.D.Disk.told g.D.Disk.state (opening_of g.D.Disk.state c.args.turns.now.first) c.args.pass.now.number w.0 c.enter-turn.result.state c.enter-turn.result.seen f c.args.asked.now c.restart-restarting.new.state c.restart-restarting.result c.back.new.pass.seen is at c.back.ensures.seen)
+    subst (λ (l : List Entry). HoldIs g.D.Disk.told g.D.Disk.state (opening_of g.D.Disk.state c.args.turns.now.first) c.args.pass.now.number l c.args.asked.now c.back.new.pass.seen c.hold-held.result) (saw_once (opening_of g.D.Disk.state c.args.turns.now.first) c.args.pass.now.seen w.0 h w.1 saw)
+    (held_back g.D.Disk.told g.D.Disk.state (opening_of g.D.Disk.state c.args.turns.now.first) c.args.pass.now.number w.0 c.enter-turn.result.state c.enter-turn.result.seen f c.args.asked.now c.hold-held.new.state c.hold-held.result c.back.new.pass.seen is at c.back.ensures.seen)
 
 pub returns-in-Some-clause-pass : goal.returns-in-Some-clause-pass
 returns-in-Some-clause-pass g c =
@@ -68,15 +68,15 @@ returns-in-Some-clause-astray g c =
     let w = c.requires.seen in
     let f = found_at g.D.Disk.told g.D.Disk.state (opening_of g.D.Disk.state c.args.turns.now.first) c.args.pass.now.number c.enter-turn.result.own c.args.turns.now.passes w.0 c.args.pass.now.seen c.enter-turn.result.seen c.enter-turn.result.state c.enter-turn.ensures.turn.1 c.enter-turn.ensures.found w.1.codes_are in
     let st = subst (λ (s : State g.row.D.Denot). StandsFor g.D.Disk.told g.D.Disk.state (opening_of g.D.Disk.state c.args.turns.now.first) s (w.0 ++ f.later)) (sym c.state_mut.ensures.value) f.stands in
-    let at = c.restart-restarting.ensures.restarting (opening_of g.D.Disk.state c.args.turns.now.first) c.args.pass.now.number (w.0 ++ f.later) st in
+    let at = c.hold-held.ensures.held (opening_of g.D.Disk.state c.args.turns.now.first) c.args.pass.now.number (w.0 ++ f.later) st in
     let is = sym c.entry_of.ensures ∙ c.in-Some.is in
-    astray_own g.D.Disk.told g.D.Disk.state (opening_of g.D.Disk.state c.args.turns.now.first) c.args.pass.now.number w.0 c.enter-turn.result.state c.enter-turn.result.seen f c.restart-restarting.new.state c.number-place.result c.in-Some.op c.in-Some.outcome c.leave.new.pass.seen (c.number-place.ensures ∙ c.enter-turn.ensures.out.0) (restarting_stands g.D.Disk.told g.D.Disk.state (opening_of g.D.Disk.state c.args.turns.now.first) c.args.pass.now.number w.0 c.enter-turn.result.state c.enter-turn.result.seen f c.args.asked.now c.restart-restarting.new.state c.restart-restarting.result c.in-Some.op c.in-Some.outcome is at) c.leave.ensures.seen
+    astray_own g.D.Disk.told g.D.Disk.state (opening_of g.D.Disk.state c.args.turns.now.first) c.args.pass.now.number w.0 c.enter-turn.result.state c.enter-turn.result.seen f c.hold-held.new.state c.number-place.result c.in-Some.op c.in-Some.outcome c.leave.new.pass.seen (c.number-place.ensures ∙ c.enter-turn.ensures.out.0) (held_stands g.D.Disk.told g.D.Disk.state (opening_of g.D.Disk.state c.args.turns.now.first) c.args.pass.now.number w.0 c.enter-turn.result.state c.enter-turn.result.seen f c.args.asked.now c.hold-held.new.state c.hold-held.result c.in-Some.op c.in-Some.outcome is at) c.leave.ensures.seen
 
 pub returns-in-None-clause-astray : goal.returns-in-None-clause-astray
 returns-in-None-clause-astray g c =
     let w = c.requires.seen in
     let f = found_at g.D.Disk.told g.D.Disk.state (opening_of g.D.Disk.state c.args.turns.now.first) c.args.pass.now.number c.enter-turn.result.own c.args.turns.now.passes w.0 c.args.pass.now.seen c.enter-turn.result.seen c.enter-turn.result.state c.enter-turn.ensures.turn.1 c.enter-turn.ensures.found w.1.codes_are in
     let st = subst (λ (s : State g.row.D.Denot). StandsFor g.D.Disk.told g.D.Disk.state (opening_of g.D.Disk.state c.args.turns.now.first) s (w.0 ++ f.later)) (sym c.state_mut.ensures.value) f.stands in
-    let at = c.restart-restarting.ensures.restarting (opening_of g.D.Disk.state c.args.turns.now.first) c.args.pass.now.number (w.0 ++ f.later) st in
+    let at = c.hold-held.ensures.held (opening_of g.D.Disk.state c.args.turns.now.first) c.args.pass.now.number (w.0 ++ f.later) st in
     let is = sym c.entry_of.ensures ∙ c.in-None.is in
-    astray_back g.D.Disk.told g.D.Disk.state (opening_of g.D.Disk.state c.args.turns.now.first) c.args.pass.now.number w.0 c.enter-turn.result.state c.enter-turn.result.seen f c.restart-restarting.new.state c.back.new.pass.seen (no_restart_stands g.D.Disk.told g.D.Disk.state (opening_of g.D.Disk.state c.args.turns.now.first) c.args.pass.now.number w.0 c.enter-turn.result.state c.enter-turn.result.seen f c.args.asked.now c.restart-restarting.new.state c.restart-restarting.result is at) c.back.ensures.seen
+    astray_back g.D.Disk.told g.D.Disk.state (opening_of g.D.Disk.state c.args.turns.now.first) c.args.pass.now.number w.0 c.enter-turn.result.state c.enter-turn.result.seen f c.hold-held.new.state c.back.new.pass.seen (not_held_stands g.D.Disk.told g.D.Disk.state (opening_of g.D.Disk.state c.args.turns.now.first) c.args.pass.now.number w.0 c.enter-turn.result.state c.enter-turn.result.seen f c.args.asked.now c.hold-held.new.state c.hold-held.result is at) c.back.ensures.seen
