@@ -1,5 +1,6 @@
 -- A code that isn't one of those that keep users.
-use Rattle.std.proofs.Common.{◌≡◌, ℕ, Bool, false, Option, Some, None, Err, List, is_some, refl, ap}
+use Rattle.std.specs.Prelude.{is_some}
+use Rattle.std.proofs.Common.{◌≡◌, ℕ, false, Option, Some, None, Err, List, refl, ap, true≢false}
 use Rattle.dxc_model.specs.declared.cause.Cause.TheVariants.{UnknownCommand}
 use Rattle.dxc_model.specs.declared.user.SessionUser.{SessionUser}
 use Rattle.tl1_text.specs.Grammar.{Block}
@@ -10,7 +11,7 @@ use Rattle.user_admin.specs.Commands.{asked, code_named, first_refusal, named_in
 
 pub unnamed : (code : Option UserCode) → is_some code ≡ false → code ≡ None
 unnamed None is = refl
-unnamed (Some code) is = case is of {}
+unnamed (Some code) is = absurd (true≢false is)
 
 pub none_is_unknown : (sid : List ℕ) (user : SessionUser) (bs : List Block) → code_named (code_text bs) ≡ None → user_meaning sid user bs ≡ Err UnknownCommand
 unfolding user_meaning
