@@ -30,7 +30,7 @@ use tl1_command::{Command, command_with};
 use tl1_text::grammar::blocks;
 use tl1_text::{Blocks, Ctag, ctag_in, ctag_of};
 use user_admin::turns::UserTook;
-use user_admin::{UserOp, upper, user_command_of};
+use user_admin::{UserOp, is_of_users, upper, user_command_of};
 
 /// Puts down the tag of a whole unit, and what the unit asks of the session of a user; the rows of users that it reads stand in `users` then.
 /// Stop: the gate stopped before the users were changed.
@@ -241,7 +241,7 @@ fn hear_users<U: Disk + Drop, G: Gate, R: Wait>(
     ensures stopped { result ≡ Pass1.Stop → Rose (G.stops gate.old) (G.stops gate.new) }
     ensures later { G.stops gate.old ≤ G.stops gate.new }
 {
-    if is_short(unit, found) {
+    if !is_of_users(unit, found) {
         *ask = Ask::Refused(Cause::UnknownCommand);
         return Pass1::Go;
     }
@@ -252,15 +252,6 @@ fn hear_users<U: Disk + Drop, G: Gate, R: Wait>(
         }
         None => Pass1::Stop,
     }
-}
-
-/// Whether a unit's code has fewer bytes than `ED-PID`, the shortest of those that keep users.
-fn is_short(unit: &[u8], found: &Blocks) -> bool
-    requires blocks { AreBlocksOf unit.now found.now.block.items }
-    ensures { result ≡ true
-        → code_named (code_text (map (block_at unit.now) found.now.block.items)) ≡ None }
-{
-    block_text(unit, found, 0).len() < 6
 }
 
 /// What a unit asks that may be a command of the users. The blocks are the unit's.

@@ -1,5 +1,5 @@
 //! What a unit asks of the users.
-ghost use Rattle.std.specs.Prelude.{◌≡◌, ◌≢◌, ◌↔◌, IfOk, IsErrOf, true, ◌≤◌, ◌<◌, length, map, Some, None, Ok, Err};
+ghost use Rattle.std.specs.Prelude.{◌≡◌, ◌≢◌, ◌↔◌, IfOk, IsErrOf, true, ◌≤◌, ◌<◌, is_some, length, map, Some, None, Ok, Err};
 ghost use Rattle.std.specs.Str.{bytes_eq};
 ghost use Rattle.tl1_text.specs.Tags.{is_alphanumeric as reads_as_alphanumeric};
 ghost use Rattle.tl1_text.specs.Spans.{AreBlocksOf, block_at};
@@ -252,6 +252,16 @@ fn refusal(
     } else {
         None
     }
+}
+
+/// Whether a unit's code is that of a command that keeps users. The blocks are the unit's.
+// Asked first: an operation has room for PIDs, which is cleared at the entry of each function that holds one.
+pub fn is_of_users(unit: &[u8], blocks: &Blocks) -> bool
+    requires { AreBlocksOf unit.now blocks.now.block.items }
+    ensures { result ≡ is_some
+        (code_named (code_text (map (block_at unit.now) blocks.now.block.items))) }
+{
+    code_of(block_text(unit, blocks, 0)).is_some()
 }
 
 /// What a unit asks of the users, or the first cause that holds, of UnknownCommand, BadCtag, OtherTarget, NotLoggedIn,

@@ -1,16 +1,16 @@
-use Rattle.std.proofs.Common.{refl, sym, ap, map}
+use Rattle.std.proofs.Common.{◌∙◌, refl, sym, ap, map}
 use Rattle.tl1_text.specs.Spans.{block_at}
 use Rattle.craft_session.specs.Hearing.{unasked}
 use Rattle.craft_session.specs.Meanings.{users_ask, users_want}
-use Rattle.craft_session.proofs.Codes.{none_is_unknown}
+use Rattle.craft_session.proofs.Codes.{none_is_unknown, unnamed}
 use Rattle.craft_session.proofs.Consulted.{asked_nothing}
 use Rattle.craft_session.proofs.Ends.{some_there, stayed, stop_goes, stop_went}
 use Rattle.craft_session.proofs.meaning.hear_users.Goals as goal
 
-pub returns-then-is_short : goal.returns-then-is_short
-returns-then-is_short g c =
+pub returns-then-is_of_users : goal.returns-then-is_of_users
+returns-then-is_of_users g c =
     let bs = map (block_at c.args.unit.now) c.args.found.now.block.items in
-    let is = none_is_unknown c.args.shelf.now.sid c.args.user.now bs (c.is_short.ensures c.if-is_short.true) in
+    let is = none_is_unknown c.args.shelf.now.sid c.args.user.now bs (unnamed _ (sym c.is_of_users.ensures ∙ c.if-is_of_users.false)) in
     record {
       same = (refl, refl, refl);
       asked = asked_nothing _ _ _ _ _ (g.G.Gate.asked c.args.gate.now c.args.gate.now) (g.G.Gate.unasked c.args.gate.now) (ap users_want is) (sym (ap (users_ask unasked) is)) c.requires.no_rows;
