@@ -10,6 +10,7 @@ full         the seventeenth caller is told so and let go, and comes in once a p
 slow         a caller that takes nothing is given up after ten seconds
 descriptors  a shortage of descriptors ends no place: after it sixteen callers are served again
 told         each cause of "cannot open" is told by name, in a second line on any stream
+users        a shelf file and a users' journal that disagree are told by the user's name, whatever the edit, and bear all others
 lines        a FIFO without a writer, or whose writer comes again, stops nothing; one program at a time has an output, and keeps its bytes
              where it can't start
 
@@ -346,7 +347,36 @@ def lines(folder):
     return "frames go on"
 
 
-POINTS = (peer, check, sync, dead, full, slow, descriptors, told, lines)
+def users(folder):
+    def shelf(*uids, digest=office.DIGEST):
+        anna, others = (office.shelf_text(MODULES, SLOTS, users=[(uid, "S") for uid in some]) for some in (["ANNA"], uids))
+        text = anna + "".join(others.partition("[[user]]")[1:]).replace(office.DIGEST, digest)
+        write(os.path.join(folder, "shelf.toml"), text.encode())
+
+    def ended(words=("check", "shelf.toml")):
+        status, _, told = run(folder, [*words, "j"])
+        return status, told
+
+    # What a command did of whom, who stood in the file before, and who after.
+    edits = {"DLT-USER-SECU::BEN:2;": (["BEN"], []), "ENT-USER-SECU::BEN:2::pid,P;": ([], ["BEN"]), "ED-USER-SECU::BEN:2::other;": (["BEN"], [])}
+    for command, (before, after) in edits.items():
+        office.begin_anew(os.path.join(folder, "j"))
+        shelf(*before)
+        expect(run(folder, ["script", "shelf.toml", "j"], LOG_IN + command.encode())[1].count("COMPLD") == 2, f"{command} was denied")
+        shelf(*after)
+        line = "dxc: user \"BEN\": shelf file and users' journal disagree: its record 0, counted from 0, makes no change"
+        for mode in ("check", "script", "export"):
+            expect(ended((mode, "shelf.toml")) == (4, ["dxc: journal refused", line]), f"{mode} after {command} ended with {ended()}")
+        shelf(*before, "CARA")
+        expect(ended() == (0, []), f"a further user isn't borne after {command}: {ended()}")
+        shelf(*before, digest="00" * 32)
+        expect(ended() == (0, []), f"another digest isn't borne after {command}: {ended()}")
+        shelf(*before)
+        expect(ended() == (0, []), f"the file as it was isn't taken up after {command}: {ended()}")
+    return f"{len(edits)} edits told by name, the way back taken"
+
+
+POINTS = (peer, check, sync, dead, full, slow, descriptors, told, users, lines)
 
 
 def tried(point):
