@@ -2,8 +2,9 @@
 
 usage: bench/run stress lost_standby
 
-paused      the standby is stopped by SIGSTOP: the primary waits for it five seconds, and no longer, hangs up, says so and goes on alone; let
-            go on, the standby ends by itself, says when it was synced last, and its copy has every change that was answered while joined
+paused      the standby is stopped by SIGSTOP: a change waits for it five seconds, and no longer, a retrieval not at all; the primary hangs
+            up, says so and goes on alone; let go on, the standby ends by itself, says when it was synced last, and its copy has every
+            change that was answered while joined
 killed      the standby is killed: the primary says so
 ended       the primary is killed: the standby says so, and that its copy is whole
 cut         a joining is cut off after each of some pieces: the copy opens as no journal, the standby says that it holds nothing, and
@@ -30,6 +31,8 @@ from bench.stress.standby import LOG_IN, Listener, WAIT, await_listening, call, 
 MOMENT = rb"\d{4}-\d\d-\d\d \d\d:\d\d:\d\d UTC"
 # A wait of 25 reads of a fifth of a second, and what a busy machine adds.
 LONGEST = 8
+# Who only reads doesn't wait for a standby.
+PROMPT = 0.05
 # Bytes of an item.
 PIECE = 256
 WHOLE = rb"dxc: " + MOMENT + rb": standby ended, (its primary hung up|its connection failed); \S+ is whole, and was synced last at " + MOMENT + rb"\n"
@@ -92,6 +95,8 @@ def paused(folder):
     time.sleep(0.2)
     reader.sendall(b"RTRV-CRS-T0::ALL:4;")
     listed = await_responses(read, 1, LONGEST)
+    if listed > PROMPT:
+        sys.exit(f"a retrieval beside a standby that is stopped took {listed:.2f} s")
     waited = await_responses(changed, 2, LONGEST)
     changer.sendall(b"ENT-CRS-T0::DS0-2-1,DS0-1-1:5;")
     await_responses(changed, 3)
@@ -101,7 +106,7 @@ def paused(folder):
     rows = checked(os.path.join(folder, "shelf.toml"), os.path.join(folder, "standby.journal"))
     if "DS0-1-1,DS0-2-1:1WAY" not in rows or changed.text.count(b"COMPLD") != 4:
         sys.exit(f"a standby that was stopped has {rows!r}")
-    return listed + 0.2, waited + listed + 0.2
+    return listed, waited + listed + 0.2
 
 
 def killed_standby(folder):
@@ -176,7 +181,7 @@ def main():
     trial(killed_standby)
     trial(killed_primary)
     listed, waited = trial(paused)
-    print(f"standbys lost: stopped (a change waited {waited:.1f} s for it, a retrieval {listed:.1f} s), killed, and cut off behind {cuts} pieces; both ends said so")
+    print(f"standbys lost: stopped (a change waited {waited:.1f} s for it, a retrieval {1000 * listed:.0f} ms), killed, and cut off behind {cuts} pieces; both ends said so")
 
 
 if __name__ == "__main__":

@@ -5,6 +5,7 @@ usage: bench/run stress outside_world [POINT..]     (all of them where none is n
 peer         a PEER that doesn't answer a call holds a start up for seconds, not minutes
 check        `check` changes no byte of any file and runs beside a server; nothing but a journal or its beginning becomes one
 sync         a disk whose sync failed refuses every change until the program is started anew, and then has all that was answered
+waiting      while a change waits for a disk's sync, nobody else does who only reads
 dead         callers whose machines are gone are let go within two minutes, silent ones and ones with answers on their way
 full         the seventeenth caller is told so and let go, and comes in once a place is free
 slow         a caller that takes nothing is given up after ten seconds
@@ -169,7 +170,7 @@ def check(folder):
 
 def sync(folder):
     failing = os.path.join(folder, "failing")
-    world = dict(os.environ, LD_PRELOAD=library("failing_sync", folder), FAILING=failing)
+    world = dict(os.environ, LD_PRELOAD=library("syncs", folder), FAILING=failing)
     script = [PROGRAM, "script", "shelf.toml", "j"]
     session = subprocess.Popen(script, cwd=folder, env=world, stdin=subprocess.PIPE, stdout=subprocess.PIPE, bufsize=0)
 
@@ -195,6 +196,40 @@ def sync(folder):
         session.communicate()
     expect("DENY" not in run(folder, ["script", "shelf.toml", "j"], LOG_IN + b"INIT-SYS:::4;ENT-CRS-T0::DS0-1-2,DS0-2-2:5;")[1], "a new start didn't go on")
     return "refused until it was started anew"
+
+
+def waiting(folder):
+    slow = os.path.join(folder, "slow")
+    world = dict(os.environ, LD_PRELOAD=library("syncs", folder), SLOW=slow)
+    asked = {
+        "a retrieval": b"RTRV-CRS-T0::ALL:3;",
+        "what stands of the system": b"RTRV-SYS:::4;",
+        "a unit that is no command": b"ENT CRS;",
+        "a command of no such port": b"ENT-CRS-T0::DS0-99-1,DS0-2-1:5;",
+        "a look": b"ALW-MSG-ALL:::6;",
+    }
+    with Element(folder, env=world) as server, server.call() as changer, server.call() as reader, server.call() as late:
+        expect(is_served(changer) and is_served(reader), "no log-in")
+        write(slow, b"")
+        changer.sendall(ENTRY)
+        time.sleep(0.3)
+        longest = 0.0
+        for what, unit in [*asked.items(), *asked.items()]:
+            started = time.monotonic()
+            answer(reader, unit)
+            took = time.monotonic() - started
+            expect(took < 0.05, f"{what} took {took:.2f} s")
+            longest = max(longest, took)
+        started = time.monotonic()
+        expect(is_served(late), "no log-in beside a slow disk")
+        took = time.monotonic() - started
+        expect(took < 0.05, f"a log-in took {took:.2f} s")
+        started = time.monotonic()
+        expect("COMPLD" in answer(changer, b"") or "COMPLD" in changer.recv(65536).decode(), "the change wasn't made")
+        waited = time.monotonic() - started
+        expect(waited > 1, f"the disk was not slow: {waited:.2f} s")
+        os.remove(slow)
+    return f"a reader waited {1000 * max(longest, took):.0f} ms at most, a change {waited:.1f} s"
 
 
 def lose(caller):
@@ -376,7 +411,7 @@ def users(folder):
     return f"{len(edits)} edits told by name, the way back taken"
 
 
-POINTS = (peer, check, sync, dead, full, slow, descriptors, told, users, lines)
+POINTS = (peer, check, sync, waiting, dead, full, slow, descriptors, told, users, lines)
 
 
 def tried(point):
