@@ -6,6 +6,7 @@ peer         a PEER that doesn't answer a call holds a start up for seconds, not
 check        `check` changes no byte of any file and runs beside a server; nothing but a journal or its beginning becomes one
 sync         a disk whose sync failed refuses every change until the program is started anew, and then has all that was answered
 waiting      while a change waits for a disk's sync, nobody else does who only reads
+guesses      after three denied log-ins in a row each further one takes a second, also of who hangs up and calls again, and nobody else's does
 dead         callers whose machines are gone are let go within two minutes, silent ones and ones with answers on their way
 full         the seventeenth caller is told so and let go, and comes in once a place is free
 slow         a caller that takes nothing is given up after ten seconds
@@ -232,6 +233,30 @@ def waiting(folder):
     return f"a reader waited {1000 * max(longest, took):.0f} ms at most, a change {waited:.1f} s"
 
 
+def guesses(folder):
+    wrong = b"ACT-USER::ANNA:2::cb;"
+
+    def took(caller, unit, code):
+        started = time.monotonic()
+        said = answer(caller, unit)
+        expect(code in said, f"{unit.decode()} was answered {said!r}")
+        return time.monotonic() - started
+
+    with Element(folder) as server, contextlib.ExitStack() as held:
+        # So that one place is left, which whoever calls next has.
+        others = [held.enter_context(server.call()) for _ in range(PLACES - 1)]
+        expect(all(map(is_served, others)), "not all are served")
+        with server.call() as guesser:
+            quick = max(took(guesser, wrong, "DENY") for _ in range(3))
+            slow = min(took(guesser, wrong, "DENY") for _ in range(2))
+        time.sleep(0.5)
+        with server.call() as again:
+            slow = min(slow, took(again, LOG_IN, "COMPLD"))
+            quick = max(quick, took(again, b"CANC-USER:::3;", "COMPLD"), took(again, LOG_IN, "COMPLD"))
+    expect(quick < 0.5 and slow > 0.9, f"quick ones took {quick:.2f} s, slow ones {slow:.2f} s")
+    return f"each further one took {slow:.1f} s"
+
+
 def lose(caller):
     """From here on nothing comes to the caller, and so nothing is acknowledged."""
     program = ctypes.create_string_buffer(DROP_ALL)
@@ -411,7 +436,7 @@ def users(folder):
     return f"{len(edits)} edits told by name, the way back taken"
 
 
-POINTS = (peer, check, sync, waiting, dead, full, slow, descriptors, told, users, lines)
+POINTS = (peer, check, sync, waiting, guesses, dead, full, slow, descriptors, told, users, lines)
 
 
 def tried(point):
