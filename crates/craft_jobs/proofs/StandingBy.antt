@@ -10,7 +10,7 @@ use Rattle.dxc_outside.specs.Links.{LinkState}
 use Rattle.dxc_outside.specs.declared.listener.Came.{Came}
 use Rattle.dxc_outside.specs.declared.listener.Came.TheVariants.{Link, End, Failed}
 use Rattle.standby_link.specs.declared.end.StandbyEnd.{StandbyEnd}
-use Rattle.standby_link.specs.Serves.{IsPrompt, bytes_in}
+use Rattle.standby_link.specs.Serves.{bytes_in}
 use Rattle.craft_jobs.specs.Counts.{RoseBy}
 use Rattle.craft_words.specs.declared.status.Status.{Status}
 use Rattle.craft_jobs.specs.Missing.{IsOfNoOpening}

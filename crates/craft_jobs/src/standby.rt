@@ -108,11 +108,7 @@ enum Met<K> {
 
 // Serves callers one after another, up to the first that leaves something in the copy, or sends what no primary does. Who leaves nothing, as a
 // port scan, is passed over.
-fn primary_of<L: Listener, D: Disk, R: Wait>(
-    listener: &mut L,
-    disk: &mut D,
-    rt: &R,
-) -> Met<L::Link>
+fn primary_of<L: Listener, D: Disk, R: Wait>(listener: &mut L, disk: &mut D, rt: &R) -> Met<L::Link>
     ensures { MetAt (doorway D.Disk L.Listener L.Link.Link) disk listener result }
 {
     for _ in rt.forever() {
@@ -138,10 +134,8 @@ fn serve_caller<K: Link, D: Disk>(link: &mut K, disk: &mut D) -> Option<StandbyE
             Ok(0) => None,
             Ok(_) | Err(_) => Some(end),
         },
-        StandbyEnd::BadMessage
-        | StandbyEnd::DiskFault
-        | StandbyEnd::NotEmpty
-        | StandbyEnd::Spent => Some(end),
+        StandbyEnd::BadMessage | StandbyEnd::DiskFault | StandbyEnd::NotEmpty | StandbyEnd::Spent =>
+            Some(end),
     }
 }
 
