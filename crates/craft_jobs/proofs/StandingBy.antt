@@ -14,7 +14,7 @@ use Rattle.standby_link.specs.Serves.{bytes_in}
 use Rattle.craft_jobs.specs.Counts.{RoseBy}
 use Rattle.craft_words.specs.declared.status.Status.{Status}
 use Rattle.craft_jobs.specs.Missing.{IsOfNoOpening}
-use Rattle.craft_jobs.specs.Standbys.{Ends, IsFirst, IsUnopened, Meets, Passed, Serves, ServesOrPasses, Stands, one_more, read_in, status_of_stood, stood_asked}
+use Rattle.craft_jobs.specs.Standbys.{Ends, IsFirst, IsUnopened, Meets, Passed, ServesOrPasses, Stays, Stands, one_more, read_in, status_of_stood, stood_asked}
 use Rattle.craft_jobs.specs.declared.standby.Met.{Met}
 use Rattle.craft_jobs.specs.declared.standby.Met.TheVariants.{Nobody, NoneHeard, Served as ServedMet}
 use Rattle.craft_jobs.specs.declared.stood.Stood.{Stood}
@@ -32,11 +32,11 @@ no_disk_fault disk_told link_told k k' d d' end (inr served) counts sound rose =
 
 module _ (disk_told listener_told link_told : Type 0) {D L K : Type 0} (disk : D → DiskState) (listener : L → ListenerState K) (link : K → LinkState) (begun : LinkState → Type 0) (d : D) (l : L) (copy : D) (door new_door : L) (passed : Passed disk_told listener_told link_told disk listener link begun d l copy door) where
   -- after those who were passed over, one was served
-  pub served_one : (first : Came K) (caller served : K) (new_copy : D) (end : StandbyEnd) → first ≡ Link caller → IsFirst listener_told link (listener door) (listener new_door) first → Serves disk_told link_told disk link begun caller served copy new_copy end
+  pub served_one : (first : Came K) (caller served : K) (new_copy : D) (end : StandbyEnd) → first ≡ Link caller → IsFirst listener_told link (listener door) (listener new_door) first → Stays disk_told link_told disk link begun caller served copy new_copy end
       → Meets disk_told listener_told link_told disk listener link begun d l new_copy new_door (ServedMet served end)
-  served_one first caller served new_copy end is came serves =
+  served_one first caller served new_copy end is came stays =
       let one = subst (λ (f : Came K). IsFirst listener_told link (listener door) (listener new_door) f) is came in
-      (copy, door, passed, record { caller = caller; first = one.coming; is_sound = one.sound; serves = serves })
+      (copy, door, passed, record { caller = caller; first = one.coming; is_sound = one.sound; stays = stays })
 
   -- one more was passed over
   pub passed_one : (first : Came K) (caller left : K) (new_copy : D) → first ≡ Link caller → IsFirst listener_told link (listener door) (listener new_door) first → ServesOrPasses disk_told link_told disk link begun caller left copy new_copy None

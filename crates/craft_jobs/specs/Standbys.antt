@@ -111,9 +111,14 @@ module _ (disk_told link_told : Type 0) {D K : Type 0} (disk : D → DiskState) 
     pub goes_on : MayGoOn end
     pub empty : disk_told → (disk d').reads_as ≡ []
 
+  -- It left something, or ended so that nobody else is let in; else the disk failed to tell its length.
+  pub record Stays (k k' : K) (d d' : D) (end : StandbyEnd) : Type 0 where
+    pub serves : Serves k k' d d' end
+    pub last : disk_told → MayGoOn end → (disk d').reads_as ≡ [] → Rose (disk serves.served).faults (disk d').faults
+
   -- one or the other
   abbrev pub ServesOrPasses : (k k' : K) (d d' : D) → Option StandbyEnd → Type 0
-  ServesOrPasses k k' d d' (Some end) = Serves k k' d d' end
+  ServesOrPasses k k' d d' (Some end) = Stays k k' d d' end
   ServesOrPasses k k' d d' None = (end : StandbyEnd) × Passes k k' d d' end
 
 module _ (disk_told listener_told link_told : Type 0) {D L K : Type 0} (disk : D → DiskState) (listener : L → ListenerState K) (link : K → LinkState) (begun : LinkState → Type 0) where
@@ -127,7 +132,7 @@ module _ (disk_told listener_told link_told : Type 0) {D L K : Type 0} (disk : D
     pub caller : K
     pub first : listener_told → l.coming ≡ caller ∷ (listener new_door).coming
     pub is_sound : IsTrue l.sound → IsSoundLink (link caller)
-    pub serves : Serves disk_told link_told disk link begun caller new_caller d new_disk end
+    pub stays : Stays disk_told link_told disk link begun caller new_caller d new_disk end
 
   -- the listener said End before a link came
   pub record NobodyCame (l : ListenerState K) (new_door : L) : Type 0 where
