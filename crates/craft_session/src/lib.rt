@@ -7,6 +7,7 @@ mod attending;
 mod change;
 mod desk;
 mod end;
+mod guesses;
 mod lent;
 mod meaning;
 mod mend;
