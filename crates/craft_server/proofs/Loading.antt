@@ -126,6 +126,7 @@ module _ (told users_told : Type 0) {D U : Type 0} (state : D → DiskState) (us
         users_opened = subst (λ (file : List ℕ). IsUsersOpening users_told file el.shelf p) el.users_fresh.content el.users_started.opening;
         link = s.link;
         wrote = seen.0;
+        prompt = served.prompt;
         own = s.link.carrier.own ∙ fabric_row.the_row.coded.inj (fabric_of s.link) fabric seen.0.exchanged.lasting;
         all_read = served.all_read;
         left = left_alone o h (stock_in v) (subst (λ (n : ℕ). IsLeft n 1 o h (stock_in v)) served.seat.1 (subst (λ (n : ℕ). IsLeft seat.place n o h (stock_in v)) served.seat.2 (left h seen.1)));

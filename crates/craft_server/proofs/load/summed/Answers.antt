@@ -25,6 +25,7 @@ returns-clause-summed g c = record {
     denied = c.codes_in.ensures.denied ∙ ap (coded_in deny) c.written.ensures;
     frames = c.carried.ensures.frames c.in-Ok.ensures.served.ended;
     carried = c.carried.ensures.value;
+    each = c.carried.ensures.each c.in-Ok.ensures.served.ended;
   };
 }
 
