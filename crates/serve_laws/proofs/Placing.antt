@@ -1,7 +1,8 @@
 -- All places: the jobs that were handed out, the sessions of each, and the one element.
-use Rattle.std.proofs.Common.{◌≡◌, ◌⊎◌, ◌<◌, ◌≤◌, ◌+◌, ℕ, zero, suc, Bool, true, false, arith, List, [], ◌∷◌, ◌++◌, length, map, Option, Some, None, IsTrue, refl, sym, ◌∙◌, ap, subst, inl, inr}
+use Rattle.std.proofs.Common.{◌≡◌, ◌⊎◌, ◌<◌, ◌≤◌, ◌+◌, ℕ, zero, suc, Bool, true, false, arith, List, [], ◌∷◌, ◌++◌, length, map, Some, option_map, IsTrue, refl, sym, ◌∙◌, ap, subst, inl, inr}
 use Rattle.std.specs.List.{AllByRecursion, slice_get}
 use Rattle.std.proofs.lemmas.Bool.Decides.{leb_tells}
+use Rattle.std.proofs.lemmas.Option.{slice_get-map}
 use base.Stored.{Gv}
 use Rattle.turnstile.specs.Laws.{HasSeen}
 use Rattle.turnstile.specs.Turning.{Each}
@@ -32,12 +33,7 @@ use Rattle.serve_laws.proofs.Serving.{Lived, all_along, heard_along, lived}
 
 -- what a list has at a place, its image has there
 pub get_map : {A B : Type 0} (f : A → B) (xs : List A) (k : ℕ) (x : A) → slice_get xs k ≡ Some x → slice_get (map f xs) k ≡ Some (f x)
-get_map f [] k x e = let no : None ≡ Some x = e in cc
-get_map f (y ∷ ys) zero x e =
-    let there : Some y ≡ Some x = e in
-    let same : y ≡ x = cc in
-    ap (λ z. Some (f z)) same
-get_map f (y ∷ ys) (suc k) x e = get_map f ys k x e
+get_map f xs k x e = slice_get-map f xs k ∙ ap (option_map f) e
 
 pub map_length : {A B : Type 0} (f : A → B) (xs : List A) → length (map f xs) ≡ length xs
 map_length f [] = refl
@@ -86,19 +82,19 @@ module _ (w : World) (s : Contents) (o : Opening) (p : UsersOpening) (t : Turnst
       record { job = x.job; is = x.is; left = x.left; left_is = x.left_is; there = x.there ∙ ap (place_at s o p t) same; done = x.done; ran = x.ran }
 
   module _ (jobs : List (Job w)) (lefts : List PlaceAt) (sixteen : length jobs ≡ 16) (places : ArePlaces s o p t 0 (map (λ (j : Job w). j.place) jobs)) (ran : AreRan (left_by (Ran w)) jobs lefts) where
-    at : (k : ℕ) → k < 16 → RanAs jobs lefts k k
-    at k lt = subst (λ (n : ℕ). RanAs jobs lefts k n) (omega arith) (ran_from 0 jobs lefts places ran k (omega (arith, lt, sixteen)))
+    ran_at : (k : ℕ) → k < 16 → RanAs jobs lefts k k
+    ran_at k lt = subst (λ (n : ℕ). RanAs jobs lefts k n) (omega arith) (ran_from 0 jobs lefts places ran k (omega (arith, lt, sixteen)))
 
-    abbrev from : (k : ℕ) → k < 16 → Standing w.office.Gate
-    from k lt = let x = at k lt in standing x.job.place (w.means.clock.coming x.job.clock) x.job.gate
+    abbrev first_at : (k : ℕ) → k < 16 → Standing w.office.Gate
+    first_at k lt = let x = ran_at k lt in standing x.job.place (w.uses.clock.coming x.job.clock) x.job.gate
 
-    abbrev to : (k : ℕ) → k < 16 → Standing w.office.Gate
-    to k lt = let x = at k lt in standing x.left (w.means.clock.coming x.done.clock) x.done.gate
+    abbrev last_at : (k : ℕ) → k < 16 → Standing w.office.Gate
+    last_at k lt = let x = ran_at k lt in standing x.left (w.uses.clock.coming x.done.clock) x.done.gate
 
-    place_lived : (k : ℕ) (lt : k < 16) → Lived w.disk.told w.means.clock.told w.office.link.told w.office.link.state w.office.link.begun w.means.gate.stops w.means.gate.asked s o k p (from k lt) (at k lt).ran.served.callers (to k lt) (at k lt).ran.served.served
+    place_lived : (k : ℕ) (lt : k < 16) → Lived w.disk.told w.uses.clock.told w.office.link.told w.office.link.state w.office.link.begun w.uses.gate.stops w.uses.gate.asked s o k p (first_at k lt) (ran_at k lt).ran.served.callers (last_at k lt) (ran_at k lt).ran.served.served
     place_lived k lt =
-        let x = at k lt in
-        lived w.disk.told w.means.clock.told w.office.link.told w.office.link.state w.office.link.begun w.means.gate.stops w.means.gate.asked s o k p (from k lt) (to k lt) x.ran.served.callers x.ran.served.served
+        let x = ran_at k lt in
+        lived w.disk.told w.uses.clock.told w.office.link.told w.office.link.state w.office.link.begun w.uses.gate.stops w.uses.gate.asked s o k p (first_at k lt) (last_at k lt) x.ran.served.callers x.ran.served.served
         (ap (λ (q : PlaceAt). q.shelf) x.there, ap (λ (q : PlaceAt). q.seat.opening) x.there, ap (λ (q : PlaceAt). q.seat.place) x.there, ap (λ (q : PlaceAt). q.users.opening) x.there)
         (ap (λ (q : PlaceAt). q.seat.seen) x.there) (ap (λ (q : PlaceAt). q.users.seen) x.there)
 
@@ -119,7 +115,7 @@ module _ (w : World) (s : Contents) (o : Opening) (p : UsersOpening) (t : Turnst
     pub served_at : (k : ℕ) → k < 16 → IsServedAt w jobs lefts k (sessions k) (hearings k)
     unfolding sessions hearings
     served_at k lt = elim (compared k 16) as (λ d. IsServedAt w jobs lefts k (sessions_by k d) (hearings_by k d)) [
-      | inl below ↦ (let x = at k below in let l = place_lived k below in record { job = x.job; is = x.is; left = x.left; left_is = x.left_is; done = x.done; ran = x.ran; written = l.written; heard = l.heard_in })
+      | inl below ↦ (let x = ran_at k below in let l = place_lived k below in record { job = x.job; is = x.is; left = x.left; left_is = x.left_is; done = x.done; ran = x.ran; written = l.written; heard = l.heard_in })
       | inr ge ↦ absurd (omega (arith, lt, ge))
     ]
 
@@ -135,7 +131,7 @@ module _ (w : World) (s : Contents) (o : Opening) (p : UsersOpening) (t : Turnst
       lives_each : (k : ℕ) → k < 16 → Lives (language s) k o.first.fold.table (began o.due) (began o.due ++ history) (sessions k)
       unfolding sessions
       lives_each k lt = elim (compared k 16) as (λ d. Lives (language s) k o.first.fold.table (began o.due) (began o.due ++ history) (sessions_by k d)) [
-        | inl below ↦ (let x = at k below in all_along w.disk.told w.means.clock.told w.office.link.told w.office.link.state w.office.link.begun w.means.gate.stops w.means.gate.asked s o k p (from k below) x.ran.served.callers (to k below) x.ran.served.served history (place_lived k below) (seen k x.left x.left_is))
+        | inl below ↦ (let x = ran_at k below in all_along w.disk.told w.uses.clock.told w.office.link.told w.office.link.state w.office.link.begun w.uses.gate.stops w.uses.gate.asked s o k p (first_at k below) x.ran.served.callers (last_at k below) x.ran.served.served history (place_lived k below) (seen k x.left x.left_is))
         | inr ge ↦ absurd (omega (arith, lt, ge))
       ]
 
@@ -148,7 +144,7 @@ module _ (w : World) (s : Contents) (o : Opening) (p : UsersOpening) (t : Turnst
       listens_each : (k : ℕ) → k < 16 → Listens (language s) k p history (hearings k)
       unfolding hearings
       listens_each k lt = elim (compared k 16) as (λ d. Listens (language s) k p history (hearings_by k d)) [
-        | inl below ↦ (let x = at k below in heard_along w.disk.told w.means.clock.told w.office.link.told w.office.link.state w.office.link.begun w.means.gate.stops w.means.gate.asked s o k p (from k below) x.ran.served.callers (to k below) x.ran.served.served history (place_lived k below) (seen k x.left x.left_is))
+        | inl below ↦ (let x = ran_at k below in heard_along w.disk.told w.uses.clock.told w.office.link.told w.office.link.state w.office.link.begun w.uses.gate.stops w.uses.gate.asked s o k p (first_at k below) x.ran.served.callers (last_at k below) x.ran.served.served history (place_lived k below) (seen k x.left x.left_is))
         | inr ge ↦ absurd (omega (arith, lt, ge))
       ]
 

@@ -260,4 +260,3 @@ module _ (disk_told clock_told link_told : Type 0) {K G : Type 0} (link : K → 
       let here : x.users_history ≡ seen.begun = same_user_codes x.users_history seen.begun (sym x.users_saw ∙ seen.codes) in
       let whole : x.users_history ++ seen.later ≡ history = ap (λ (g : List UserEntry). g ++ seen.later) here ∙ seen.whole in
       subst (λ (g : List UserEntry). Listens (language s) own us g x.hearings) whole (others_asked_on (language s) own us x.users_history seen.later x.hearings x.listens seen.others)
-

@@ -82,5 +82,5 @@ pub headline : (w : World) (handed : List AnyJob → Type 0) (site : SiteAt) (s 
     → IsOneElement w s o p j.sessions j.left.left.sessions.items e.state e.users × IsHitlessFabric w o j.workers j.left.left.workers.items e.fabric
 headline w handed site s o p j e = (
   one_element w s o p j.places.turnstiles j.sessions j.left.left.sessions.items j.left.left.workers.items j.sixteen j.places.each j.left.of_sessions e,
-  record { core = core_of o.site.fabric.size e.fabric e.of_fabric; frames = all_own w.means.lines w.means.gate w.office.opener.lines_for o.site.fabric site.lines e.fabric e.of_fabric 0 j.workers j.left.left.workers.items j.seats j.left.of_workers e.of_seats },
+  record { core = core_of o.site.fabric.size e.fabric e.of_fabric; frames = all_own w.uses.lines w.uses.gate w.office.opener.lines_for o.site.fabric site.lines e.fabric e.of_fabric 0 j.workers j.left.left.workers.items j.seats j.left.of_workers e.of_seats },
 )

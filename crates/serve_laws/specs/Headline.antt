@@ -54,10 +54,10 @@ LeavesChanges told state o h Out = Unit {0}
 
 -- what the seats of places have seen
 abbrev pub seen_by : List PlaceAt → List (List Gv)
-seen_by = map (λ p. p.seat.seen)
+seen_by = map (λ (p : PlaceAt). p.seat.seen)
 
 abbrev pub users_seen_by : List PlaceAt → List (List Gv)
-users_seen_by = map (λ p. p.users.seen)
+users_seen_by = map (λ (p : PlaceAt). p.users.seen)
 
 module _ (w : World) where
   abbrev pub Lying : Type 0
@@ -103,15 +103,10 @@ module _ (w : World) where
   -- The fabric's state is a hitless one that the core's events reach, and each frame that workers wrote was carried over its connections.
   pub record IsHitlessFabric (o : Opening) (workers : List (Frames w)) (seats : List FramesLeft) (fabric : TableState Aim FabricView) : Type 0 where
     pub core : IsCore o.site.fabric.size fabric
-    pub frames : AreRan (CarriedOwn w.means.lines w.means.gate core.core) workers seats
+    pub frames : AreRan (CarriedOwn w.uses.lines w.uses.gate core.core) workers seats
 
   module _ {P : Type 0} (handed : P → P → List AnyJob → Type 0) where
-    -- Whatever jobs a server was handed, and at whatever states its turnstiles and its fabric may then be
-    abbrev pub ServesAsOne : Type 0
-    ServesAsOne = (old new : P) (site : SiteAt) (s : Contents) (o : Opening) (p : UsersOpening) (j : Jobs w (handed old new) site s o p)
-        → (e : IsEnd o p j.places.turnstiles j.left.left.sessions.items j.left.left.workers.items)
-        → IsOneElement s o p j.sessions j.left.left.sessions.items e.state e.users
-
+    -- Whatever jobs a server was handed, and at whatever such states
     abbrev pub IsHeadline : Type 0
     IsHeadline = (old new : P) (site : SiteAt) (s : Contents) (o : Opening) (p : UsersOpening) (j : Jobs w (handed old new) site s o p)
         → (e : IsEnd o p j.places.turnstiles j.left.left.sessions.items j.left.left.workers.items)

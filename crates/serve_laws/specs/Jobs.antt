@@ -39,11 +39,11 @@ pub record World : Type 1 where
   pub Disk : Type 0
   pub office : Office Opener
   pub disk : DiskOf Disk
-  pub means : Means office.Lines office.Clock office.Gate
+  pub uses : Means office.Lines office.Clock office.Gate
   pub gone : AnyValue → Type 0
 
 abbrev pub world : {O D : Type 0} (w : Office O) → DiskOf D → Means w.Lines w.Clock w.Gate → (AnyValue → Type 0) → World
-world {O} {D} w d m gone = record { Opener = O; Disk = D; office = w; disk = d; means = m; gone = gone }
+world {O} {D} w d m gone = record { Opener = O; Disk = D; office = w; disk = d; uses = m; gone = gone }
 
 module _ (w : World) where
   abbrev pub Job : Type 0
@@ -57,10 +57,10 @@ module _ (w : World) where
 
   -- what came of a session job
   abbrev pub Ran : Job → Done → PlaceAt → Type 0
-  Ran = RanAt w.disk.told w.office.listener w.office.link w.means.clock w.means.gate
+  Ran = RanAt w.disk.told w.office.listener w.office.link w.uses.clock w.uses.gate
 
   abbrev pub told_of : (List AnyJob → Type 0) → JobsTold w.office.Lines w.office.Listener w.office.Clock w.office.Gate
-  told_of handed = jobs_told w.disk.told w.office.opener w.means.lines w.office.listener w.office.link w.means.clock w.means.gate w.gone handed
+  told_of handed = jobs_told w.disk.told w.office.opener w.uses.lines w.office.listener w.office.link w.uses.clock w.uses.gate w.gone handed
 
   -- the jobs that `dxc_run` handed to the spawner and to no one else, each of which has run, for a line that ended with Done
   abbrev pub Jobs : (List AnyJob → Type 0) → SiteAt → Contents → Opening → UsersOpening → Type 0
@@ -75,5 +75,5 @@ module _ (w : World) where
     pub left_is : slice_get lefts k ≡ Some left
     pub done : Done
     pub ran : Ran job done left
-    pub written : AreWritten w.office.link.told w.office.link.state (links_in w.disk.told w.means.clock.told w.office.link.told w.office.link.state w.office.link.begun w.means.gate.stops w.means.gate.asked (standing job.place (w.means.clock.coming job.clock) job.gate) ran.served.callers (standing left (w.means.clock.coming done.clock) done.gate) ran.served.served) ss
+    pub written : AreWritten w.office.link.told w.office.link.state (links_in w.disk.told w.uses.clock.told w.office.link.told w.office.link.state w.office.link.begun w.uses.gate.stops w.uses.gate.asked (standing job.place (w.uses.clock.coming job.clock) job.gate) ran.served.callers (standing left (w.uses.clock.coming done.clock) done.gate) ran.served.served) ss
     pub heard : AreHeardIn ss hs
