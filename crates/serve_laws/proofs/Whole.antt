@@ -6,6 +6,7 @@ use Rattle.turnstile.specs.Laws.{HasSeen}
 use Rattle.turnstile.specs.Turning.{Each}
 use Rattle.dxc_outside.specs.Jobs.{AnyJob}
 use Rattle.dxc_model.specs.declared.entry.Entry.{Entry}
+use Rattle.frame_worker.specs.Laws.{AreOwnBytes}
 use Rattle.shelf_file.specs.Contents.{Contents}
 use Rattle.user_admin.specs.declared.op.UserEntry.{UserEntry}
 use Rattle.user_admin.specs.Coding.{entry_coded as user_coded, place_of as user_place_of}
@@ -78,9 +79,9 @@ module _ (w : World) (s : Contents) (o : Opening) (p : UsersOpening) (t : Turnst
     crash = leaves_changes w.disk.told w.disk.state o lies.state.value (began o.due ++ h) stands;
   }
 
-pub headline : (w : World) (handed : List AnyJob → Type 0) (site : SiteAt) (s : Contents) (o : Opening) (p : UsersOpening) (j : Jobs w handed site s o p) (e : IsEnd w o p j.places.turnstiles j.left.left.sessions.items j.left.left.workers.items)
+pub headline : AreOwnBytes → (w : World) (handed : List AnyJob → Type 0) (site : SiteAt) (s : Contents) (o : Opening) (p : UsersOpening) (j : Jobs w handed site s o p) (e : IsEnd w o p j.places.turnstiles j.left.left.sessions.items j.left.left.workers.items)
     → IsOneElement w s o p j.sessions j.left.left.sessions.items e.state e.users × IsHitlessFabric w o j.workers j.left.left.workers.items e.fabric
-headline w handed site s o p j e = (
+headline own_bytes w handed site s o p j e = (
   one_element w s o p j.places.turnstiles j.sessions j.left.left.sessions.items j.left.left.workers.items j.sixteen j.places.each j.left.of_sessions e,
-  record { core = core_of o.site.fabric.size e.fabric e.of_fabric; frames = all_own w.uses.lines w.uses.gate w.office.opener.lines_for o.site.fabric site.lines e.fabric e.of_fabric 0 j.workers j.left.left.workers.items j.seats j.left.of_workers e.of_seats },
+  record { core = core_of o.site.fabric.size e.fabric e.of_fabric; frames = all_own own_bytes w.uses.lines w.uses.gate w.office.opener.lines_for o.site.fabric site.lines e.fabric e.of_fabric 0 j.workers j.left.left.workers.items j.seats j.left.of_workers e.of_seats },
 )
