@@ -23,7 +23,7 @@ use Rattle.xc_core.specs.States.{Opening, faults_in, opening_of}
 use Rattle.craft_session.specs.declared.end.SessionEnd.{SessionEnd}
 use Rattle.craft_session.specs.declared.end.SessionEnd.TheVariants.{End, Spent}
 use Rattle.craft_session.specs.Meanings.{language}
-use Rattle.craft_session.specs.Places.{place_at}
+use Rattle.craft_session.specs.Places.{IsLonePlace, place_at}
 use Rattle.craft_session.specs.Seats.{PlaceAt, SeatAt, seat_at}
 use Rattle.craft_session.proofs.Scripts.{script_seen}
 use Rattle.dxc_load.specs.declared.disk.LoadDisk.{LoadDisk}
@@ -111,20 +111,21 @@ module _ (told users_told : Type 0) {D U : Type 0} (state : D → DiskState) (us
   p = users_opening users_state x.users
 
   -- a session on the load's element, summed up
-  summed_on : (place : PlaceAt) (k : LinkState) (v : Summary) → place ≡ place_at (arc_value x.controller.shelf) o p 1 0 → k ≡ unread number (arc_value x.controller.fabric) → IsSummed told state place k v → IsLoadedOn told users_told state users_state number v
-  summed_on place k v is unread_is s =
+  summed_on : (place : PlaceAt) (k : LinkState) (v : Summary) → IsLonePlace (arc_value x.controller.shelf) o p place → k ≡ unread number (arc_value x.controller.fabric) → IsSummed told state place k v → IsLoadedOn told users_told state users_state number v
+  summed_on place k v lone unread_is s =
       let l = link_state s.link in
       let fabric = arc_value x.controller.fabric in
       let start = unread number fabric in
-      let first = place_at el.shelf o p 1 0 in
-      let at : place ≡ first = is ∙ ap (λ (y : Contents). place_at y o p 1 0) el.started.shelf in
+      let t = lone.turnstiles in
+      let first = place_at el.shelf o p t 0 in
+      let at : place ≡ first = lone.place ∙ ap (λ (y : Contents). place_at y o p t 0) el.started.shelf in
       let served = subst (λ (q : PlaceAt). IsLoadServed told q s.new start l) at (subst (λ (m : LinkState). IsLoadServed told place s.new m l) unread_is s.served) in
       let seen = script_seen told (Unit {0}) (Unit {0}) (state el.disk) (users_state el.users_disk) start l load_moments load_moments (language el.shelf) first.seat s.new.seat first.users s.new.users
-      (of_disk told state el.disk el.shelf 1 x.controller el.started) (users_of_disk users_told users_state el.users_disk el.shelf x.users el.users_started) refl refl refl served.seat.2 served.users.2 served.numbers served.users_numbers served.astray served.session in
+      (of_disk told state el.disk el.shelf 1 x.controller el.started) (users_of_disk users_told users_state el.users_disk el.shelf x.users el.users_started) refl refl refl (served.seat.2 ∙ lone.count) (served.users.2 ∙ lone.count) served.numbers served.users_numbers served.astray served.session in
       let seat = s.new.seat in
       let left = subst (λ (y : Opening). (h : List Entry) → Saw y seat.seen h → IsLeft state seat.place seat.places y h (stock_in v, s.disk)) served.seat.0 s.left in
       let h = seen.0.answered.walk.history in
-      let own = subst (λ (n : ℕ). IsLeft state n 1 o h (stock_in v, s.disk)) served.seat.1 (subst (λ (n : ℕ). IsLeft state seat.place n o h (stock_in v, s.disk)) served.seat.2 (left h seen.1)) in
+      let own = subst (λ (n : ℕ). IsLeft state n 1 o h (stock_in v, s.disk)) served.seat.1 (subst (λ (n : ℕ). IsLeft state seat.place n o h (stock_in v, s.disk)) (served.seat.2 ∙ lone.count) (left h seen.1)) in
       record {
         shelf = el.shelf;
         is_shelf = el.is_shelf;
@@ -147,6 +148,6 @@ module _ (told users_told : Type 0) {D U : Type 0} (state : D → DiskState) (us
         sum = s.sum;
       }
 
-  pub loaded_on : (place : PlaceAt) (k : LinkState) (stops later : ℕ) (r : Result Summary Status) → place ≡ place_at (arc_value x.controller.shelf) o p 1 0 → k ≡ unread number (arc_value x.controller.fabric) → MatchResult r (IsSummed told state place k) (NotLoaded stops later) → MatchResult r (IsLoadedOn told users_told state users_state number) (NotLoaded stops later)
-  loaded_on place k stops later (Ok v) is unread_is s = summed_on place k v is unread_is s
-  loaded_on place k stops later (Err e) is unread_is not = not
+  pub loaded_on : (place : PlaceAt) (k : LinkState) (stops later : ℕ) (r : Result Summary Status) → IsLonePlace (arc_value x.controller.shelf) o p place → k ≡ unread number (arc_value x.controller.fabric) → MatchResult r (IsSummed told state place k) (NotLoaded stops later) → MatchResult r (IsLoadedOn told users_told state users_state number) (NotLoaded stops later)
+  loaded_on place k stops later (Ok v) lone unread_is s = summed_on place k v lone unread_is s
+  loaded_on place k stops later (Err e) lone unread_is not = not

@@ -21,7 +21,7 @@ returns g c =
     let said = c.tell.ensures in
     record {
       shelf = said.shelf;
-      seat = (ap (λ (s : SeatAt). s.opening) said.seat ∙ looked.same.0, ap (λ (s : SeatAt). s.place) said.seat ∙ looked.same.1, ap (λ (s : SeatAt). s.places) said.seat ∙ looked.same.2);
+      seat = (ap (λ (s : SeatAt). s.opening) said.seat ∙ looked.same.0, ap (λ (s : SeatAt). s.place) said.seat ∙ looked.same.1, ap (λ (s : SeatAt). s.places) said.seat ∙ looked.same.2, ap (λ (s : SeatAt). s.turnstile) said.seat ∙ looked.same.3);
       users = said.users;
       reader = said.reader;
       link = record { out = said.told.wrote.part; wrote = said.told.wrote.wrote };

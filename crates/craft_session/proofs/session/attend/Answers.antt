@@ -21,8 +21,8 @@ returns-in-On g c =
     let next = c.report.ensures in
     record {
       shelf = next.shelf ∙ first.shelf;
-      seat = (next.seat.0 ∙ first.seat.0, next.seat.1 ∙ first.seat.1, next.seat.2 ∙ first.seat.2);
-      users = (ap (λ (u : UserDesk g.row.U.Denot). u.seat.opening) next.users ∙ first.users.0, ap (λ (u : UserDesk g.row.U.Denot). u.seat.place) next.users ∙ first.users.1, ap (λ (u : UserDesk g.row.U.Denot). u.seat.places) next.users ∙ first.users.2);
+      seat = (next.seat.0 ∙ first.seat.0, next.seat.1 ∙ first.seat.1, next.seat.2 ∙ first.seat.2, next.seat.3 ∙ first.seat.3);
+      users = (ap (λ (u : UserDesk g.row.U.Denot). u.seat.opening) next.users ∙ first.users.0, ap (λ (u : UserDesk g.row.U.Denot). u.seat.place) next.users ∙ first.users.1, ap (λ (u : UserDesk g.row.U.Denot). u.seat.places) next.users ∙ first.users.2, ap (λ (u : UserDesk g.row.U.Denot). u.seat.turnstile) next.users ∙ first.users.3);
       reader = next.reader ∙ first.reader;
       link = writes_more _ _ _ _ first.link next.link;
       goes = λ user k c1 b ahead at s.

@@ -20,8 +20,8 @@ use Rattle.craft_session.proofs.session.serve.Goals.{in-Bytes+in-On, in-Quiet+in
 pub loop-init : goal.loop-init
 loop-init g c = record {
   shelf = refl;
-  seat = (refl, refl, refl);
-  users = (refl, refl, refl);
+  seat = (refl, refl, refl, refl);
+  users = (refl, refl, refl, refl);
   stands = λ b at saw users. stands_none (language_for c.args.desk.now.attending.user (arc_value c.args.desk.now.shelf)) g.K.Link.told g.C.Clock.told (g.K.Link.state c.args.link.now) (g.C.Clock.coming c.args.clock.now) b (now c.args.desk.now) c.args.desk.now.reader saw users c.requires.begun c.requires.nothing_read;
   prompt = prompt_none (language_for c.args.desk.now.attending.user (arc_value c.args.desk.now.shelf)) g.K.Link.begun g.K.Link.told g.C.Clock.told (g.K.Link.state c.args.link.now) (g.C.Clock.coming c.args.clock.now) c.args.desk.now.seat c.args.desk.now.users.seat;
   gate = refl;
@@ -43,8 +43,8 @@ returns-in-Cut g c =
     let breaks = goes_cut_is _ _ _ _ _ _ _ _ _ _ _ _ _ c.in-Cut.is (moved_goes arc_value c.args.desk.now.attending.user g.K.Link.told g.C.Clock.told _ (g.K.Link.state c.serve_piece.new.link) (g.C.Clock.coming c.loop.clock) (g.C.Clock.coming c.serve_piece.new.clock) (now c.loop.desk) (now c.serve_piece.new.desk) false c.loop.desk.reader c.serve_piece.new.desk.reader c.serve_piece.result c.args.desk.now.shelf c.loop.desk.shelf c.args.desk.now.seat c.loop.desk.seat c.args.desk.now.users.seat c.loop.desk.users.seat _ [] c.loop.invariant.shelf c.loop.invariant.seat c.loop.invariant.users (c.serve_piece.ensures.goes c.args.desk.now.attending.user) _ _ b (refl, refl, refl, c.args.desk.now.same_place) (stands_piece _ _ _ _ _ _ _ _ _ _ _ _ _ _ (c.loop.invariant.stands b (refl, refl, refl, c.args.desk.now.same_place) h.1 p.1) c.in-Bytes.ensures.read (grind (arith, common_steps)))) in
     record {
       shelf = s.shelf ∙ c.loop.invariant.shelf;
-      seat = (s.seat.0 ∙ c.loop.invariant.seat.0, s.seat.1 ∙ c.loop.invariant.seat.1, s.seat.2 ∙ c.loop.invariant.seat.2);
-      users = (s.users.0 ∙ c.loop.invariant.users.0, s.users.1 ∙ c.loop.invariant.users.1, s.users.2 ∙ c.loop.invariant.users.2);
+      seat = (s.seat.0 ∙ c.loop.invariant.seat.0, s.seat.1 ∙ c.loop.invariant.seat.1, s.seat.2 ∙ c.loop.invariant.seat.2, s.seat.3 ∙ c.loop.invariant.seat.3);
+      users = (s.users.0 ∙ c.loop.invariant.users.0, s.users.1 ∙ c.loop.invariant.users.1, s.users.2 ∙ c.loop.invariant.users.2, s.users.3 ∙ c.loop.invariant.users.3);
       session = record { before = h.0; users_before = p.0; saw = h.1; users_saw = p.1; attending = _; session = breaks };
       prompt = prompt_more (language_for c.args.desk.now.attending.user (arc_value c.args.desk.now.shelf)) g.K.Link.begun g.K.Link.told g.C.Clock.told (g.K.Link.state c.args.link.now) (g.C.Clock.coming c.args.clock.now) c.args.desk.now.seat c.args.desk.now.users.seat (g.K.Link.state c.loop.link) (g.K.Link.state c.serve_piece.new.link) _ (g.C.Clock.coming c.loop.clock) (now c.loop.desk) c.loop.desk.reader c.loop.invariant.prompt c.in-Bytes.ensures.begun c.loop.invariant.stands c.in-Bytes.ensures.read.reads s.link.wrote.reads;
       end = ((λ is. write_no _ is refl), (λ ended. unheld _ going ended));
@@ -70,8 +70,8 @@ returns-in-Stopped g c =
     let going : (g.K.Link.state c.serve_piece.new.link).ended ≡ false = s.link.wrote.ended ∙ c.in-Bytes.ensures.read.ended in
     record {
       shelf = s.shelf ∙ c.loop.invariant.shelf;
-      seat = (s.seat.0 ∙ c.loop.invariant.seat.0, s.seat.1 ∙ c.loop.invariant.seat.1, s.seat.2 ∙ c.loop.invariant.seat.2);
-      users = (s.users.0 ∙ c.loop.invariant.users.0, s.users.1 ∙ c.loop.invariant.users.1, s.users.2 ∙ c.loop.invariant.users.2);
+      seat = (s.seat.0 ∙ c.loop.invariant.seat.0, s.seat.1 ∙ c.loop.invariant.seat.1, s.seat.2 ∙ c.loop.invariant.seat.2, s.seat.3 ∙ c.loop.invariant.seat.3);
+      users = (s.users.0 ∙ c.loop.invariant.users.0, s.users.1 ∙ c.loop.invariant.users.1, s.users.2 ∙ c.loop.invariant.users.2, s.users.3 ∙ c.loop.invariant.users.3);
       session = record { before = h.0; users_before = p.0; saw = h.1; users_saw = p.1; attending = _; session = goes_stopped_is _ _ _ _ _ _ _ _ _ _ _ _ _ c.in-Stopped.is (moved_goes arc_value c.args.desk.now.attending.user g.K.Link.told g.C.Clock.told _ (g.K.Link.state c.serve_piece.new.link) (g.C.Clock.coming c.loop.clock) (g.C.Clock.coming c.serve_piece.new.clock) (now c.loop.desk) (now c.serve_piece.new.desk) false c.loop.desk.reader c.serve_piece.new.desk.reader c.serve_piece.result c.args.desk.now.shelf c.loop.desk.shelf c.args.desk.now.seat c.loop.desk.seat c.args.desk.now.users.seat c.loop.desk.users.seat _ [] c.loop.invariant.shelf c.loop.invariant.seat c.loop.invariant.users (c.serve_piece.ensures.goes c.args.desk.now.attending.user) _ _ b (refl, refl, refl, c.args.desk.now.same_place) (stands_piece _ _ _ _ _ _ _ _ _ _ _ _ _ _ (c.loop.invariant.stands b (refl, refl, refl, c.args.desk.now.same_place) h.1 p.1) c.in-Bytes.ensures.read (grind (arith, common_steps)))) };
       prompt = prompt_more (language_for c.args.desk.now.attending.user (arc_value c.args.desk.now.shelf)) g.K.Link.begun g.K.Link.told g.C.Clock.told (g.K.Link.state c.args.link.now) (g.C.Clock.coming c.args.clock.now) c.args.desk.now.seat c.args.desk.now.users.seat (g.K.Link.state c.loop.link) (g.K.Link.state c.serve_piece.new.link) _ (g.C.Clock.coming c.loop.clock) (now c.loop.desk) c.loop.desk.reader c.loop.invariant.prompt c.in-Bytes.ensures.begun c.loop.invariant.stands c.in-Bytes.ensures.read.reads s.link.wrote.reads;
       end = ((λ is. stop_no _ is refl), (λ ended. unheld _ going ended));
@@ -152,8 +152,8 @@ loop-preserved g c =
     elim c.match-read.branch [
       | in-Bytes+in-On w ↦ rw (w.desk-is, w.link-is, w.clock-is, w.gate-is) (record {
         shelf = w.serve_piece.ensures.shelf ∙ c.loop.invariant.shelf;
-        seat = (w.serve_piece.ensures.seat.0 ∙ c.loop.invariant.seat.0, w.serve_piece.ensures.seat.1 ∙ c.loop.invariant.seat.1, w.serve_piece.ensures.seat.2 ∙ c.loop.invariant.seat.2);
-        users = (w.serve_piece.ensures.users.0 ∙ c.loop.invariant.users.0, w.serve_piece.ensures.users.1 ∙ c.loop.invariant.users.1, w.serve_piece.ensures.users.2 ∙ c.loop.invariant.users.2);
+        seat = (w.serve_piece.ensures.seat.0 ∙ c.loop.invariant.seat.0, w.serve_piece.ensures.seat.1 ∙ c.loop.invariant.seat.1, w.serve_piece.ensures.seat.2 ∙ c.loop.invariant.seat.2, w.serve_piece.ensures.seat.3 ∙ c.loop.invariant.seat.3);
+        users = (w.serve_piece.ensures.users.0 ∙ c.loop.invariant.users.0, w.serve_piece.ensures.users.1 ∙ c.loop.invariant.users.1, w.serve_piece.ensures.users.2 ∙ c.loop.invariant.users.2, w.serve_piece.ensures.users.3 ∙ c.loop.invariant.users.3);
         stands = λ b at saw users. goes_on_is _ _ _ _ _ _ _ _ _ _ _ _ w.in-On.is (moved_goes arc_value c.args.desk.now.attending.user g.K.Link.told g.C.Clock.told _ (g.K.Link.state w.serve_piece.new.link) (g.C.Clock.coming c.loop.clock) (g.C.Clock.coming w.serve_piece.new.clock) (now c.loop.desk) (now w.serve_piece.new.desk) false c.loop.desk.reader w.serve_piece.new.desk.reader w.serve_piece.result c.args.desk.now.shelf c.loop.desk.shelf c.args.desk.now.seat c.loop.desk.seat c.args.desk.now.users.seat c.loop.desk.users.seat _ [] c.loop.invariant.shelf c.loop.invariant.seat c.loop.invariant.users (w.serve_piece.ensures.goes c.args.desk.now.attending.user) _ _ b at (stands_piece _ _ _ _ _ _ _ _ _ _ _ _ _ _ (c.loop.invariant.stands b at saw users) w.in-Bytes.ensures.read (grind (arith, common_steps))));
         prompt = prompt_more (language_for c.args.desk.now.attending.user (arc_value c.args.desk.now.shelf)) g.K.Link.begun g.K.Link.told g.C.Clock.told (g.K.Link.state c.args.link.now) (g.C.Clock.coming c.args.clock.now) c.args.desk.now.seat c.args.desk.now.users.seat (g.K.Link.state c.loop.link) (g.K.Link.state w.serve_piece.new.link) _ (g.C.Clock.coming c.loop.clock) (now c.loop.desk) c.loop.desk.reader c.loop.invariant.prompt w.in-Bytes.ensures.begun c.loop.invariant.stands w.in-Bytes.ensures.read.reads w.serve_piece.ensures.link.wrote.reads;
         gate = w.serve_piece.ensures.unstopped (on_goes _ w.in-On.is) ∙ c.loop.invariant.gate;
@@ -165,8 +165,8 @@ loop-preserved g c =
       })
       | in-Quiet+in-On-report w ↦ rw (w.desk-is, w.link-is, w.clock-is, w.gate-is) (record {
         shelf = w.report.ensures.shelf ∙ c.loop.invariant.shelf;
-        seat = (w.report.ensures.seat.0 ∙ c.loop.invariant.seat.0, w.report.ensures.seat.1 ∙ c.loop.invariant.seat.1, w.report.ensures.seat.2 ∙ c.loop.invariant.seat.2);
-        users = (ap (λ (u : UserDesk g.row.U.Denot). u.seat.opening) w.report.ensures.users ∙ c.loop.invariant.users.0, ap (λ (u : UserDesk g.row.U.Denot). u.seat.place) w.report.ensures.users ∙ c.loop.invariant.users.1, ap (λ (u : UserDesk g.row.U.Denot). u.seat.places) w.report.ensures.users ∙ c.loop.invariant.users.2);
+        seat = (w.report.ensures.seat.0 ∙ c.loop.invariant.seat.0, w.report.ensures.seat.1 ∙ c.loop.invariant.seat.1, w.report.ensures.seat.2 ∙ c.loop.invariant.seat.2, w.report.ensures.seat.3 ∙ c.loop.invariant.seat.3);
+        users = (ap (λ (u : UserDesk g.row.U.Denot). u.seat.opening) w.report.ensures.users ∙ c.loop.invariant.users.0, ap (λ (u : UserDesk g.row.U.Denot). u.seat.place) w.report.ensures.users ∙ c.loop.invariant.users.1, ap (λ (u : UserDesk g.row.U.Denot). u.seat.places) w.report.ensures.users ∙ c.loop.invariant.users.2, ap (λ (u : UserDesk g.row.U.Denot). u.seat.turnstile) w.report.ensures.users ∙ c.loop.invariant.users.3);
         stands = λ b at saw users. subst (λ (r : Reader). Stands (language_for c.args.desk.now.attending.user (arc_value c.args.desk.now.shelf)) g.K.Link.told g.C.Clock.told (g.K.Link.state c.args.link.now) (g.K.Link.state w.report.new.link) (g.C.Clock.coming c.args.clock.now) (g.C.Clock.coming w.report.new.clock) b (now w.report.new.desk) false More r []) (sym w.report.ensures.reader)
             (goes_on_is _ _ _ _ _ _ _ _ _ _ _ _ w.in-On-report.is (moved_goes arc_value c.args.desk.now.attending.user g.K.Link.told g.C.Clock.told _ (g.K.Link.state w.report.new.link) (g.C.Clock.coming c.loop.clock) (g.C.Clock.coming w.report.new.clock) (now c.loop.desk) (now w.report.new.desk) (is_some c.loop.desk.attending.watch) c.loop.desk.reader c.loop.desk.reader w.report.result c.args.desk.now.shelf c.loop.desk.shelf c.args.desk.now.seat c.loop.desk.seat c.args.desk.now.users.seat c.loop.desk.users.seat [] [] c.loop.invariant.shelf c.loop.invariant.seat c.loop.invariant.users (λ k c1 b1. w.report.ensures.goes c.args.desk.now.attending.user k c1 b1 c.loop.desk.reader []) _ _ b at (stands_quiet _ _ _ _ _ _ _ _ _ _ _ _ (c.loop.invariant.stands b at saw users) w.in-Quiet.ensures.read)));
         prompt = prompt_more (language_for c.args.desk.now.attending.user (arc_value c.args.desk.now.shelf)) g.K.Link.begun g.K.Link.told g.C.Clock.told (g.K.Link.state c.args.link.now) (g.C.Clock.coming c.args.clock.now) c.args.desk.now.seat c.args.desk.now.users.seat (g.K.Link.state c.loop.link) (g.K.Link.state w.report.new.link) _ (g.C.Clock.coming c.loop.clock) (now c.loop.desk) c.loop.desk.reader c.loop.invariant.prompt w.in-Quiet.ensures.begun c.loop.invariant.stands w.in-Quiet.ensures.read.reads w.report.ensures.link.wrote.reads;
@@ -190,8 +190,8 @@ returns-in-Cut-report g c =
     let breaks = goes_cut_is _ _ _ _ _ _ _ _ _ _ _ _ _ cut (moved_goes arc_value c.args.desk.now.attending.user g.K.Link.told g.C.Clock.told _ (g.K.Link.state c.report.new.link) (g.C.Clock.coming c.loop.clock) (g.C.Clock.coming c.report.new.clock) (now c.loop.desk) (now c.report.new.desk) (is_some c.loop.desk.attending.watch) c.loop.desk.reader c.loop.desk.reader c.report.result c.args.desk.now.shelf c.loop.desk.shelf c.args.desk.now.seat c.loop.desk.seat c.args.desk.now.users.seat c.loop.desk.users.seat [] [] c.loop.invariant.shelf c.loop.invariant.seat c.loop.invariant.users (λ k c1 b1. c.report.ensures.goes c.args.desk.now.attending.user k c1 b1 c.loop.desk.reader []) _ _ b (refl, refl, refl, c.args.desk.now.same_place) (stands_quiet _ _ _ _ _ _ _ _ _ _ _ _ (c.loop.invariant.stands b (refl, refl, refl, c.args.desk.now.same_place) h.1 p.1) c.in-Quiet.ensures.read)) in
     record {
       shelf = c.report.ensures.shelf ∙ c.loop.invariant.shelf;
-      seat = (c.report.ensures.seat.0 ∙ c.loop.invariant.seat.0, c.report.ensures.seat.1 ∙ c.loop.invariant.seat.1, c.report.ensures.seat.2 ∙ c.loop.invariant.seat.2);
-      users = (ap (λ (u : UserDesk g.row.U.Denot). u.seat.opening) c.report.ensures.users ∙ c.loop.invariant.users.0, ap (λ (u : UserDesk g.row.U.Denot). u.seat.place) c.report.ensures.users ∙ c.loop.invariant.users.1, ap (λ (u : UserDesk g.row.U.Denot). u.seat.places) c.report.ensures.users ∙ c.loop.invariant.users.2);
+      seat = (c.report.ensures.seat.0 ∙ c.loop.invariant.seat.0, c.report.ensures.seat.1 ∙ c.loop.invariant.seat.1, c.report.ensures.seat.2 ∙ c.loop.invariant.seat.2, c.report.ensures.seat.3 ∙ c.loop.invariant.seat.3);
+      users = (ap (λ (u : UserDesk g.row.U.Denot). u.seat.opening) c.report.ensures.users ∙ c.loop.invariant.users.0, ap (λ (u : UserDesk g.row.U.Denot). u.seat.place) c.report.ensures.users ∙ c.loop.invariant.users.1, ap (λ (u : UserDesk g.row.U.Denot). u.seat.places) c.report.ensures.users ∙ c.loop.invariant.users.2, ap (λ (u : UserDesk g.row.U.Denot). u.seat.turnstile) c.report.ensures.users ∙ c.loop.invariant.users.3);
       session = record { before = h.0; users_before = p.0; saw = h.1; users_saw = p.1; attending = _; session = breaks };
       prompt = prompt_more (language_for c.args.desk.now.attending.user (arc_value c.args.desk.now.shelf)) g.K.Link.begun g.K.Link.told g.C.Clock.told (g.K.Link.state c.args.link.now) (g.C.Clock.coming c.args.clock.now) c.args.desk.now.seat c.args.desk.now.users.seat (g.K.Link.state c.loop.link) (g.K.Link.state c.report.new.link) _ (g.C.Clock.coming c.loop.clock) (now c.loop.desk) c.loop.desk.reader c.loop.invariant.prompt c.in-Quiet.ensures.begun c.loop.invariant.stands c.in-Quiet.ensures.read.reads c.report.ensures.link.wrote.reads;
       end = ((λ is. write_no _ is refl), (λ ended. unheld _ going ended));

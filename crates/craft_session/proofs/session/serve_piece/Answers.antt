@@ -14,7 +14,7 @@ use Rattle.craft_session.proofs.SessionSteps.{stands_on, goes_on_is, goes_ended_
 use Rattle.craft_session.proofs.session.serve_piece.Goals as goal
 
 pub loop-at-init : goal.loop-at-init
-loop-at-init g c = record { shelf = refl; seat = (refl, refl, refl); users = (refl, refl, refl); link = writes_none _ _; gate = refl; within = omega arith; asked = are_entered_none c.args.desk.now.seat c.args.desk.now.users.seat (g.G.Gate.asked c.args.gate.now c.args.gate.now) (g.G.Gate.unasked c.args.gate.now); stands = λ user k c1 b at s. s }
+loop-at-init g c = record { shelf = refl; seat = (refl, refl, refl, refl); users = (refl, refl, refl, refl); link = writes_none _ _; gate = refl; within = omega arith; asked = are_entered_none c.args.desk.now.seat c.args.desk.now.users.seat (g.G.Gate.asked c.args.gate.now c.args.gate.now) (g.G.Gate.unasked c.args.gate.now); stands = λ user k c1 b at s. s }
 
 pub loop-at-preserved : goal.loop-at-preserved
 loop-at-preserved g c =
@@ -24,8 +24,8 @@ loop-at-preserved g c =
     → Goes (language_for user y) g.K.Link.told g.C.Clock.told k (g.K.Link.state c.serve_unit.new.link) c2 (g.C.Clock.coming c.serve_unit.new.clock) b (now c.serve_unit.new.desk) c.serve_unit.result false c.feed-fed.new.self ahead) (ap arc_value c.loop-at.invariant.shelf) c.serve_unit.ensures.goes in
     record {
       shelf = c.serve_unit.ensures.shelf ∙ c.loop-at.invariant.shelf;
-      seat = (c.serve_unit.ensures.seat.0 ∙ c.loop-at.invariant.seat.0, c.serve_unit.ensures.seat.1 ∙ c.loop-at.invariant.seat.1, c.serve_unit.ensures.seat.2 ∙ c.loop-at.invariant.seat.2);
-      users = (c.serve_unit.ensures.users.0 ∙ c.loop-at.invariant.users.0, c.serve_unit.ensures.users.1 ∙ c.loop-at.invariant.users.1, c.serve_unit.ensures.users.2 ∙ c.loop-at.invariant.users.2);
+      seat = (c.serve_unit.ensures.seat.0 ∙ c.loop-at.invariant.seat.0, c.serve_unit.ensures.seat.1 ∙ c.loop-at.invariant.seat.1, c.serve_unit.ensures.seat.2 ∙ c.loop-at.invariant.seat.2, c.serve_unit.ensures.seat.3 ∙ c.loop-at.invariant.seat.3);
+      users = (c.serve_unit.ensures.users.0 ∙ c.loop-at.invariant.users.0, c.serve_unit.ensures.users.1 ∙ c.loop-at.invariant.users.1, c.serve_unit.ensures.users.2 ∙ c.loop-at.invariant.users.2, c.serve_unit.ensures.users.3 ∙ c.loop-at.invariant.users.3);
       link = writes_more _ _ _ _ c.loop-at.invariant.link c.serve_unit.ensures.link;
       gate = c.serve_unit.ensures.unstopped (on_goes _ c.in-On.is) ∙ c.loop-at.invariant.gate;
       within = omega (arith, c.feed-fed.ensures.within, ap length offer, length-drop c.loop-at.at piece, c.loop-at.invariant.within);
@@ -40,8 +40,8 @@ returns-in_default g c =
     let u = c.serve_unit.ensures in
     record {
       shelf = u.shelf ∙ k.shelf;
-      seat = (u.seat.0 ∙ k.seat.0, u.seat.1 ∙ k.seat.1, u.seat.2 ∙ k.seat.2);
-      users = (u.users.0 ∙ k.users.0, u.users.1 ∙ k.users.1, u.users.2 ∙ k.users.2);
+      seat = (u.seat.0 ∙ k.seat.0, u.seat.1 ∙ k.seat.1, u.seat.2 ∙ k.seat.2, u.seat.3 ∙ k.seat.3);
+      users = (u.users.0 ∙ k.users.0, u.users.1 ∙ k.users.1, u.users.2 ∙ k.users.2, u.users.3 ∙ k.users.3);
       link = writes_more _ _ _ _ k.link u.link;
       stopped = λ is. rose_behind _ _ _ k.gate (u.stopped is);
       unstopped = λ not. u.unstopped not ∙ k.gate;
