@@ -20,5 +20,7 @@ pub mod Plain
 pub mod PlainUsers
 pub mod Scripts
 pub mod Places
+pub mod Stamps
+pub mod Timely
 pub mod Lending
 pub mod Served

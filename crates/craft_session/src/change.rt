@@ -99,8 +99,12 @@ fn drive_out<D: Disk + Drop, G: Gate, R: Wait>(
     ensures done { result ≢ Changed.Stopped → G.stops gate.new ≡ G.stops gate.old }
     ensures stopped { result ≡ Changed.Stopped → Rose (G.stops gate.old) (G.stops gate.new) }
     ensures later { G.stops gate.old ≤ G.stops gate.new }
-    ensures asked { ((result ≡ Changed.Done) × RollAsked (G.asked gate.old gate.new) (length (rest_of driver.value.rolling)) Pass1.Go) ⊎ ((result ≡ Changed.Stopped) × RollAsked (G.asked gate.old gate.new) (length (rest_of driver.value.rolling)) Pass1.Stop) }
-    ensures entered { (h : List Entry) → Saw (opening_of D.state turns.now.first) pass.old.seen h → Entered (opening_of D.state turns.now.first) pass.old.number (after_journal (G.asked gate.old gate.new)) true false h pass.new.seen }
+    ensures asked { ((result ≡ Changed.Done) × RollAsked (G.asked gate.old gate.new)
+        (length (rest_of driver.value.rolling)) Pass1.Go) ⊎ ((result ≡ Changed.Stopped) × RollAsked
+        (G.asked gate.old gate.new) (length (rest_of driver.value.rolling)) Pass1.Stop) }
+    ensures entered { (h : List Entry) → Saw (opening_of D.state turns.now.first) pass.old.seen h
+        → Entered (opening_of D.state turns.now.first) pass.old.number
+        (after_journal (G.asked gate.old gate.new)) true false h pass.new.seen }
 {
     let mut driver = driver;
     let held = &mut *driver;
@@ -129,15 +133,21 @@ fn carry_out<D: Disk + Drop, G: Gate, R: Wait>(
 ) -> Changed
     requires pass { HasPass turns.now pass.old }
     requires fabric { (opening_of D.state turns.now.first).site.fabric ≡ fabric.now }
-    requires planned { (h : List Entry) × Saw (opening_of D.state turns.now.first) pass.old.seen h × HasPlan D.told D.state (opening_of D.state turns.now.first) pass.old.number h driver.value.p (plan_of op.now driver.value.rolling bytes.now) }
+    requires planned { (h : List Entry) × Saw (opening_of D.state turns.now.first) pass.old.seen h
+        × HasPlan D.told D.state (opening_of D.state turns.now.first) pass.old.number h
+        driver.value.p (plan_of op.now driver.value.rolling bytes.now) }
     ensures pass { HasPass turns.now pass.new × (pass.new.number ≡ pass.old.number) }
-    ensures changed { (h : List Entry) → Saw (opening_of D.state turns.now.first) pass.old.seen h → ChangedIs (opening_of D.state turns.now.first) pass.old.number h op.now pass.new.seen result }
+    ensures changed { (h : List Entry) → Saw (opening_of D.state turns.now.first) pass.old.seen h
+        → ChangedIs (opening_of D.state turns.now.first) pass.old.number h op.now pass.new.seen
+        result }
     ensures astray { SawNoneAstray D.told pass.new.seen }
     ensures done { result ≢ Changed.Stopped → G.stops gate.new ≡ G.stops gate.old }
     ensures stopped { result ≡ Changed.Stopped → Rose (G.stops gate.old) (G.stops gate.new) }
     ensures later { G.stops gate.old ≤ G.stops gate.new }
     ensures asked { AskedBehind (G.asked gate.old gate.new) [] result }
-    ensures entered { (h : List Entry) → Saw (opening_of D.state turns.now.first) pass.old.seen h → Entered (opening_of D.state turns.now.first) pass.old.number (G.asked gate.old gate.new) true false h pass.new.seen }
+    ensures entered { (h : List Entry) → Saw (opening_of D.state turns.now.first) pass.old.seen h
+        → Entered (opening_of D.state turns.now.first) pass.old.number (G.asked gate.old gate.new)
+        true false h pass.new.seen }
 {
     let mut driver = driver;
     let held = &mut *driver;

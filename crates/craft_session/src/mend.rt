@@ -58,8 +58,12 @@ fn resume<D: Disk + Drop, G: Gate, R: Wait>(
     ensures going { result ≢ Mended.Stopped → G.stops gate.new ≡ G.stops gate.old }
     ensures stopped { result ≡ Mended.Stopped → Rose (G.stops gate.old) (G.stops gate.new) }
     ensures later { G.stops gate.old ≤ G.stops gate.new }
-    ensures asked { ((result ≡ Mended.Ready) × RollAsked (G.asked gate.old gate.new) (length (rest_of driver.value.rolling)) Pass1.Go) ⊎ ((result ≡ Mended.Stopped) × RollAsked (G.asked gate.old gate.new) (length (rest_of driver.value.rolling)) Pass1.Stop) }
-    ensures entered { (h : List Entry) → Saw (opening_of D.state turns.now.first) pass.old.seen h → Entered (opening_of D.state turns.now.first) pass.old.number (after_journal (G.asked gate.old gate.new)) true false h pass.new.seen }
+    ensures asked { ((result ≡ Mended.Ready) × RollAsked (G.asked gate.old gate.new)
+        (length (rest_of driver.value.rolling)) Pass1.Go) ⊎ ((result ≡ Mended.Stopped) × RollAsked
+        (G.asked gate.old gate.new) (length (rest_of driver.value.rolling)) Pass1.Stop) }
+    ensures entered { (h : List Entry) → Saw (opening_of D.state turns.now.first) pass.old.seen h
+        → Entered (opening_of D.state turns.now.first) pass.old.number
+        (after_journal (G.asked gate.old gate.new)) true false h pass.new.seen }
 {
     let mut driver = driver;
     let held = &mut *driver;
@@ -89,15 +93,21 @@ fn go_on<D: Disk + Drop, G: Gate, R: Wait>(
     requires pass { HasPass turns.now pass.old }
     requires fabric { (opening_of D.state turns.now.first).site.fabric ≡ fabric.now }
     requires asked { IsDriven asked.now }
-    requires held { (h : List Entry) × Saw (opening_of D.state turns.now.first) pass.old.seen h × HasHeld D.told D.state (opening_of D.state turns.now.first) pass.old.number asked.now h driver.value.p }
+    requires held { (h : List Entry) × Saw (opening_of D.state turns.now.first) pass.old.seen h
+        × HasHeld D.told D.state (opening_of D.state turns.now.first) pass.old.number asked.now h
+        driver.value.p }
     ensures pass { HasPass turns.now pass.new × (pass.new.number ≡ pass.old.number) }
-    ensures mended { (h : List Entry) → Saw (opening_of D.state turns.now.first) pass.old.seen h → MendedIs (opening_of D.state turns.now.first) pass.old.number h asked.now pass.new.seen result }
+    ensures mended { (h : List Entry) → Saw (opening_of D.state turns.now.first) pass.old.seen h
+        → MendedIs (opening_of D.state turns.now.first) pass.old.number h asked.now pass.new.seen
+        result }
     ensures astray { SawNoneAstray D.told pass.new.seen }
     ensures going { result ≢ Mended.Stopped → G.stops gate.new ≡ G.stops gate.old }
     ensures stopped { result ≡ Mended.Stopped → Rose (G.stops gate.old) (G.stops gate.new) }
     ensures later { G.stops gate.old ≤ G.stops gate.new }
     ensures asked { MendAsked (G.asked gate.old gate.new) result }
-    ensures entered { (h : List Entry) → Saw (opening_of D.state turns.now.first) pass.old.seen h → Entered (opening_of D.state turns.now.first) pass.old.number (G.asked gate.old gate.new) true false h pass.new.seen }
+    ensures entered { (h : List Entry) → Saw (opening_of D.state turns.now.first) pass.old.seen h
+        → Entered (opening_of D.state turns.now.first) pass.old.number (G.asked gate.old gate.new)
+        true false h pass.new.seen }
 {
     let mut driver = driver;
     let held = &mut *driver;
