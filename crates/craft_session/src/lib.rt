@@ -18,9 +18,11 @@ mod say;
 mod seat;
 mod session;
 mod shown;
+mod timestamps;
 mod users;
 
 pub use end::SessionEnd;
 pub use lent::Lent;
 pub use place::Place;
 pub use session::{serve_session, serve_session_of};
+pub use timestamps::Timestamps;
