@@ -275,6 +275,7 @@ module _ (l : Language Request Moment) (told clock_told : Type 0) (k : LinkState
       -- each byte of the answer was written in its time
       pub answered_in_time : (stamped : Stamp → Type 0) (seat : SeatAt) (users : UserSeatAt) (sent : Sent) → IsSaid l told clock_told j j2 d d2 sent u reply → IsAt b seat users → seat.seen ≡ after.seen → users.seen ≡ after.users
           → stamped (stamp_at d j seat users) → IsTimely l (telling told clock_told stamped) (starting k c b) j j2
+      unfolding past_answered
       answered_in_time stamped seat users sent said at seen users_seen was t n from below =
           let p = past_answered l clock_told c b d now s.items s.rest s.out s.past u is d2 said.moment said.now said.later reply after hears acts in
           (stamp_at d j seat users, was, record {
@@ -475,8 +476,9 @@ module _ (l : Language Request Moment) (told clock_told : Type 0) (k : LinkState
       -- each byte of the reports was written in its time
       pub looked_in_time : (stamped : Stamp → Type 0) (seat : SeatAt) (users : UserSeatAt) (sent : Sent) → AreTold l told clock_told j j2 d d2 sent (found_notices looked.since looked.newest given) → IsAt b seat users → seat.seen ≡ seen → users.seen ≡ now.users
           → AreStamped stamped (stamp_at d j seat users) j2 d2 → IsTimely l (telling told clock_told stamped) (starting k c b) j j2
-      looked_in_time stamped seat users sent whole at seat_seen users_seen was t n from below =
-          let x = told_here sent whole in
+      unfolding past_look_cut
+      looked_in_time stamped seat users sent told_all at seat_seen users_seen was t n from below =
+          let x = told_here sent told_all in
           let p = past_look_cut l clock_told c b d now due_now.items due_now.rest due_now.out past_now cursor watch looked given seen look_now (x.taken ++ x.untaken) x.bytes x.reported (rest_of due_now.made) d2 x.taken x.untaken refl x.gave x.wrote.part x.wrote.rest x.wrote.split in
           elim was [
             | inl none ↦ absurd (let e = ap (λ (y : LinkState). length y.written) none.0 in omega (arith, e, from, below))
