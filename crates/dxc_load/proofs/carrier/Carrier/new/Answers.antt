@@ -5,4 +5,4 @@ use Rattle.dxc_load.specs.Carrying.{AreLoadFrames, no_frame}
 use Rattle.dxc_load.proofs.carrier.Carrier.new.Goals as goal
 
 pub invariant_of-result-clause-each : goal.invariant_of-result-clause-each
-invariant_of-result-clause-each c = subst (λ (v : Worker). AreLoadFrames (arc_value c.args.fabric).size v.number 0 v.notes) (sym c.requires.unused) no_frame
+invariant_of-result-clause-each c = subst (λ (v : Worker). AreLoadFrames (arc_value c.args.fabric).size v.number 0 v.notes) (sym c.requires.unused) ∣ no_frame ∣₁
