@@ -32,13 +32,13 @@ use Rattle.craft_jobs.specs.Handed.{AreJobsOf, IsJobOf}
 use Rattle.craft_jobs.specs.Leaves.{left_by}
 use Rattle.serve_laws.specs.Frames.{AreOwnFrames, AreSeatsIn, CarriedOwn}
 
-is_of : (z : Size) (f : State Aim View) (t : Tied z f) (j : ℕ) (v : View) → Knows z t.core t.writer t.dealt t.owner j v → IsOf t.core v
+pub is_of : (z : Size) (f : State Aim View) (t : Tied z f) (j : ℕ) (v : View) → Knows z t.core t.writer t.dealt t.owner j v → IsOf t.core v
 is_of z f t j Idle h = tt
 is_of z f t j (AsMover u d m) h = h.2
 is_of z f t j (AsWorker u v) h = h.1
 
 -- the state of the core that a state of the words is
-pub core_of : (z : Size) (f : State Aim View) (t : Tied z f) → IsCore z f
+abbrev pub core_of : (z : Size) (f : State Aim View) (t : Tied z f) → IsCore z f
 core_of z f t = record { events = t.events; core = t.core; reached = t.reached; hitless = always_hitless z t.events t.core t.sized t.reached; words_are = t.words_are; views_are = λ j v at. is_of z f t j v (t.each j v at) }
 
 module _ (own_bytes : AreOwnBytes) (c : Core) (hitless : IsHitless c) (v : Worker) (here : get_elem? c.workers v.number ≡ some v) where
