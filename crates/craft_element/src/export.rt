@@ -1,4 +1,5 @@
 //! What a journal came to, as the commands that make it on another element.
+ghost use Rattle.std.specs.Prelude.{◌≡◌};
 ghost use Rattle.std.specs.List.{AllByRecursion};
 ghost use Rattle.dxc_outside.specs.Asked.{AskedFor};
 ghost use Rattle.dxc_outside.specs.Links.{IsSent};
