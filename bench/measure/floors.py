@@ -7,7 +7,8 @@ answers and journal must come out the same. Of frames it is bench/c/frames.c, th
 of a unit as in bench/run measure speed; causes are told by bench/measure/causes.py. It needs valgrind, objdump and a C compiler (CC, else clang or cc).
 
 A goal is a share of what the conventional program takes. Where ours takes more, `over` says by how much; the parts below tell where all of it
-goes, each the functions of some crates, with what LLVM put into them. With --rows they are rows of docs/SPEED.md's first two tables.
+goes, each the functions of some crates, with what LLVM put into them. With --rows they are rows of docs/SPEED.md's first two
+tables.
 """
 import argparse
 import collections
@@ -185,8 +186,18 @@ def part_of(function):
 class Sheet:
     """Prints what was measured of each stream; with `rows` as docs/SPEED.md has it."""
 
-    CAUSES = ("header", "port", "all", "mixed", "direct", "chains32")
     LARGEST = 5
+    CAUSES = (
+        ("room cleared",),
+        ("toolchain's flag",),
+        ("values kept on the stack",),
+        ("functions entered and left",),
+        ("copied",),
+        ("values loaded, stored and moved",),
+        ("compares and jumps", "checks that stop the program"),
+        ("arithmetic",),
+        ("atomic", "division", "C library"),
+    )
 
     def __init__(self, functions, rows):
         self.functions, self.rows, self.shares = functions, rows, {}
@@ -195,7 +206,7 @@ class Sheet:
 
     def stream(self, name, known, floor, share, same):
         (label, goal), ours = GOALS[name], share.all()
-        self.shares[name] = share
+        self.shares[name] = share, ours - goal * known
         if self.rows:
             parts = ", ".join(f"{part} {count:,.0f}" for part, count in share.parts.most_common(self.LARGEST))
             print(f"| {label} | {known:,.0f} | {goal * known:,.0f} | {floor:,.0f} | {ours:,.0f} | {ours / known:.2f} | {parts} |", flush=True)
@@ -213,15 +224,10 @@ class Sheet:
         print(f"byte {speed.by(shape):8} {columns}", flush=True)
 
     def causes(self):
-        """The table of causes, where its streams were measured."""
-        if not self.rows or not all(name in self.shares for name in self.CAUSES):
-            return
-        shares = [self.shares[name] for name in self.CAUSES]
-        of = lambda share, cause: "few" if share.causes[cause] < share.all() / 100 else f"{share.causes[cause]:,.0f}"
-        for cause in sorted({cause for share in shares for cause in share.causes}, key=lambda cause: -shares[0].causes[cause]):
-            cells = [of(share, cause) for share in shares]
-            if set(cells) != {"few"}:
-                print(f"| {cause} | {' | '.join(cells)} |")
+        """The same streams by cause, behind how much they are over their goals."""
+        for name, (share, over) in self.shares.items() if self.rows else ():
+            counts = [sum(share.causes[cause] for cause in causes) for causes in self.CAUSES]
+            print(f"| {GOALS[name][0]} | {over:+,.0f} | {' | '.join(f'{count:,.0f}' for count in counts)} |")
 
 
 def streams(bench, conventional, wanted, sheet):
