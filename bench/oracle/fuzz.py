@@ -149,7 +149,7 @@ def sound_unit():
             lambda: f"RTRV-HDR:{random.choice(('', 'DXC1', 'dxc1', 'OTHER'))}::{tag}",
             lambda: f"{random.choice(('ENT', 'DLT'))}-EQPT::MOD-{random.randint(1, MODULES)}:{tag}",
             lambda: f"{random.choice(('ALW', 'INH'))}-MSG-ALL::{random.choice(('', 'ALL', 'all', 'X'))}:{tag}",
-            lambda: f"ACT-USER::{random.choice((*RANKS, 'nobody', 'anna', 'fay', 'Hal'))}:{tag}::{random.choice(('bc', 'bc', 'bc', 'cb'))}",
+            lambda: f"ACT-USER::{random.choice((*(*RANKS,) * 5, 'nobody', 'anna', 'fay', 'Hal'))}:{tag}::{random.choice(('bc',) * 15 + ('cb',))}",
             lambda: f"CANC-USER::{random.choice(('', *RANKS))}:{tag}" if random.random() < 0.2 else f"RTRV-HDR:::{tag}",
             lambda: f"INIT-SYS:::{tag}",
             lambda: f"RTRV-{random.choice(('MID', 'SYS'))}:::{tag}",

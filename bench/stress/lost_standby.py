@@ -2,12 +2,14 @@
 
 usage: bench/run stress lost_standby
 
-paused      the standby is stopped by SIGSTOP: the primary waits for it five seconds, and no longer, hangs up, says so and goes on alone; let
-            go on, the standby ends by itself, says when it was synced last, and its copy has every change that was answered while joined
+paused      the standby is stopped by SIGSTOP: a change waits for it five seconds, and no longer, a retrieval not at all; the primary hangs
+            up, says so and goes on alone; let go on, the standby ends by itself, says when it was synced last, and its copy has every
+            change that was answered while joined
 killed      the standby is killed: the primary says so
 ended       the primary is killed: the standby says so, and that its copy is whole
 cut         a joining is cut off after each of some pieces: the copy opens as no journal, the standby says that it holds nothing, and
             another standby of the same name takes its place
+scanned     callers that go at once, and leave nothing, are passed over: a primary can join after them
 again       a copy that is whole isn't touched by a standby of its name
 
 The primary's and the standby's lines on standard error are compared but for their moments.
@@ -30,6 +32,8 @@ from bench.stress.standby import LOG_IN, Listener, WAIT, await_listening, call, 
 MOMENT = rb"\d{4}-\d\d-\d\d \d\d:\d\d:\d\d UTC"
 # A wait of 25 reads of a fifth of a second, and what a busy machine adds.
 LONGEST = 8
+# Who only reads doesn't wait for a standby.
+PROMPT = 0.05
 # Bytes of an item.
 PIECE = 256
 WHOLE = rb"dxc: " + MOMENT + rb": standby ended, (its primary hung up|its connection failed); \S+ is whole, and was synced last at " + MOMENT + rb"\n"
@@ -92,6 +96,8 @@ def paused(folder):
     time.sleep(0.2)
     reader.sendall(b"RTRV-CRS-T0::ALL:4;")
     listed = await_responses(read, 1, LONGEST)
+    if listed > PROMPT:
+        sys.exit(f"a retrieval beside a standby that is stopped took {listed:.2f} s")
     waited = await_responses(changed, 2, LONGEST)
     changer.sendall(b"ENT-CRS-T0::DS0-2-1,DS0-1-1:5;")
     await_responses(changed, 3)
@@ -101,7 +107,7 @@ def paused(folder):
     rows = checked(os.path.join(folder, "shelf.toml"), os.path.join(folder, "standby.journal"))
     if "DS0-1-1,DS0-2-1:1WAY" not in rows or changed.text.count(b"COMPLD") != 4:
         sys.exit(f"a standby that was stopped has {rows!r}")
-    return listed + 0.2, waited + listed + 0.2
+    return listed, waited + listed + 0.2
 
 
 def killed_standby(folder):
@@ -133,7 +139,7 @@ def cut(folder):
     run_alone(shelf, journal, [f"{verb}-CRS-T0::{pair}:1;" for pair in ends for verb in ("ENT", "DLT")])
     with open(journal, "rb") as file:
         items = writes(file.read())
-    for count in range(len(items) + 1):
+    for count in range(1, len(items) + 1):
         port = free_port()
         standby = start("standby", copy, f"127.0.0.1:{port}")
         if not await_listening(port, standby):
@@ -144,7 +150,29 @@ def cut(folder):
         server = start("serve", shelf, copy, f"127.0.0.1:{free_port()}", lines, "1")
         if b"cannot open" not in ended(server, "a server on a copy that is none", 6):
             sys.exit("a copy that is none was opened")
-    return len(items) + 1
+    return len(items)
+
+
+def scanned(folder):
+    copy, peer = os.path.join(folder, "standby.journal"), free_port()
+    standby = start("standby", copy, f"127.0.0.1:{peer}")
+    if not await_listening(peer, standby):
+        sys.exit("the standby doesn't listen")
+    for abort in (False, True, False):
+        with socket.create_connection(("127.0.0.1", peer), timeout=WAIT) as scan:
+            if abort:
+                # Closed by a reset.
+                scan.setsockopt(socket.SOL_SOCKET, socket.SO_LINGER, struct.pack("ii", 1, 0))
+        time.sleep(0.2)
+        if standby.poll() is not None:
+            sys.exit(f"a port scan ended the standby with status {standby.returncode}: {standby.stderr.read()!r}")
+    port = free_port()
+    words = [os.path.join(folder, name) for name in ("shelf.toml", "primary.journal")]
+    server = start("serve", *words, f"127.0.0.1:{port}", os.path.join(folder, "lines"), "1", f"127.0.0.1:{peer}")
+    if not await_listening(port, server):
+        sys.exit("after a port scan no primary could join")
+    killed(server)
+    says(ended(standby, "a standby that was scanned", 0, 9), WHOLE, "a standby that was scanned")
 
 
 def again(folder):
@@ -172,11 +200,12 @@ def main():
             return made(folder)
 
     cuts = trial(cut)
+    trial(scanned)
     trial(again)
     trial(killed_standby)
     trial(killed_primary)
     listed, waited = trial(paused)
-    print(f"standbys lost: stopped (a change waited {waited:.1f} s for it, a retrieval {listed:.1f} s), killed, and cut off behind {cuts} pieces; both ends said so")
+    print(f"standbys lost: stopped (a change waited {waited:.1f} s for it, a retrieval {1000 * listed:.0f} ms), killed, and cut off behind {cuts} pieces; both ends said so; callers that left nothing were passed over")
 
 
 if __name__ == "__main__":

@@ -5,11 +5,14 @@ usage: bench/run stress outside_world [POINT..]     (all of them where none is n
 peer         a PEER that doesn't answer a call holds a start up for seconds, not minutes
 check        `check` changes no byte of any file and runs beside a server; nothing but a journal or its beginning becomes one
 sync         a disk whose sync failed refuses every change until the program is started anew, and then has all that was answered
+waiting      while a change waits for a disk's sync, nobody else does who only reads
+guesses      after three denied log-ins in a row each further one takes a second, also of who hangs up and calls again, and nobody else's does
 dead         callers whose machines are gone are let go within two minutes, silent ones and ones with answers on their way
 full         the seventeenth caller is told so and let go, and comes in once a place is free
 slow         a caller that takes nothing is given up after ten seconds
 descriptors  a shortage of descriptors ends no place: after it sixteen callers are served again
 told         each cause of "cannot open" is told by name, in a second line on any stream
+users        a shelf file and a users' journal that disagree are told by the user's name, whatever the edit, and bear all others
 lines        a FIFO without a writer, or whose writer comes again, stops nothing; one program at a time has an output, and keeps its bytes
              where it can't start
 
@@ -168,7 +171,7 @@ def check(folder):
 
 def sync(folder):
     failing = os.path.join(folder, "failing")
-    world = dict(os.environ, LD_PRELOAD=library("failing_sync", folder), FAILING=failing)
+    world = dict(os.environ, LD_PRELOAD=library("syncs", folder), FAILING=failing)
     script = [PROGRAM, "script", "shelf.toml", "j"]
     session = subprocess.Popen(script, cwd=folder, env=world, stdin=subprocess.PIPE, stdout=subprocess.PIPE, bufsize=0)
 
@@ -194,6 +197,64 @@ def sync(folder):
         session.communicate()
     expect("DENY" not in run(folder, ["script", "shelf.toml", "j"], LOG_IN + b"INIT-SYS:::4;ENT-CRS-T0::DS0-1-2,DS0-2-2:5;")[1], "a new start didn't go on")
     return "refused until it was started anew"
+
+
+def waiting(folder):
+    slow = os.path.join(folder, "slow")
+    world = dict(os.environ, LD_PRELOAD=library("syncs", folder), SLOW=slow)
+    asked = {
+        "a retrieval": b"RTRV-CRS-T0::ALL:3;",
+        "what stands of the system": b"RTRV-SYS:::4;",
+        "a unit that is no command": b"ENT CRS;",
+        "a command of no such port": b"ENT-CRS-T0::DS0-99-1,DS0-2-1:5;",
+        "a look": b"ALW-MSG-ALL:::6;",
+    }
+    with Element(folder, env=world) as server, server.call() as changer, server.call() as reader, server.call() as late:
+        expect(is_served(changer) and is_served(reader), "no log-in")
+        write(slow, b"")
+        changer.sendall(ENTRY)
+        time.sleep(0.3)
+        longest = 0.0
+        for what, unit in [*asked.items(), *asked.items()]:
+            started = time.monotonic()
+            answer(reader, unit)
+            took = time.monotonic() - started
+            expect(took < 0.05, f"{what} took {took:.2f} s")
+            longest = max(longest, took)
+        started = time.monotonic()
+        expect(is_served(late), "no log-in beside a slow disk")
+        took = time.monotonic() - started
+        expect(took < 0.05, f"a log-in took {took:.2f} s")
+        started = time.monotonic()
+        expect("COMPLD" in answer(changer, b"") or "COMPLD" in changer.recv(65536).decode(), "the change wasn't made")
+        waited = time.monotonic() - started
+        expect(waited > 1, f"the disk was not slow: {waited:.2f} s")
+        os.remove(slow)
+    return f"a reader waited {1000 * max(longest, took):.0f} ms at most, a change {waited:.1f} s"
+
+
+def guesses(folder):
+    wrong = b"ACT-USER::ANNA:2::cb;"
+
+    def took(caller, unit, code):
+        started = time.monotonic()
+        said = answer(caller, unit)
+        expect(code in said, f"{unit.decode()} was answered {said!r}")
+        return time.monotonic() - started
+
+    with Element(folder) as server, contextlib.ExitStack() as held:
+        # So that one place is left, which whoever calls next has.
+        others = [held.enter_context(server.call()) for _ in range(PLACES - 1)]
+        expect(all(map(is_served, others)), "not all are served")
+        with server.call() as guesser:
+            quick = max(took(guesser, wrong, "DENY") for _ in range(3))
+            slow = min(took(guesser, wrong, "DENY") for _ in range(2))
+        time.sleep(0.5)
+        with server.call() as again:
+            slow = min(slow, took(again, LOG_IN, "COMPLD"))
+            quick = max(quick, took(again, b"CANC-USER:::3;", "COMPLD"), took(again, LOG_IN, "COMPLD"))
+    expect(quick < 0.5 and slow > 0.9, f"quick ones took {quick:.2f} s, slow ones {slow:.2f} s")
+    return f"each further one took {slow:.1f} s"
 
 
 def lose(caller):
@@ -346,7 +407,36 @@ def lines(folder):
     return "frames go on"
 
 
-POINTS = (peer, check, sync, dead, full, slow, descriptors, told, lines)
+def users(folder):
+    def shelf(*uids, digest=office.DIGEST):
+        anna, others = (office.shelf_text(MODULES, SLOTS, users=[(uid, "S") for uid in some]) for some in (["ANNA"], uids))
+        text = anna + "".join(others.partition("[[user]]")[1:]).replace(office.DIGEST, digest)
+        write(os.path.join(folder, "shelf.toml"), text.encode())
+
+    def ended(words=("check", "shelf.toml")):
+        status, _, told = run(folder, [*words, "j"])
+        return status, told
+
+    # What a command did of whom, who stood in the file before, and who after.
+    edits = {"DLT-USER-SECU::BEN:2;": (["BEN"], []), "ENT-USER-SECU::BEN:2::pid,P;": ([], ["BEN"]), "ED-USER-SECU::BEN:2::other;": (["BEN"], [])}
+    for command, (before, after) in edits.items():
+        office.begin_anew(os.path.join(folder, "j"))
+        shelf(*before)
+        expect(run(folder, ["script", "shelf.toml", "j"], LOG_IN + command.encode())[1].count("COMPLD") == 2, f"{command} was denied")
+        shelf(*after)
+        line = "dxc: user \"BEN\": shelf file and users' journal disagree: its record 0, counted from 0, makes no change"
+        for mode in ("check", "script", "export"):
+            expect(ended((mode, "shelf.toml")) == (4, ["dxc: journal refused", line]), f"{mode} after {command} ended with {ended()}")
+        shelf(*before, "CARA")
+        expect(ended() == (0, []), f"a further user isn't borne after {command}: {ended()}")
+        shelf(*before, digest="00" * 32)
+        expect(ended() == (0, []), f"another digest isn't borne after {command}: {ended()}")
+        shelf(*before)
+        expect(ended() == (0, []), f"the file as it was isn't taken up after {command}: {ended()}")
+    return f"{len(edits)} edits told by name, the way back taken"
+
+
+POINTS = (peer, check, sync, waiting, guesses, dead, full, slow, descriptors, told, users, lines)
 
 
 def tried(point):

@@ -1,7 +1,8 @@
--- On new disks in memory an element starts, unless memory is wanting or the gate stops.
+-- On new disks an element starts, unless memory is wanting or the gate stops.
 use Rattle.std.proofs.Common.{◌≡◌, ◌^◌, arith, ℕ, [], Result, Ok, Err, inl, inr, refl, sym, ◌∙◌, ap, subst}
 use Rattle.std.specs.Prelude.{MatchResult}
 use Rattle.dxc_disk.specs.declared.mem_disk.MemDisk.{MemDisk}
+use Rattle.dxc_disk.specs.Disks.{DiskState}
 use Rattle.dxc_disk.specs.Fresh.{IsFresh}
 use Rattle.dxc_disk.specs.MemView.{mem_state}
 use Rattle.journal_core.specs.declared.fault.JournalWhy.{JournalWhy}
@@ -14,13 +15,15 @@ use Rattle.user_admin.specs.Openings.{Fails as UsersFail}
 use Rattle.xc_core.specs.declared.fault.OpenFault.{OpenFault}
 use Rattle.xc_core.specs.declared.fault.OpenFault.TheVariants as fault
 use Rattle.xc_core.specs.Openings.{Fails}
+use Rattle.dxc_load.specs.declared.disk.LoadDisk.{LoadDisk}
 use Rattle.dxc_load.specs.LoadShelf.{IsLoadShelf}
+use Rattle.dxc_load.specs.Storing.{load_disk}
 use Rattle.craft_words.specs.declared.status.Status.{Status}
 use Rattle.craft_words.specs.declared.status.Status.TheVariants.{Disk}
 use Rattle.craft_words.specs.declared.status.Status.TheVariants as Status_of
 use Rattle.craft_element.specs.declared.opening.Controller.{Controller}
 use Rattle.craft_element.specs.declared.opening.Element.{Element}
-use Rattle.craft_element.specs.Loads.{IsInMemory, IsLoadStarted, IsNewController, NotLoaded}
+use Rattle.craft_element.specs.Loads.{IsLoadStarted, IsNewController, IsNewElement, NotLoaded}
 use Rattle.craft_element.specs.Openings.{AreUsersNotStarted, IsStarted, NotStarted}
 use Rattle.craft_element.specs.Statuses.{status_of_fault, status_of_users_fault, status_of_users_why, status_of_why}
 
@@ -28,11 +31,11 @@ use Rattle.craft_element.specs.Statuses.{status_of_fault, status_of_users_fault,
 empty_new : IsNew []
 empty_new = inl (omega arith)
 
-module _ (disk : MemDisk) (s : Contents) (stops later : ℕ) (status : Status) (fresh : IsFresh (mem_state disk) [] [] (2 ^ 21)) (n : NotStarted (Unit {0}) mem_state disk s stops later status) where
-  abbrev of_fault : OpenFault MemDisk → Status
+module _ (told : Type 0) {D : Type 0} (state : D → DiskState) (is_told : told) (disk : D) (s : Contents) (stops later : ℕ) (status : Status) (fresh : IsFresh (state disk) [] [] (2 ^ 21)) (n : NotStarted told state disk s stops later status) where
+  abbrev of_fault : OpenFault D → Status
   of_fault f = status_of_fault f
 
-  is_new : IsNew (mem_state disk).reads_as
+  is_new : IsNew (state disk).reads_as
   is_new = subst IsNew (sym fresh.content) empty_new
 
   no_disk_fault : status ≡ Disk → ⊥
@@ -42,27 +45,27 @@ module _ (disk : MemDisk) (s : Contents) (stops later : ℕ) (status : Status) (
   by_why (why.BadHeader bytes) is not = absurd (not bytes refl)
   by_why why.Disk is not = absurd (no_disk_fault is)
 
-  by_fault : (f : OpenFault MemDisk) → n.fault ≡ f → NotLoaded stops later status
+  by_fault : (f : OpenFault D) → n.fault ≡ f → NotLoaded stops later status
   by_fault (fault.Journal j) is =
-      let fails = subst (λ (x : OpenFault MemDisk). Fails mem_state (mem_state disk) s.shape x) is (n.why tt) in
+      let fails = subst (λ (x : OpenFault D). Fails state (state disk) s.shape x) is (n.why is_told) in
       by_why j.why (n.is ∙ ap of_fault is) (λ bytes bad. (fails bytes bad).0 is_new)
-  by_fault (fault.BadRecord i d) is = absurd ((subst (λ (x : OpenFault MemDisk). Fails mem_state (mem_state disk) s.shape x) is (n.why tt)).0 is_new)
+  by_fault (fault.BadRecord i d) is = absurd ((subst (λ (x : OpenFault D). Fails state (state disk) s.shape x) is (n.why is_told)).0 is_new)
   by_fault (fault.Disk d) is = absurd (no_disk_fault (n.is ∙ ap of_fault is))
   by_fault (fault.NoMemory d) is = inl (n.is ∙ ap of_fault is)
   by_fault (fault.Stopped d) is = let stopped = n.is ∙ ap of_fault is in inr (stopped, n.stopped stopped)
 
-  -- on a new disk in memory that has the room the controller starts, unless memory is wanting or the gate stops
+  -- on a new disk that has the room the controller starts, unless memory is wanting or the gate stops
   pub not_loaded : NotLoaded stops later status
   not_loaded = by_fault n.fault refl
 
 -- it started or not
-pub new_started : (disk : MemDisk) (s : Contents) (stops later : ℕ) (r : Result (Controller MemDisk) Status) → IsFresh (mem_state disk) [] [] (2 ^ 21)
-    → MatchResult r (IsStarted (Unit {0}) mem_state disk s 1) (NotStarted (Unit {0}) mem_state disk s stops later) → MatchResult r (IsNewController s) (NotLoaded stops later)
-new_started disk s stops later (Ok x) fresh started = (disk, fresh, started)
-new_started disk s stops later (Err e) fresh not = not_loaded disk s stops later e fresh not
+pub new_started : (told : Type 0) {D : Type 0} (state : D → DiskState) (is_told : told) (disk : D) (s : Contents) (stops later : ℕ) (r : Result (Controller D) Status) → IsFresh (state disk) [] [] (2 ^ 21)
+    → MatchResult r (IsStarted told state disk s 1) (NotStarted told state disk s stops later) → MatchResult r (IsNewController told state s) (NotLoaded stops later)
+new_started told state is_told disk s stops later (Ok x) fresh started = (disk, fresh, started)
+new_started told state is_told disk s stops later (Err e) fresh not = not_loaded told state is_told disk s stops later e fresh not
 
 -- the load's is one of its shelf
-pub load_started : (s : Contents) (stops later : ℕ) (r : Result (Element MemDisk MemDisk) Status) → IsLoadShelf s → MatchResult r (IsInMemory s) (NotLoaded stops later) → MatchResult r IsLoadStarted (NotLoaded stops later)
+pub load_started : (s : Contents) (stops later : ℕ) (r : Result (Element LoadDisk MemDisk) Status) → IsLoadShelf s → MatchResult r (IsNewElement (Unit {0}) (Unit {0}) load_disk mem_state s) (NotLoaded stops later) → MatchResult r IsLoadStarted (NotLoaded stops later)
 load_started s stops later (Ok x) shelf el = record { shelf = s; is_shelf = shelf; disk = el.disk; fresh = el.fresh; started = el.started; users_disk = el.users_disk; users_fresh = el.users_fresh; users_started = el.users_started }
 load_started s stops later (Err e) shelf not = not
 

@@ -1,6 +1,7 @@
 -- What a state comes to, and what the sessions of a place left.
-use Rattle.std.specs.Prelude.{◌≡◌, ◌≢◌, ◌<◌, ◌⊎◌, ◌++◌, ℕ, true, false, List, length}
+use Rattle.std.specs.Prelude.{◌≡◌, ◌≢◌, ◌+◌, ◌<◌, ◌≤◌, ◌⊎◌, ◌++◌, ℕ, true, false, List, length, min}
 use Rattle.turnstile.specs.Turning.{Each}
+use Rattle.dxc_causes.specs.Causes.{last}
 use Rattle.dxc_disk.specs.Disks.{DiskState}
 use Rattle.dxc_model.specs.declared.entry.Entry.{Entry}
 use Rattle.dxc_model.specs.declared.op.Selection.TheVariants.{All}
@@ -10,7 +11,7 @@ use Rattle.xc_core.specs.declared.state.Home.TheVariants.{In, Out}
 use Rattle.xc_core.specs.declared.state.State.{State}
 use Rattle.xc_core.specs.Provisioners.{Boxed}
 use Rattle.xc_core.specs.Reckonings.{Past, ReckonsTo}
-use Rattle.xc_core.specs.States.{Opening, StandsFor, rules_of}
+use Rattle.xc_core.specs.States.{Opening, StandsFor, faults_in, rules_of}
 use Rattle.craft_element.specs.declared.stock.Stock.{Stock}
 
 -- the connections of a state's table, and the switches of its Provisioner, which is home and not halted
@@ -39,12 +40,17 @@ pub record IsStockAfter (o : Opening) (h : List Entry) (s : Stock) : Type 0 wher
   pub reckoned : ReckonsTo o.first (changes_of h) now
   pub switches : s.switches ≡ now.fold.switches
 
--- behind a history that a place has seen stand entries of the others of so many places, and the state comes to this
-pub record IsLeft (own places : ℕ) (o : Opening) (h : List Entry) (s : Stock) : Type 0 where
+-- each operation of a history that failed by the disk was a fault that the disk counted
+abbrev pub IsCounted : Opening → List Entry → DiskState → Type 0
+IsCounted o h d = min (o.faults + faults_in h) last ≤ d.faults
+
+-- Behind a history that a place has seen stand entries of the others of so many places. The state comes to this, and this is its journal's disk.
+pub record IsLeft {D : Type 0} (state : D → DiskState) (own places : ℕ) (o : Opening) (h : List Entry) (s : Stock × D) : Type 0 where
   pub later : List Entry
   pub others : Each (λ e. e.place ≢ own) later
   pub numbers : Each (λ e. e.place < places) later
-  pub after : IsStockAfter o (h ++ later) s
+  pub after : IsStockAfter o (h ++ later) s.0
+  pub counted : IsCounted o (h ++ later) (state s.1)
 
 -- behind a history that a place has seen stand entries of the others of so many places, and a state that stands for both has its Provisioner away
 pub record IsHeldUp {D : Type 0} (told : Type 0) (state : D → DiskState) (own places : ℕ) (o : Opening) (h : List Entry) : Type 0 where

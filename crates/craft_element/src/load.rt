@@ -2,19 +2,19 @@
 ghost use Rattle.std.specs.Prelude.{◌≡◌, ◌≤◌, MatchResult};
 ghost use Rattle.craft_element.specs.Loads.{IsLoadStarted, NotLoaded};
 
-use crate::memory::memory_element;
+use crate::memory::{DISK_ROOM, new_element};
 use crate::opening::Element;
 use craft_words::Status;
 use dxc_disk::MemDisk;
-use dxc_load::load_shelf;
+use dxc_load::{LoadDisk, load_shelf};
 use dxc_outside::Gate;
 use std::alloc::Global;
 
-/// The element of the load: a controller with one worker, and its users, on new disks.
+/// The element of the load: a controller with one worker, and its users, on new disks. That of its journal notes that a call failed.
 pub fn load_element<G: Gate>(
     alloc: Global,
     gate: &mut G,
-) -> Result<Element<MemDisk, MemDisk>, Status>
+) -> Result<Element<LoadDisk, MemDisk>, Status>
     ensures started { MatchResult result IsLoadStarted
         (NotLoaded (G.stops gate.old) (G.stops gate.new)) }
     ensures unstopped { MatchResult result (λ x. G.stops gate.new ≡ G.stops gate.old)
@@ -23,5 +23,8 @@ pub fn load_element<G: Gate>(
     let Ok(shelf) = load_shelf(alloc) else {
         return Err(Status::NoMemory);
     };
-    memory_element(alloc, shelf, gate)
+    let Ok(disk) = LoadDisk::with_room(alloc, DISK_ROOM) else {
+        return Err(Status::NoMemory);
+    };
+    new_element(alloc, shelf, disk, gate)
 }

@@ -1,18 +1,18 @@
 //! An element on new journals in memory.
 ghost use Rattle.std.specs.Prelude.{◌≡◌, ◌≤◌, IfOk, MatchResult};
 ghost use Rattle.dxc_disk.specs.MemView.{mem_state};
-ghost use Rattle.craft_element.specs.Loads.{IsInMemory, IsNewDisk, IsNewUsersDisk, IsNewController, NotLoaded};
+ghost use Rattle.craft_element.specs.Loads.{IsInMemory, IsNewDisk, IsNewUsersDisk, IsNewController, IsNewElement, NotLoaded};
 
 use crate::opening::{Controller, Element, start, start_users};
 use craft_words::Status;
 use dxc_causes::NoMemory;
-use dxc_disk::MemDisk;
+use dxc_disk::{Disk, MemDisk};
 use dxc_outside::Gate;
 use shelf_file::Shelf;
 use std::alloc::Global;
 
 /// How many calls and bytes the journal's disk has room for.
-const DISK_ROOM: usize = 1 << 21;
+pub(crate) const DISK_ROOM: usize = 1 << 21;
 
 // A new disk, none of whose calls is to fail.
 fn new_disk(alloc: Global) -> Result<MemDisk, NoMemory>
@@ -31,21 +31,46 @@ fn new_users_disk(alloc: Global) -> Result<MemDisk, NoMemory>
     MemDisk::with_room(alloc, Vec::new(alloc), Vec::new(alloc), USERS_ROOM)
 }
 
-// The controller of the shelf, with one worker.
-fn memory_controller<G: Gate>(
+// The controller of the shelf on a new disk, with one worker.
+fn new_controller<D: Disk + Drop, G: Gate>(
     alloc: Global,
     shelf: Shelf,
+    disk: D,
     gate: &mut G,
-) -> Result<Controller<MemDisk>, Status>
-    ensures started { MatchResult result (IsNewController shelf)
+) -> Result<Controller<D>, Status>
+    requires told { D.told }
+    requires fresh { IsNewDisk (D.state disk) }
+    ensures started { MatchResult result (IsNewController D.told D.state shelf)
         (NotLoaded (G.stops gate.old) (G.stops gate.new)) }
     ensures unstopped { MatchResult result (λ x. G.stops gate.new ≡ G.stops gate.old)
         (λ s. G.stops gate.old ≤ G.stops gate.new) }
 {
-    let Ok(disk) = new_disk(alloc) else {
+    start(alloc, shelf, disk, 1, gate)
+}
+
+/// The element of the shelf on that new disk: a controller with one worker, and its users, on a new disk in memory.
+pub(crate) fn new_element<D: Disk + Drop, G: Gate>(
+    alloc: Global,
+    shelf: Shelf,
+    disk: D,
+    gate: &mut G,
+) -> Result<Element<D, MemDisk>, Status>
+    requires told { D.told }
+    requires fresh { IsNewDisk (D.state disk) }
+    ensures started { MatchResult result
+        (IsNewElement D.told (Unit {0}) D.state mem_state shelf)
+        (NotLoaded (G.stops gate.old) (G.stops gate.new)) }
+    ensures unstopped { MatchResult result (λ x. G.stops gate.new ≡ G.stops gate.old)
+        (λ s. G.stops gate.old ≤ G.stops gate.new) }
+{
+    let controller = new_controller(alloc, shelf, disk, gate)?;
+    let Ok(users_disk) = new_users_disk(alloc) else {
         return Err(Status::NoMemory);
     };
-    start(alloc, shelf, disk, 1, gate)
+    match start_users(alloc, &controller.shelf, users_disk) {
+        Ok(users) => Ok(Element { controller, users }),
+        Err(status) => Err(status),
+    }
 }
 
 /// The element of the shelf: a controller with one worker, and its users, on new disks in memory.
@@ -59,12 +84,8 @@ pub fn memory_element<G: Gate>(
     ensures unstopped { MatchResult result (λ x. G.stops gate.new ≡ G.stops gate.old)
         (λ s. G.stops gate.old ≤ G.stops gate.new) }
 {
-    let controller = memory_controller(alloc, shelf, gate)?;
-    let Ok(disk) = new_users_disk(alloc) else {
+    let Ok(disk) = new_disk(alloc) else {
         return Err(Status::NoMemory);
     };
-    match start_users(alloc, &controller.shelf, disk) {
-        Ok(users) => Ok(Element { controller, users }),
-        Err(status) => Err(status),
-    }
+    new_element(alloc, shelf, disk, gate)
 }

@@ -1,5 +1,5 @@
 -- What a standby came to, by what it was lent.
-use Rattle.std.proofs.Common.{◌≡◌, ◌+◌, ◌≤◌, ◌<◌, ◌∙◌, [], ◌∷◌, ℕ, arith, List, Option, inl, inr, refl, subst}
+use Rattle.std.proofs.Common.{◌≡◌, ◌+◌, ◌≤◌, ◌<◌, ◌∙◌, [], ◌∷◌, ℕ, arith, List, Option, None, inl, inr, refl, subst}
 use Rattle.std.specs.Prelude.{IsTrue, length}
 use Rattle.dxc_causes.specs.Causes.{Rose, last}
 use Rattle.dxc_disk.specs.Disks.{CountsOn, DiskState, IsSound}
@@ -10,11 +10,13 @@ use Rattle.dxc_outside.specs.Links.{LinkState}
 use Rattle.dxc_outside.specs.declared.listener.Came.{Came}
 use Rattle.dxc_outside.specs.declared.listener.Came.TheVariants.{Link, End, Failed}
 use Rattle.standby_link.specs.declared.end.StandbyEnd.{StandbyEnd}
-use Rattle.standby_link.specs.Serves.{IsPrompt, bytes_in}
+use Rattle.standby_link.specs.Serves.{bytes_in}
 use Rattle.craft_jobs.specs.Counts.{RoseBy}
 use Rattle.craft_words.specs.declared.status.Status.{Status}
 use Rattle.craft_jobs.specs.Missing.{IsOfNoOpening}
-use Rattle.craft_jobs.specs.Standbys.{Ends, IsFirst, IsUnopened, NobodyCame, NoneAccepted, RanStandby, ServedOne, Stands, read_in, status_of_stood, stood_asked}
+use Rattle.craft_jobs.specs.Standbys.{Ends, IsFirst, IsUnopened, Meets, Passed, ServesOrPasses, Stays, Stands, one_more, read_in, status_of_stood, stood_asked}
+use Rattle.craft_jobs.specs.declared.standby.Met.{Met}
+use Rattle.craft_jobs.specs.declared.standby.Met.TheVariants.{Nobody, NoneHeard, Served as ServedMet}
 use Rattle.craft_jobs.specs.declared.stood.Stood.{Stood}
 use Rattle.craft_jobs.specs.declared.stood.Stood.TheVariants.{NoJournal, NoListener, Unmet, Unheard, Served}
 use Rattle.craft_jobs.proofs.Counting.{rose_more}
@@ -28,25 +30,36 @@ pub no_disk_fault : (disk_told link_told : Type 0) (k k' : LinkState) (d d' : Di
 no_disk_fault disk_told link_told k k' d d' end (inl unbegun) counts sound rose = never_rises d.room d.margin d.faults d'.faults d'.margin 1 counts sound.margin (omega arith) sound.enough (unbegun.spent sound.enough).margin rose
 no_disk_fault disk_told link_told k k' d d' end (inr served) counts sound rose = never_rises d.room d.margin d.faults d'.faults d'.margin (1 + length (bytes_in served.came)) counts sound.margin (omega arith) sound.enough (served.spent sound.enough).1 rose
 
-module _ (opener_told disk_told listener_told link_told : Type 0) {D L K : Type 0} (disk : D → DiskState) (listener : L → ListenerState K) (link : K → LinkState) (begun : LinkState → Type 0) (door new_door : L) where
-  -- the first link was served
-  pub served_one : (first : Came K) (caller served : K) (d copy : D) (end : StandbyEnd) → first ≡ Link caller → IsFirst listener_told link (listener door) (listener new_door) first → RanStandby disk_told link_told (link caller) (link served) (disk d) (disk copy) end
-      → IsPrompt begun link_told (link caller) (link served) → ServedOne opener_told disk_told listener_told link_told disk listener link begun d (listener door) copy new_door served end
-  served_one first caller served d copy end is came ran prompt =
+module _ (disk_told listener_told link_told : Type 0) {D L K : Type 0} (disk : D → DiskState) (listener : L → ListenerState K) (link : K → LinkState) (begun : LinkState → Type 0) (d : D) (l : L) (copy : D) (door new_door : L) (passed : Passed disk_told listener_told link_told disk listener link begun d l copy door) where
+  -- after those who were passed over, one was served
+  pub served_one : (first : Came K) (caller served : K) (new_copy : D) (end : StandbyEnd) → first ≡ Link caller → IsFirst listener_told link (listener door) (listener new_door) first → Stays disk_told link_told disk link begun caller served copy new_copy end
+      → Meets disk_told listener_told link_told disk listener link begun d l new_copy new_door (ServedMet served end)
+  served_one first caller served new_copy end is came stays =
       let one = subst (λ (f : Came K). IsFirst listener_told link (listener door) (listener new_door) f) is came in
-      record { caller = caller; first = one.coming; is_sound = one.sound; ran = ran; prompt = prompt }
+      (copy, door, passed, record { caller = caller; first = one.coming; is_sound = one.sound; stays = stays })
+
+  -- one more was passed over
+  pub passed_one : (first : Came K) (caller left : K) (new_copy : D) → first ≡ Link caller → IsFirst listener_told link (listener door) (listener new_door) first → ServesOrPasses disk_told link_told disk link begun caller left copy new_copy None
+      → Passed disk_told listener_told link_told disk listener link begun d l new_copy new_door
+  passed_one first caller left new_copy is came passes =
+      one_more copy new_copy door new_door caller left passes.0 passed (subst (λ (f : Came K). IsFirst listener_told link (listener door) (listener new_door) f) is came) passes.1
 
   -- the listener said End
-  pub nobody_came : (first : Came K) → first ≡ End → IsFirst listener_told link (listener door) (listener new_door) first → NobodyCame opener_told disk_told listener_told link_told disk listener link begun (listener door) new_door
+  pub nobody_came : (first : Came K) → first ≡ End → IsFirst listener_told link (listener door) (listener new_door) first → Meets disk_told listener_told link_told disk listener link begun d l copy new_door Nobody
   nobody_came first is came =
       let one = subst (λ (f : Came K). IsFirst listener_told link (listener door) (listener new_door) f) is came in
-      record { ended = one.ended refl; nobody = λ t. one.coming t ∙ one.end t refl }
+      (door, passed, record { ended = one.ended refl; nobody = λ t. one.coming t ∙ one.end t refl })
 
   -- 16 accepts failed
-  pub none_accepted : (first : Came K) → first ≡ Failed → IsFirst listener_told link (listener door) (listener new_door) first → NoneAccepted opener_told disk_told listener_told link_told disk listener link begun (listener door) new_door
+  pub none_accepted : (first : Came K) → first ≡ Failed → IsFirst listener_told link (listener door) (listener new_door) first → Meets disk_told listener_told link_told disk listener link begun d l copy new_door NoneHeard
   none_accepted first is came =
       let one = subst (λ (f : Came K). IsFirst listener_told link (listener door) (listener new_door) f) is came in
-      record { risen = one.risen refl; unsound = one.sound; nobody = one.coming }
+      (door, passed, record { risen = one.risen refl; unsound = one.sound; nobody = one.coming })
+
+-- what came of the callers, by what it is
+pub met_by : (disk_told listener_told link_told : Type 0) {D L K : Type 0} (disk : D → DiskState) (listener : L → ListenerState K) (link : K → LinkState) (begun : LinkState → Type 0) (d : D) (l : L) (copy : D) (door : L) (met is : Met K) → met ≡ is → Meets disk_told listener_told link_told disk listener link begun d l copy door met
+    → Meets disk_told listener_told link_told disk listener link begun d l copy door is
+met_by disk_told listener_told link_told disk listener link begun d l copy door met is same meets = subst (Meets disk_told listener_told link_told disk listener link begun d l copy door) same meets
 
 -- no listener was asked for only where the status is one of an opening
 unopened_ends : (faults later : ℕ) (status : Status) → IsUnopened faults later status → IsOfNoOpening status → ⊥

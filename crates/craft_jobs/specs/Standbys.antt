@@ -1,8 +1,11 @@
 -- What a standby did.
 use mathlib.Core.Logic.{inl, inr}
-use Rattle.std.specs.Prelude.{◌≡◌, ◌≢◌, ◌⊎◌, ◌↔◌, ◌+◌, ◌^◌, ℕ, false, true, List, [], ◌∷◌, ◌++◌, length, Option, Some, IsTrue}
+use Rattle.std.specs.Prelude.{◌≡◌, ◌≢◌, ◌⊎◌, ◌↔◌, ◌+◌, ◌^◌, ℕ, false, true, List, [], ◌∷◌, ◌++◌, length, Option, Some, None, Result, IsTrue}
 use Rattle.dxc_causes.specs.Causes.{Rose, Counted}
-use Rattle.dxc_disk.specs.Disks.{DiskState, IsSound}
+use Rattle.dxc_disk.specs.Disks.{DiskState, IsLength, IsSound}
+use Rattle.dxc_disk.specs.declared.disk.DiskFault.{DiskFault}
+use Rattle.dxc_disk.specs.declared.disk.Disk.{Ghosts as DiskOf}
+use Rattle.dxc_outside.specs.declared.link.Link.{Ghosts as LinkOf}
 use Rattle.dxc_outside.specs.Asked.{Asking, copy_named, listener_named}
 use Rattle.dxc_outside.specs.Callers.{ListenerState, IsSoundCame, came}
 use Rattle.dxc_outside.specs.Links.{IsSoundLink, LinkState}
@@ -15,9 +18,11 @@ use Rattle.standby_link.specs.Serves.{IsPrompt, Served, Unbegun, bytes_in}
 use Rattle.craft_words.specs.declared.status.Status.{Status}
 use Rattle.craft_words.specs.declared.status.Status.TheVariants.{Done, Disk, CannotOpen, NoMemory, Link, Spent, BadMessage, NotEmpty}
 use Rattle.craft_jobs.specs.declared.stood.Stood.{Stood}
+use Rattle.craft_jobs.specs.declared.standby.Met.{Met}
+use Rattle.craft_jobs.specs.declared.standby.Met.TheVariants.{Nobody, NoneHeard, Served as ServedMet}
 use Rattle.craft_jobs.specs.declared.stood.Stood.TheVariants.{NoJournal, NoListener, Unmet, Unheard, Served as ServedStood}
 use Rattle.craft_jobs.specs.Counts.{RoseBy}
-use Rattle.craft_jobs.specs.Offices.{Across, Office}
+use Rattle.craft_jobs.specs.Offices.{Across, Doorway, Office}
 
 -- the status of a standby, by the end of its run
 abbrev pub status_of_standby : StandbyEnd → Status
@@ -82,21 +87,52 @@ module _ (disk_told link_told : Type 0) (k k' : LinkState) (d d' : DiskState) (e
 abbrev pub IsUnopened : (faults later : ℕ) → Status → Type 0
 IsUnopened faults later status = (status ≡ NoMemory) ⊎ ((status ≡ CannotOpen) × Rose faults later)
 
-module _ (opener_told disk_told listener_told link_told : Type 0) {D L K : Type 0} (disk : D → DiskState) (listener : L → ListenerState K) (link : K → LinkState) (begun : LinkState → Type 0) where
-  -- the disk and the listener that the opener handed out, the one by the journal's name and the other by the address
-  pub record HasBoth (journal_at : List ℕ → Option D) (listener_at : List ℕ → Option L) (journal address : List ℕ) : Type 0 where
-    pub copy : D
-    pub handed : opener_told → journal_at journal ≡ Some copy
-    pub door : L
-    pub opened : opener_told → listener_at address ≡ Some door
+-- ends after which another caller is let in, where the disk is empty still
+abbrev pub MayGoOn : StandbyEnd → Type 0
+MayGoOn standby.End = Unit {0}
+MayGoOn standby.ReadFault = Unit {0}
+MayGoOn standby.WriteFault = Unit {0}
+MayGoOn standby.BadMessage = ⊥
+MayGoOn standby.DiskFault = ⊥
+MayGoOn standby.NotEmpty = ⊥
+MayGoOn standby.Spent = ⊥
 
-  -- the first link that came was served on the disk; both are left as they stood when its service ended
+module _ (disk_told link_told : Type 0) {D K : Type 0} (disk : D → DiskState) (link : K → LinkState) (begun : LinkState → Type 0) where
+  -- A caller was served on the disk to its end. After that the disk was asked for its length, or for nothing.
+  pub record Serves (k k' : K) (d d' : D) (end : StandbyEnd) : Type 0 where
+    pub served : D
+    pub ran : RanStandby disk_told link_told (link k) (link k') (disk d) (disk served) end
+    pub prompt : IsPrompt begun link_told (link k) (link k')
+    pub measured : (d' ≡ served) ⊎ ((length : Result ℕ DiskFault) × IsLength disk_told (disk served) (disk d') length)
+
+  -- it left the disk empty
+  pub record Passes (k k' : K) (d d' : D) (end : StandbyEnd) : Type 0 where
+    pub serves : Serves k k' d d' end
+    pub goes_on : MayGoOn end
+    pub empty : disk_told → (disk d').reads_as ≡ []
+
+  -- It left something, or ended so that nobody else is let in; else the disk failed to tell its length.
+  pub record Stays (k k' : K) (d d' : D) (end : StandbyEnd) : Type 0 where
+    pub serves : Serves k k' d d' end
+    pub last : disk_told → MayGoOn end → (disk d').reads_as ≡ [] → Rose (disk serves.served).faults (disk d').faults
+
+  -- one or the other
+  abbrev pub ServesOrPasses : (k k' : K) (d d' : D) → Option StandbyEnd → Type 0
+  ServesOrPasses k k' d d' (Some end) = Stays k k' d d' end
+  ServesOrPasses k k' d d' None = (end : StandbyEnd) × Passes k k' d d' end
+
+module _ (disk_told listener_told link_told : Type 0) {D L K : Type 0} (disk : D → DiskState) (listener : L → ListenerState K) (link : K → LinkState) (begun : LinkState → Type 0) where
+  -- callers one after another, each of whom left the disk empty
+  pub data Passed (d : D) (l : L) : D → L → Type 0 where
+    nobody : Passed d l d l
+    one_more : (mid d' : D) (door l' : L) (caller left : K) (end : StandbyEnd) → Passed d l mid door → IsFirst listener_told link (listener door) (listener l') (answer.Link caller) → Passes disk_told link_told disk link begun caller left mid d' end → Passed d l d' l'
+
+  -- the next link that came was served on the disk; both are left as they stood when its service ended
   pub record ServedOne (d : D) (l : ListenerState K) (new_disk : D) (new_door : L) (new_caller : K) (end : StandbyEnd) : Type 0 where
     pub caller : K
     pub first : listener_told → l.coming ≡ caller ∷ (listener new_door).coming
     pub is_sound : IsTrue l.sound → IsSoundLink (link caller)
-    pub ran : RanStandby disk_told link_told (link caller) (link new_caller) (disk d) (disk new_disk) end
-    pub prompt : IsPrompt begun link_told (link caller) (link new_caller)
+    pub stays : Stays disk_told link_told disk link begun caller new_caller d new_disk end
 
   -- the listener said End before a link came
   pub record NobodyCame (l : ListenerState K) (new_door : L) : Type 0 where
@@ -109,14 +145,28 @@ module _ (opener_told disk_told listener_told link_told : Type 0) {D L K : Type 
     pub unsound : IsTrue l.sound → ⊥
     pub nobody : listener_told → l.coming ≡ (listener new_door).coming
 
-  -- What is left of a standby, and how it came to be: without a journal or a listener nothing was accepted, and where nobody was served the disk is the
-  -- one that was handed out, as it was.
+  -- What came of the callers, after those who were passed over.
+  abbrev pub Meets : (d : D) (l : L) (new_disk : D) (new_door : L) → Met K → Type 0
+  Meets d l new_disk new_door (ServedMet caller end) = (before : D) × (door : L) × Passed d l before door × ServedOne before (listener door) new_disk new_door caller end
+  Meets d l new_disk new_door Nobody = (door : L) × Passed d l new_disk door × NobodyCame (listener door) new_door
+  Meets d l new_disk new_door NoneHeard = (door : L) × Passed d l new_disk door × NoneAccepted (listener door) new_door
+
+module _ (opener_told disk_told listener_told link_told : Type 0) {D L K : Type 0} (disk : D → DiskState) (listener : L → ListenerState K) (link : K → LinkState) (begun : LinkState → Type 0) where
+  -- the disk and the listener that the opener handed out, the one by the journal's name and the other by the address
+  pub record HasBoth (journal_at : List ℕ → Option D) (listener_at : List ℕ → Option L) (journal address : List ℕ) : Type 0 where
+    pub copy : D
+    pub handed : opener_told → journal_at journal ≡ Some copy
+    pub door : L
+    pub opened : opener_told → listener_at address ≡ Some door
+
+  -- What is left of a standby, and how it came to be: without a journal or a listener nothing was accepted; else it is what came of the callers, from the
+  -- disk and the listener that were handed out.
   abbrev pub Stands : (journal_at : List ℕ → Option D) (listener_at : List ℕ → Option L) (faults later : ℕ) (journal address : List ℕ) → Stood D L K → Type 0
   Stands journal_at listener_at faults later journal address (NoJournal status) = IsUnopened faults later status
   Stands journal_at listener_at faults later journal address (NoListener copy status) = (opener_told → journal_at journal ≡ Some copy) × IsUnopened faults later status
-  Stands journal_at listener_at faults later journal address (Unmet copy door) = (b : HasBoth journal_at listener_at journal address) × (copy ≡ b.copy) × NobodyCame (listener b.door) door
-  Stands journal_at listener_at faults later journal address (Unheard copy door) = (b : HasBoth journal_at listener_at journal address) × (copy ≡ b.copy) × NoneAccepted (listener b.door) door
-  Stands journal_at listener_at faults later journal address (ServedStood copy door caller end) = (b : HasBoth journal_at listener_at journal address) × ServedOne b.copy (listener b.door) copy door caller end
+  Stands journal_at listener_at faults later journal address (Unmet copy door) = (b : HasBoth journal_at listener_at journal address) × Meets disk_told listener_told link_told disk listener link begun b.copy b.door copy door Nobody
+  Stands journal_at listener_at faults later journal address (Unheard copy door) = (b : HasBoth journal_at listener_at journal address) × Meets disk_told listener_told link_told disk listener link begun b.copy b.door copy door NoneHeard
+  Stands journal_at listener_at faults later journal address (ServedStood copy door caller end) = (b : HasBoth journal_at listener_at journal address) × Meets disk_told listener_told link_told disk listener link begun b.copy b.door copy door (ServedMet caller end)
 
   -- What a standby came to: its status is that of what is left of it, which was let go so.
   pub record StandsBy (journal_at : List ℕ → Option D) (listener_at : List ℕ → Option L) (faults later : ℕ) (journal address : List ℕ) (gone : AnyValue → Type 0) (asked : List Asking → Type 0) (status : Status) : Type 0 where
@@ -125,6 +175,14 @@ module _ (opener_told disk_told listener_told link_told : Type 0) {D L K : Type 
     pub stands : Stands journal_at listener_at faults later journal address stood
     pub let_go : gone (any_value stood)
     pub asked_for : asked (stood_asked journal address stood)
+
+-- what came of the callers, by the ghost members of disk, listener and links, across a call
+abbrev pub MetAt : {D L K : Type 0} (w : Doorway D L K) → Across D → Across L → Met K → Type 0
+MetAt w disk listener met = Meets w.disk.told w.listener.told w.link.told w.disk.state w.listener.state w.link.state w.link.begun disk.entry.now listener.entry.now disk.exit.now listener.exit.now met
+
+-- what came of one of them
+abbrev pub ServedAt : {D K : Type 0} (disk : DiskOf D) (link : LinkOf K) → Across K → Across D → Option StandbyEnd → Type 0
+ServedAt disk link k d end = ServesOrPasses disk.told link.told disk.state link.state link.begun k.entry.now k.exit.now d.entry.now d.exit.now end
 
 -- by an opener, across the call, with the names of the journal and of the address
 abbrev pub StoodBy : {O : Type 0} (w : Office O) → (gone : AnyValue → Type 0) → Across O → (names : List ℕ × List ℕ) → Status → Type 0

@@ -2,8 +2,8 @@
 ghost use Rattle.std.specs.Prelude.{◌≡◌, ◌∷◌, []};
 ghost use Rattle.dxc_outside.specs.Asked.{AskedFor, copy_named, listener_named};
 ghost use Rattle.craft_jobs.specs.Missing.{IsOfNoOpening};
-ghost use Rattle.craft_jobs.specs.Offices.{office};
-ghost use Rattle.craft_jobs.specs.Standbys.{IsFirst, MetBy, RanStandby, StoodBy, status_of_standby, status_of_stood, stood_asked};
+ghost use Rattle.craft_jobs.specs.Offices.{doorway, office};
+ghost use Rattle.craft_jobs.specs.Standbys.{IsFirst, MetAt, MetBy, RanStandby, ServedAt, StoodBy, status_of_standby, status_of_stood, stood_asked};
 ghost use Rattle.standby_link.specs.Serves.{IsPrompt};
 
 use crate::stood::Stood;
@@ -18,8 +18,8 @@ use std::sync::Wait;
 /// So many accepts in a row may not fail.
 const FAILURES: u8 = 16;
 
-/// Makes on the journal of that name, which is to be new, what a primary sends over the first link that comes at the address. Nobody
-/// else is let in. What is left is let go.
+/// Makes on the journal of that name, which is to be new, what a primary sends over a link that comes at the address. A caller that goes
+/// and has left nothing in the copy is passed over; after any other nobody is let in. What is left is let go.
 pub fn run_standby<O: Opener + LetGo, R: Wait>(
     alloc: Global,
     opener: &mut O,
@@ -62,13 +62,10 @@ fn meet_primary<O: Opener, R: Wait>(
         Opened::Failed => return Stood::NoListener(disk, Status::CannotOpen),
         Opened::NoMemory => return Stood::NoListener(disk, Status::NoMemory),
     };
-    match first_link(&mut listener, rt) {
-        Came::Link(mut link) => {
-            let end = stand_by(&mut link, &mut disk);
-            Stood::Served(disk, listener, link, end)
-        }
-        Came::End => Stood::Unmet(disk, listener),
-        Came::Failed => Stood::Unheard(disk, listener),
+    match primary_of(&mut listener, &mut disk, rt) {
+        Met::Served(link, end) => Stood::Served(disk, listener, link, end),
+        Met::Nobody => Stood::Unmet(disk, listener),
+        Met::NoneHeard => Stood::Unheard(disk, listener),
     }
 }
 
@@ -96,6 +93,55 @@ fn after_standby(end: StandbyEnd) -> Status
         StandbyEnd::BadMessage => Status::BadMessage,
         StandbyEnd::NotEmpty => Status::NotEmpty,
         StandbyEnd::Spent => Status::Spent,
+    }
+}
+
+// What came of the callers.
+enum Met<K> {
+    /// One was served, after whom nobody else is let in.
+    Served(K, StandbyEnd),
+    /// The listener said End.
+    Nobody,
+    /// So many accepts in a row failed as may not.
+    NoneHeard,
+}
+
+// Serves callers one after another, up to the first that leaves something in the copy, or sends what no primary does. Who leaves nothing, as a
+// port scan, is passed over.
+fn primary_of<L: Listener, D: Disk, R: Wait>(listener: &mut L, disk: &mut D, rt: &R) -> Met<L::Link>
+    ensures { MetAt (doorway D.Disk L.Listener L.Link.Link) disk listener result }
+{
+    for _ in rt.forever() {
+        match first_link(listener, rt) {
+            Came::Link(mut link) => match serve_caller(&mut link, disk) {
+                Some(end) => return Met::Served(link, end),
+                None => {}
+            },
+            Came::End => return Met::Nobody,
+            Came::Failed => return Met::NoneHeard,
+        }
+    }
+    unreachable!()
+}
+
+// Serves a caller on the disk to its end. None: it left the disk empty, so that another one may be let in.
+fn serve_caller<K: Link, D: Disk>(link: &mut K, disk: &mut D) -> Option<StandbyEnd>
+    ensures { ServedAt D.Disk K.Link link disk result }
+{
+    let end = stand_by(link, disk);
+    match end {
+        StandbyEnd::End | StandbyEnd::ReadFault | StandbyEnd::WriteFault => match disk.length() {
+            Ok(length) => {
+                if length == 0 {
+                    None
+                } else {
+                    Some(end)
+                }
+            }
+            Err(_) => Some(end),
+        },
+        StandbyEnd::BadMessage | StandbyEnd::DiskFault | StandbyEnd::NotEmpty | StandbyEnd::Spent =>
+            Some(end),
     }
 }
 

@@ -19,14 +19,16 @@ use Rattle.user_admin.specs.States.{opening_of as users_opening}
 use Rattle.xc_core.specs.declared.state.State.{State}
 use Rattle.xc_core.specs.Openings.{IsOpening}
 use Rattle.xc_core.specs.Seeing.{Saw}
-use Rattle.xc_core.specs.States.{Opening, opening_of}
+use Rattle.xc_core.specs.States.{Opening, faults_in, opening_of}
 use Rattle.craft_session.specs.declared.end.SessionEnd.{SessionEnd}
 use Rattle.craft_session.specs.declared.end.SessionEnd.TheVariants.{End, Spent}
 use Rattle.craft_session.specs.Meanings.{language}
-use Rattle.craft_session.specs.Places.{place_at}
+use Rattle.craft_session.specs.Places.{IsLonePlace, place_at}
 use Rattle.craft_session.specs.Seats.{PlaceAt, SeatAt, seat_at}
 use Rattle.craft_session.proofs.Scripts.{script_seen}
+use Rattle.dxc_load.specs.declared.disk.LoadDisk.{LoadDisk}
 use Rattle.dxc_load.specs.declared.summary.Summary.{Summary}
+use Rattle.dxc_load.specs.Storing.{load_disk}
 use Rattle.dxc_load.specs.Sending.{fabric_of, link_state, unread}
 use Rattle.craft_words.specs.declared.status.Status.{Status}
 use Rattle.craft_words.specs.declared.status.Status.TheVariants.{BadWords}
@@ -34,7 +36,7 @@ use Rattle.craft_words.specs.declared.status.Status.TheVariants as Status_of
 use Rattle.craft_element.specs.declared.opening.Element.{Element}
 use Rattle.craft_element.specs.declared.stock.Stock.{Stock}
 use Rattle.craft_element.specs.Loads.{IsLoadElement, IsLoadStarted, NotLoaded}
-use Rattle.craft_element.specs.Stocks.{IsLeft, IsStockAfter}
+use Rattle.craft_element.specs.Stocks.{IsCounted, IsLeft, IsStockAfter}
 use Rattle.craft_element.proofs.Wording.{sent_words}
 use Rattle.craft_server.specs.Loads.{IsLoad, IsLoaded, IsLoadedOn, IsLoadServed, IsSummed, LoadsOn, load_moments, stock_in}
 use Rattle.craft_server.proofs.Starting.{of_disk, users_of_disk}
@@ -48,11 +50,11 @@ pub on_started : {A : Type 0} (P : A → Type 0) (r : Result A Status) (x : A) �
 on_started P r x is has = subst (λ p. IfOk p P) is has
 
 module _ (number stops mid later : ℕ) (r : Result Summary Status) where
-  pub loaded_by : (x : Result (Element MemDisk MemDisk) Status) → MatchResult x IsLoadStarted (NotLoaded stops mid) → MatchResult x (λ e. mid ≡ stops) (λ s. stops ≤ mid) → LoadsOn (Unit {0}) (Unit {0}) mem_state mem_state number x mid later r → MatchResult r (IsLoaded number) (NotLoaded stops later)
+  pub loaded_by : (x : Result (Element LoadDisk MemDisk) Status) → MatchResult x IsLoadStarted (NotLoaded stops mid) → MatchResult x (λ e. mid ≡ stops) (λ s. stops ≤ mid) → LoadsOn (Unit {0}) (Unit {0}) load_disk mem_state number x mid later r → MatchResult r (IsLoaded number) (NotLoaded stops later)
   loaded_by (Ok e) started same told = subst (λ (n : ℕ). MatchResult r (IsLoaded number) (NotLoaded n later)) same told.0
   loaded_by (Err s) not up told = subst (λ (p : Result Summary Status). MatchResult p (IsLoaded number) (NotLoaded stops later)) (sym told.0) (subst (λ (n : ℕ). NotLoaded stops n s) (sym told.1) not)
 
-  pub stops_by : (x : Result (Element MemDisk MemDisk) Status) → MatchResult x (λ e. mid ≡ stops) (λ s. stops ≤ mid) → LoadsOn (Unit {0}) (Unit {0}) mem_state mem_state number x mid later r → MatchResult r (λ v. later ≡ stops) (λ s. stops ≤ later)
+  pub stops_by : (x : Result (Element LoadDisk MemDisk) Status) → MatchResult x (λ e. mid ≡ stops) (λ s. stops ≤ mid) → LoadsOn (Unit {0}) (Unit {0}) load_disk mem_state number x mid later r → MatchResult r (λ v. later ≡ stops) (λ s. stops ≤ later)
   stops_by (Ok e) same told = subst (λ (n : ℕ). MatchResult r (λ v. later ≡ n) (λ s. n ≤ later)) same told.1
   stops_by (Err s) up told = subst (λ (p : Result Summary Status). MatchResult p (λ v. later ≡ stops) (λ e. stops ≤ later)) (sym told.0) (subst (λ (n : ℕ). stops ≤ n) (sym told.1) up)
 
@@ -80,16 +82,26 @@ module _ {D : Type 0} (state : D → DiskState) (p : Token) (t u : Gate (State D
   pub room_given : (room : ℕ) → ports s.opening.first.fold.table.shape ≤ room → ports (opening_of state u.first).first.fold.table.shape ≤ room
   room_given room enough = subst (λ (x : SeatAt). ports x.opening.first.fold.table.shape ≤ room) (sym given_up) enough
 
-  pub left_given : (r : Option Stock) → ((h : List Entry) → Saw (opening_of state u.first) p.seen h → IfSome r (IsLeft p.number u.passes (opening_of state u.first) h)) → (h : List Entry) → Saw s.opening s.seen h → IfSome r (IsLeft s.place s.places s.opening h)
-  left_given r left = subst (λ (x : SeatAt). (h : List Entry) → Saw x.opening x.seen h → IfSome r (IsLeft x.place x.places x.opening h)) given_up left
+  pub left_given : (r : Option (Stock × D)) → ((h : List Entry) → Saw (opening_of state u.first) p.seen h → IfSome r (IsLeft state p.number u.passes (opening_of state u.first) h)) → (h : List Entry) → Saw s.opening s.seen h → IfSome r (IsLeft state s.place s.places s.opening h)
+  left_given r left = subst (λ (x : SeatAt). (h : List Entry) → Saw x.opening x.seen h → IfSome r (IsLeft state x.place x.places x.opening h)) given_up left
 
 -- of one place nobody else leaves an entry
 nobody_else : (es : List Entry) → Each (λ e. e.place ≢ 0) es → Each (λ e. e.place < 1) es → es ≡ []
 nobody_else [] others numbers = refl
 nobody_else (e ∷ es) others numbers = absurd (others.0 (let low = numbers.0 in omega (arith, low)))
 
-left_alone : (o : Opening) (h : List Entry) (s : Stock) → IsLeft 0 1 o h s → IsStockAfter o h s
-left_alone o h s left = subst (λ (l : List Entry). IsStockAfter o l s) (ap (λ (es : List Entry). h ++ es) (nobody_else left.later left.others left.numbers) ∙ append-nil h) left.after
+module _ {D : Type 0} (state : D → DiskState) (o : Opening) (h : List Entry) (s : Stock) (disk : D) (left : IsLeft state 0 1 o h (s, disk)) where
+  all_seen : h ++ left.later ≡ h
+  all_seen = ap (λ (es : List Entry). h ++ es) (nobody_else left.later left.others left.numbers) ∙ append-nil h
+
+  left_alone : IsStockAfter o h s
+  left_alone = subst (λ (l : List Entry). IsStockAfter o l s) all_seen left.after
+
+  -- where no call of its journal's disk failed, no operation failed by it
+  no_failure : (state disk).faults ≡ 0 → faults_in h ≡ 0
+  no_failure sound =
+      let counted = subst (λ (l : List Entry). IsCounted o l (state disk)) all_seen left.counted in
+      omega (arith, counted, sound)
 
 module _ (told users_told : Type 0) {D U : Type 0} (state : D → DiskState) (users_state : U → DiskState) (number : ℕ) (x : Element D U) (el : IsLoadElement told users_told state users_state x) where
   abbrev o : Opening
@@ -99,19 +111,21 @@ module _ (told users_told : Type 0) {D U : Type 0} (state : D → DiskState) (us
   p = users_opening users_state x.users
 
   -- a session on the load's element, summed up
-  summed_on : (place : PlaceAt) (k : LinkState) (v : Summary) → place ≡ place_at (arc_value x.controller.shelf) o p 1 0 → k ≡ unread number (arc_value x.controller.fabric) → IsSummed told place k v → IsLoadedOn told users_told state users_state number v
-  summed_on place k v is unread_is s =
+  summed_on : (place : PlaceAt) (k : LinkState) (v : Summary) → IsLonePlace (arc_value x.controller.shelf) o p place → k ≡ unread number (arc_value x.controller.fabric) → IsSummed told state place k v → IsLoadedOn told users_told state users_state number v
+  summed_on place k v lone unread_is s =
       let l = link_state s.link in
       let fabric = arc_value x.controller.fabric in
       let start = unread number fabric in
-      let first = place_at el.shelf o p 1 0 in
-      let at : place ≡ first = is ∙ ap (λ (y : Contents). place_at y o p 1 0) el.started.shelf in
+      let t = lone.turnstiles in
+      let first = place_at el.shelf o p t 0 in
+      let at : place ≡ first = lone.place ∙ ap (λ (y : Contents). place_at y o p t 0) el.started.shelf in
       let served = subst (λ (q : PlaceAt). IsLoadServed told q s.new start l) at (subst (λ (m : LinkState). IsLoadServed told place s.new m l) unread_is s.served) in
       let seen = script_seen told (Unit {0}) (Unit {0}) (state el.disk) (users_state el.users_disk) start l load_moments load_moments (language el.shelf) first.seat s.new.seat first.users s.new.users
-      (of_disk told state el.disk el.shelf 1 x.controller el.started) (users_of_disk users_told users_state el.users_disk el.shelf x.users el.users_started) refl refl refl served.seat.2 served.users.2 served.numbers served.users_numbers served.astray served.session in
+      (of_disk told state el.disk el.shelf 1 x.controller el.started) (users_of_disk users_told users_state el.users_disk el.shelf x.users el.users_started) refl refl refl (served.seat.2 ∙ lone.count) (served.users.2 ∙ lone.count) served.numbers served.users_numbers served.astray served.session in
       let seat = s.new.seat in
-      let left = subst (λ (y : Opening). (h : List Entry) → Saw y seat.seen h → IsLeft seat.place seat.places y h (stock_in v)) served.seat.0 s.left in
+      let left = subst (λ (y : Opening). (h : List Entry) → Saw y seat.seen h → IsLeft state seat.place seat.places y h (stock_in v, s.disk)) served.seat.0 s.left in
       let h = seen.0.answered.walk.history in
+      let own = subst (λ (n : ℕ). IsLeft state n 1 o h (stock_in v, s.disk)) served.seat.1 (subst (λ (n : ℕ). IsLeft state seat.place n o h (stock_in v, s.disk)) (served.seat.2 ∙ lone.count) (left h seen.1)) in
       record {
         shelf = el.shelf;
         is_shelf = el.is_shelf;
@@ -126,12 +140,14 @@ module _ (told users_told : Type 0) {D U : Type 0} (state : D → DiskState) (us
         users_opened = subst (λ (file : List ℕ). IsUsersOpening users_told file el.shelf p) el.users_fresh.content el.users_started.opening;
         link = s.link;
         wrote = seen.0;
+        prompt = served.prompt;
         own = s.link.carrier.own ∙ fabric_row.the_row.coded.inj (fabric_of s.link) fabric seen.0.exchanged.lasting;
         all_read = served.all_read;
-        left = left_alone o h (stock_in v) (subst (λ (n : ℕ). IsLeft n 1 o h (stock_in v)) served.seat.1 (subst (λ (n : ℕ). IsLeft seat.place n o h (stock_in v)) served.seat.2 (left h seen.1)));
+        left = left_alone state o h (stock_in v) s.disk own;
+        sound = no_failure state o h (stock_in v) s.disk own s.sound;
         sum = s.sum;
       }
 
-  pub loaded_on : (place : PlaceAt) (k : LinkState) (stops later : ℕ) (r : Result Summary Status) → place ≡ place_at (arc_value x.controller.shelf) o p 1 0 → k ≡ unread number (arc_value x.controller.fabric) → MatchResult r (IsSummed told place k) (NotLoaded stops later) → MatchResult r (IsLoadedOn told users_told state users_state number) (NotLoaded stops later)
-  loaded_on place k stops later (Ok v) is unread_is s = summed_on place k v is unread_is s
-  loaded_on place k stops later (Err e) is unread_is not = not
+  pub loaded_on : (place : PlaceAt) (k : LinkState) (stops later : ℕ) (r : Result Summary Status) → IsLonePlace (arc_value x.controller.shelf) o p place → k ≡ unread number (arc_value x.controller.fabric) → MatchResult r (IsSummed told state place k) (NotLoaded stops later) → MatchResult r (IsLoadedOn told users_told state users_state number) (NotLoaded stops later)
+  loaded_on place k stops later (Ok v) lone unread_is s = summed_on place k v lone unread_is s
+  loaded_on place k stops later (Err e) lone unread_is not = not

@@ -24,7 +24,7 @@ use Rattle.craft_element.specs.declared.opening.Controller.{Controller}
 use Rattle.craft_words.specs.declared.status.Status.{Status}
 use Rattle.craft_words.specs.declared.status.Status.TheVariants.{Done, Link, Stopped as Was_stopped, Spent as Ran_out}
 use Rattle.craft_element.specs.Openings.{AreUsersStarted, IsStarted}
-use Rattle.craft_session.specs.Places.{place_at}
+use Rattle.craft_session.specs.Places.{IsLonePlace, place_at}
 use Rattle.craft_server.specs.Scripts.{RanAndLeft, RanSession}
 use Rattle.craft_server.specs.Statuses.{status_of}
 use Rattle.craft_server.proofs.Starting.{of_disk, users_of_disk}
@@ -68,21 +68,24 @@ spent_at Spent is = refl
 
 module _ {D : Type 0} (disk_told : Type 0) (state : D → DiskState) (told clock_told : Type 0) (begun : LinkState → Type 0) (k l : LinkState) (c d : List Moment) (stops later : ℕ) (first : SessionUser) (s : Contents) (disk users_disk : D) where
   -- what the session at its one place did, and that the place was let go as it left it
-  pub ran_and_left : (gone : AnyValue → Type 0) (workers : ℕ) (x : Controller D) (u : UserState D) (old new : PlaceAt) (end : SessionEnd) (status : Status) → IsStarted disk_told state disk s workers x → AreUsersStarted disk_told state users_disk s u → old ≡ place_at (arc_value x.shelf) (opening_of state x.state) (users_opening state u) 1 0
+  pub ran_and_left : (gone : AnyValue → Type 0) (workers : ℕ) (x : Controller D) (u : UserState D) (old new : PlaceAt) (end : SessionEnd) (status : Status) → IsStarted disk_told state disk s workers x → AreUsersStarted disk_told state users_disk s u → IsLonePlace (arc_value x.shelf) (opening_of state x.state) (users_opening state u) old
       → IsSameSeat old.seat new.seat → IsSameUserSeat old.users new.users → AreNumbered new.seat.places new.seat.seen → AreUsersNumbered new.users.places new.users.seen → SawNoneAstray disk_told new.seat.seen
       → IsServed (language_for first old.shelf) told clock_told k l c d old.seat new.seat old.users new.users end → IsPrompt (language_for first old.shelf) begun told clock_told k l c old.seat old.users → IsEnd k l stops later end → status ≡ status_of end → gone (any_value new) → RanAndLeft disk_told told clock_told begun gone (state disk) (state users_disk) first s (opening_of state x.state) (users_opening state u) k l c d stops later status
-  ran_and_left gone workers x u old new end status started users_started is same users_same numbers users_numbers astray served prompt e status_is let_go =
+  ran_and_left gone workers x u old new end status started users_started lone same users_same numbers users_numbers astray served prompt e status_is let_go =
       let o : Opening = opening_of state x.state in
       let p : UsersOpening = users_opening state u in
-      let at : old ≡ place_at s o p 1 0 = is ∙ ap (λ (y : Contents). place_at y o p 1 0) started.shelf in
+      let t = lone.turnstiles in
+      let at : old ≡ place_at s o p t 0 = lone.place ∙ ap (λ (y : Contents). place_at y o p t 0) started.shelf in
       let here = subst (λ (q : PlaceAt). IsServed (language_for first q.shelf) told clock_told k l c d q.seat new.seat q.users new.users end) at served in
-      let one : new.seat.places ≡ 1 = same.2 ∙ ap (λ (q : PlaceAt). q.seat.places) at in
-      let users_one : new.users.places ≡ 1 = users_same.2 ∙ ap (λ (q : PlaceAt). q.users.places) at in
+      let one : new.seat.places ≡ 1 = same.2 ∙ ap (λ (q : PlaceAt). q.seat.places) at ∙ lone.count in
+      let users_one : new.users.places ≡ 1 = users_same.2 ∙ ap (λ (q : PlaceAt). q.users.places) at ∙ lone.count in
       record {
         ran = record {
+          turnstiles = t;
+          alone = lone.count;
           end = end;
           status_is = status_is;
-          wrote = script_of disk_told told clock_told (state disk) (state users_disk) k l c d (language_for first s) (place_at s o p 1 0).seat new.seat (place_at s o p 1 0).users new.users end (of_disk disk_told state disk s workers x started) (users_of_disk disk_told state users_disk s u users_started) refl refl refl refl one users_one numbers users_numbers astray here;
+          wrote = script_of disk_told told clock_told (state disk) (state users_disk) k l c d (language_for first s) (place_at s o p t 0).seat new.seat (place_at s o p t 0).users new.users end (of_disk disk_told state disk s workers x started) (users_of_disk disk_told state users_disk s u users_started) refl refl refl refl one users_one numbers users_numbers astray here;
           prompt = subst (λ (q : PlaceAt). IsPrompt (language_for first q.shelf) begun told clock_told k l c q.seat q.users) at prompt;
           ended = (λ done. e.ended.0 (done_at end (sym status_is ∙ done)), λ ended. status_is ∙ ap status_of (e.ended.1 ended));
           cause = λ link. link_at k l stops later end e (sym status_is ∙ link);
@@ -98,8 +101,8 @@ module _ {D : Type 0} (disk_told : Type 0) (state : D → DiskState) (told clock
       }
 
   -- what it did alone
-  pub ran_session : (workers : ℕ) (x : Controller D) (u : UserState D) (old new : PlaceAt) (end : SessionEnd) (status : Status) → IsStarted disk_told state disk s workers x → AreUsersStarted disk_told state users_disk s u → old ≡ place_at (arc_value x.shelf) (opening_of state x.state) (users_opening state u) 1 0
+  pub ran_session : (workers : ℕ) (x : Controller D) (u : UserState D) (old new : PlaceAt) (end : SessionEnd) (status : Status) → IsStarted disk_told state disk s workers x → AreUsersStarted disk_told state users_disk s u → IsLonePlace (arc_value x.shelf) (opening_of state x.state) (users_opening state u) old
       → IsSameSeat old.seat new.seat → IsSameUserSeat old.users new.users → AreNumbered new.seat.places new.seat.seen → AreUsersNumbered new.users.places new.users.seen → SawNoneAstray disk_told new.seat.seen
       → IsServed (language_for first old.shelf) told clock_told k l c d old.seat new.seat old.users new.users end → IsPrompt (language_for first old.shelf) begun told clock_told k l c old.seat old.users → IsEnd k l stops later end → status ≡ status_of end → RanSession disk_told told clock_told begun (state disk) (state users_disk) first s (opening_of state x.state) (users_opening state u) k l c d stops later status
-  ran_session workers x u old new end status started users_started is same users_same numbers users_numbers astray served prompt e status_is =
-      (ran_and_left (λ v. Unit {0}) workers x u old new end status started users_started is same users_same numbers users_numbers astray served prompt e status_is tt).ran
+  ran_session workers x u old new end status started users_started lone same users_same numbers users_numbers astray served prompt e status_is =
+      (ran_and_left (λ v. Unit {0}) workers x u old new end status started users_started lone same users_same numbers users_numbers astray served prompt e status_is tt).ran

@@ -13,20 +13,22 @@ use Rattle.user_admin.specs.Openings.{IsOpening as IsUsersOpening}
 use Rattle.user_admin.specs.Turns.{AreNumbered as AreUsersNumbered}
 use Rattle.xc_core.specs.Openings.{IsOpening}
 use Rattle.xc_core.specs.Seeing.{Saw}
-use Rattle.xc_core.specs.States.{Opening}
+use Rattle.xc_core.specs.States.{Opening, faults_in}
 use Rattle.xc_core.specs.Turns.{AreNumbered, SawNoneAstray}
 use Rattle.craft_session.specs.declared.end.SessionEnd.TheVariants.{End}
 use Rattle.craft_session.specs.Meanings.{language}
+use Rattle.craft_session.specs.Places.{place_at}
 use Rattle.craft_session.specs.Scripts.{WroteAll}
 use Rattle.craft_session.specs.Seats.{IsSameSeat, IsSameUserSeat, PlaceAt}
-use Rattle.craft_session.specs.Sessions.{IsServed}
+use Rattle.craft_session.specs.Sessions.{IsPrompt, IsServed}
 use Rattle.dxc_load.specs.declared.link.LoadLink.{LoadLink}
 use Rattle.dxc_load.specs.declared.summary.Summary.{Summary}
-use Rattle.dxc_load.specs.Carrying.{carried_in}
+use Rattle.dxc_load.specs.Carrying.{AreLoadFrames, carried_in}
 use Rattle.dxc_load.specs.Codes.{coded_in, compld, deny}
 use Rattle.dxc_load.specs.LoadShelf.{IsLoadShelf}
 use Rattle.dxc_load.specs.Script.{load_moment}
-use Rattle.dxc_load.specs.Sending.{link_state, unread, worker_of}
+use Rattle.dxc_load.specs.Storing.{load_disk}
+use Rattle.dxc_load.specs.Sending.{IsOfLoad, fabric_of, link_state, unread, worker_of}
 use Rattle.dxc_load.specs.Summaries.{summary_line}
 use Rattle.craft_words.specs.declared.status.Status.{Status}
 use Rattle.craft_words.specs.Statuses.{status_of_sent}
@@ -42,6 +44,7 @@ load_moments = load_moment ∷ []
 -- a session was served at a place to the end of its link
 pub record IsLoadServed (disk_told : Type 0) (old new : PlaceAt) (k l : LinkState) : Type 0 where
   pub session : IsServed (language old.shelf) (Unit {0}) (Unit {0}) k l load_moments load_moments old.seat new.seat old.users new.users End
+  pub prompt : IsPrompt (language old.shelf) IsOfLoad (Unit {0}) (Unit {0}) k l load_moments old.seat old.users
   pub seat : IsSameSeat old.seat new.seat
   pub users : IsSameUserSeat old.users new.users
   pub numbers : AreNumbered new.seat.places new.seat.seen
@@ -60,17 +63,22 @@ pub record IsSumOf (link : LoadLink) (v : Summary) : Type 0 where
   pub denied : v.codes.denied ≡ coded_in deny (link_state link).written
   pub frames : (worker_of link).frame ≡ 2 * 10000
   pub carried : v.carried ≡ carried_in (worker_of link).notes
+  pub each : AreLoadFrames (fabric_of link).size (worker_of link).number 10000 (worker_of link).notes
 
--- such a session was summed up, with what stands behind the history that its place has seen
-pub record IsSummed (disk_told : Type 0) (old : PlaceAt) (k : LinkState) (v : Summary) : Type 0 where
+-- such a session was summed up, with what stands behind the history that its place has seen; no call of its journal's disk failed
+pub record IsSummed (disk_told : Type 0) {D : Type 0} (state : D → DiskState) (old : PlaceAt) (k : LinkState) (v : Summary) : Type 0 where
   pub new : PlaceAt
   pub link : LoadLink
+  pub disk : D
   pub served : IsLoadServed disk_told old new k (link_state link)
-  pub left : (h : List Entry) → Saw new.seat.opening new.seat.seen h → IsLeft new.seat.place new.seat.places new.seat.opening h (stock_in v)
+  pub left : (h : List Entry) → Saw new.seat.opening new.seat.seen h → IsLeft state new.seat.place new.seat.places new.seat.opening h (stock_in v, disk)
+  pub sound : (state disk).faults ≡ 0
   pub sum : IsSumOf link v
 
--- The script was sent to one session, alone on new journals, and all of it was read. Connections and switches are what its own history comes to;
--- codes and bytes are those of its link, whose worker is one of the session's fabric.
+-- The script was sent to one session, alone on new journals, and all of it was read. Connections and switches are what its own history comes to,
+-- of which no operation failed by the disk; codes and bytes are those of its link, whose worker is one of the session's fabric. Each read began where
+-- all that was read was answered, at a link of the load: so frame i was carried after the response of command i, and before anything of the next
+-- command was read.
 pub record IsLoadedOn (told users_told : Type 0) {D U : Type 0} (state : D → DiskState) (users_state : U → DiskState) (number : ℕ) (v : Summary) : Type 0 where
   pub shelf : Contents
   pub is_shelf : IsLoadShelf shelf
@@ -85,9 +93,11 @@ pub record IsLoadedOn (told users_told : Type 0) {D U : Type 0} (state : D → D
   pub users_opened : IsUsersOpening users_told [] shelf users_opening
   pub link : LoadLink
   pub wrote : WroteAll told (state disk) (users_state users_disk) 0 opening users_opening (Unit {0}) load_moments load_moments (language shelf) (Unit {0}) (unread number fabric) (link_state link)
+  pub prompt : let first = place_at shelf opening users_opening 1 0 in IsPrompt (language shelf) IsOfLoad (Unit {0}) (Unit {0}) (unread number fabric) (link_state link) load_moments first.seat first.users
   pub own : link.carrier.seat.reader.fabric ≡ fabric
   pub all_read : (link_state link).left ≡ []
   pub left : IsStockAfter opening wrote.answered.walk.history (stock_in v)
+  pub sound : faults_in wrote.answered.walk.history ≡ 0
   pub sum : IsSumOf link v
 
 -- the same where the element was opened, by the stops before and after
@@ -97,7 +107,7 @@ LoadsOn told users_told state users_state number opened stops later r =
 
 -- on journals in memory
 abbrev pub IsLoaded : ℕ → Summary → Type 0
-IsLoaded number v = IsLoadedOn (Unit {0}) (Unit {0}) mem_state mem_state number v
+IsLoaded number v = IsLoadedOn (Unit {0}) (Unit {0}) load_disk mem_state number v
 
 -- the summary was written to the link, or a part of it where a write failed; or nothing was, and why
 abbrev pub IsLoad : (number : ℕ) (told : Type 0) (k l : LinkState) (stops later : ℕ) → Status → Type 0

@@ -11,7 +11,7 @@ use Rattle.user_admin.specs.Histories.{Opening as UsersOpening}
 use Rattle.xc_core.specs.States.{Opening}
 use Rattle.craft_session.specs.declared.end.SessionEnd.{SessionEnd}
 use Rattle.craft_session.specs.Meanings.{language_for}
-use Rattle.craft_session.specs.Places.{place_at}
+use Rattle.craft_session.specs.Places.{Turnstiles, place_at}
 use Rattle.craft_session.specs.Scripts.{IsScript}
 use Rattle.craft_session.specs.Seats.{IsSameSeat, IsSameUserSeat, PlaceAt}
 use Rattle.craft_session.specs.Sessions.{IsPrompt, IsServed}
@@ -21,11 +21,13 @@ use Rattle.craft_server.specs.Statuses.{status_of}
 
 -- one session from the opening on that began with this user, by its end, and the status; so many stops were before and after it
 pub record RanSession (disk_told told clock_told : Type 0) (begun : LinkState → Type 0) (disk users_disk : DiskState) (first : SessionUser) (s : Contents) (o : Opening) (p : UsersOpening) (k l : LinkState) (c d : List Moment) (stops later : ℕ) (status : Status) : Type 0 where
+  pub turnstiles : Turnstiles
+  pub alone : turnstiles.places ≡ 1
   pub end : SessionEnd
   pub status_is : status ≡ status_of end
   pub wrote : IsScript disk_told disk users_disk 0 o p clock_told c d (language_for first s) told k l end
   -- each read began where all that was read before had been answered
-  pub prompt : IsPrompt (language_for first s) begun told clock_told k l c (place_at s o p 1 0).seat (place_at s o p 1 0).users
+  pub prompt : IsPrompt (language_for first s) begun told clock_told k l c (place_at s o p turnstiles 0).seat (place_at s o p turnstiles 0).users
   pub ended : (status ≡ Done) ↔ IsTrue l.ended
   pub cause : status ≡ Link → Rose k.read_faults l.read_faults ⊎ Rose k.write_faults l.write_faults
   pub stopped : status ≡ Stopped → Rose stops later
@@ -37,6 +39,6 @@ pub record RanAndLeft (disk_told told clock_told : Type 0) (begun : LinkState �
   pub ran : RanSession disk_told told clock_told begun disk users_disk first s o p k l c d stops later status
   pub left : PlaceAt
   pub let_go : gone (any_value left)
-  pub session : IsServed (language_for first s) told clock_told k l c d (place_at s o p 1 0).seat left.seat (place_at s o p 1 0).users left.users ran.end
-  pub seat : IsSameSeat (place_at s o p 1 0).seat left.seat
-  pub users : IsSameUserSeat (place_at s o p 1 0).users left.users
+  pub session : IsServed (language_for first s) told clock_told k l c d (place_at s o p ran.turnstiles 0).seat left.seat (place_at s o p ran.turnstiles 0).users left.users ran.end
+  pub seat : IsSameSeat (place_at s o p ran.turnstiles 0).seat left.seat
+  pub users : IsSameUserSeat (place_at s o p ran.turnstiles 0).users left.users

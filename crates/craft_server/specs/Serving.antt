@@ -13,7 +13,7 @@ use Rattle.dxc_leaving.specs.Values.{AnyValue, any_value}
 use Rattle.shelf_file.specs.Contents.{Contents}
 use Rattle.user_admin.specs.Histories.{Opening as UsersOpening}
 use Rattle.xc_core.specs.States.{Opening}
-use Rattle.craft_session.specs.Places.{ArePlaces}
+use Rattle.craft_session.specs.Places.{HasPlaces}
 use Rattle.craft_session.specs.Seats.{PlaceAt}
 use Rattle.craft_words.specs.declared.line.Line.{Line}
 use Rattle.craft_words.specs.declared.line.Line.TheVariants.{Script, Trial, Check, Export, Serve, Standby, Load}
@@ -125,8 +125,8 @@ pub record AreLeft {J K E F : Type 0} (gone : AnyValue → Type 0) (carried : J 
 
 module _ (D U : Type 0) {N L C G : Type 0} (told : JobsTold N L C G) (site : SiteAt) where
   -- What the spawner was handed: a job for each worker of the opening's fabric, with its seat of it and lines that were handed out for it; behind these one for
-  -- each of 16 places at the opening's state and users, with a listener that was handed out at the address; and no other. Each has run, and what it left was
-  -- let go: the seat, as the worker's frames left it, and the place, as its sessions left it.
+  -- each of 16 places of one turnstile, at the opening's state, and of one at its users, with a listener that was handed out at the address; and no other.
+  -- Each has run, and what it left was let go: the seat, as the worker's frames left it, and the place, as its sessions left it.
   pub record HandedJobs (s : Contents) (o : Opening) (p : UsersOpening) : Type 0 where
     pub workers : List (FrameJob N G)
     pub each : length workers ≡ site.workers
@@ -134,7 +134,7 @@ module _ (D U : Type 0) {N L C G : Type 0} (told : JobsTold N L C G) (site : Sit
     pub seats : AreJobsOf told.lines_for o.site.fabric site.lines 0 workers
     pub sessions : List (SessionJob D U L C G)
     pub sixteen : length sessions ≡ 16
-    pub places : ArePlaces s o p 16 0 (map (λ (job : SessionJob D U L C G). job.place) sessions)
+    pub places : HasPlaces s o p 16 (map (λ (job : SessionJob D U L C G). job.place) sessions)
     pub listeners : All (λ (job : SessionJob D U L C G). told.listener_for job.listener site.address) sessions
     pub handed : told.handed (any_jobs workers ++ any_jobs sessions)
     pub left : AreLeft told.gone (left_by told.carried) (left_by (told.served D U)) workers sessions

@@ -45,7 +45,7 @@ trial_lent terminal clock stops = record { terminal = terminal; clock = clock; s
 pub record IsTrialElement (told : Type 0) {D : Type 0} (state : D → DiskState) (shape : Dimensions) (x : Element D D) : Type 0 where
   pub shelf : Contents
   pub is_shelf : IsTrialShelf shape shelf
-  pub is_new : IsNewElement told state shelf x
+  pub is_new : IsNewElement told told state state shelf x
 
 -- One session was served on a new element of the shape, from the empty table on. Its user is the element's one, of class S, who was logged in where it
 -- began.

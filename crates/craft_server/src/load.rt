@@ -18,7 +18,7 @@ use craft_session::{Place, SessionEnd, serve_session};
 use craft_words::Status;
 use dxc_causes::NoMemory;
 use dxc_disk::Disk;
-use dxc_load::{LoadClock, LoadLink, Summary, codes_in};
+use dxc_load::{LoadClock, LoadLink, Noting, Summary, codes_in};
 use dxc_model::Conn;
 use dxc_outside::{Gate, Link, write_all};
 use fabric_words::{Fabric, WorkerSeat};
@@ -84,22 +84,22 @@ fn serve_load<D: Disk + Drop, U: Disk + Drop, G: Gate, R: Wait>(
     }
 }
 
-// What the sessions of the place left. None: a restart is due.
+// What the sessions of the place left, and the journal's disk. None: a restart is due.
 fn left_by<D: Disk + Drop, U: Disk + Drop, R: Wait>(
     place: Place<D, U>,
     rows: &mut Vec<Conn>,
     rt: &R,
-) -> Option<Stock>
+) -> Option<(Stock, D)>
     requires { ports place.seat.opening.first.fold.table.shape ≤ vec_capacity rows.old }
-    ensures { (h : List Entry) → Saw place.seat.opening place.seat.seen h
-        → IfSome result (IsLeft place.seat.place place.seat.places place.seat.opening h) }
+    ensures { (h : List Entry) → Saw place.seat.opening place.seat.seen h → IfSome result
+        (IsLeft D.state place.seat.place place.seat.places place.seat.opening h) }
 {
     let (mut pass, turns) = place.into_pass();
     stock_of(&mut pass, &turns, rows, rt)
 }
 
-// Serves the script of the link at the place, and sums it up.
-fn summed<D: Disk + Drop, U: Disk + Drop, G: Gate, R: Wait>(
+// Serves the script of the link at the place, and sums it up, unless a command was denied for want of room in the journal.
+fn summed<D: Noting + Drop, U: Disk + Drop, G: Gate, R: Wait>(
     mut place: Place<D, U>,
     link: &mut LoadLink,
     rows: &mut Vec<Conn>,
@@ -108,7 +108,7 @@ fn summed<D: Disk + Drop, U: Disk + Drop, G: Gate, R: Wait>(
 ) -> Result<Summary, Status>
     requires unread { (link_state link.old).reads ≡ 0 }
     requires room { ports place.seat.opening.first.fold.table.shape ≤ vec_capacity rows.old }
-    ensures summed { MatchResult result (IsSummed D.told place (link_state link.old))
+    ensures summed { MatchResult result (IsSummed D.told D.state place (link_state link.old))
         (NotLoaded (G.stops gate.old) (G.stops gate.new)) }
     ensures unstopped { MatchResult result (λ _. G.stops gate.new ≡ G.stops gate.old)
         (λ _. G.stops gate.old ≤ G.stops gate.new) }
@@ -117,10 +117,14 @@ fn summed<D: Disk + Drop, U: Disk + Drop, G: Gate, R: Wait>(
         Ok(()) => {}
         Err(status) => return Err(status),
     }
-    let Some(stock) = left_by(place, rows, rt) else {
+    let Some((stock, disk)) = left_by(place, rows, rt) else {
         // A call of the journal's disk failed, which had no room.
         return Err(Status::NoMemory);
     };
+    // It may have failed in a command, and the rest gone well.
+    if disk.has_failed() {
+        return Err(Status::NoMemory);
+    }
     Ok(Summary {
         codes: codes_in(link.written()),
         connections: stock.connections,
@@ -130,7 +134,7 @@ fn summed<D: Disk + Drop, U: Disk + Drop, G: Gate, R: Wait>(
 }
 
 // Serves the script of that number on the element, and sums it up.
-fn load_on<D: Disk + Drop, U: Disk + Drop, G: Gate, R: Wait>(
+fn load_on<D: Noting + Drop, U: Disk + Drop, G: Gate, R: Wait>(
     alloc: Global,
     number: u64,
     element: Element<D, U>,
@@ -162,7 +166,7 @@ fn load_on<D: Disk + Drop, U: Disk + Drop, G: Gate, R: Wait>(
 }
 
 // The same where the element was opened. Generic over its disks, since whoever owns a disk in memory pays for each of its parts.
-fn load_opened<D: Disk + Drop, U: Disk + Drop, G: Gate, R: Wait>(
+fn load_opened<D: Noting + Drop, U: Disk + Drop, G: Gate, R: Wait>(
     alloc: Global,
     number: u64,
     opened: Result<Element<D, U>, Status>,
@@ -210,8 +214,9 @@ pub(crate) fn run_load<K: Link, G: Gate, R: Wait>(
     gate: &mut G,
     rt: &R,
 ) -> Status
-    ensures { IsLoad number K.told (K.state terminal.old) (K.state terminal.new) (G.stops gate.old)
-        (G.stops gate.new) result }
+    ensures load { IsLoad number K.told (K.state terminal.old) (K.state terminal.new)
+        (G.stops gate.old) (G.stops gate.new) result }
+    ensures hung_up { K.hung_up terminal.new ≡ K.hung_up terminal.old }
 {
     let summary = match loaded(alloc, number, gate, rt) {
         Ok(summary) => summary,

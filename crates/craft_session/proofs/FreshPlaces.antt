@@ -17,7 +17,7 @@ use Rattle.user_admin.specs.Turns.{AreNumbered as AreUsersNumbered, Saw as SawUs
 use Rattle.craft_session.specs.Seats.{IsSeated, IsUserSeated, PlaceAt}
 use Rattle.xc_recovery.proofs.LastWorks.{comes_shape}
 use Rattle.xc_core.specs.Openings.{Opens as OpensFile}
-use Rattle.craft_session.specs.Places.{AreFresh, ArePlaces, IsAtOpening, fresh_pass, place_at}
+use Rattle.craft_session.specs.Places.{AreFresh, ArePlaces, HasPlaces, IsAtOpening, IsLonePlace, Turnstiles, fresh_pass, place_at}
 
 -- what a file opens is on the fabric that it was made on, and of the shelf's shape
 pub at_opening : (told : Type 0) {due : Bool} {number : ℕ} (file : List ℕ) (s : Contents) (i : FabricId) (o : Opening) → OpensFile told file s i due number o → IsAtOpening o s i
@@ -42,14 +42,18 @@ next_fresh id n [] rest p d all some is more = absurd (omega arith)
 next_fresh id n (q ∷ ps) rest p d all some is more = (is ∙ all.0, subst (λ (l : List Token). AreFresh id (n + 1) l) (sym more) all.1)
 
 -- one place more behind them
-pub places_more : (s : Contents) (o : Opening) (u : UsersOpening) (places n : ℕ) (ps : List PlaceAt) (p : PlaceAt) → ArePlaces s o u places n ps → p ≡ place_at s o u places (n + length ps) → ArePlaces s o u places n (ps ++ p ∷ [])
-places_more s o u places n [] p all is = let same : n + 0 ≡ n = omega arith in (is ∙ ap (place_at s o u places) same, tt)
-places_more s o u places n (x ∷ xs) p all is = let same : n + suc (length xs) ≡ n + 1 + length xs = omega arith in (all.0, places_more s o u places (n + 1) xs p all.1 (is ∙ ap (place_at s o u places) same))
+pub places_more : (s : Contents) (o : Opening) (u : UsersOpening) (t : Turnstiles) (n : ℕ) (ps : List PlaceAt) (p : PlaceAt) → ArePlaces s o u t n ps → p ≡ place_at s o u t (n + length ps) → ArePlaces s o u t n (ps ++ p ∷ [])
+places_more s o u t n [] p all is = let same : n + 0 ≡ n = omega arith in (is ∙ ap (place_at s o u t) same, tt)
+places_more s o u t n (x ∷ xs) p all is = let same : n + suc (length xs) ≡ n + 1 + length xs = omega arith in (all.0, places_more s o u t (n + 1) xs p all.1 (is ∙ ap (place_at s o u t) same))
 
 -- the first of the places
-pub first_place : (s : Contents) (o : Opening) (u : UsersOpening) (places : ℕ) (ps : List PlaceAt) (d : PlaceAt) → ArePlaces s o u places 0 ps → 0 < length ps → slice_index_or ps 0 d ≡ place_at s o u places 0
-first_place s o u places [] d all some = absurd (omega arith)
-first_place s o u places (p ∷ ps) d all some = all.0
+pub first_place : (s : Contents) (o : Opening) (u : UsersOpening) (t : Turnstiles) (ps : List PlaceAt) (d : PlaceAt) → ArePlaces s o u t 0 ps → 0 < length ps → slice_index_or ps 0 d ≡ place_at s o u t 0
+first_place s o u t [] d all some = absurd (omega arith)
+first_place s o u t (p ∷ ps) d all some = all.0
+
+-- the one place that there is
+pub lone : (s : Contents) (o : Opening) (u : UsersOpening) (ps : List PlaceAt) (d : PlaceAt) → HasPlaces s o u 1 ps → 0 < length ps → IsLonePlace s o u (slice_index_or ps 0 d)
+lone s o u ps d has some = record { turnstiles = has.turnstiles; count = has.count; place = first_place s o u has.turnstiles ps d has.each some }
 
 -- who has seen nothing has seen no number
 none_numbered : (passes : ℕ) → AreNumbered passes []

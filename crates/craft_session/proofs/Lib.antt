@@ -15,6 +15,7 @@ pub mod Seating
 pub mod Reporting
 pub mod Ends
 pub mod Consulted
+pub mod Timely
 pub mod SessionSteps
 pub mod Prompt
 pub mod Answering

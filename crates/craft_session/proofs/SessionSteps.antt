@@ -45,11 +45,15 @@ use Rattle.craft_session.specs.Moments.{Gives, gave_none, gave_next}
 use Rattle.craft_session.specs.Notices.{AreReported, Notice, found_notices, notices}
 use Rattle.craft_session.specs.Progresses.{progress_of}
 use Rattle.craft_session.specs.Runs.{Run, Walk, begins, waits, looks, beginning, with_look, with_quiet, with_response}
-use Rattle.craft_session.specs.Sessions.{AreTold, Beginning, Breaks, Consulted, CutPast, Goes, Halts, IsSaid, Now, Past, Served, Stands, StopPast, Writes}
+use Rattle.craft_session.specs.Sessions.{AreTold, Beginning, Breaks, Consulted, CutPast, Goes, Halts, IsAt, IsSaid, Now, Past, Served, Stands, StopPast, Writes}
+use Rattle.craft_session.specs.Seats.{SeatAt, UserSeatAt}
+use Rattle.craft_session.specs.Stamps.{AreStamped, Stamp, stamp_at}
+use Rattle.craft_session.specs.Timely.{IsTimely, starting, telling}
 use Rattle.craft_session.specs.Walks.{begun_by}
 use Rattle.craft_session.proofs.Changing.{others_unused}
 use Rattle.craft_session.proofs.Consulted.{consulted_back, consulted_on, consulted_quiet}
 use Rattle.craft_session.proofs.Reporting.{found_is}
+use Rattle.craft_session.proofs.Timely.{in_message}
 use Rattle.craft_session.proofs.Walking.{cursor_within, due_some, snoc_some, passes_all, run_answered, with_history}
 
 pub writes_none : (told : Type 0) (k : LinkState) → Writes told k k
@@ -268,6 +272,31 @@ module _ (l : Language Request Moment) (told clock_told : Type 0) (k : LinkState
         past = past_cut l clock_told c b d now s.items s.rest s.out s.past u is d2 said.moment said.now said.later reply after hears acts said.wrote.part said.wrote.rest said.wrote.split;
       }
 
+      -- each byte of the answer was written in its time
+      pub answered_in_time : (stamped : Stamp → Type 0) (seat : SeatAt) (users : UserSeatAt) (sent : Sent) → IsSaid l told clock_told j j2 d d2 sent u reply → IsAt b seat users → seat.seen ≡ after.seen → users.seen ≡ after.users
+          → stamped (stamp_at d j seat users) → IsTimely l (telling told clock_told stamped) (starting k c b) j j2
+      unfolding past_answered
+      answered_in_time stamped seat users sent said at seen users_seen was t n from below =
+          let p = past_answered l clock_told c b d now s.items s.rest s.out s.past u is d2 said.moment said.now said.later reply after hears acts in
+          (stamp_at d j seat users, was, record {
+            items = s.items;
+            ahead = ahead;
+            out = s.out;
+            exchanged = s.exchanged;
+            walk = p.walk;
+            rest = [];
+            happened = p.happened;
+            run = p.run;
+            at = at;
+            saw = subst (λ (x : List Gv). Saw b.opening x p.walk.history) (sym seen) p.saw;
+            consulted = subst (λ (x : List Gv). Consulted l b x p.walk.happenings p.walk.attending.user) (sym users_seen) p.consulted;
+            message = l.response said.moment u reply;
+            says = inl (record { before = s.past.walk.moments; moment = said.moment; unit = u; reply = reply; all = refl; gave = λ ct. (s.past.gave ct, said.now ct); is = refl });
+            written = sym p.written;
+            follows = from;
+            within = in_message told j j2 said.wrote.part said.wrote.rest (l.response said.moment u reply) said.wrote.wrote said.wrote.split t n below;
+          })
+
     -- a unit that ended, whole or too long
     module _ (kind : UnitKind) (ahead : List ℕ) (s : Stands l told clock_told k j c d b now false kind r ahead) (u : Request) (ended : IsUnit s.rest u.input × (hand r ≡ [])) where
       pub goes_on : (j2 : LinkState) (d2 : List Moment) (reply : Reply) (after : Now) → IsSaid l told clock_told j j2 d d2 Whole u reply
@@ -443,3 +472,32 @@ module _ (l : Language Request Moment) (told clock_told : Type 0) (k : LinkState
       pub goes_told : (sent : Sent) (how : Progress) → how ≡ progress_of sent → AreTold l told clock_told j j2 d d2 sent (found_notices looked.since looked.newest given) → Goes l told clock_told k j2 c d2 b looked_now how false r ahead
       goes_told Whole how is x = subst (λ (y : Progress). Goes l told clock_told k j2 c d2 b looked_now y false r ahead) (sym is) (stands_told (told_here Whole x))
       goes_told Sent_cut how is x = subst (λ (y : Progress). Goes l told clock_told k j2 c d2 b looked_now y false r ahead) (sym is) (breaks_told (told_here Sent_cut x))
+
+      -- each byte of the reports was written in its time
+      pub looked_in_time : (stamped : Stamp → Type 0) (seat : SeatAt) (users : UserSeatAt) (sent : Sent) → AreTold l told clock_told j j2 d d2 sent (found_notices looked.since looked.newest given) → IsAt b seat users → seat.seen ≡ seen → users.seen ≡ now.users
+          → AreStamped stamped (stamp_at d j seat users) j2 d2 → IsTimely l (telling told clock_told stamped) (starting k c b) j j2
+      unfolding past_look_cut
+      looked_in_time stamped seat users sent told_all at seat_seen users_seen was t n from below =
+          let x = told_here sent told_all in
+          let p = past_look_cut l clock_told c b d now due_now.items due_now.rest due_now.out past_now cursor watch looked given seen look_now (x.taken ++ x.untaken) x.bytes x.reported (rest_of due_now.made) d2 x.taken x.untaken refl x.gave x.wrote.part x.wrote.rest x.wrote.split in
+          elim was [
+            | inl none ↦ absurd (let e = ap (λ (y : LinkState). length y.written) none.0 in omega (arith, e, from, below))
+            | inr there ↦ (stamp_at d j seat users, there, record {
+              items = due_now.items;
+              ahead = ahead;
+              out = due_now.out;
+              exchanged = due_now.exchanged;
+              walk = p.walk;
+              rest = due_now.rest;
+              happened = p.happened;
+              run = p.run;
+              at = at;
+              saw = subst (λ (y : List Gv). Saw b.opening y p.walk.history) (sym seat_seen) p.saw;
+              consulted = subst (λ (y : List Gv). Consulted l b y p.walk.happenings p.walk.attending.user) (sym users_seen) p.consulted;
+              message = x.bytes;
+              says = inr (record { notices = notices found cursor; moments = x.taken ++ x.untaken; are = x.reported });
+              written = sym (ap (λ (y : List ℕ). y ++ x.bytes) past_now.written ∙ append_assoc past_now.walk.earlier past_now.walk.latest x.bytes);
+              follows = from;
+              within = in_message told j j2 x.wrote.part x.wrote.rest x.bytes x.wrote.wrote x.wrote.split t n below;
+            })
+          ]

@@ -1,8 +1,8 @@
 -- What a session is lent.
 use Rattle.dxc_disk.specs.declared.disk.Disk.{Ghosts as DiskOf}
-use Rattle.dxc_outside.specs.declared.clock.Clock.{Ghosts as ClockOf}
 use Rattle.dxc_outside.specs.declared.gate.Gate.{Ghosts as GateOf}
 use Rattle.dxc_outside.specs.declared.link.Link.{Ghosts as LinkOf}
+use Rattle.craft_session.specs.declared.timestamps.Timestamps.{Ghosts as ClockOf}
 use Rattle.craft_session.specs.Seats.{PlaceAt}
 
 -- the ghost members of a link, a clock, a gate and a disk

@@ -21,5 +21,7 @@ pub mod Plain
 pub mod PlainUsers
 pub mod Scripts
 pub mod Places
+pub mod Stamps
+pub mod Timely
 pub mod Lending
 pub mod Served

@@ -1,6 +1,6 @@
 -- The places of one state, before any of them took a turn.
 use Rattle.std.specs.Prelude.{◌≡◌, ℕ, ◌+◌, true, List, [], ◌∷◌}
-use Rattle.turnstile.specs.Passing.{Ident, Token}
+use Rattle.turnstile.specs.Passing.{Gate, Ident, Token}
 use Rattle.fabric_words.specs.Seats.{FabricId}
 use Rattle.shelf_file.specs.Contents.{Contents}
 use Rattle.user_admin.specs.Histories.{Opening as UsersOpening}
@@ -21,11 +21,32 @@ pub record IsAtOpening (o : Opening) (s : Contents) (i : FabricId) : Type 0 wher
   pub fabric : o.site.fabric ≡ i
   pub shape : o.first.fold.table.shape ≡ s.shape
 
--- the place of this number, of so many, which has seen nothing of the histories
-abbrev pub place_at : Contents → Opening → UsersOpening → ℕ → ℕ → PlaceAt
-place_at s o p places n = record { shelf = s; seat = record { opening = o; place = n; places = places; seen = [] }; users = record { opening = p; place = n; places = places; seen = [] } }
+-- the turnstiles that places are of, that of the state and that of the users, and how many places there are
+pub record Turnstiles : Type 0 where
+  pub state : Ident
+  pub users : Ident
+  pub places : ℕ
+
+abbrev pub turnstiles_of : {X Y : Type 0} → Gate X → Gate Y → Turnstiles
+turnstiles_of t u = record { state = t.id; users = u.id; places = t.passes }
+
+-- the place of this number at these turnstiles, which has seen nothing of the histories
+abbrev pub place_at : Contents → Opening → UsersOpening → Turnstiles → ℕ → PlaceAt
+place_at s o p t n = record { shelf = s; seat = record { opening = o; turnstile = t.state; place = n; places = t.places; seen = [] }; users = record { opening = p; turnstile = t.users; place = n; places = t.places; seen = [] } }
 
 -- such places from this number on
-abbrev pub ArePlaces : Contents → Opening → UsersOpening → ℕ → ℕ → List PlaceAt → Type 0
-ArePlaces s o u places n [] = Unit {0}
-ArePlaces s o u places n (p ∷ ps) = (p ≡ place_at s o u places n) × ArePlaces s o u places (n + 1) ps
+abbrev pub ArePlaces : Contents → Opening → UsersOpening → Turnstiles → ℕ → List PlaceAt → Type 0
+ArePlaces s o u t n [] = Unit {0}
+ArePlaces s o u t n (p ∷ ps) = (p ≡ place_at s o u t n) × ArePlaces s o u t (n + 1) ps
+
+-- so many places from number 0 on, all of one turnstile of the state and of one of the users
+pub record HasPlaces (s : Contents) (o : Opening) (u : UsersOpening) (places : ℕ) (ps : List PlaceAt) : Type 0 where
+  pub turnstiles : Turnstiles
+  pub count : turnstiles.places ≡ places
+  pub each : ArePlaces s o u turnstiles 0 ps
+
+-- the one place of its turnstiles
+pub record IsLonePlace (s : Contents) (o : Opening) (u : UsersOpening) (p : PlaceAt) : Type 0 where
+  pub turnstiles : Turnstiles
+  pub count : turnstiles.places ≡ 1
+  pub place : p ≡ place_at s o u turnstiles 0

@@ -14,6 +14,8 @@ use Rattle.craft_session.specs.Lending.{Things}
 use Rattle.craft_session.specs.Meanings.{language_for}
 use Rattle.craft_session.specs.Seats.{IsSameSeat, IsSameUserSeat, PlaceAt}
 use Rattle.craft_session.specs.Sessions.{IsPrompt, IsServed}
+use Rattle.craft_session.specs.Stamps.{stamp_at}
+use Rattle.craft_session.specs.Timely.{WasTimely, telling}
 
 -- the same place, and what it has seen are histories
 pub record StaysPlace (disk_told : Type 0) (old new : PlaceAt) : Type 0 where
@@ -40,6 +42,7 @@ pub record ServedFor {T : Type 0} (world : LentOf T) (first : SessionUser) (old 
   pub place : StaysPlace world.lent.disk.told old.0 new.0
   pub session : let w = world.lent in IsServed (language_for first old.0.shelf) w.link.told w.clock.told (w.link.state old.1) (w.link.state new.1) (w.clock.coming old.2) (w.clock.coming new.2) old.0.seat new.0.seat old.0.users new.0.users end
   pub prompt : let w = world.lent in IsPrompt (language_for first old.0.shelf) w.link.begun w.link.told w.clock.told (w.link.state old.1) (w.link.state new.1) (w.clock.coming old.2) old.0.seat old.0.users
+  pub timely : let w = world.lent in WasTimely (language_for first old.0.shelf) (telling w.link.told w.clock.told w.clock.stamped) (stamp_at (w.clock.coming old.2) (w.link.state old.1) old.0.seat old.0.users) (w.link.state new.1)
   pub asked : AreEntered old.0.seat old.0.users (world.lent.gate.asked old.3 new.3) new.0.seat.seen new.0.users.seen
   pub why : EndedFor world.lent.link.told (world.lent.link.state old.1) (world.lent.link.state new.1) end
   pub stopped : end ≡ Stopped → Rose (world.lent.gate.stops old.3) (world.lent.gate.stops new.3)

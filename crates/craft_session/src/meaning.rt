@@ -169,9 +169,16 @@ fn act_user<U: Disk + Drop, R: Wait>(
         *ask = Ask::Refused(Cause::BadIdentity);
         return;
     };
+    users.guesses.rest(rt);
     match users.seat.login(uid, pid, rt) {
-        Some(class) => *ask = log_in_as(user, upper(uid), class),
-        None => *ask = Ask::Refused(Cause::BadIdentity),
+        Some(class) => {
+            users.guesses.right();
+            *ask = log_in_as(user, upper(uid), class);
+        }
+        None => {
+            users.guesses.wrong();
+            *ask = Ask::Refused(Cause::BadIdentity);
+        }
     }
 }
 

@@ -7,6 +7,7 @@ ghost use Rattle.craft_session.specs.Seats.{IsSeated, IsUserSeated, seat_at, use
 
 use crate::attending::Attending;
 use crate::desk::Desk;
+use crate::guesses::Guesses;
 use crate::seat::Seat;
 use crate::users::{UserDesk, UserSeat};
 use arrayvec::ArrayVec;
@@ -97,6 +98,7 @@ impl<D: Disk + Drop, U: Disk + Drop> Place<D, U> {
         let users = UserDesk {
             seat: UserSeat::new(users_pass, users),
             rows: ArrayVec::new(),
+            guesses: Guesses::new(),
         };
         let attending = Attending {
             user: SessionUser::Nobody,

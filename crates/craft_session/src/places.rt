@@ -6,7 +6,7 @@ ghost use Rattle.user_admin.specs.States.{opening_of as users_opening};
 ghost use Rattle.turnstile.specs.Passing.{Ident};
 ghost use Rattle.xc_core.specs.Openings.{Begins};
 ghost use Rattle.xc_core.specs.States.{opening_of};
-ghost use Rattle.craft_session.specs.Places.{AreFresh, ArePlaces, IsAtOpening, fresh_pass, place_at};
+ghost use Rattle.craft_session.specs.Places.{AreFresh, HasPlaces, IsAtOpening, IsLonePlace, fresh_pass, place_at, turnstiles_of};
 
 use crate::place::Place;
 use dxc_causes::NoMemory;
@@ -40,8 +40,8 @@ pub fn open_places<D: Disk + Drop, U: Disk + Drop>(
     requires opening { IsAtOpening (opening_of D.state state) (arc_value shelf.now)
         (arc_value fabric.now) }
     ensures each { IfOk result (λ ps. vec_len ps ≡ count) }
-    ensures places { IfOk result (λ ps. ArePlaces (arc_value shelf.now) (opening_of D.state state)
-        (users_opening U.state users) count 0 ps.items) }
+    ensures places { IfOk result (λ ps. HasPlaces (arc_value shelf.now) (opening_of D.state state)
+        (users_opening U.state users) count ps.items) }
 {
     let (turns, mut passes) = turns_of(alloc, state, count)?;
     let (users, mut users_passes) = turns_of(alloc, users, count)?;
@@ -109,7 +109,8 @@ pub fn place_of<D: Disk + Drop, U: Disk + Drop>(
     requires places { (arc_value users.now).passes ≡ (arc_value turns.now).passes }
     ensures { IfOk result
         (λ p. p ≡ place_at (arc_value shelf.now) (opening_of D.state (arc_value turns.now).first)
-        (users_opening U.state (arc_value users.now).first) (arc_value turns.now).passes number) }
+        (users_opening U.state (arc_value users.now).first)
+        (turnstiles_of (arc_value turns.now) (arc_value users.now)) number) }
 {
     let (Ok(shelf), Ok(fabric), Ok(turns), Ok(users)) = (
         Arc::try_clone(shelf),
@@ -134,8 +135,8 @@ pub fn lone_place<D: Disk + Drop, U: Disk + Drop>(
     requires users_begin { UsersBegin U.told U.state users }
     requires opening { IsAtOpening (opening_of D.state state) (arc_value shelf.now)
         (arc_value fabric.now) }
-    ensures { IfOk result (λ p. p ≡ place_at (arc_value shelf.now) (opening_of D.state state)
-        (users_opening U.state users) 1 0) }
+    ensures { IfOk result (λ p. IsLonePlace (arc_value shelf.now) (opening_of D.state state)
+        (users_opening U.state users) p) }
 {
     let mut places = open_places(alloc, shelf, fabric, state, users, 1)?;
     Ok(places.remove(0))

@@ -19,20 +19,23 @@ ghost use Rattle.craft_session.specs.Desks.{now};
 ghost use Rattle.craft_session.specs.Gated.{Entered, NothingAsked};
 ghost use Rattle.craft_session.specs.Seats.{IsSameSeat};
 ghost use Rattle.craft_session.specs.Sessions.{AreTold, Beginning, IsAt, IsReported, Writes, Stands, Goes};
+ghost use Rattle.craft_session.specs.Stamps.{AreStamped, stamp_at};
+ghost use Rattle.craft_session.specs.Timely.{IsTimelyFrom, in_hand, telling};
 
 use crate::desk::Desk;
 use crate::end::Progress;
+use crate::timestamps::Timestamps;
 use arrayvec::ArrayVec;
 use dbchg_reports::Since;
 use dxc_disk::Disk;
-use dxc_outside::{Clock, Link, Sent, write_all};
+use dxc_outside::{Link, Sent, write_all};
 use std::sync::Wait;
 use tl1_answer::change_text;
 use xc_core::turns::Looked;
 
 /// Looks for changes where reports are allowed, and writes a report of each, with the next moments.
 #[inline(always)]
-pub fn report<K: Link, C: Clock, D: Disk + Drop, U: Disk + Drop, R: Wait>(
+pub fn report<K: Link, C: Timestamps, D: Disk + Drop, U: Disk + Drop, R: Wait>(
     desk: &mut Desk<D, U>,
     link: &mut K,
     clock: &mut C,
@@ -49,6 +52,11 @@ pub fn report<K: Link, C: Clock, D: Disk + Drop, U: Disk + Drop, R: Wait>(
         c (C.coming clock.old) b (now desk.old) (is_some desk.old.attending.watch) More r ahead
         → Goes (language_for first (arc_value desk.old.shelf)) K.told C.told k (K.state link.new) c
         (C.coming clock.new) b (now desk.new) result false r ahead }
+    ensures timely { (r : Reader) → (ahead : List ℕ) → IsTimelyFrom (arc_value desk.old.shelf)
+        (telling K.told C.told C.stamped)
+        (stamp_at (C.coming clock.old) (K.state link.old) desk.old.seat desk.old.users.seat)
+        (in_hand desk.old.attending (is_some desk.old.attending.watch) More r ahead)
+        (K.state link.new) }
     ensures unstopped { result ≢ Progress.Stopped }
     ensures entered { (h : List Entry) → Saw desk.old.seat.opening desk.old.seat.seen h → Entered
         desk.old.seat.opening desk.old.seat.place NothingAsked false false h desk.new.seat.seen }
@@ -62,7 +70,7 @@ pub fn report<K: Link, C: Clock, D: Disk + Drop, U: Disk + Drop, R: Wait>(
 /// Looks for changes behind the cursor, and writes a report of each, with the next moments.
 // Apart, since a session without reports clears no room of a look.
 #[inline(never)]
-fn report_since<K: Link, C: Clock, D: Disk + Drop, U: Disk + Drop, R: Wait>(
+fn report_since<K: Link, C: Timestamps, D: Disk + Drop, U: Disk + Drop, R: Wait>(
     desk: &mut Desk<D, U>,
     link: &mut K,
     clock: &mut C,
@@ -81,6 +89,11 @@ fn report_since<K: Link, C: Clock, D: Disk + Drop, U: Disk + Drop, R: Wait>(
         c (C.coming clock.old) b (now desk.old) (is_some desk.old.attending.watch) More r ahead
         → Goes (language_for first (arc_value desk.old.shelf)) K.told C.told k (K.state link.new) c
         (C.coming clock.new) b (now desk.new) result false r ahead }
+    ensures timely { (r : Reader) → (ahead : List ℕ) → IsTimelyFrom (arc_value desk.old.shelf)
+        (telling K.told C.told C.stamped)
+        (stamp_at (C.coming clock.old) (K.state link.old) desk.old.seat desk.old.users.seat)
+        (in_hand desk.old.attending (is_some desk.old.attending.watch) More r ahead)
+        (K.state link.new) }
     ensures unstopped { result ≢ Progress.Stopped }
     ensures entered { (h : List Entry) → Saw desk.old.seat.opening desk.old.seat.seen h → Entered
         desk.old.seat.opening desk.old.seat.place NothingAsked false false h desk.new.seat.seen }
@@ -92,7 +105,7 @@ fn report_since<K: Link, C: Clock, D: Disk + Drop, U: Disk + Drop, R: Wait>(
 
 /// Writes the reports of what a look found, each with the next moment.
 #[inline(never)]
-fn tell<K: Link, C: Clock, D: Disk + Drop, U: Disk + Drop>(
+fn tell<K: Link, C: Timestamps, D: Disk + Drop, U: Disk + Drop>(
     desk: &mut Desk<D, U>,
     link: &mut K,
     clock: &mut C,
@@ -109,6 +122,9 @@ fn tell<K: Link, C: Clock, D: Disk + Drop, U: Disk + Drop>(
     ensures told { AreTold (language (arc_value desk.old.shelf)) K.told C.told (K.state link.old)
         (K.state link.new) (C.coming clock.old) (C.coming clock.new) result
         (found_notices looked.since looked.newest desk.old.changes.items) }
+    ensures stamped { AreStamped C.stamped
+        (stamp_at (C.coming clock.old) (K.state link.old) desk.old.seat desk.old.users.seat)
+        (K.state link.new) (C.coming clock.new) }
 {
     let before = looked.newest - desk.changes.as_slice().len() as u64;
     match tell_lost(desk, link, clock, looked.since, before) {
@@ -118,7 +134,7 @@ fn tell<K: Link, C: Clock, D: Disk + Drop, U: Disk + Drop>(
 }
 
 /// Writes the report of changes that were lost, if some were.
-fn tell_lost<K: Link, C: Clock, D: Disk + Drop, U: Disk + Drop>(
+fn tell_lost<K: Link, C: Timestamps, D: Disk + Drop, U: Disk + Drop>(
     desk: &mut Desk<D, U>,
     link: &mut K,
     clock: &mut C,
@@ -133,6 +149,9 @@ fn tell_lost<K: Link, C: Clock, D: Disk + Drop, U: Disk + Drop>(
     ensures changes { desk.new.changes ≡ desk.old.changes }
     ensures told { AreTold (language (arc_value desk.old.shelf)) K.told C.told (K.state link.old)
         (K.state link.new) (C.coming clock.old) (C.coming clock.new) result (lead since before) }
+    ensures stamped { AreStamped C.stamped
+        (stamp_at (C.coming clock.old) (K.state link.old) desk.old.seat desk.old.users.seat)
+        (K.state link.new) (C.coming clock.new) }
 {
     match since {
         Since::All(_) => Sent::Whole,
@@ -144,7 +163,7 @@ fn tell_lost<K: Link, C: Clock, D: Disk + Drop, U: Disk + Drop>(
 }
 
 /// Writes a report of each change, numbered from the one behind `before`.
-fn tell_changes<K: Link, C: Clock, D: Disk + Drop, U: Disk + Drop>(
+fn tell_changes<K: Link, C: Timestamps, D: Disk + Drop, U: Disk + Drop>(
     desk: &mut Desk<D, U>,
     link: &mut K,
     clock: &mut C,
@@ -161,6 +180,9 @@ fn tell_changes<K: Link, C: Clock, D: Disk + Drop, U: Disk + Drop>(
     ensures told { AreTold (language (arc_value desk.old.shelf)) K.told C.told (K.state link.old)
         (K.state link.new) (C.coming clock.old) (C.coming clock.new) result
         (numbered before desk.old.changes.items) }
+    ensures stamped { AreStamped C.stamped
+        (stamp_at (C.coming clock.old) (K.state link.old) desk.old.seat desk.old.users.seat)
+        (K.state link.new) (C.coming clock.new) }
 {
     for at in 0..desk.changes.as_slice().len() {
         match tell_change(desk, link, clock, before, at) {
@@ -172,7 +194,7 @@ fn tell_changes<K: Link, C: Clock, D: Disk + Drop, U: Disk + Drop>(
 }
 
 /// Writes the report of the change at a place of the list.
-fn tell_change<K: Link, C: Clock, D: Disk + Drop, U: Disk + Drop>(
+fn tell_change<K: Link, C: Timestamps, D: Disk + Drop, U: Disk + Drop>(
     desk: &mut Desk<D, U>,
     link: &mut K,
     clock: &mut C,
@@ -193,13 +215,15 @@ fn tell_change<K: Link, C: Clock, D: Disk + Drop, U: Disk + Drop>(
         → IsReported K.told C.told (K.state link.old) (K.state link.new) (C.coming clock.old)
         (C.coming clock.new) result (λ m. (language (arc_value desk.old.shelf)).report m
         (change (before + at + 1) (slice_index_or desk.old.changes.items at d))) }
+    ensures stamped { C.stamped (stamp_at (C.coming clock.old) (K.state link.old) desk.old.seat
+        desk.old.users.seat) }
 {
     change_text(desk.shelf.shape(), &desk.changes[at], &mut desk.text);
     tell_one(desk, link, clock, before + at as u64 + 1)
 }
 
 /// Writes one report of the text with the next moment.
-fn tell_one<K: Link, C: Clock, D: Disk + Drop, U: Disk + Drop>(
+fn tell_one<K: Link, C: Timestamps, D: Disk + Drop, U: Disk + Drop>(
     desk: &mut Desk<D, U>,
     link: &mut K,
     clock: &mut C,
@@ -214,8 +238,10 @@ fn tell_one<K: Link, C: Clock, D: Disk + Drop, U: Disk + Drop>(
     ensures told { IsReported K.told C.told (K.state link.old) (K.state link.new)
         (C.coming clock.old) (C.coming clock.new) result
         (λ m. whole_report (arc_value desk.old.shelf).sid m number desk.old.text.items) }
+    ensures stamped { C.stamped (stamp_at (C.coming clock.old) (K.state link.old) desk.old.seat
+        desk.old.users.seat) }
 {
-    let moment = clock.now();
+    let moment = clock.stamp(link, &desk.seat, &desk.users.seat);
     desk.answer
         .report(desk.shelf.sid(), moment, number, desk.text.as_slice());
     write_all(link, desk.answer.bytes())

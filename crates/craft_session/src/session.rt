@@ -13,6 +13,8 @@ ghost use Rattle.craft_session.specs.Desks.{now, input_of, ConsultedIs, IsAnswer
 ghost use Rattle.craft_session.specs.Seats.{IsSameSeat, IsSameUserSeat};
 ghost use Rattle.craft_session.specs.Served.{Served, ServedFor};
 ghost use Rattle.craft_session.specs.Sessions.{Beginning, IsAt, Writes, Stands, Goes, IsPrompt, IsServed};
+ghost use Rattle.craft_session.specs.Stamps.{stamp_at};
+ghost use Rattle.craft_session.specs.Timely.{IsTimelyFrom, WasTimely, in_hand, telling};
 ghost use Rattle.craft_session.specs.Walks.{begun_by};
 
 use crate::act::act;
@@ -24,16 +26,17 @@ use crate::meaning::consult;
 use crate::place::Place;
 use crate::reports::report;
 use crate::say::say;
+use crate::timestamps::Timestamps;
 use dxc_disk::Disk;
 use dxc_model::{Cause, SessionUser};
-use dxc_outside::{Clock, Gate, Got, Link, Pass1};
+use dxc_outside::{Gate, Got, Link, Pass1};
 use std::sync::Wait;
 use tl1_text::{Ctag, UnitKind};
 
 const READS: u64 = 1 << 32;
 
 /// Answers the units that end in the piece.
-fn serve_piece<K: Link, C: Clock, G: Gate, D: Disk + Drop, U: Disk + Drop, R: Wait>(
+fn serve_piece<K: Link, C: Timestamps, G: Gate, D: Disk + Drop, U: Disk + Drop, R: Wait>(
     desk: &mut Desk<D, U>,
     link: &mut K,
     clock: &mut C,
@@ -51,6 +54,9 @@ fn serve_piece<K: Link, C: Clock, G: Gate, D: Disk + Drop, U: Disk + Drop, R: Wa
         c (C.coming clock.old) b (now desk.old) false More desk.old.reader piece.now
         → Goes (language_for first (arc_value desk.old.shelf)) K.told C.told k (K.state link.new) c
         (C.coming clock.new) b (now desk.new) result false desk.new.reader [] }
+    ensures timely { IsTimelyFrom (arc_value desk.old.shelf) (telling K.told C.told C.stamped)
+        (stamp_at (C.coming clock.old) (K.state link.old) desk.old.seat desk.old.users.seat)
+        (in_hand desk.old.attending false More desk.old.reader piece.now) (K.state link.new) }
     ensures stopped { result ≡ Progress.Stopped → Rose (G.stops gate.old) (G.stops gate.new) }
     ensures unstopped { result ≢ Progress.Stopped → G.stops gate.new ≡ G.stops gate.old }
     ensures later { G.stops gate.old ≤ G.stops gate.new }
@@ -70,7 +76,7 @@ fn serve_piece<K: Link, C: Clock, G: Gate, D: Disk + Drop, U: Disk + Drop, R: Wa
 }
 
 /// Answers the unit that ended, if one did, and reports what changed.
-fn serve_unit<K: Link, C: Clock, G: Gate, D: Disk + Drop, U: Disk + Drop, R: Wait>(
+fn serve_unit<K: Link, C: Timestamps, G: Gate, D: Disk + Drop, U: Disk + Drop, R: Wait>(
     desk: &mut Desk<D, U>,
     link: &mut K,
     clock: &mut C,
@@ -90,6 +96,10 @@ fn serve_unit<K: Link, C: Clock, G: Gate, D: Disk + Drop, U: Disk + Drop, R: Wai
         c (C.coming clock.old) b (now desk.old) false kind desk.old.reader ahead
         → Goes (language_for first (arc_value desk.old.shelf)) K.told C.told k (K.state link.new) c
         (C.coming clock.new) b (now desk.new) result false desk.old.reader ahead }
+    ensures timely { (ahead : List ℕ)
+        → IsTimelyFrom (arc_value desk.old.shelf) (telling K.told C.told C.stamped)
+        (stamp_at (C.coming clock.old) (K.state link.old) desk.old.seat desk.old.users.seat)
+        (in_hand desk.old.attending false kind desk.old.reader ahead) (K.state link.new) }
     ensures stopped { result ≡ Progress.Stopped → Rose (G.stops gate.old) (G.stops gate.new) }
     ensures unstopped { result ≢ Progress.Stopped → G.stops gate.new ≡ G.stops gate.old }
     ensures later { G.stops gate.old ≤ G.stops gate.new }
@@ -103,7 +113,7 @@ fn serve_unit<K: Link, C: Clock, G: Gate, D: Disk + Drop, U: Disk + Drop, R: Wai
 }
 
 /// Does what the unit that ended asks, answers it, and reports what changed.
-fn attend<K: Link, C: Clock, G: Gate, D: Disk + Drop, U: Disk + Drop, R: Wait>(
+fn attend<K: Link, C: Timestamps, G: Gate, D: Disk + Drop, U: Disk + Drop, R: Wait>(
     desk: &mut Desk<D, U>,
     link: &mut K,
     clock: &mut C,
@@ -124,6 +134,10 @@ fn attend<K: Link, C: Clock, G: Gate, D: Disk + Drop, U: Disk + Drop, R: Wait>(
         c (C.coming clock.old) b (now desk.old) false kind desk.old.reader ahead
         → Goes (language_for first (arc_value desk.old.shelf)) K.told C.told k (K.state link.new) c
         (C.coming clock.new) b (now desk.new) result false desk.old.reader ahead }
+    ensures timely { (ahead : List ℕ)
+        → IsTimelyFrom (arc_value desk.old.shelf) (telling K.told C.told C.stamped)
+        (stamp_at (C.coming clock.old) (K.state link.old) desk.old.seat desk.old.users.seat)
+        (in_hand desk.old.attending false kind desk.old.reader ahead) (K.state link.new) }
     ensures stopped { result ≡ Progress.Stopped → Rose (G.stops gate.old) (G.stops gate.new) }
     ensures unstopped { result ≢ Progress.Stopped → G.stops gate.new ≡ G.stops gate.old }
     ensures later { G.stops gate.old ≤ G.stops gate.new }
@@ -137,7 +151,7 @@ fn attend<K: Link, C: Clock, G: Gate, D: Disk + Drop, U: Disk + Drop, R: Wait>(
 }
 
 /// Does what the unit that ended asks, and writes the response with the next moment. Where the gate stops there is no response.
-fn answer<K: Link, C: Clock, G: Gate, D: Disk + Drop, U: Disk + Drop, R: Wait>(
+fn answer<K: Link, C: Timestamps, G: Gate, D: Disk + Drop, U: Disk + Drop, R: Wait>(
     desk: &mut Desk<D, U>,
     link: &mut K,
     clock: &mut C,
@@ -154,6 +168,8 @@ fn answer<K: Link, C: Clock, G: Gate, D: Disk + Drop, U: Disk + Drop, R: Wait>(
     ensures answered { IsAnswered (arc_value desk.old.shelf) K.told C.told (K.state link.old)
         (K.state link.new) (C.coming clock.old) (C.coming clock.new) (input_of kind desk.old.reader)
         desk.old.seat desk.old.users.seat (now desk.old) (now desk.new) result }
+    ensures stamped { result ≢ Progress.Stopped → C.stamped (stamp_at (C.coming clock.old)
+        (K.state link.old) desk.new.seat desk.new.users.seat) }
     ensures stopped { result ≡ Progress.Stopped → Rose (G.stops gate.old) (G.stops gate.new) }
     ensures unstopped { result ≢ Progress.Stopped → G.stops gate.new ≡ G.stops gate.old }
     ensures later { G.stops gate.old ≤ G.stops gate.new }
@@ -225,7 +241,7 @@ fn ask_of<G: Gate, D: Disk + Drop, U: Disk + Drop, R: Wait>(
 
 /// Serves the link, until it ends or fails, the gate stops, or 2^32 reads were made. It waits for its turn at the state, for the Provisioner, and for
 /// frames that stand in the way of a circuit's move. It takes no memory. Nobody is logged in where it begins.
-pub fn serve_session<K: Link, C: Clock, G: Gate, D: Disk + Drop, U: Disk + Drop, R: Wait>(
+pub fn serve_session<K: Link, C: Timestamps, G: Gate, D: Disk + Drop, U: Disk + Drop, R: Wait>(
     place: &mut Place<D, U>,
     link: &mut K,
     clock: &mut C,
@@ -239,7 +255,7 @@ pub fn serve_session<K: Link, C: Clock, G: Gate, D: Disk + Drop, U: Disk + Drop,
 }
 
 /// Serves the link as `serve_session` does, in a session that begins with this user logged in.
-pub fn serve_session_of<K: Link, C: Clock, G: Gate, D: Disk + Drop, U: Disk + Drop, R: Wait>(
+pub fn serve_session_of<K: Link, C: Timestamps, G: Gate, D: Disk + Drop, U: Disk + Drop, R: Wait>(
     place: &mut Place<D, U>,
     first: SessionUser,
     link: &mut K,
@@ -259,7 +275,7 @@ pub fn serve_session_of<K: Link, C: Clock, G: Gate, D: Disk + Drop, U: Disk + Dr
     end
 }
 
-fn serve<K: Link, C: Clock, G: Gate, D: Disk + Drop, U: Disk + Drop, R: Wait>(
+fn serve<K: Link, C: Timestamps, G: Gate, D: Disk + Drop, U: Disk + Drop, R: Wait>(
     desk: &mut Desk<D, U>,
     piece: &mut [u8],
     link: &mut K,
@@ -280,6 +296,10 @@ fn serve<K: Link, C: Clock, G: Gate, D: Disk + Drop, U: Disk + Drop, R: Wait>(
     ensures prompt { IsPrompt (language_for desk.old.attending.user (arc_value desk.old.shelf))
         K.begun K.told C.told (K.state link.old) (K.state link.new) (C.coming clock.old)
         desk.old.seat desk.old.users.seat }
+    ensures timely { WasTimely (language_for desk.old.attending.user (arc_value desk.old.shelf))
+        (telling K.told C.told C.stamped)
+        (stamp_at (C.coming clock.old) (K.state link.old) desk.old.seat desk.old.users.seat)
+        (K.state link.new) }
     ensures end { (result ≡ SessionEnd.End) ↔ IsTrue (K.state link.new).ended }
     ensures all_read { K.told → result ≡ SessionEnd.End → (K.state link.new).left ≡ [] }
     ensures read_fault { result ≡ SessionEnd.ReadFault

@@ -9,6 +9,7 @@ ghost use Rattle.user_admin.specs.Turns.{AreNumbered, LoggedIn, RowsAre, RowsDen
 ghost use Rattle.user_admin.specs.Verdicts.{IsChanging};
 ghost use Rattle.craft_session.specs.Seats.{IsSameUserSeat, IsUserSeated, user_seat_at};
 
+use crate::guesses::Guesses;
 use dxc_disk::Disk;
 use dxc_model::{Cause, Class, Uid};
 use dxc_outside::Gate;
@@ -93,9 +94,10 @@ impl<U: Disk + Drop> UserSeat<U> {
     }
 }
 
-/// A seat at the users, and the rows that it read last.
+/// A seat at the users, the rows that it read last, and how often a log-in was denied there.
 #[derive(Drop)]
 pub struct UserDesk<U: Disk> {
     pub seat: UserSeat<U>,
     pub rows: UserRows,
+    pub guesses: Guesses,
 }

@@ -5,6 +5,7 @@ use craft_server::{Status, dxc_run};
 use dxc_console::{held_streams, help_asked, only_look, tell_standby, tell_status, words_given};
 use dxc_host::{HostClock, HostOpener, Refusal, TermLink, ThreadSpawner, Utc};
 use dxc_outside::Sent;
+use users_at_odds::user_at_odds;
 use std::io;
 use std::process::ExitCode;
 
@@ -47,7 +48,10 @@ fn main(rt: HostRuntime) -> ExitCode {
         }
     };
     let refusal = no_stream.as_ref().or(opener.refusal());
-    tell_status(&rt, status, &words, refusal);
+    let mut looking = HostOpener::new(rt, Vec::new(alloc));
+    looking.only_look();
+    let user = user_at_odds(alloc, &mut looking, &words, status);
+    tell_status(&rt, status, &words, refusal, user);
     if let Some(copied) = opener.copied() {
         tell_standby(&rt, status, &Utc::now(), copied);
     }

@@ -60,7 +60,7 @@ Status: 0 done, 2 words not understood, 3 shelf file refused, 4 journal refused,
 ";
 
 // CHANGELOG.md tells what each version changed.
-const VERSION: &str = "1.2.0";
+const VERSION: &str = "1.3.0";
 
 /// Prints what the one word `--help` or `--version` asks for, and gives the status that the program then ends with. None: the words ask for neither.
 pub fn help_asked<R: Print>(rt: &R, words: &[Name]) -> Option<Status> {

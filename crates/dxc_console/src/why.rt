@@ -1,21 +1,25 @@
 use craft_words::{JournalBad, Status};
+use dxc_model::Uid;
 use dxc_num::Shape;
 use dxc_outside::Name;
 use shelf_file::{ShelfFault, ShelfKey};
 use std::fmt::{self, Display, Formatter, Write};
+use std::str;
 
 /// Tells of a status other than Done on standard error: by a line of its own, and by a second one on what the status holds, of CannotOpen
-/// on what wasn't opened. What can't be written there changes no status.
+/// on what wasn't opened, of a refused record of the users' journal on whom it is about. What can't be written there changes no status.
 pub fn tell_status<R: Eprint, E: Display>(
     rt: &R,
     status: Status,
     words: &[Name],
     refusal: Option<&E>,
+    user: Option<Uid>,
 ) {
     let why = Why {
         status,
         words,
         refusal,
+        user,
     };
     let _ = eprint!(rt; "{}{why}", fault_text(status));
 }
@@ -71,6 +75,7 @@ struct Why<'a, E> {
     status: Status,
     words: &'a [Name],
     refusal: Option<&'a E>,
+    user: Option<Uid>,
 }
 
 impl<E: Display> Display for Why<'_, E> {
@@ -88,10 +93,9 @@ impl<E: Display> Display for Why<'_, E> {
                 "users' journal",
                 &bytes,
             ),
-            Status::BadJournal(JournalBad::UsersRecord(number)) => writeln!(
-                f,
-                "dxc: record {number} of the users' journal, counted from 0, makes no change"
-            ),
+            Status::BadJournal(JournalBad::UsersRecord(number)) => {
+                write_at_odds(f, number, self.user)
+            }
             _ => Ok(()),
         }
     }
@@ -249,6 +253,20 @@ fn write_refusal<W: Write, E: Display>(f: &mut Formatter<W>, refusal: Option<&E>
         Some(refusal) => writeln!(f, "dxc: {refusal}"),
         None => writeln!(f, "dxc: 16 accepts in a row failed"),
     }
+}
+
+// A record of the users' journal that makes no change: of whom, where its name can be read.
+fn write_at_odds<W: Write>(f: &mut Formatter<W>, number: u32, user: Option<Uid>) -> fmt::Result {
+    if let Some(uid) = user {
+        if let Ok(name) = str::from_utf8(uid.bytes()) {
+            write!(f, "dxc: user {name:?}: shelf file and users' journal disagree: ")?;
+            return writeln!(f, "its record {number}, counted from 0, makes no change");
+        }
+    }
+    writeln!(
+        f,
+        "dxc: record {number} of the users' journal, counted from 0, makes no change"
+    )
 }
 
 fn write_header<W: Write>(f: &mut Formatter<W>, file: &str, bytes: &[u8; 32]) -> fmt::Result {

@@ -41,7 +41,7 @@ summed-requires-clause-room g c =
     let x = c.args.element.controller in
     let at = opened_at g.D.Disk.told g.D.Disk.state c.requires.element.disk c.requires.element.shelf 1 x c.requires.element.started in
     let shape : (arc_value x.shelf).shape ≡ load_shape = ap (λ (y : Contents). y.shape) c.requires.element.started.shelf ∙ c.requires.element.is_shelf.shape in
-    let size : ports c.in-Ok.place.seat.opening.first.fold.table.shape ≡ ports load_shape = ap (λ (q : PlaceAt). ports q.seat.opening.first.fold.table.shape) c.in-Ok.ensures ∙ ap ports (at.shape ∙ shape) in
+    let size : ports c.in-Ok.place.seat.opening.first.fold.table.shape ≡ ports load_shape = ap (λ (q : PlaceAt). ports q.seat.opening.first.fold.table.shape) c.in-Ok.ensures.place ∙ ap ports (at.shape ∙ shape) in
     subst (λ (n : ℕ). n ≤ vec_capacity c.args.rows.now) (sym size) c.requires.rows
 
 pub returns-in_default-clause-loaded : goal.returns-in_default-clause-loaded

@@ -27,6 +27,7 @@ returns-in-End-clause-served g c =
     let e = c.serve_session-end.ensures in
     record {
       session = subst (λ (end : SessionEnd). IsServed (language old.shelf) (Unit {0}) (Unit {0}) k l load_moments load_moments old.seat new.seat old.users new.users end) c.in-End.is e.session;
+      prompt = e.prompt;
       seat = e.place.seat;
       users = e.place.users;
       numbers = e.place.numbers;

@@ -5,7 +5,7 @@ use Rattle.craft_words.specs.declared.status.Status.TheVariants.{NoMemory}
 use Rattle.fabric_words.specs.Seats.{FabricId}
 use Rattle.user_admin.specs.States.{opening_of as users_opening}
 use Rattle.xc_core.specs.States.{opening_of}
-use Rattle.craft_session.specs.Places.{ArePlaces}
+use Rattle.craft_session.specs.Places.{HasPlaces}
 use Rattle.craft_session.specs.Seats.{PlaceAt}
 use Rattle.craft_jobs.specs.Handed.{AreJobsOf}
 use Rattle.craft_jobs.specs.Missing.{IsOfNoOpening}
@@ -90,7 +90,7 @@ returns-clause-jobs g c = λ done.
       seats = subst (λ (f : FabricId). AreJobsOf g.O.Opener.lines_for f c.args.site.lines.now 0 workers.items) (sym c.requires.opening.fabric) c.in-Ok-frame_jobs.ensures.workers;
       sessions = sessions.items;
       sixteen = let ok = sessions.ok.0 in let all : vec_len sessions ≡ 16 = c.in-Ok-session_jobs.ensures.jobs ∙ c.in-Ok.ensures.each in omega (arith, ok, all);
-      places = subst (λ (l : List PlaceAt). ArePlaces (arc_value c.args.shelf.now) o p 16 0 l) (sym c.in-Ok-session_jobs.ensures.places) c.in-Ok.ensures.places;
+      places = subst (λ (l : List PlaceAt). HasPlaces (arc_value c.args.shelf.now) o p 16 l) (sym c.in-Ok-session_jobs.ensures.places) c.in-Ok.ensures.places;
       listeners = c.in-Ok-session_jobs.ensures.listeners;
       sized = ap (λ (f : FabricId). f.size) c.requires.opening.fabric ∙ c.requires.sized;
       handed = c.run_jobs.ensures.handed done;

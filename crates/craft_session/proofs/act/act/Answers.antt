@@ -10,7 +10,7 @@ use Rattle.craft_session.proofs.act.act.Goals as goal
 
 pub returns-in-Refused : goal.returns-in-Refused
 returns-in-Refused g c = record {
-  same = (refl, refl, refl);
+  same = (refl, refl, refl, refl);
   acts = λ h saw. rw c.in-Refused.is (acts_nothing _ _ h _ _ _ _ _ saw (refl, refl) refl);
   of_shape = tt;
   user = sym (ap (user_after c.args.attending.now.user) c.in-Refused.is);
@@ -23,7 +23,7 @@ returns-in-Refused g c = record {
 
 pub returns-in-LogsIn : goal.returns-in-LogsIn
 returns-in-LogsIn g c = record {
-  same = (refl, refl, refl);
+  same = (refl, refl, refl, refl);
   acts = λ h saw. rw c.in-LogsIn.is (acts_nothing _ _ h _ _ _ _ _ saw (refl, refl) refl);
   of_shape = tt;
   user = sym (ap (user_after c.args.attending.now.user) c.in-LogsIn.is);
@@ -36,7 +36,7 @@ returns-in-LogsIn g c = record {
 
 pub returns-in-LogsOut : goal.returns-in-LogsOut
 returns-in-LogsOut g c = record {
-  same = (refl, refl, refl);
+  same = (refl, refl, refl, refl);
   acts = λ h saw. rw c.in-LogsOut.is (acts_nothing _ _ h _ _ _ _ _ saw (refl, refl) refl);
   of_shape = tt;
   user = sym (ap (user_after c.args.attending.now.user) c.in-LogsOut.is);
@@ -49,7 +49,7 @@ returns-in-LogsOut g c = record {
 
 pub returns-in-Completes : goal.returns-in-Completes
 returns-in-Completes g c = record {
-  same = (refl, refl, refl);
+  same = (refl, refl, refl, refl);
   acts = λ h saw. rw c.in-Completes.is (acts_nothing _ _ h _ _ _ _ _ saw (refl, refl) refl);
   of_shape = tt;
   user = sym (ap (user_after c.args.attending.now.user) c.in-Completes.is);
@@ -78,7 +78,7 @@ returns-in-Allows g c = record {
 
 pub returns-in-Inhibits : goal.returns-in-Inhibits
 returns-in-Inhibits g c = record {
-  same = (refl, refl, refl);
+  same = (refl, refl, refl, refl);
   acts = λ h saw. rw c.in-Inhibits.is (acts_nothing _ _ h _ _ _ _ _ saw (refl, refl) refl);
   of_shape = tt;
   user = sym (ap (user_after c.args.attending.now.user) c.in-Inhibits.is);

@@ -64,7 +64,7 @@ returns-in_default g c =
     let meant : meaning c.shape.result c.sid.result.now user bs ≡ Err c.in-Err.cause = subst (λ (r : Result Command Cause). MatchResult r (λ k. meaning c.shape.result c.sid.result.now user bs ≡ Ok (asked_by c.args.unit.now k)) (λ q. meaning c.shape.result c.sid.result.now user bs ≡ Err q)) c.in-Err.is c.command_with.ensures.meaning in
     let is : meaning s.shape s.sid user bs ≡ Err c.in-Err.cause = sym (ap₂ (λ (d : Dimensions) (sid : List ℕ). meaning d sid user bs) c.shape.ensures c.sid.ensures) ∙ meant in
     record {
-      same = (refl, refl, refl);
+      same = (refl, refl, refl, refl);
       asked = asked_nothing _ _ _ _ _ (g.G.Gate.asked c.args.gate.now c.args.gate.now) (g.G.Gate.unasked c.args.gate.now) (ap (command_wants s user bs) is ∙ refused_wants s user bs c.in-Err.cause not) (sym (ap (command_ask s user unasked bs) is ∙ refused_ask s user unasked bs c.in-Err.cause not)) c.requires.no_rows;
       apt = λ _. tt;
       unstopped = λ _. refl;

@@ -13,7 +13,7 @@ returns-in_default g c =
     let s = c.args.shelf.now in
     let user = c.args.user.now in
     record {
-      same = (refl, refl, refl);
+      same = (refl, refl, refl, refl);
       consulted = (c.ctag_of.ensures, asked_nothing _ _ _ _ _ (g.G.Gate.asked c.args.gate.now c.args.gate.now) (g.G.Gate.unasked c.args.gate.now) (ap (λ (o : Option (List Block)). text_wants s user o) c.in_default.ensures) (sym (ap (λ (o : Option (List Block)). text_ask s user unasked o) c.in_default.ensures)) c.requires.no_rows);
       apt = λ _. tt;
       unstopped = λ _. refl;

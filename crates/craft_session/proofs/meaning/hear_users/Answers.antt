@@ -7,12 +7,12 @@ use Rattle.craft_session.proofs.Consulted.{asked_nothing}
 use Rattle.craft_session.proofs.Ends.{some_there, stayed, stop_goes, stop_went}
 use Rattle.craft_session.proofs.meaning.hear_users.Goals as goal
 
-pub returns-then-is_of_users : goal.returns-then-is_of_users
-returns-then-is_of_users g c =
+pub returns-then-not-is_of_users : goal.returns-then-not-is_of_users
+returns-then-not-is_of_users g c =
     let bs = map (block_at c.args.unit.now) c.args.found.now.block.items in
-    let is = none_is_unknown c.args.shelf.now.sid c.args.user.now bs (unnamed _ (sym c.is_of_users.ensures ∙ c.if-is_of_users.false)) in
+    let is = none_is_unknown c.args.shelf.now.sid c.args.user.now bs (unnamed _ (sym c.is_of_users.ensures ∙ c.if-not-is_of_users.true)) in
     record {
-      same = (refl, refl, refl);
+      same = (refl, refl, refl, refl);
       asked = asked_nothing _ _ _ _ _ (g.G.Gate.asked c.args.gate.now c.args.gate.now) (g.G.Gate.unasked c.args.gate.now) (ap users_want is) (sym (ap (users_ask unasked) is)) c.requires.no_rows;
       apt = λ d _. tt;
       unstopped = λ _. refl;

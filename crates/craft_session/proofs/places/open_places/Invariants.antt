@@ -3,7 +3,7 @@ use Rattle.std.specs.Prelude.{vec_capacity}
 use Rattle.std.specs.Arc.{arc_value}
 use Rattle.user_admin.specs.States.{opening_of as users_opening}
 use Rattle.xc_core.specs.States.{opening_of}
-use Rattle.craft_session.specs.Places.{AreFresh, ArePlaces}
+use Rattle.craft_session.specs.Places.{AreFresh, ArePlaces, turnstiles_of}
 use Rattle.craft_session.proofs.places.open_places.Given as goal
 
 abbrev pub invariant-loop-number : goal.invariant-loop-number
@@ -14,5 +14,5 @@ invariant-loop-number g l = record {
   users_left : length l.users_passes.items + l.number ≡ l.fn.count;
   made : length l.places.items ≡ l.number;
   room : vec_capacity l.places ≡ l.fn.count;
-  places : ArePlaces (arc_value l.shelf) (opening_of g.D.Disk.state (arc_value l.turns).first) (users_opening g.U.Disk.state (arc_value l.users).first) l.fn.count 0 l.places.items;
+  places : ArePlaces (arc_value l.shelf) (opening_of g.D.Disk.state (arc_value l.turns).first) (users_opening g.U.Disk.state (arc_value l.users).first) (turnstiles_of (arc_value l.turns) (arc_value l.users)) 0 l.places.items;
 }

@@ -9,7 +9,7 @@ use Rattle.craft_session.specs.Gated.{Entered, NothingAsked, answers}
 use Rattle.craft_session.specs.Meanings.{language_for}
 use Rattle.craft_session.specs.Sessions.{Goes, Now}
 use Rattle.craft_session.proofs.Gated.{entered_at}
-use Rattle.craft_session.proofs.SessionSteps.{goes_told}
+use Rattle.craft_session.proofs.SessionSteps.{goes_told, looked_in_time}
 use Rattle.craft_session.proofs.Reporting.{told_for}
 use Rattle.craft_session.specs.Seats.{SeatAt}
 use Rattle.craft_session.proofs.Ends.{sent_goes}
@@ -21,15 +21,20 @@ returns g c =
     let said = c.tell.ensures in
     record {
       shelf = said.shelf;
-      seat = (ap (λ (s : SeatAt). s.opening) said.seat ∙ looked.same.0, ap (λ (s : SeatAt). s.place) said.seat ∙ looked.same.1, ap (λ (s : SeatAt). s.places) said.seat ∙ looked.same.2);
+      seat = (ap (λ (s : SeatAt). s.opening) said.seat ∙ looked.same.0, ap (λ (s : SeatAt). s.place) said.seat ∙ looked.same.1, ap (λ (s : SeatAt). s.places) said.seat ∙ looked.same.2, ap (λ (s : SeatAt). s.turnstile) said.seat ∙ looked.same.3);
       users = said.users;
       reader = said.reader;
       link = record { out = said.told.wrote.part; wrote = said.told.wrote.wrote };
       goes = λ user k c1 b r ahead at s.
           let seat = c.args.desk.now.seat in
           let look = subst (λ (w : Opening × ℕ). (h : List Entry) → Saw w.0 seat.seen h → LookIs w.0 w.1 h c.args.cursor c.look-looked.new.self.seen c.look-looked.result c.look-looked.new.into.items) (λ i. (at.0 i, at.1 i)) c.look-looked.ensures.look in
-          subst (λ (n : Now). Goes (language_for user (arc_value c.args.desk.now.shelf)) g.K.Link.told g.C.Clock.told k (g.K.Link.state c.tell.new.link) c1 (g.C.Clock.coming c.tell.new.clock) b n c.of.result false r ahead) (sym (λ i. record { seen = (c.tell.ensures.seat i).seen; users = (c.tell.ensures.users i).seat.seen; attending = c.tell.ensures.attending i }))
-          (goes_told (language_for user (arc_value c.args.desk.now.shelf)) g.K.Link.told g.C.Clock.told k c1 b (g.K.Link.state c.args.link.now) (g.C.Clock.coming c.args.clock.now) (record { seen = seat.seen; users = c.args.desk.now.users.seat.seen; attending = c.args.desk.now.attending }) r ahead c.args.cursor c.requires.watched s c.look-looked.result c.look-looked.new.into.items c.look-looked.new.self.seen look (g.K.Link.state c.tell.new.link) (g.C.Clock.coming c.tell.new.clock) c.tell.result c.of.result c.of.ensures (told_for user (arc_value c.args.desk.now.shelf) _ _ _ _ _ _ _ _ c.tell.ensures.told));
+          subst (λ (n : Now). Goes (language_for user (arc_value c.args.desk.now.shelf)) g.K.Link.told g.C.Timestamps.told k (g.K.Link.state c.tell.new.link) c1 (g.C.Timestamps.coming c.tell.new.clock) b n c.of.result false r ahead) (sym (λ i. record { seen = (c.tell.ensures.seat i).seen; users = (c.tell.ensures.users i).seat.seen; attending = c.tell.ensures.attending i }))
+          (goes_told (language_for user (arc_value c.args.desk.now.shelf)) g.K.Link.told g.C.Timestamps.told k c1 b (g.K.Link.state c.args.link.now) (g.C.Timestamps.coming c.args.clock.now) (record { seen = seat.seen; users = c.args.desk.now.users.seat.seen; attending = c.args.desk.now.attending }) r ahead c.args.cursor c.requires.watched s c.look-looked.result c.look-looked.new.into.items c.look-looked.new.self.seen look (g.K.Link.state c.tell.new.link) (g.C.Timestamps.coming c.tell.new.clock) c.tell.result c.of.result c.of.ensures (told_for user (arc_value c.args.desk.now.shelf) _ _ _ _ _ _ _ _ c.tell.ensures.told));
+      timely = λ r ahead user k c1 b at s.
+          let seat = c.args.desk.now.seat in
+          let look = subst (λ (w : Opening × ℕ). (h : List Entry) → Saw w.0 seat.seen h → LookIs w.0 w.1 h c.args.cursor c.look-looked.new.self.seen c.look-looked.result c.look-looked.new.into.items) (λ i. (at.0 i, at.1 i)) c.look-looked.ensures.look in
+          looked_in_time (language_for user (arc_value c.args.desk.now.shelf)) g.K.Link.told g.C.Timestamps.told k c1 b (g.K.Link.state c.args.link.now) (g.C.Timestamps.coming c.args.clock.now) (record { seen = seat.seen; users = c.args.desk.now.users.seat.seen; attending = c.args.desk.now.attending }) r ahead c.args.cursor c.requires.watched s c.look-looked.result c.look-looked.new.into.items c.look-looked.new.self.seen look (g.K.Link.state c.tell.new.link) (g.C.Timestamps.coming c.tell.new.clock)
+          g.C.Timestamps.stamped c.look-looked.new.self c.args.desk.now.users.seat c.tell.result (told_for user (arc_value c.args.desk.now.shelf) _ _ _ _ _ _ _ _ c.tell.ensures.told) (looked.same.0 ∙ at.0, looked.same.1 ∙ at.1, at.2, at.3) refl refl c.tell.ensures.stamped;
       unstopped = sent_goes _ _ c.of.ensures;
       entered = λ h saw.
           let seat = c.args.desk.now.seat in

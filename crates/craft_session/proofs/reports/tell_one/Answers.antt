@@ -14,9 +14,10 @@ returns g c = record {
   reader = refl;
   changes = refl;
   told = record {
-    moment = c.now-moment.result;
-    wrote = subst (λ (out : List ℕ). IsSent g.K.Link.told (g.K.Link.state c.args.link.now) (g.K.Link.state c.write_all.new.link) c.write_all.result out) (c.bytes.ensures ∙ ap (λ (d : Draft). d.bytes) c.report.ensures ∙ ap₂ (λ (sid text : List ℕ). whole_report sid c.now-moment.result c.args.number text) (c.sid.ensures ∙ ap (λ (s : Contents). s.sid) c.deref.ensures) c.as_slice.ensures.value) c.write_all.ensures.sent;
-    now = c.now-moment.ensures.now;
-    later = c.now-moment.ensures.later;
+    moment = c.stamp-moment.result;
+    wrote = subst (λ (out : List ℕ). IsSent g.K.Link.told (g.K.Link.state c.args.link.now) (g.K.Link.state c.write_all.new.link) c.write_all.result out) (c.bytes.ensures ∙ ap (λ (d : Draft). d.bytes) c.report.ensures ∙ ap₂ (λ (sid text : List ℕ). whole_report sid c.stamp-moment.result c.args.number text) (c.sid.ensures ∙ ap (λ (s : Contents). s.sid) c.deref.ensures) c.as_slice.ensures.value) c.write_all.ensures.sent;
+    now = c.stamp-moment.ensures.now;
+    later = c.stamp-moment.ensures.later;
   };
+  stamped = c.stamp-moment.ensures.stamped;
 }

@@ -43,7 +43,7 @@ returns-in-TooLong g c =
     record {
       shelf = refl;
       seat = refl;
-      users = (refl, refl, refl);
+      users = (refl, refl, refl, refl);
       attending = refl;
       reader = refl;
       consulted = (sym (ap tag_of long), asked_nothing _ _ _ _ _ (g.G.Gate.asked c.args.gate.now c.args.gate.now) (g.G.Gate.unasked c.args.gate.now) (ap (wants s desk.attending.user) long) (sym (ap (asks s desk.attending.user unasked) long)) c.clear.ensures);

@@ -9,12 +9,14 @@ use Rattle.craft_session.specs.Gated.{AreEntered}
 use Rattle.craft_session.specs.Meanings.{language_for}
 use Rattle.craft_session.specs.Seats.{IsSameSeat, IsSameUserSeat}
 use Rattle.craft_session.specs.Sessions.{Beginning, IsAt, Stands, Writes}
+use Rattle.craft_session.specs.Stamps.{stamp_at}
+use Rattle.craft_session.specs.Timely.{IsTimelyFrom, in_hand, telling}
 use Rattle.craft_session.proofs.session.serve_piece.Given as goal
 
 abbrev pub invariant-loop-at : goal.invariant-loop-at
 invariant-loop-at g l =
     let state = g.K.Link.state in
-    let coming = g.C.Clock.coming in
+    let coming = g.C.Timestamps.coming in
     let tongue = λ (user : SessionUser). language_for user (arc_value l.fn.desk.shelf) in
     record {
       shelf : l.desk.shelf ≡ l.fn.desk.shelf;
@@ -24,8 +26,9 @@ invariant-loop-at g l =
       gate : g.G.Gate.stops l.gate ≡ g.G.Gate.stops l.fn.gate;
       within : l.at ≤ length l.piece;
       asked : AreEntered l.fn.desk.seat l.fn.desk.users.seat (g.G.Gate.asked l.fn.gate l.gate) l.desk.seat.seen l.desk.users.seat.seen;
-      stands : (user : SessionUser) → (k : LinkState) (c : List Moment) (b : Beginning) → IsAt b l.fn.desk.seat l.fn.desk.users.seat → Stands (tongue user) g.K.Link.told g.C.Clock.told k (state l.fn.link) c (coming l.fn.clock) b (now l.fn.desk) false More l.fn.desk.reader l.piece
-          → Stands (tongue user) g.K.Link.told g.C.Clock.told k (state l.link) c (coming l.clock) b (now l.desk) false More l.desk.reader (drop l.at l.piece);
+      stands : (user : SessionUser) → (k : LinkState) (c : List Moment) (b : Beginning) → IsAt b l.fn.desk.seat l.fn.desk.users.seat → Stands (tongue user) g.K.Link.told g.C.Timestamps.told k (state l.fn.link) c (coming l.fn.clock) b (now l.fn.desk) false More l.fn.desk.reader l.piece
+          → Stands (tongue user) g.K.Link.told g.C.Timestamps.told k (state l.link) c (coming l.clock) b (now l.desk) false More l.desk.reader (drop l.at l.piece);
+      timely : IsTimelyFrom (arc_value l.fn.desk.shelf) (telling g.K.Link.told g.C.Timestamps.told g.C.Timestamps.stamped) (stamp_at (coming l.fn.clock) (state l.fn.link) l.fn.desk.seat l.fn.desk.users.seat) (in_hand l.fn.desk.attending false More l.fn.desk.reader l.piece) (state l.link);
     }
 
 abbrev pub decreases-loop-at : goal.decreases-loop-at

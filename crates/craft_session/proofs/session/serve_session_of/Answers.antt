@@ -8,6 +8,8 @@ use Rattle.craft_session.specs.Gated.{AreEntered}
 use Rattle.craft_session.specs.Meanings.{language_for}
 use Rattle.craft_session.specs.Seats.{SeatAt, UserSeatAt, PlaceAt}
 use Rattle.craft_session.specs.Sessions.{IsPrompt, IsServed}
+use Rattle.craft_session.specs.Stamps.{stamp_at}
+use Rattle.craft_session.specs.Timely.{WasTimely, telling}
 use Rattle.craft_session.proofs.Ends.{no_write_fault}
 use Rattle.craft_session.proofs.session.serve_session_of.Goals as goal
 
@@ -19,10 +21,12 @@ returns g c =
     let user_is : c.begin.new.self.attending.user ≡ c.args.first = ap (λ (a : Attending). a.user) c.begin.ensures.attending in
     record {
       place = record { shelf = search rules; seat = search rules; users = search rules; numbers = search rules; users_numbers = search rules; astray = search rules };
-      session = subst (λ (w : (Contents × SessionUser) × (SeatAt × UserSeatAt)). IsServed (language_for w.0.1 w.0.0) g.K.Link.told g.C.Clock.told (g.K.Link.state c.args.link.now) (g.K.Link.state c.serve-end.new.link) (g.C.Clock.coming c.args.clock.now) (g.C.Clock.coming c.serve-end.new.clock) w.1.0 c.serve-end.new.desk.seat w.1.1 c.serve-end.new.desk.users.seat c.serve-end.result) (λ i. ((shelf_is i, user_is i), (seat_is i, users_is i)))
+      session = subst (λ (w : (Contents × SessionUser) × (SeatAt × UserSeatAt)). IsServed (language_for w.0.1 w.0.0) g.K.Link.told g.C.Timestamps.told (g.K.Link.state c.args.link.now) (g.K.Link.state c.serve-end.new.link) (g.C.Timestamps.coming c.args.clock.now) (g.C.Timestamps.coming c.serve-end.new.clock) w.1.0 c.serve-end.new.desk.seat w.1.1 c.serve-end.new.desk.users.seat c.serve-end.result) (λ i. ((shelf_is i, user_is i), (seat_is i, users_is i)))
           c.serve-end.ensures.session;
-      prompt = subst (λ (w : (Contents × SessionUser) × (SeatAt × UserSeatAt)). IsPrompt (language_for w.0.1 w.0.0) g.K.Link.begun g.K.Link.told g.C.Clock.told (g.K.Link.state c.args.link.now) (g.K.Link.state c.serve-end.new.link) (g.C.Clock.coming c.args.clock.now) w.1.0 w.1.1) (λ i. ((shelf_is i, user_is i), (seat_is i, users_is i)))
+      prompt = subst (λ (w : (Contents × SessionUser) × (SeatAt × UserSeatAt)). IsPrompt (language_for w.0.1 w.0.0) g.K.Link.begun g.K.Link.told g.C.Timestamps.told (g.K.Link.state c.args.link.now) (g.K.Link.state c.serve-end.new.link) (g.C.Timestamps.coming c.args.clock.now) w.1.0 w.1.1) (λ i. ((shelf_is i, user_is i), (seat_is i, users_is i)))
           c.serve-end.ensures.prompt;
+      timely = subst (λ (w : (Contents × SessionUser) × (SeatAt × UserSeatAt)). WasTimely (language_for w.0.1 w.0.0) (telling g.K.Link.told g.C.Timestamps.told g.C.Timestamps.stamped) (stamp_at (g.C.Timestamps.coming c.args.clock.now) (g.K.Link.state c.args.link.now) w.1.0 w.1.1) (g.K.Link.state c.serve-end.new.link)) (λ i. ((shelf_is i, user_is i), (seat_is i, users_is i)))
+          c.serve-end.ensures.timely;
       asked = subst (λ (w : SeatAt × UserSeatAt). AreEntered w.0 w.1 (g.G.Gate.asked c.args.gate.now c.serve-end.new.gate) c.serve-end.new.desk.seat.seen c.serve-end.new.desk.users.seat.seen) (λ i. (seat_is i, users_is i)) c.serve-end.ensures.asked;
       why = record { ended = c.serve-end.ensures.end; all_read = c.serve-end.ensures.all_read; read_fault = c.serve-end.ensures.read_fault; no_read_fault = c.serve-end.ensures.no_read_fault; write_fault = c.serve-end.ensures.write_fault; no_write_fault = λ other. no_write_fault _ _ _ _ _ _ _ _ _ _ _ _ c.serve-end.ensures.session other; spent = c.serve-end.ensures.spent; few = c.serve-end.ensures.few };
       stopped = c.serve-end.ensures.stopped;

@@ -3,7 +3,7 @@ use Rattle.dxc_disk.specs.MemView.{mem_state}
 use Rattle.shelf_file.specs.Contents.{Contents}
 use Rattle.craft_element.specs.Openings.{AreUsersStarted}
 use Rattle.craft_element.proofs.Loading.{users_not_loaded}
-use Rattle.craft_element.proofs.memory.memory_element.Goals as goal
+use Rattle.craft_element.proofs.memory.new_element.Goals as goal
 
 pub returns-in_default-clause-started : goal.returns-in_default-clause-started
 returns-in_default-clause-started g c = inl refl
@@ -15,10 +15,10 @@ returns-in-Ok-start_users-clause-started g c =
       disk = st.0;
       fresh = st.1;
       started = st.2;
-      users_disk = c.in-Ok.disk;
+      users_disk = c.in-Ok.users_disk;
       users_fresh = c.in-Ok.ensures;
-      users_started = subst (λ (s : Contents). AreUsersStarted (Unit {0}) mem_state c.in-Ok.disk s c.in-Ok-start_users.users) (c.deref.ensures ∙ st.2.shelf) c.in-Ok-start_users.ensures;
+      users_started = subst (λ (s : Contents). AreUsersStarted (Unit {0}) mem_state c.in-Ok.users_disk s c.in-Ok-start_users.users) (c.deref.ensures ∙ st.2.shelf) c.in-Ok-start_users.ensures;
     }
 
 pub returns-in-Err-clause-started : goal.returns-in-Err-clause-started
-returns-in-Err-clause-started g c = users_not_loaded c.in-Ok.disk c.deref.result.now c.in-Err.status c.in-Ok.ensures c.in-Err.ensures _ _
+returns-in-Err-clause-started g c = users_not_loaded c.in-Ok.users_disk c.deref.result.now c.in-Err.status c.in-Ok.ensures c.in-Err.ensures _ _

@@ -1,0 +1,24 @@
+/* A library that is loaded before the C library: each fdatasync fails while the file that FAILING names is there, and takes
+   three seconds more while the file that SLOW names is. */
+#define _GNU_SOURCE
+#include <dlfcn.h>
+#include <errno.h>
+#include <stdlib.h>
+#include <unistd.h>
+
+static int is_there(const char *variable)
+{
+    const char *name = getenv(variable);
+    return name && access(name, F_OK) == 0;
+}
+
+int fdatasync(int file)
+{
+    if (is_there("FAILING")) {
+        errno = EIO;
+        return -1;
+    }
+    if (is_there("SLOW"))
+        sleep(3);
+    return ((int (*)(int))dlsym(RTLD_NEXT, "fdatasync"))(file);
+}

@@ -1,0 +1,103 @@
+-- That each byte of a session was written in its time: behind the turns that its message rests on.
+use Rattle.std.specs.Prelude.{◌≡◌, ◌⊎◌, ◌≤◌, ◌<◌, ◌+◌, ℕ, Bool, List, [], ◌∷◌, ◌++◌, length}
+use Rattle.dxc_outside.specs.declared.clock.Moment.{Moment}
+use Rattle.dxc_outside.specs.Items.{Item, bytes}
+use Rattle.dxc_outside.specs.Links.{LinkState, Exchanged}
+use Rattle.dxc_outside.specs.Moments.{moment_now}
+use Rattle.dxc_model.specs.declared.user.SessionUser.{SessionUser}
+use Rattle.tl1_text.specs.declared.reader.UnitKind.{UnitKind}
+use Rattle.tl1_text.specs.Reading.{Reader}
+use Rattle.shelf_file.specs.Contents.{Contents}
+use Rattle.user_admin.specs.Turns.{Saw as SawUsers}
+use Rattle.xc_core.specs.Seeing.{Saw}
+use Rattle.craft_session.specs.declared.attending.Attending.{Attending}
+use Rattle.craft_session.specs.Asks.{Language, Reply}
+use Rattle.craft_session.specs.Happenings.{Happens, Request}
+use Rattle.craft_session.specs.Meanings.{language_for}
+use Rattle.craft_session.specs.Moments.{Gives}
+use Rattle.craft_session.specs.Notices.{AreReported, Notice}
+use Rattle.craft_session.specs.Runs.{Walk, Run}
+use Rattle.craft_session.specs.Sessions.{Beginning, Consulted, IsAt, Stands}
+use Rattle.craft_session.specs.Stamps.{Stamp}
+
+-- whether link and clock tell their content, and how a session stood where it took a moment
+pub record Telling : Type 1 where
+  pub told : Type 0
+  pub clock_told : Type 0
+  pub stamped : Stamp → Type 0
+
+abbrev pub telling : Type 0 → Type 0 → (Stamp → Type 0) → Telling
+telling told clock_told stamped = record { told = told; clock_told = clock_told; stamped = stamped }
+
+-- link and clock where a session begins, and what its place had seen
+pub record Start : Type 0 where
+  pub link : LinkState
+  pub coming : List Moment
+  pub beginning : Beginning
+
+abbrev pub starting : LinkState → List Moment → Beginning → Start
+starting link coming beginning = record { link = link; coming = coming; beginning = beginning }
+
+-- who attends, whether a look is due, the unit that is being read, and what stands ahead of it
+pub record InHand : Type 0 where
+  pub attending : Attending
+  pub due : Bool
+  pub kind : UnitKind
+  pub reader : Reader
+  pub ahead : List ℕ
+
+abbrev pub in_hand : Attending → Bool → UnitKind → Reader → List ℕ → InHand
+in_hand attending due kind reader ahead = record { attending = attending; due = due; kind = kind; reader = reader; ahead = ahead }
+
+module _ (l : Language Request Moment) where
+  -- the message is a response, with the moment that was taken there; what was taken before were the moments of the messages in front of it
+  pub record IsResponseThen (clock_told : Type 0) (c coming moments : List Moment) (message : List ℕ) : Type 0 where
+    pub before : List Moment
+    pub moment : Moment
+    pub unit : Request
+    pub reply : Reply
+    pub all : moments ≡ before ++ moment ∷ []
+    pub gave : clock_told → Gives c coming before × (moment ≡ moment_now coming)
+    pub is : message ≡ l.response moment unit reply
+
+  -- or the reports of one look
+  pub record AreReportsThen (message : List ℕ) : Type 0 where
+    pub notices : List Notice
+    pub moments : List Moment
+    pub are : AreReported l.report notices moments message
+
+  -- The byte of this number, of all that the link was written, is one of a message that wasn't begun where the session stood so. All in front of it
+  -- was written by then; and of what the link had been read and the place had seen by then, a session writes all that and then this message.
+  pub record IsWrittenBehind (t : Telling) (b : Start) (s : Stamp) (number : ℕ) : Type 0 where
+    pub items : List Item
+    pub ahead : List ℕ
+    pub out : List ℕ
+    pub exchanged : Exchanged t.told b.link s.link (items ++ bytes ahead) out
+    pub walk : Walk Request Moment
+    pub rest : List ℕ
+    pub happened : Happens items walk.happenings rest
+    pub run : Run l b.beginning.place b.beginning.opening.first.fold.table b.beginning.before walk
+    pub at : IsAt b.beginning s.seat s.users
+    pub saw : Saw b.beginning.opening s.seat.seen walk.history
+    pub consulted : Consulted l b.beginning s.users.seen walk.happenings walk.attending.user
+    pub message : List ℕ
+    pub says : IsResponseThen t.clock_told b.coming s.coming walk.moments message ⊎ AreReportsThen message
+    pub written : walk.earlier ++ walk.latest ≡ out ++ message
+    pub follows : length s.link.written ≤ number
+    pub within : number < length s.link.written + length message
+
+  -- each byte that was written from one state of the link to the other, where the link tells them
+  abbrev pub IsTimely : Telling → Start → LinkState → LinkState → Type 0
+  IsTimely t b i j = t.told → (number : ℕ) → length i.written ≤ number → number < length j.written → (s : Stamp) × t.stamped s × IsWrittenBehind t b s number
+
+  -- what a session wrote from this state on, whatever histories its seats had seen then
+  abbrev pub WasTimely : Telling → Stamp → LinkState → Type 0
+  WasTimely t s j =
+      (b : Beginning) → IsAt b s.seat s.users → Saw b.opening s.seat.seen b.before → SawUsers b.users s.users.seen b.users_before → IsTimely t (starting s.link s.coming b) s.link j
+
+-- what a call wrote that a session made which stood so
+abbrev pub IsTimelyFrom : Contents → Telling → Stamp → InHand → LinkState → Type 0
+IsTimelyFrom shelf t s x j =
+    (first : SessionUser) (k : LinkState) (c : List Moment) (b : Beginning) → IsAt b s.seat s.users
+    → Stands (language_for first shelf) t.told t.clock_told k s.link c s.coming b (record { seen = s.seat.seen; users = s.users.seen; attending = x.attending }) x.due x.kind x.reader x.ahead
+    → IsTimely (language_for first shelf) t (starting k c b) s.link j

@@ -1,0 +1,6 @@
+pub mod Resting
+pub mod Serving
+pub mod Placing
+pub mod Owning
+pub mod Leaving
+pub mod Whole

@@ -1,0 +1,153 @@
+-- All places: the jobs that were handed out, the sessions of each, and the one element.
+use Rattle.std.proofs.Common.{◌≡◌, ◌⊎◌, ◌<◌, ◌≤◌, ◌+◌, ℕ, zero, suc, Bool, true, false, arith, List, [], ◌∷◌, ◌++◌, length, map, Some, option_map, IsTrue, refl, sym, ◌∙◌, ap, subst, inl, inr}
+use Rattle.std.specs.List.{AllByRecursion, slice_get}
+use Rattle.std.proofs.lemmas.Bool.Decides.{leb_tells}
+use Rattle.std.proofs.lemmas.Option.{slice_get-map}
+use base.Stored.{Gv}
+use Rattle.turnstile.specs.Laws.{HasSeen}
+use Rattle.turnstile.specs.Turning.{Each}
+use Rattle.dxc_outside.specs.declared.clock.Moment.{Moment}
+use Rattle.dxc_model.specs.declared.cause.Cause.{Cause}
+use Rattle.dxc_model.specs.declared.entry.Entry.{Entry}
+use Rattle.dxc_model.specs.Histories.{IsLegal}
+use Rattle.shelf_file.specs.Contents.{Contents}
+use Rattle.user_admin.specs.declared.op.UserEntry.{UserEntry}
+use Rattle.user_admin.specs.Coding.{entry_coded as user_coded, place_of as user_place_of}
+use Rattle.user_admin.specs.Histories.{IsLegal as AreLegal, Opening as UsersOpening, failures, users_after}
+use Rattle.xc_core.specs.Seeing.{entry_coded, place_of}
+use Rattle.xc_core.specs.States.{LimitBehind, Opening, began, rules_of}
+use Rattle.craft_session.specs.Happenings.{Request}
+use Rattle.craft_session.specs.Meanings.{language}
+use Rattle.craft_session.specs.Places.{ArePlaces, Turnstiles, place_at}
+use Rattle.craft_session.specs.Seats.{PlaceAt}
+use Rattle.switch_laws.specs.Element.{ComesTo, Session}
+use Rattle.switch_laws.specs.Laws.{IsExcused, Lives, element}
+use Rattle.switch_laws.specs.Users.{AreHeard, Hearing, Listens}
+use Rattle.switch_laws.proofs.Following.{together}
+use Rattle.switch_laws.proofs.Listening.{heard_together}
+use Rattle.craft_jobs.specs.Begun.{AreRan}
+use Rattle.craft_jobs.specs.Leaves.{left_by}
+use Rattle.craft_server.specs.Callers.{Standing, standing}
+use Rattle.serve_laws.specs.Jobs.{Done, IsServedAt, Job, Ran, World}
+use Rattle.serve_laws.proofs.Serving.{Lived, all_along, heard_along, lived}
+
+-- what a list has at a place, its image has there
+pub get_map : {A B : Type 0} (f : A → B) (xs : List A) (k : ℕ) (x : A) → slice_get xs k ≡ Some x → slice_get (map f xs) k ≡ Some (f x)
+get_map f xs k x e = slice_get-map f xs k ∙ ap (option_map f) e
+
+pub map_length : {A B : Type 0} (f : A → B) (xs : List A) → length (map f xs) ≡ length xs
+map_length f [] = refl
+map_length f (x ∷ xs) = ap suc (map_length f xs)
+
+pub ran_length : {J L : Type 0} (ran : J → L → Type 0) (js : List J) (ls : List L) → AreRan ran js ls → length ls ≡ length js
+ran_length ran [] [] all = refl
+ran_length ran [] (l ∷ ls) all = absurd all
+ran_length ran (j ∷ js) [] all = absurd all
+ran_length ran (j ∷ js) (l ∷ ls) all = ap suc (ran_length ran js ls all.1)
+
+compared : (p n : ℕ) → (p < n) ⊎ (n ≤ p)
+compared p n = elim (leb_tells n p) [ inl t ↦ inr t.1 | inr t ↦ inl t.1 ]
+
+each_all : (n : ℕ) (h : List Entry) → Each (λ e. e.place < n) h → AllByRecursion (λ e. e.place < n) h
+each_all n [] a = tt
+each_all n (e ∷ es) a = (a.0, each_all n es a.1)
+
+each_user : (n : ℕ) (h : List UserEntry) → Each (λ e. e.place < n) h → AllByRecursion (λ e. e.place < n) h
+each_user n [] a = tt
+each_user n (e ∷ es) a = (a.0, each_user n es a.1)
+
+within : (n : ℕ) (due : Bool) (h : List Entry) → 0 < n → Each (λ e. e.place < n) h → AllByRecursion (λ e. e.place < n) (began due ++ h)
+within n due h pos a = elim due as (λ b. AllByRecursion (λ e. e.place < n) (began b ++ h)) [ false ↦ each_all n h a | true ↦ (pos, each_all n h a) ]
+
+module _ (w : World) (s : Contents) (o : Opening) (p : UsersOpening) (t : Turnstiles) where
+  -- the job of this number has run at the place of that number
+  record RanAs (jobs : List (Job w)) (lefts : List PlaceAt) (k own : ℕ) : Type 0 where
+    pub job : Job w
+    pub is : slice_get jobs k ≡ Some job
+    pub left : PlaceAt
+    pub left_is : slice_get lefts k ≡ Some left
+    pub there : job.place ≡ place_at s o p t own
+    pub done : Done w
+    pub ran : Ran w job done left
+
+  ran_from : (n : ℕ) (jobs : List (Job w)) (lefts : List PlaceAt) → ArePlaces s o p t n (map (λ (j : Job w). j.place) jobs) → AreRan (left_by (Ran w)) jobs lefts → (k : ℕ) → k < length jobs → RanAs jobs lefts k (n + k)
+  ran_from n [] lefts places ran k lt = absurd (omega (arith, lt))
+  ran_from n (j ∷ js) [] places ran k lt = absurd ran
+  ran_from n (j ∷ js) (l ∷ ls) places ran zero lt =
+      let same : n ≡ n + 0 = omega arith in
+      record { job = j; is = refl; left = l; left_is = refl; there = places.0 ∙ ap (place_at s o p t) same; done = ran.0.0; ran = ran.0.1 }
+  ran_from n (j ∷ js) (l ∷ ls) places ran (suc k) lt =
+      let x = ran_from (n + 1) js ls places.1 ran.1 k (omega (arith, lt)) in
+      let same : n + 1 + k ≡ n + suc k = omega arith in
+      record { job = x.job; is = x.is; left = x.left; left_is = x.left_is; there = x.there ∙ ap (place_at s o p t) same; done = x.done; ran = x.ran }
+
+  module _ (jobs : List (Job w)) (lefts : List PlaceAt) (sixteen : length jobs ≡ 16) (places : ArePlaces s o p t 0 (map (λ (j : Job w). j.place) jobs)) (ran : AreRan (left_by (Ran w)) jobs lefts) where
+    ran_at : (k : ℕ) → k < 16 → RanAs jobs lefts k k
+    ran_at k lt = subst (λ (n : ℕ). RanAs jobs lefts k n) (omega arith) (ran_from 0 jobs lefts places ran k (omega (arith, lt, sixteen)))
+
+    abbrev first_at : (k : ℕ) → k < 16 → Standing w.office.Gate
+    first_at k lt = let x = ran_at k lt in standing x.job.place (w.uses.clock.coming x.job.clock) x.job.gate
+
+    abbrev last_at : (k : ℕ) → k < 16 → Standing w.office.Gate
+    last_at k lt = let x = ran_at k lt in standing x.left (w.uses.clock.coming x.done.clock) x.done.gate
+
+    place_lived : (k : ℕ) (lt : k < 16) → Lived w.disk.told w.uses.clock.told w.office.link.told w.office.link.state w.office.link.begun w.uses.gate.stops w.uses.gate.asked s o k p (first_at k lt) (ran_at k lt).ran.served.callers (last_at k lt) (ran_at k lt).ran.served.served
+    place_lived k lt =
+        let x = ran_at k lt in
+        lived w.disk.told w.uses.clock.told w.office.link.told w.office.link.state w.office.link.begun w.uses.gate.stops w.uses.gate.asked s o k p (first_at k lt) (last_at k lt) x.ran.served.callers x.ran.served.served
+        (ap (λ (q : PlaceAt). q.shelf) x.there, ap (λ (q : PlaceAt). q.seat.opening) x.there, ap (λ (q : PlaceAt). q.seat.place) x.there, ap (λ (q : PlaceAt). q.users.opening) x.there)
+        (ap (λ (q : PlaceAt). q.seat.seen) x.there) (ap (λ (q : PlaceAt). q.users.seen) x.there)
+
+    abbrev sessions_by : (k : ℕ) → (k < 16) ⊎ (16 ≤ k) → List (Session Request Moment)
+    sessions_by k (inl lt) = (place_lived k lt).sessions
+    sessions_by k (inr ge) = []
+
+    abbrev hearings_by : (k : ℕ) → (k < 16) ⊎ (16 ≤ k) → List (Hearing Request)
+    hearings_by k (inl lt) = (place_lived k lt).hearings
+    hearings_by k (inr ge) = []
+
+    pub sessions : ℕ → List (Session Request Moment)
+    sessions k = sessions_by k (compared k 16)
+
+    pub hearings : ℕ → List (Hearing Request)
+    hearings k = hearings_by k (compared k 16)
+
+    pub served_at : (k : ℕ) → k < 16 → IsServedAt w jobs lefts k (sessions k) (hearings k)
+    unfolding sessions hearings
+    served_at k lt = elim (compared k 16) as (λ d. IsServedAt w jobs lefts k (sessions_by k d) (hearings_by k d)) [
+      | inl below ↦ (let x = ran_at k below in let l = place_lived k below in record { job = x.job; is = x.is; left = x.left; left_is = x.left_is; done = x.done; ran = x.ran; written = l.written; heard = l.heard_in })
+      | inr ge ↦ absurd (omega (arith, lt, ge))
+    ]
+
+    none_beyond : (k : ℕ) → 16 ≤ k → sessions k ≡ []
+    unfolding sessions
+    none_beyond k le = elim (compared k 16) as (λ d. sessions_by k d ≡ []) [ inl below ↦ absurd (omega (arith, le, below)) | inr ge ↦ refl ]
+
+    none_heard_beyond : (k : ℕ) → 16 ≤ k → hearings k ≡ []
+    unfolding hearings
+    none_heard_beyond k le = elim (compared k 16) as (λ d. hearings_by k d ≡ []) [ inl below ↦ absurd (omega (arith, le, below)) | inr ge ↦ refl ]
+
+    module _ (history : List Entry) (seen : (k : ℕ) (q : PlaceAt) → slice_get lefts k ≡ Some q → HasSeen entry_coded.code place_of history k q.seat.seen) where
+      lives_each : (k : ℕ) → k < 16 → Lives (language s) k o.first.fold.table (began o.due) (began o.due ++ history) (sessions k)
+      unfolding sessions
+      lives_each k lt = elim (compared k 16) as (λ d. Lives (language s) k o.first.fold.table (began o.due) (began o.due ++ history) (sessions_by k d)) [
+        | inl below ↦ (let x = ran_at k below in all_along w.disk.told w.uses.clock.told w.office.link.told w.office.link.state w.office.link.begun w.uses.gate.stops w.uses.gate.asked s o k p (first_at k below) x.ran.served.callers (last_at k below) x.ran.served.served history (place_lived k below) (seen k x.left x.left_is))
+        | inr ge ↦ absurd (omega (arith, lt, ge))
+      ]
+
+      pub played_as_one : IsLegal (rules_of o) (began o.due ++ history) → Each (λ e. e.place < 16) history → (excused : Cause → Bool) → AllByRecursion (IsExcused (λ q. IsTrue (excused q))) (began o.due ++ history)
+          → ComesTo (language s) (LimitBehind o.first) (λ q. IsTrue (excused q)) (element o.first.fold.table (began o.due) (λ k. [])) (element o.first.fold.table (began o.due ++ history) sessions)
+      played_as_one legal numbers excused all =
+          together (language s) (rules_of o) (λ q. IsTrue (excused q)) (began o.due) 16 (began o.due ++ history) sessions (omega arith) (legal, all, within 16 o.due history (omega arith) numbers) lives_each none_beyond
+
+    module _ (history : List UserEntry) (seen : (k : ℕ) (q : PlaceAt) → slice_get lefts k ≡ Some q → HasSeen user_coded.code user_place_of history k q.users.seen) where
+      listens_each : (k : ℕ) → k < 16 → Listens (language s) k p history (hearings k)
+      unfolding hearings
+      listens_each k lt = elim (compared k 16) as (λ d. Listens (language s) k p history (hearings_by k d)) [
+        | inl below ↦ (let x = ran_at k below in heard_along w.disk.told w.uses.clock.told w.office.link.told w.office.link.state w.office.link.begun w.uses.gate.stops w.uses.gate.asked s o k p (first_at k below) x.ran.served.callers (last_at k below) x.ran.served.served history (place_lived k below) (seen k x.left x.left_is))
+        | inr ge ↦ absurd (omega (arith, lt, ge))
+      ]
+
+      pub heard_as_one : AreLegal p history → Each (λ e. e.place < 16) history → (failing : Bool) → (1 ≤ failures history → IsTrue failing)
+          → AreHeard (language s) p.shelf.sid (IsTrue failing) (record { users = p.users; sessions = λ k. [] }) (record { users = users_after p history; sessions = hearings })
+      heard_as_one legal numbers failing fails = heard_together (language s) p (IsTrue failing) 16 history hearings (omega arith) (legal, fails, each_user 16 history numbers) listens_each none_heard_beyond

@@ -1,0 +1,262 @@
+-- One place's callers, one behind the other.
+use Rattle.std.specs.Prelude.{IsTrue}
+use Rattle.std.specs.List.{AllByRecursion}
+use Rattle.std.proofs.Common.{◌≡◌, ◌≢◌, ◌⊎◌, ◌<◌, ◌≤◌, ℕ, Bool, true, false, List, [], ◌∷◌, ◌++◌, refl, sym, ◌∙◌, ap, subst, append-nil, append_assoc, inl, inr, arith}
+use Rattle.std.proofs.lemmas.Bool.Decides.{leb_tells}
+use Rattle.std.proofs.lemmas.List.{map-append}
+use native.Mathlib.Bridge.{le_prop}
+use base.Stored.{Gv}
+use Rattle.turnstile.specs.Turning.{Each}
+use Rattle.turnstile.proofs.Lists.{map_once}
+use Rattle.dxc_outside.specs.declared.clock.Moment.{Moment}
+use Rattle.dxc_outside.specs.declared.gate.GatePlace.{GatePlace}
+use Rattle.dxc_outside.specs.Callers.{ListenerState}
+use Rattle.dxc_outside.specs.Items.{Item}
+use Rattle.dxc_outside.specs.Links.{LinkState, Exchanged}
+use Rattle.dxc_model.specs.declared.cause.Cause.{Cause}
+use Rattle.dxc_model.specs.declared.entry.Entry.{Entry}
+use Rattle.dxc_model.specs.Histories.{IsLegal}
+use Rattle.dxc_model.specs.Tables.{Board}
+use Rattle.shelf_file.specs.Contents.{Contents}
+use Rattle.user_admin.specs.declared.op.UserEntry.{UserEntry}
+use Rattle.user_admin.specs.Coding.{entry_coded as user_coded, place_of as user_place_of}
+use Rattle.user_admin.specs.Histories.{IsLegal as AreLegal, Opening as UsersOpening, failures, users_after}
+use Rattle.user_admin.specs.Turns.{codes as user_codes}
+use Rattle.switch_laws.specs.Users.{AreHeard, Hearing, Listens, consulted_on, nobody_asked, others_asked}
+use Rattle.switch_laws.proofs.Listening.{heard_together}
+use Rattle.xc_core.specs.Seeing.{codes, entry_coded, place_of}
+use Rattle.xc_core.specs.States.{LimitBehind, Opening, began, rules_of}
+use Rattle.craft_session.specs.declared.end.SessionEnd.{SessionEnd}
+use Rattle.craft_session.specs.declared.end.SessionEnd.TheVariants.{End, ReadFault, WriteFault, Stopped, Spent}
+use Rattle.craft_session.specs.Asks.{Language, user_after}
+use Rattle.craft_session.specs.Happenings.{Request, unit}
+use Rattle.craft_session.specs.Meanings.{language}
+use Rattle.craft_session.specs.Places.{place_at}
+use Rattle.craft_session.specs.Sessions.{Beginning, Breaks, Halts, IsSession, Now, Served}
+use Rattle.switch_laws.specs.Element.{ComesTo, Session, unanswered}
+use Rattle.switch_laws.specs.Laws.{IsExcused, Lives, element, nobody_came, passed_on, served, session_in, stopped, stopped_at_users}
+use Rattle.switch_laws.proofs.Following.{together}
+use Rattle.craft_server.specs.Callers.{InTurn, ServedCaller, Standing, none_yet, one_more}
+use Rattle.turnstile.specs.Laws.{HasSeen}
+use Rattle.serve_laws.specs.Written.{AreHeardIn, AreWritten, IsHeardIn, IsWritten, links_in}
+
+-- where the sessions of a place stand: the history so far, behind what the opening counts as, and the newest session
+record Came (l : Language Request Moment) (o : Opening) (own : ℕ) (told : Type 0) (k j : LinkState) (seen : List Gv) (ss : List (Session Request Moment)) (us : UsersOpening) (users_seen : List Gv) (hs : List (Hearing Request)) : Type 0 where
+  pub history : List Entry
+  pub session : Session Request Moment
+  pub lives : Lives l own o.first.fold.table (began o.due) history (session ∷ ss)
+  pub written : IsWritten told k j session
+  pub saw : codes (began o.due) ++ seen ≡ codes history
+  pub users_history : List UserEntry
+  pub hearing : Hearing Request
+  pub listens : Listens l own us users_history (hearing ∷ hs)
+  pub heard_in : IsHeardIn session hearing
+  pub users_saw : users_seen ≡ user_codes users_history
+
+module _ (l : Language Request Moment) (told clock_told : Type 0) (k j : LinkState) (c d : List Moment) (b : Beginning) (now : Now) (ss : List (Session Request Moment)) (lives : Lives l b.place b.opening.first.fold.table (began b.opening.due) b.before ss) (hs : List (Hearing Request)) (listens : Listens l b.place b.users b.users_before hs) where
+  abbrev Gone : Type 0
+  Gone = Came l b.opening b.place told k j now.seen ss b.users now.users hs
+
+  whole : Served l told clock_told k j c d b now → Gone
+  whole x =
+      let p = x.past in
+      record {
+        history = p.walk.history;
+        session = session_in p.walk;
+        lives = served b.before ss p.walk p.run lives;
+        written = record {
+          items = x.items;
+          ahead = [];
+          rest = x.rest;
+          out = x.out;
+          missing = [];
+          exchanged = subst (λ (is : List Item). Exchanged told k j is x.out) (sym (append-nil x.items)) x.exchanged;
+          happened = p.happened;
+          written = sym p.written ∙ sym (append-nil x.out);
+          cut = inl refl;
+        };
+        saw = p.saw.codes_are;
+        users_history = p.consulted.history;
+        hearing = record { happenings = p.walk.happenings; user = p.walk.attending.user };
+        listens = consulted_on b.users_before p.consulted.history hs p.walk.happenings p.walk.attending.user p.consulted.heard listens;
+        heard_in = inl refl;
+        users_saw = p.consulted.saw.codes_are;
+      }
+
+  broken : Breaks l told clock_told k j c d b now → Gone
+  broken x =
+      let p = x.past in
+      record {
+        history = p.walk.history;
+        session = session_in p.walk;
+        lives = served b.before ss p.walk p.run lives;
+        written = record {
+          items = x.items;
+          ahead = x.ahead;
+          rest = p.rest;
+          out = x.out;
+          missing = p.missing;
+          exchanged = x.exchanged;
+          happened = p.happened;
+          written = ap (λ (bs : List ℕ). p.walk.earlier ++ bs) p.split ∙ sym (append_assoc p.walk.earlier p.part p.missing) ∙ ap (λ (bs : List ℕ). bs ++ p.missing) (sym p.written);
+          cut = inr x.rose;
+        };
+        saw = p.saw.codes_are;
+        users_history = p.consulted.history;
+        hearing = record { happenings = p.walk.happenings; user = p.walk.attending.user };
+        listens = consulted_on b.users_before p.consulted.history hs p.walk.happenings p.walk.attending.user p.consulted.heard listens;
+        heard_in = inl refl;
+        users_saw = p.consulted.saw.codes_are;
+      }
+
+  halted : Halts l told clock_told k j c d b now → Gone
+  halted x =
+      let p = x.past in
+      let w = p.walk in
+      let written : IsWritten told k j (unanswered p.last (session_in w)) = record {
+        items = x.items;
+        ahead = x.ahead;
+        rest = [];
+        out = x.out;
+        missing = [];
+        exchanged = x.exchanged;
+        happened = p.happened;
+        written = sym p.written ∙ sym (append-nil x.out);
+        cut = inl refl;
+      } in
+      elim p.stopped [
+        | inl t ↦ record {
+          history = _;
+          session = unanswered p.last (session_in w);
+          lives = stopped b.before ss w p.last t.stops.front t.stops.op p.run p.looked t.stops.stands t.stops.cuts lives;
+          written = written;
+          saw = t.stops.saw.codes_are;
+          users_history = t.consulted.history;
+          hearing = record { happenings = w.happenings ++ unit p.last ∷ []; user = user_after w.attending.user (l.asks w.attending.user p.last) };
+          listens = consulted_on b.users_before t.consulted.history hs (w.happenings ++ unit p.last ∷ []) (user_after w.attending.user (l.asks w.attending.user p.last)) t.consulted.heard listens;
+          heard_in = inl refl;
+          users_saw = t.consulted.saw.codes_are;
+        }
+        | inr t ↦ record {
+          history = w.history;
+          session = unanswered p.last (session_in w);
+          lives = stopped_at_users b.before ss w p.last t.op p.run p.looked t.wanted t.changing lives;
+          written = written;
+          saw = t.saw.codes_are;
+          users_history = t.consulted.history;
+          hearing = record { happenings = w.happenings; user = w.attending.user };
+          listens = consulted_on b.users_before t.consulted.history hs w.happenings w.attending.user t.consulted.heard listens;
+          heard_in = inr (p.last, refl);
+          users_saw = t.consulted.saw.codes_are;
+        }
+      ]
+
+  gone : (end : SessionEnd) → IsSession l told clock_told k j c d b now end → Gone
+  gone End x = whole x
+  gone ReadFault x = whole x
+  gone Spent x = whole x
+  gone WriteFault x = broken x
+  gone Stopped x = halted x
+
+same_user_codes : (h g : List UserEntry) → user_codes h ≡ user_codes g → h ≡ g
+same_user_codes h g e = map_once user_coded.code user_coded.inj h g e
+
+same_codes : (h g : List Entry) → codes h ≡ codes g → h ≡ g
+same_codes h g e = map_once entry_coded.code entry_coded.inj h g e
+
+module _ (disk_told clock_told link_told : Type 0) {K G : Type 0} (link : K → LinkState) (begun : LinkState → Type 0) (stops : G → ℕ) (asked : G → G → List GatePlace → Type 0) where
+  abbrev pub Step : Standing G → Standing G → K → Type 0
+  Step = ServedCaller disk_told clock_told link_told link begun stops asked
+
+  -- a place of this shelf and opening, and of this number
+  abbrev pub IsOf : Contents → Opening → ℕ → UsersOpening → Standing G → Type 0
+  IsOf s o own us t = (t.place.shelf ≡ s) × (t.place.seat.opening ≡ o) × (t.place.seat.place ≡ own) × (t.place.users.opening ≡ us)
+
+  -- what the callers of a place came to: its sessions along the history that it has seen, and what they heard along that of the users
+  pub record Lived (s : Contents) (o : Opening) (own : ℕ) (us : UsersOpening) (first : Standing G) (came : List K) (t : Standing G) (turns : InTurn Step first came t) : Type 0 where
+    pub history : List Entry
+    pub sessions : List (Session Request Moment)
+    pub is : IsOf s o own us t
+    pub lives : Lives (language s) own o.first.fold.table (began o.due) history sessions
+    pub written : AreWritten link_told link (links_in disk_told clock_told link_told link begun stops asked first came t turns) sessions
+    pub saw : codes (began o.due) ++ t.place.seat.seen ≡ codes history
+    pub users_history : List UserEntry
+    pub hearings : List (Hearing Request)
+    pub listens : Listens (language s) own us users_history hearings
+    pub heard_in : AreHeardIn sessions hearings
+    pub users_saw : t.place.users.seen ≡ user_codes users_history
+
+  -- one caller more
+  called : (t u : Standing G) (c : K) (x : Step t u c) (h : List Entry) (ss : List (Session Request Moment)) (g : List UserEntry) (hs : List (Hearing Request)) → Lives (language t.place.shelf) t.place.seat.place t.place.seat.opening.first.fold.table (began t.place.seat.opening.due) h ss
+      → codes (began t.place.seat.opening.due) ++ t.place.seat.seen ≡ codes h → Listens (language t.place.shelf) t.place.seat.place t.place.users.opening g hs → t.place.users.seen ≡ user_codes g
+      → Came (language t.place.shelf) t.place.seat.opening t.place.seat.place link_told (link c) (link x.left) u.place.seat.seen ss t.place.users.opening u.place.users.seen hs
+  called t u c x h ss g hs lives saw listens users_saw =
+      let v = x.session in
+      let same : h ≡ v.before = same_codes h v.before (sym saw ∙ v.saw.codes_are) in
+      let users_same : g ≡ v.users_before = same_user_codes g v.users_before (sym users_saw ∙ v.users_saw.codes_are) in
+      let l = language t.place.shelf in
+      let there : Lives l t.place.seat.place t.place.seat.opening.first.fold.table (began t.place.seat.opening.due) v.before ss = subst (λ (k : List Entry). Lives l t.place.seat.place t.place.seat.opening.first.fold.table (began t.place.seat.opening.due) k ss) same lives in
+      let heard : Listens l t.place.seat.place t.place.users.opening v.users_before hs = subst (λ (k : List UserEntry). Listens l t.place.seat.place t.place.users.opening k hs) users_same listens in
+      gone l link_told clock_told (link c) (link x.left) t.moments u.moments (record { opening = t.place.seat.opening; users = t.place.users.opening; place = t.place.seat.place; before = v.before; users_before = v.users_before })
+      (record { seen = u.place.seat.seen; users = u.place.users.seen; attending = v.attending }) ss there hs heard x.end v.session
+
+  called_as : (s : Contents) (o : Opening) (own : ℕ) (us : UsersOpening) (t u : Standing G) (c : K) (x : Step t u c) (h : List Entry) (ss : List (Session Request Moment)) (g : List UserEntry) (hs : List (Hearing Request)) → IsOf s o own us t
+      → Lives (language s) own o.first.fold.table (began o.due) h ss → codes (began o.due) ++ t.place.seat.seen ≡ codes h → Listens (language s) own us g hs → t.place.users.seen ≡ user_codes g
+      → Came (language s) o own link_told (link c) (link x.left) u.place.seat.seen ss us u.place.users.seen hs
+  called_as s o own us t u c x h ss g hs is =
+      subst (λ (y : Contents × Opening × ℕ × UsersOpening). Lives (language y.0) y.2 y.1.first.fold.table (began y.1.due) h ss → codes (began y.1.due) ++ t.place.seat.seen ≡ codes h → Listens (language y.0) y.2 y.3 g hs → t.place.users.seen ≡ user_codes g
+      → Came (language y.0) y.1 y.2 link_told (link c) (link x.left) u.place.seat.seen ss y.3 u.place.users.seen hs)
+      (λ i. (is.0 i, is.1 i, is.2 i, is.3 i)) (called t u c x h ss g hs)
+
+  pub lived : (s : Contents) (o : Opening) (own : ℕ) (us : UsersOpening) (t u : Standing G) (came : List K) (turns : InTurn Step t came u) → IsOf s o own us t → t.place.seat.seen ≡ [] → t.place.users.seen ≡ [] → Lived s o own us t came u turns
+  lived s o own us _ _ _ (none_yet t) is none users_none = record {
+    history = began o.due;
+    sessions = [];
+    is = is;
+    lives = nobody_came;
+    written = tt;
+    saw = ap (λ (x : List Gv). codes (began o.due) ++ x) none ∙ append-nil (codes (began o.due));
+    users_history = [];
+    hearings = [];
+    listens = nobody_asked;
+    heard_in = tt;
+    users_saw = users_none;
+  }
+  lived s o own us _ _ _ (one_more t m u ks c turns x) is none users_none =
+      let so_far = lived s o own us t m ks turns is none users_none in
+      let now = called_as s o own us m u c x so_far.history so_far.sessions so_far.users_history so_far.hearings so_far.is so_far.lives so_far.saw so_far.listens so_far.users_saw in
+      record {
+        history = now.history;
+        sessions = now.session ∷ so_far.sessions;
+        is = (x.shelf ∙ so_far.is.0, x.seat.0 ∙ so_far.is.1, x.seat.1 ∙ so_far.is.2, x.users.0 ∙ so_far.is.3);
+        lives = now.lives;
+        written = (now.written, so_far.written);
+        saw = now.saw;
+        users_history = now.users_history;
+        hearings = now.hearing ∷ so_far.hearings;
+        listens = now.listens;
+        heard_in = (now.heard_in, so_far.heard_in);
+        users_saw = now.users_saw;
+      }
+
+  others_on : (l : Language Request Moment) (own : ℕ) (t : Board) (past h more : List Entry) (ss : List (Session Request Moment)) → Lives l own t past h ss → Each (λ e. e.place ≢ own) more → Lives l own t past (h ++ more) ss
+  others_on l own t past h [] ss x others = subst (λ (g : List Entry). Lives l own t past g ss) (sym (append-nil h)) x
+  others_on l own t past h (e ∷ es) ss x others = subst (λ (g : List Entry). Lives l own t past g ss) (append_assoc h (e ∷ []) es) (others_on l own t past (h ++ e ∷ []) es ss (passed_on h ss e (inl others.0) x) others.1)
+
+  -- a place's sessions along the whole history
+  pub all_along : (s : Contents) (o : Opening) (own : ℕ) (us : UsersOpening) (first : Standing G) (came : List K) (t : Standing G) (turns : InTurn Step first came t) (history : List Entry) → (x : Lived s o own us first came t turns) → HasSeen entry_coded.code place_of history own t.place.seat.seen → Lives (language s) own o.first.fold.table (began o.due) (began o.due ++ history) x.sessions
+  all_along s o own us first came t turns history x seen =
+      let past = began o.due in
+      let here : x.history ≡ past ++ seen.begun = same_codes x.history (past ++ seen.begun) (sym x.saw ∙ ap (λ (g : List Gv). codes past ++ g) seen.codes ∙ sym (map-append entry_coded.code past seen.begun)) in
+      let whole : x.history ++ seen.later ≡ past ++ history = ap (λ (g : List Entry). g ++ seen.later) here ∙ append_assoc past seen.begun seen.later ∙ ap (λ (g : List Entry). past ++ g) seen.whole in
+      subst (λ (g : List Entry). Lives (language s) own o.first.fold.table past g x.sessions) whole (others_on (language s) own o.first.fold.table past x.history seen.later x.sessions x.lives seen.others)
+
+  others_asked_on : (l : Language Request Moment) (own : ℕ) (us : UsersOpening) (h more : List UserEntry) (hs : List (Hearing Request)) → Listens l own us h hs → Each (λ e. e.place ≢ own) more → Listens l own us (h ++ more) hs
+  others_asked_on l own us h [] hs x others = subst (λ (g : List UserEntry). Listens l own us g hs) (sym (append-nil h)) x
+  others_asked_on l own us h (e ∷ es) hs x others = subst (λ (g : List UserEntry). Listens l own us g hs) (append_assoc h (e ∷ []) es) (others_asked_on l own us (h ++ e ∷ []) es hs (others_asked h hs e others.0 x) others.1)
+
+  pub heard_along : (s : Contents) (o : Opening) (own : ℕ) (us : UsersOpening) (first : Standing G) (came : List K) (t : Standing G) (turns : InTurn Step first came t) (history : List UserEntry) → (x : Lived s o own us first came t turns) → HasSeen user_coded.code user_place_of history own t.place.users.seen → Listens (language s) own us history x.hearings
+  heard_along s o own us first came t turns history x seen =
+      let here : x.users_history ≡ seen.begun = same_user_codes x.users_history seen.begun (sym x.users_saw ∙ seen.codes) in
+      let whole : x.users_history ++ seen.later ≡ history = ap (λ (g : List UserEntry). g ++ seen.later) here ∙ seen.whole in
+      subst (λ (g : List UserEntry). Listens (language s) own us g x.hearings) whole (others_asked_on (language s) own us x.users_history seen.later x.hearings x.listens seen.others)

@@ -1,0 +1,8 @@
+use Rattle.craft_jobs.specs.Offices.{office}
+use Rattle.serve_laws.specs.Jobs.{means, world}
+use Rattle.serve_laws.proofs.Whole.{headline}
+use Rattle.serve_laws.proofs.headline.Goals as goal
+
+pub returns : goal.returns
+returns g c = λ old new site s o p j e.
+    headline c.own_bytes.ensures (world (office g.O.Opener g.O.Journal.Disk g.O.Listener.Listener g.O.Listener.Link.Link) g.D.Disk (means g.O.Lines.Lines g.O.Clock.Clock g.O.Gate.Gate) g.O.LetGo.gone) (g.P.Spawner.handed old new) site s o p j e

@@ -1,0 +1,113 @@
+-- The headline: what a server's jobs did, at the moments of its turnstiles and of its fabric.
+use Rattle.std.specs.Prelude.{◌≡◌, ◌≤◌, ◌<◌, ℕ, Bool, IsTrue, List, [], ◌∷◌, ◌++◌, map, Option, Some, Box}
+use Rattle.std.specs.List.{AllByRecursion}
+use Rattle.std.specs.declared.alloc.Global.{Global}
+use base.Stored.{Gv}
+use mathlib.Core.Option.{some}
+use Rattle.atomic_table.specs.Table.{State as TableState}
+use Rattle.turnstile.specs.declared.board.View.{View}
+use Rattle.turnstile.specs.declared.board.Held.{Held}
+use Rattle.turnstile.specs.declared.board.Opened.{Opened}
+use Rattle.turnstile.specs.Turning.{opening_in, stands_in}
+use Rattle.dxc_disk.specs.Disks.{DiskState, Leaves}
+use Rattle.dxc_outside.specs.declared.clock.Moment.{Moment}
+use Rattle.dxc_outside.specs.Jobs.{AnyJob}
+use Rattle.dxc_model.specs.declared.cause.Cause.{Cause}
+use Rattle.dxc_model.specs.declared.entry.Entry.{Entry}
+use Rattle.dxc_model.specs.Histories.{changes_of}
+use Rattle.fabric_words.specs.declared.table.Aim.{Aim}
+use Rattle.fabric_words.specs.declared.table.View.{View as FabricView}
+use Rattle.fabric_words.specs.Laws.{IsCore}
+use Rattle.fabric_words.specs.Tied.{Tied}
+use Rattle.shelf_file.specs.Contents.{Contents}
+use Rattle.user_admin.specs.declared.op.UserEntry.{UserEntry}
+use Rattle.user_admin.specs.declared.state.UserState.{UserState}
+use Rattle.user_admin.specs.Coding.{entry_coded as user_coded, opening_coded as users_coded, place_of as user_place_of}
+use Rattle.user_admin.specs.Histories.{Opening as UsersOpening, failures, users_after}
+use Rattle.user_admin.specs.States.{Stands as UsersStand, StandsFor as UsersStandFor, opening_of as users_opening}
+use Rattle.xc_core.specs.declared.state.Home.{Home}
+use Rattle.xc_core.specs.declared.state.Home.TheVariants.{In, Out}
+use Rattle.xc_core.specs.declared.state.State.{State}
+use Rattle.xc_core.specs.Coding.{opening_coded}
+use Rattle.xc_core.specs.Journals.{IsOldOrDoubted}
+use Rattle.xc_core.specs.Reckonings.{Past, ReckonsTo}
+use Rattle.xc_core.specs.Seeing.{entry_coded, place_of}
+use Rattle.xc_core.specs.States.{LimitBehind, Opening, Stands, StandsFor, began, opening_of}
+use Rattle.craft_session.specs.Happenings.{Request}
+use Rattle.craft_session.specs.Meanings.{language}
+use Rattle.craft_session.specs.Places.{Turnstiles}
+use Rattle.craft_session.specs.Seats.{PlaceAt}
+use Rattle.switch_laws.specs.Element.{ComesTo, Session}
+use Rattle.switch_laws.specs.Laws.{IsExcused, element}
+use Rattle.switch_laws.specs.Users.{AreHeard, Hearing}
+use Rattle.craft_jobs.specs.declared.frames_left.FramesLeft.{FramesLeft}
+use Rattle.craft_jobs.specs.Begun.{AreRan}
+use Rattle.craft_server.specs.Serving.{SiteAt}
+use Rattle.serve_laws.specs.Frames.{AreSeatsIn, CarriedOwn}
+use Rattle.serve_laws.specs.Jobs.{Frames, IsServedAt, Job, Jobs, World}
+use Rattle.serve_laws.specs.Passes.{IsRestOf}
+
+-- where the Provisioner is home, each file that a crash may leave of its journal stands for the changes of the history, or for these and the one in doubt
+abbrev pub LeavesChanges : {D : Type 0} → Type 0 → (D → DiskState) → Opening → List Entry → Home D → Type 0
+LeavesChanges told state o h (In d) = (b : Past) × ReckonsTo o.first (changes_of h) b × (told → Leaves (state d.value.p.journal.0) (IsOldOrDoubted b d.value.p.doubt))
+LeavesChanges told state o h Out = Unit {0}
+
+-- what the seats of places have seen
+abbrev pub seen_by : List PlaceAt → List (List Gv)
+seen_by = map (λ (p : PlaceAt). p.seat.seen)
+
+abbrev pub users_seen_by : List PlaceAt → List (List Gv)
+users_seen_by = map (λ (p : PlaceAt). p.users.seen)
+
+module _ (w : World) where
+  abbrev pub Lying : Type 0
+  Lying = Held (Box (State w.Disk) Global) Entry
+
+  abbrev pub UsersLying : Type 0
+  UsersLying = Held (Box (UserState w.office.Disk) Global) UserEntry
+
+  -- A state that the rule of the state's turnstile allows, one that the rule of the users' allows, and one that the fabric's rule allows: the passes of the
+  -- places have seen what the places have seen that jobs left, and the workers know what the seats know that jobs left.
+  pub record IsEnd (o : Opening) (p : UsersOpening) (t : Turnstiles) (lefts : List PlaceAt) (seats : List FramesLeft) : Type 0 where
+    pub key : Opened (Box (State w.Disk) Global)
+    pub state : TableState (Option Lying) View
+    pub of_state : IsRestOf opening_coded.code entry_coded.code (opening_in (opening_of w.disk.state)) place_of (stands_in (Stands w.disk.told w.disk.state)) t.state o (seen_by lefts) key state
+    pub users_key : Opened (Box (UserState w.office.Disk) Global)
+    pub users : TableState (Option UsersLying) View
+    pub of_users : IsRestOf users_coded.code user_coded.code (opening_in (users_opening w.office.disk.state)) user_place_of (stands_in (UsersStand w.office.disk.told w.office.disk.state)) t.users p (users_seen_by lefts) users_key users
+    pub fabric : TableState Aim FabricView
+    pub of_fabric : Tied o.site.fabric.size fabric
+    pub of_seats : AreSeatsIn fabric o.site.fabric.size seats
+
+  -- One history of the table and one of the users, for which those states stand: the plain element on what was opened comes to the one, and one list of users
+  -- to the other; the links that came to each place were written what the element writes its sessions.
+  pub record IsOneElement (s : Contents) (o : Opening) (p : UsersOpening) (jobs : List (Job w)) (lefts : List PlaceAt) (state : TableState (Option Lying) View) (users : TableState (Option UsersLying) View) : Type 0 where
+    pub history : List Entry
+    pub lying : Lying
+    pub at_home : state.homes ≡ some (Some lying) ∷ []
+    pub stands : StandsFor w.disk.told w.disk.state o lying.state.value (began o.due ++ history)
+    pub users_history : List UserEntry
+    pub users_lying : UsersLying
+    pub users_at_home : users.homes ≡ some (Some users_lying) ∷ []
+    pub users_stand : UsersStandFor w.office.disk.told w.office.disk.state p users_lying.state.value users_history
+    -- of each place the sessions on the element, and what they heard of the users, the newest first
+    pub sessions : ℕ → List (Session Request Moment)
+    pub hearings : ℕ → List (Hearing Request)
+    pub each : (k : ℕ) → k < 16 → IsServedAt w jobs lefts k (sessions k) (hearings k)
+    pub played : (excused : Cause → Bool) → AllByRecursion (IsExcused (λ q. IsTrue (excused q))) (began o.due ++ history)
+        → ComesTo (language s) (LimitBehind o.first) (λ q. IsTrue (excused q)) (element o.first.fold.table (began o.due) (λ k. [])) (element o.first.fold.table (began o.due ++ history) sessions)
+    pub heard : (failing : Bool) → (1 ≤ failures users_history → IsTrue failing)
+        → AreHeard (language s) p.shelf.sid (IsTrue failing) (record { users = p.users; sessions = λ k. [] }) (record { users = users_after p users_history; sessions = hearings })
+    pub crash : LeavesChanges w.disk.told w.disk.state o (began o.due ++ history) lying.state.value.home
+
+  -- The fabric's state is a hitless one that the core's events reach, and each frame that workers wrote was carried over its connections.
+  pub record IsHitlessFabric (o : Opening) (workers : List (Frames w)) (seats : List FramesLeft) (fabric : TableState Aim FabricView) : Type 0 where
+    pub core : IsCore o.site.fabric.size fabric
+    pub frames : AreRan (CarriedOwn w.uses.lines w.uses.gate core.core) workers seats
+
+  module _ {P : Type 0} (handed : P → P → List AnyJob → Type 0) where
+    -- Whatever jobs a server was handed, and at whatever such states
+    abbrev pub IsHeadline : Type 0
+    IsHeadline = (old new : P) (site : SiteAt) (s : Contents) (o : Opening) (p : UsersOpening) (j : Jobs w (handed old new) site s o p)
+        → (e : IsEnd o p j.places.turnstiles j.left.left.sessions.items j.left.left.workers.items)
+        → IsOneElement s o p j.sessions j.left.left.sessions.items e.state e.users × IsHitlessFabric o j.workers j.left.left.workers.items e.fabric

@@ -1,0 +1,5 @@
+pub mod Written
+pub mod Passes
+pub mod Frames
+pub mod Jobs
+pub mod Headline

@@ -1,0 +1,31 @@
+//! What the jobs of `serve` did that have run, as the contract of a function without parameters.
+#![tactic(auto)]
+
+ghost use Rattle.craft_jobs.specs.Offices.{office};
+ghost use Rattle.serve_laws.specs.Headline.{IsHeadline};
+ghost use Rattle.serve_laws.specs.Jobs.{means, world};
+
+use dxc_disk::Disk;
+use dxc_leaving::LetGo;
+use dxc_outside::{Clock, Gate, Lines, Link, Listener, Opener, Spawner};
+use frame_worker::laws::own_bytes;
+
+/// The headline of the README as one law, of a server whose line ended with Done, at any states of its two turnstiles and of its fabric that their rules
+/// allow and in which passes and workers know what the places and seats know that jobs left.
+///
+/// One history of the table and one of the users stand behind them. One plain element, begun on what was opened, comes to the one by some order of turns, and
+/// wrote each link its bytes; one list of users comes to the other, and told what each session heard. Each file that a crash may leave of the journal, where
+/// the Provisioner is home, stands for that history's changes, or for one more. The fabric is hitless, and each frame was carried over its own connections.
+///
+/// Each premise is what clauses give, or the kit's model. The jobs, what they did and left, and that their places are of one turnstile of each: `run` of
+/// `dxc_run`, by `places` of `open_places` and `left` of `run_all`. That a turnstile was made with a state of the opening, for so many passes: `turns` of
+/// `turns_of`. That a pass of a place rests, and is of the place's turnstile: the invariants of `Pass` and of `Seat`. That its table's state says of a pass, or
+/// of a worker's seat, what that knows, and that each state is one that the rule allows: the model of the kit's `atomic_table`.
+pub fn headline<O: Opener + LetGo, D: Disk, P: Spawner>()
+    ensures { IsHeadline (world (office O.Opener O.Journal.Disk O.Listener.Listener
+        O.Listener.Link.Link) D.Disk (means O.Lines.Lines O.Clock.Clock O.Gate.Gate) O.gone)
+        P.handed }
+{
+    // Its law, since it names no lemma.
+    own_bytes();
+}
