@@ -1,17 +1,18 @@
 /* Feeds frames into a pipe at a line's own pace, and watches when what comes of each stands in the output file.
 
-   usage: paced IN OUT BYTES FRAMES MICROSECONDS SIDES [--copy]
+   usage: paced IN OUT BYTES FRAMES MICROSECONDS SIDES      feeds and watches
+          paced --copy IN OUT BYTES FRAMES                  copies frames in the controller's place, so that the machine's own pauses are seen
 
    IN is a pipe with a name and OUT a file; a frame has BYTES bytes, and one is fed every so many MICROSECONDS. SIDES names a file of lines
    `INPUT OUTPUT`, ports from 0 of circuits that stand throughout: of each frame the output byte has to be the input byte of its circuit.
-   With --copy a thread of this program copies the frames in place of the controller, so that the machine's own pauses are seen.
+   One thread feeds and watches in turn, so it wants a processor of its own. Under SCHED_FIFO it sleeps for a moment between two looks, since
+   Linux takes the processor for 50 milliseconds from one that has had it for nearly a second; otherwise it never sleeps.
 
    It writes how many frames came, how many bytes of the circuits were wrong, and how late frames were: how many by at most so many
-   microseconds each, and the latest. Status 1 where a byte was wrong or a frame didn't come. */
+   microseconds each, how many later, and the latest. Status 1 where a byte was wrong or a frame didn't come. */
 #define _GNU_SOURCE
-#include <errno.h>
 #include <fcntl.h>
-#include <pthread.h>
+#include <sched.h>
 #include <stdint.h>
 #include <stdio.h>
 #include <stdlib.h>
@@ -19,15 +20,20 @@
 #include <time.h>
 #include <unistd.h>
 
-#define MOST_SIDES 65536
+#define MOST_PORTS 65536
+#define MARKS 127
 /* A frame that isn't there after so many seconds doesn't come. */
 #define PATIENCE 10.0
+/* What was looked at needs no room any more: so many frames at once, since a larger hole takes its time. */
+#define DROPPED 16
+/* Nanoseconds between two looks, under SCHED_FIFO. */
+#define MOMENT 2000
 
-static int in, out;
-static long bytes, frames, microseconds, wrong, arrived, sides;
-static int input_of[MOST_SIDES], output_of[MOST_SIDES];
-static _Atomic double *fed;
-static double *late;
+static int in, out, goes_first;
+static long bytes, frames, microseconds, fed, put, arrived, wrong, sides;
+static int input_of[MOST_PORTS], output_of[MOST_PORTS];
+static uint8_t of_port[MOST_PORTS], frame[MOST_PORTS], seen[MOST_PORTS];
+static double began, *late;
 
 static double now(void) {
     struct timespec t;
@@ -35,70 +41,78 @@ static double now(void) {
     return t.tv_sec + t.tv_nsec / 1e9;
 }
 
-/* What the input port carries in a frame: never 0x7F, which is what an output without a circuit carries. */
-static uint8_t byte_at(long frame, long port) { return (uint8_t)((frame * 31 + port * 7) % 127); }
+static double due(long number) { return began + number * microseconds / 1e6; }
 
-static void fill(uint8_t *frame, long k) {
-    for (long p = 0; p < bytes; p++)
-        frame[p] = byte_at(k, p);
+/* What an input port carries in a frame: never 0x7F, which is what an output without a circuit carries. */
+static uint8_t byte_at(long number, long port) {
+    uint8_t sum = number * 31 % MARKS + of_port[port];
+    return sum - (sum >= MARKS ? MARKS : 0);
 }
 
-static void *feed(void *unused) {
-    uint8_t *frame = malloc(bytes);
-    double began = now() + 0.1;
-    for (long k = 0; k < frames; k++) {
-        fill(frame, k);
-        double due = began + k * microseconds / 1e6;
-        struct timespec at = {(time_t)due, (long)((due - (time_t)due) * 1e9)};
-        while (clock_nanosleep(CLOCK_MONOTONIC, TIMER_ABSTIME, &at, NULL) == EINTR) {
-        }
-        /* Late from when it was due, so that a feeder that was kept waiting hides nothing. */
-        fed[k] = due;
-        for (long put = 0; put < bytes;) {
-            ssize_t wrote = write(in, frame + put, bytes - put);
-            if (wrote < 0 && errno != EINTR)
-                return NULL;
-            put += wrote > 0 ? wrote : 0;
-        }
+static void fill(long number) {
+    for (long port = 0; port < bytes; port++)
+        frame[port] = byte_at(number, port);
+}
+
+/* Puts what the pipe takes of the frame that is due. A frame is late from when it was due, so that a feeder that was kept waiting hides nothing. */
+static void feed(void) {
+    ssize_t wrote = write(in, frame + put, bytes - put);
+    put += wrote > 0 ? wrote : 0;
+    if (put == bytes) {
+        put = 0;
+        if (++fed < frames)
+            fill(fed);
     }
-    free(frame);
-    return unused;
 }
 
-static void *copy(void *unused) {
-    uint8_t *frame = malloc(bytes);
-    for (long k = 0; k < frames; k++) {
+static void rest(void) {
+    static const struct timespec moment = {0, MOMENT};
+    if (goes_first)
+        nanosleep(&moment, NULL);
+}
+
+/* Looks for the next frame; 0 where it isn't there for too long. */
+static int watch(void) {
+    if (pread(out, seen, bytes, arrived * bytes) != bytes) {
+        rest();
+        return now() < due(arrived) + PATIENCE;
+    }
+    late[arrived] = now() - due(arrived);
+    for (long s = 0; s < sides; s++)
+        wrong += seen[output_of[s]] != byte_at(arrived, input_of[s]);
+    if (++arrived % DROPPED == 0)
+        fallocate(out, FALLOC_FL_PUNCH_HOLE | FALLOC_FL_KEEP_SIZE, (arrived - DROPPED) * bytes, DROPPED * bytes);
+    return 1;
+}
+
+static void feed_and_watch(void) {
+    for (long port = 0; port < bytes; port++)
+        of_port[port] = port * 7 % MARKS;
+    fill(0);
+    goes_first = sched_getscheduler(0) == SCHED_FIFO;
+    began = now() + 0.1;
+    while (arrived < frames) {
+        if (fed < frames && now() >= due(fed))
+            feed();
+        else if (arrived == fed)
+            rest();
+        else if (!watch())
+            return;
+    }
+}
+
+static int copy(void) {
+    for (long number = 0; number < frames; number++) {
         for (long got = 0; got < bytes;) {
-            ssize_t read_now = read(in, frame + got, bytes - got);
-            if (read_now < 0 && errno != EINTR)
-                return NULL;
-            got += read_now > 0 ? read_now : 0;
+            ssize_t count = read(in, frame + got, bytes - got);
+            if (count <= 0)
+                return 1;
+            got += count;
         }
-        if (pwrite(out, frame, bytes, k * bytes) != bytes)
-            return NULL;
+        if (pwrite(out, frame, bytes, number * bytes) != bytes)
+            return 1;
     }
-    free(frame);
-    return unused;
-}
-
-static void *watch(void *unused) {
-    uint8_t *frame = malloc(bytes);
-    for (long k = 0; k < frames; k++) {
-        double due;
-        while ((due = fed[k]) == 0)
-            usleep(20);
-        while (pread(out, frame, bytes, k * bytes) != bytes)
-            if (now() > due + PATIENCE)
-                return NULL;
-        late[k] = now() - due, arrived = k + 1;
-        for (long s = 0; s < sides; s++)
-            wrong += frame[output_of[s]] != byte_at(k, input_of[s]);
-        /* What was looked at needs no room any more. */
-        if (k % 1000 == 999)
-            fallocate(out, FALLOC_FL_PUNCH_HOLE | FALLOC_FL_KEEP_SIZE, (k - 999) * bytes, 1000 * bytes);
-    }
-    free(frame);
-    return unused;
+    return 0;
 }
 
 static void tell(void) {
@@ -118,34 +132,39 @@ static void tell(void) {
     }
     printf("%ld of %ld frames came; %ld of %ld bytes of standing circuits were wrong\n", arrived, frames, wrong, arrived * sides);
     for (long i = 0; i < count; i++)
-        printf("at most %5.0f microseconds: %ld\n", steps[i], in_step[i]);
-    printf("later: %ld; the latest %.0f microseconds\n", beyond, latest * 1e6);
+        printf("at most %.0f: %ld\n", steps[i], in_step[i]);
+    printf("later: %ld\nthe latest: %.0f\n", beyond, latest * 1e6);
+}
+
+static int usage(void) {
+    fprintf(stderr, "usage: paced IN OUT BYTES FRAMES MICROSECONDS SIDES\n       paced --copy IN OUT BYTES FRAMES\n");
+    return 2;
 }
 
 int main(int count, char **words) {
-    int is_copy = count == 8 && !strcmp(words[7], "--copy");
-    if (count != 7 && !is_copy) {
-        fprintf(stderr, "usage: paced IN OUT BYTES FRAMES MICROSECONDS SIDES [--copy]\n");
-        return 2;
-    }
-    in = open(words[1], O_RDWR), out = open(words[2], is_copy ? O_RDWR | O_CREAT | O_TRUNC : O_RDWR, 0600);
-    FILE *lines = fopen(words[6], "r");
-    if (in < 0 || out < 0 || !lines) {
+    int copies = count == 6 && !strcmp(words[1], "--copy");
+    if (count != 7 && !copies)
+        return usage();
+    char **given = words + 1 + copies;
+    in = open(given[0], copies ? O_RDWR : O_RDWR | O_NONBLOCK);
+    out = open(given[1], O_RDWR | O_CREAT, 0600);
+    bytes = atol(given[2]), frames = atol(given[3]);
+    if (in < 0 || out < 0 || bytes < 1 || bytes > MOST_PORTS) {
         perror("paced");
         return 6;
     }
-    bytes = atol(words[3]), frames = atol(words[4]), microseconds = atol(words[5]);
-    while (sides < MOST_SIDES && fscanf(lines, "%d %d", &input_of[sides], &output_of[sides]) == 2)
+    if (copies)
+        return copy();
+    FILE *lines = fopen(given[5], "r");
+    if (!lines) {
+        perror("paced");
+        return 6;
+    }
+    microseconds = atol(given[4]);
+    while (sides < MOST_PORTS && fscanf(lines, "%d %d", &input_of[sides], &output_of[sides]) == 2)
         sides++;
-    if (is_copy)
-        for (long s = 0; s < sides; s++)
-            output_of[s] = input_of[s];
-    fed = calloc(frames, sizeof *fed), late = calloc(frames, sizeof *late);
-    pthread_t threads[3];
-    pthread_create(&threads[0], NULL, watch, NULL), pthread_create(&threads[1], NULL, feed, NULL);
-    if (is_copy)
-        pthread_create(&threads[2], NULL, copy, NULL);
-    pthread_join(threads[0], NULL);
+    late = calloc(frames, sizeof *late);
+    feed_and_watch();
     tell();
     return wrong || arrived < frames;
 }

@@ -1,10 +1,14 @@
 """What stands between the program and what the bytes of each stream cost at least: floors, and where the rest goes by function and cause.
 
-usage: bench/run measure floors [--functions COUNT] [STREAM..]     (all streams of bench/run measure speed, and frames, where none is named)
+usage: bench/run measure floors [--functions COUNT | --rows] [STREAM..]     (all streams of bench/run measure speed, and frames, where none is named)
 
 A floor is bench/c/floors.c: a plain C loop that knows all answers beforehand, and reads, writes and syncs the same bytes, which this looks at:
 answers and journal must come out the same. Of frames it is bench/c/frames.c, three loads an output byte. Instructions are those of callgrind,
 of a unit as in bench/run measure speed; causes are told by bench/measure/causes.py. It needs valgrind, objdump and a C compiler (CC, else clang or cc).
+
+A goal is a share of what the conventional program takes. Where ours takes more, `over` says by how much; the parts below tell where all of it
+goes, each the functions of some crates, with what LLVM put into them. With --rows they are rows of docs/SPEED.md's first two
+tables.
 """
 import argparse
 import collections
@@ -33,6 +37,38 @@ CHANGES = ("ENT-", "DLT-", "ED-")
 COMPILER = os.environ.get("CC") or shutil.which("clang") or "cc"
 FRAMES = ((8, 24), (32, 32), (64, 96))
 FEW, MANY = 100, 300
+# Each stream as docs/SPEED.md names it, and what it is to take at most, of what the conventional program takes; and a carried byte.
+GOALS = {
+    "header": ("a header", 0.70),
+    "malformed": ("a unit that is no command", 0.70),
+    "busy": ("an entry whose sides are in use", 0.75),
+    "port": ("a retrieval of a port", 0.60),
+    "module": ("a retrieval of a module", 0.70),
+    "all": ("a retrieval of all 192 rows", 0.40),
+    "mixed": ("a unit of a mixed stream", 0.80),
+    "direct": ("an entry with its deletion, a middle free", 0.80),
+    "chains8": ("the same, the longest chain, 8 modules of 2 slots", 0.80),
+    "chains16": ("16 modules of 2 slots", 0.70),
+    "chains32": ("32 modules of 2 slots", 0.60),
+    "chains64": ("64 modules of 2 slots", 0.60),
+    "churn8": ("four changes of a full switch", 0.80),
+    "churn32": ("the same, 32 modules of 32 slots", 0.80),
+}
+CARRIED_GOAL = 1.0
+# Parts of a unit's way by the names of functions, the first that fits.
+PARTS = [
+    ("turns and records", r"craft_session::(change|mend|seat)|xc_core|turnstile|journal_core|xc_journal|dxc_disk|dxc_host::host_disk"),
+    ("session", r"craft_s|craft_jobs|dxc_host|tl1_answer|dxc_aid::write"),
+    ("cutting", r"tl1_text"),
+    ("command", r"tl1_command|dxc_aid"),
+    ("users", r"user_admin|sha2|shelf_file"),
+    ("table", r"dxc_model|dbchg_reports"),
+    ("plan", r"xc_recovery|paull_chain::(?!ops)|roll_plan|mid_service"),
+    ("matrix", r"paull"),
+    ("register writes", r"roll_engine|fabric_|frame_worker|atomic_table"),
+    ("room cleared and copies by the C library", r"mem(cpy|move|set)$"),
+]
+REST = "the C library's rest"
 
 
 def units_of(text):
@@ -128,7 +164,7 @@ class Share:
     """Instructions of a unit by function and by cause, of two runs of which one is longer."""
 
     def __init__(self, program, few, many, units):
-        self.functions, self.causes = collections.Counter(), collections.Counter()
+        self.functions, self.causes, self.parts = collections.Counter(), collections.Counter(), collections.Counter()
         for at, count in (many[0] - few[0]).items():
             self.functions[program.function[at]] += count / units
             self.causes[program.cause[at]] += count / units
@@ -136,29 +172,71 @@ class Share:
             plain = next((word for word in ("memcpy", "memmove", "memset") if word in name), name)
             self.functions[plain] += count / units
             self.causes[{"memcpy": COPIED, "memmove": COPIED, "memset": CLEARED}.get(plain, "C library")] += count / units
+        for name, count in self.functions.items():
+            self.parts[part_of(name)] += count
 
     def all(self):
         return sum(self.functions.values())
 
 
-def print_row(name, known, floor, ours, same):
-    ratio = f"{ours / known:5.2f}" if known else "     "
-    print(f"{name:10} {known or '':>9} {floor:9,.0f} {ours:9,.0f} {ratio} {'' if same else 'DIFFERS'}", flush=True)
+def part_of(function):
+    return next((part for part, names in PARTS if re.match(names, function)), REST)
 
 
-def print_share(share, functions):
-    for shares in (share.functions.most_common(functions), share.causes.most_common()):
-        print("    " + ", ".join(f"{what} {count:,.0f}" for what, count in shares if count >= share.all() / 100))
+class Sheet:
+    """Prints what was measured of each stream; with `rows` as docs/SPEED.md has it."""
+
+    LARGEST = 5
+    CAUSES = (
+        ("room cleared",),
+        ("toolchain's flag",),
+        ("values kept on the stack",),
+        ("functions entered and left",),
+        ("copied",),
+        ("values loaded, stored and moved",),
+        ("compares and jumps", "checks that stop the program"),
+        ("arithmetic",),
+        ("atomic", "division", "C library"),
+    )
+
+    def __init__(self, functions, rows):
+        self.functions, self.rows, self.shares = functions, rows, {}
+        if not rows:
+            print(f"{'':10} {'convent.':>9} {'goal':>9} {'floor':>9} {'ours':>9} {'ratio':>6} {'over':>9}")
+
+    def stream(self, name, known, floor, share, same):
+        (label, goal), ours = GOALS[name], share.all()
+        self.shares[name] = share, ours - goal * known
+        if self.rows:
+            parts = ", ".join(f"{part} {count:,.0f}" for part, count in share.parts.most_common(self.LARGEST))
+            print(f"| {label} | {known:,.0f} | {goal * known:,.0f} | {floor:,.0f} | {ours:,.0f} | {ours / known:.2f} | {parts} |", flush=True)
+            return
+        columns = f"{known:9,.0f} {goal * known:9,.0f} {floor:9,.0f} {ours:9,.0f} {ours / known:6.2f} {ours - goal * known:+9,.0f}"
+        print(f"{name:10} {columns} {'' if same else 'DIFFERS'}", flush=True)
+        for shares in (share.parts.most_common(), share.functions.most_common(self.functions), share.causes.most_common()):
+            print("    " + ", ".join(f"{what} {count:,.0f}" for what, count in shares if count >= ours / 100))
+
+    def carried(self, shape, known, floor, ours):
+        if self.rows:
+            print(f"| a carried byte, {speed.by(shape)} | {known:.1f} | {CARRIED_GOAL * known:.1f} | {floor:.1f} | {ours:.1f} | {ours / known:.2f} | |", flush=True)
+            return
+        columns = f"{known:6.2f} {CARRIED_GOAL * known:9.2f} {floor:9.2f} {ours:9.2f} {ours / known:6.2f} {ours - CARRIED_GOAL * known:+9.2f}"
+        print(f"byte {speed.by(shape):8} {columns}", flush=True)
+
+    def causes(self):
+        """The same streams by cause, behind how much they are over their goals."""
+        for name, (share, over) in self.shares.items() if self.rows else ():
+            counts = [sum(share.causes[cause] for cause in causes) for causes in self.CAUSES]
+            print(f"| {GOALS[name][0]} | {over:+,.0f} | {' | '.join(f'{count:,.0f}' for count in counts)} |")
 
 
-def streams(bench, conventional, wanted, functions):
+def streams(bench, conventional, wanted, sheet):
     for name, _, shape, filled, few, many, stream in speed.STREAMS:
         if wanted(name):
             short, long = (bench.counts(shape, filled, stream(units)) for units in (few, many))
             share = Share(bench.program, short, long, (many - few))
             floor, same = bench.floor_of(shape, filled, stream(many), bench.register_writes(long))
-            print_row(name, conventional.get(name, {}).get("instructions"), floor * units_a_round(stream, many), share.all(), same)
-            print_share(share, functions)
+            sheet.stream(name, conventional[name]["instructions"], floor * units_a_round(stream, many), share, same)
 
 
 def units_a_round(stream, many):
@@ -193,29 +271,30 @@ def carried(shape, count):
     return sum(int(text.replace(",", "")) for text in of_frames)
 
 
-def frames(folder, conventional, wanted):
+def frames(folder, conventional, wanted, sheet):
     plain = os.path.join(folder, "frames")
     subprocess.run([COMPILER, "-O2", "-o", plain, os.path.join(TOP, "bench", "c", "frames.c")], check=True)
     for shape in FRAMES if wanted("frames") else ():
         parts = (MANY - FEW) * shape[0] * shape[1]
         low, high = (speed.collected([plain, str(count), str(shape[0])])[0] for count in (FEW, MANY))
         few, many = (carried(shape, count) for count in (FEW, MANY))
-        known, floor, ours = conventional.get(speed.by(shape), {}).get("instructions"), (high - low) / parts, (many - few) / parts
-        print(f"a byte, {speed.by(shape):9} {known or '':>6} {floor:9.2f} {ours:9.2f} {f'{ours / known:5.2f}' if known else ''}", flush=True)
+        sheet.carried(shape, conventional[speed.by(shape)]["instructions"], (high - low) / parts, (many - few) / parts)
 
 
 def main():
     parser = argparse.ArgumentParser(usage=__doc__.split("usage: ")[1].split("\n\n")[0])
     parser.add_argument("--functions", type=int, default=8)
+    parser.add_argument("--rows", action="store_true")
     parser.add_argument("streams", nargs="*")
     chosen = parser.parse_args()
     wanted = lambda name: not chosen.streams or name in chosen.streams
     with open(speed.CONVENTIONAL, encoding="utf-8") as file:
         conventional = json.load(file)
-    print(f"{'':10} {'convent.':>9} {'floor':>9} {'ours':>9}  to convent.")
+    sheet = Sheet(chosen.functions, chosen.rows)
     with tempfile.TemporaryDirectory(dir=speed.MEMORY if os.path.isdir(speed.MEMORY) else None) as folder:
-        streams(Bench(folder), conventional["streams"], wanted, chosen.functions)
-        frames(folder, conventional.get("frames", {}), wanted)
+        streams(Bench(folder), conventional["streams"], wanted, sheet)
+        frames(folder, conventional["frames"], wanted, sheet)
+    sheet.causes()
 
 
 if __name__ == "__main__":

@@ -12,6 +12,8 @@ ALLOWED = {
     "dmesg": HOST,
     "smartctl": HOST,
     "socat": HOST,
+    "CPUAffinity": HOST,
+    "isolcpus": HOST,
     "out": "a folder that builds make, and git ignores",
     "rattle": PROVER,
     "logic": PROVER,

@@ -127,6 +127,8 @@ module _ (told users_told : Type 0) {D U : Type 0} (state : D → DiskState) (us
       let h = seen.0.answered.walk.history in
       let own = subst (λ (n : ℕ). IsLeft state n 1 o h (stock_in v, s.disk)) served.seat.1 (subst (λ (n : ℕ). IsLeft state seat.place n o h (stock_in v, s.disk)) (served.seat.2 ∙ lone.count) (left h seen.1)) in
       record {
+        turnstiles = t;
+        alone = lone.count;
         shelf = el.shelf;
         is_shelf = el.is_shelf;
         fabric = fabric;

@@ -17,7 +17,7 @@ use Rattle.xc_core.specs.States.{Opening, faults_in}
 use Rattle.xc_core.specs.Turns.{AreNumbered, SawNoneAstray}
 use Rattle.craft_session.specs.declared.end.SessionEnd.TheVariants.{End}
 use Rattle.craft_session.specs.Meanings.{language}
-use Rattle.craft_session.specs.Places.{place_at}
+use Rattle.craft_session.specs.Places.{Turnstiles, place_at}
 use Rattle.craft_session.specs.Scripts.{WroteAll}
 use Rattle.craft_session.specs.Seats.{IsSameSeat, IsSameUserSeat, PlaceAt}
 use Rattle.craft_session.specs.Sessions.{IsPrompt, IsServed}
@@ -91,9 +91,11 @@ pub record IsLoadedOn (told users_told : Type 0) {D U : Type 0} (state : D → D
   pub users_fresh : IsNewUsersDisk (users_state users_disk)
   pub users_opening : UsersOpening
   pub users_opened : IsUsersOpening users_told [] shelf users_opening
+  pub turnstiles : Turnstiles
+  pub alone : turnstiles.places ≡ 1
   pub link : LoadLink
   pub wrote : WroteAll told (state disk) (users_state users_disk) 0 opening users_opening (Unit {0}) load_moments load_moments (language shelf) (Unit {0}) (unread number fabric) (link_state link)
-  pub prompt : let first = place_at shelf opening users_opening 1 0 in IsPrompt (language shelf) IsOfLoad (Unit {0}) (Unit {0}) (unread number fabric) (link_state link) load_moments first.seat first.users
+  pub prompt : let first = place_at shelf opening users_opening turnstiles 0 in IsPrompt (language shelf) IsOfLoad (Unit {0}) (Unit {0}) (unread number fabric) (link_state link) load_moments first.seat first.users
   pub own : link.carrier.seat.reader.fabric ≡ fabric
   pub all_read : (link_state link).left ≡ []
   pub left : IsStockAfter opening wrote.answered.walk.history (stock_in v)
