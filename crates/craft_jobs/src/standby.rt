@@ -131,13 +131,7 @@ fn serve_caller<K: Link, D: Disk>(link: &mut K, disk: &mut D) -> Option<StandbyE
     let end = stand_by(link, disk);
     match end {
         StandbyEnd::End | StandbyEnd::ReadFault | StandbyEnd::WriteFault => match disk.length() {
-            Ok(length) => {
-                if length == 0 {
-                    None
-                } else {
-                    Some(end)
-                }
-            }
+            Ok(length) => { if length == 0 { None } else { Some(end) } }
             Err(_) => Some(end),
         },
         StandbyEnd::BadMessage | StandbyEnd::DiskFault | StandbyEnd::NotEmpty | StandbyEnd::Spent =>

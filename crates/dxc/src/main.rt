@@ -5,9 +5,9 @@ use craft_server::{Status, dxc_run};
 use dxc_console::{held_streams, help_asked, only_look, tell_standby, tell_status, words_given};
 use dxc_host::{HostClock, HostOpener, Refusal, TermLink, ThreadSpawner, Utc};
 use dxc_outside::Sent;
-use users_at_odds::user_at_odds;
 use std::io;
 use std::process::ExitCode;
+use users_at_odds::user_at_odds;
 
 fn main(rt: HostRuntime) -> ExitCode {
     let alloc = rt.alloc();

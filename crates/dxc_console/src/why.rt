@@ -259,7 +259,10 @@ fn write_refusal<W: Write, E: Display>(f: &mut Formatter<W>, refusal: Option<&E>
 fn write_at_odds<W: Write>(f: &mut Formatter<W>, number: u32, user: Option<Uid>) -> fmt::Result {
     if let Some(uid) = user {
         if let Ok(name) = str::from_utf8(uid.bytes()) {
-            write!(f, "dxc: user {name:?}: shelf file and users' journal disagree: ")?;
+            write!(
+                f,
+                "dxc: user {name:?}: shelf file and users' journal disagree: "
+            )?;
             return writeln!(f, "its record {number}, counted from 0, makes no change");
         }
     }

@@ -21,8 +21,7 @@ pub fn user_at_odds<O: Opener>(
     status: Status,
 ) -> Option<Uid> {
     let (Status::BadJournal(JournalBad::UsersRecord(number)), [_, shelf, journal, ..]) = (
-        status,
-        words,
+        status, words,
     ) else {
         return None;
     };
