@@ -44,19 +44,15 @@ impl Noting for LoadDisk {
 }
 
 impl Disk for LoadDisk {
-    ghost use Rattle.dxc_disk.specs.Replay.{events};
-    ghost use Rattle.dxc_disk.specs.ReplayLaws.{mem_counts_on, replay_is_disk};
-    ghost use Rattle.dxc_load.specs.Storing.{load_disk};
+    ghost use Rattle.dxc_load.specs.Storing.{load_counts_on, load_disk, load_is_disk};
 
     ghost told = { Unit {0} };
 
     ghost state = { load_disk };
 
-    ghost is_disk = { λ d told. replay_is_disk d.inner.first.items
-        (events d.inner.calls.items d.inner.log.items) d.inner.bytes.items _ _ _ d.inner.same };
+    ghost is_disk = { λ d told. load_is_disk d };
 
-    ghost counts_on = { λ d. mem_counts_on d.inner.calls d.inner.log d.inner.bytes d.inner.made
-        d.inner.faults d.inner.counted };
+    ghost counts_on = { λ d. load_counts_on d };
 
     fn length(&mut self) -> Result<u64, DiskFault> {
         let length = self.inner.length();
