@@ -1,2 +1,2 @@
 /// SHA-256 of the sources that the program is proved from, this file left out, in hexadecimal. `tools/release` writes it.
-pub const SOURCES: &str = "b7213be90ebe4cc06c513e7cb578d2487c1221a3540923abc468e9b2abb5b515";
+pub const SOURCES: &str = "a368e0f0fb9a45d74762c610a5f222e506052b60c10dc300b11d04e6503a89f1";
