@@ -27,7 +27,9 @@ and those of new calls and laws by who wrote these.
 
 ## By the crate
 
-How many edits there are of each kind; and of those tried last, how many were refused and how many accepted.
+How many edits there are of each kind; and of those tried last, how many were refused and how many accepted. `dxc_leaving` is a trait without bodies.
+Both calls of `dxc_causes` give the one value of their type, so a wrong body of theirs can only stop or wait. `tried` holds tests alone; `dxc` and the
+programs of rows carry no contract of the product, and what they have was in no round.
 
 {counts}
 
