@@ -32,8 +32,8 @@ from bench.stress.standby import LOG_IN, Listener, WAIT, await_listening, call, 
 MOMENT = rb"\d{4}-\d\d-\d\d \d\d:\d\d:\d\d UTC"
 # A wait of 25 reads of a fifth of a second, and what a busy machine adds.
 LONGEST = 8
-# Who only reads doesn't wait for a standby.
-PROMPT = 0.05
+# Who only reads doesn't wait for a standby: a few milliseconds, and what a busy machine adds.
+PROMPT = 1
 # Bytes of an item.
 PIECE = 256
 WHOLE = rb"dxc: " + MOMENT + rb": standby ended, (its primary hung up|its connection failed); \S+ is whole, and was synced last at " + MOMENT + rb"\n"

@@ -38,6 +38,8 @@ from bench.shared.program import PROGRAM, expect
 from bench.shared.server import PLACES, Server, ends_at, free_port
 
 MODULES, SLOTS = 4, 8
+# Who only reads waits for no disk: a few milliseconds, and what a busy machine adds.
+PROMPT = 1
 LOG_IN = office.LOG_IN.encode()
 ENTRY = b"ENT-CRS-T0::DS0-1-1,DS0-2-1:2;"
 DELETION = b"DLT-CRS-T0::DS0-1-1,DS0-2-1:3;"
@@ -219,12 +221,12 @@ def waiting(folder):
             started = time.monotonic()
             answer(reader, unit)
             took = time.monotonic() - started
-            expect(took < 0.05, f"{what} took {took:.2f} s")
+            expect(took < PROMPT, f"{what} took {took:.2f} s")
             longest = max(longest, took)
         started = time.monotonic()
         expect(is_served(late), "no log-in beside a slow disk")
         took = time.monotonic() - started
-        expect(took < 0.05, f"a log-in took {took:.2f} s")
+        expect(took < PROMPT, f"a log-in took {took:.2f} s")
         started = time.monotonic()
         expect("COMPLD" in answer(changer, b"") or "COMPLD" in changer.recv(65536).decode(), "the change wasn't made")
         waited = time.monotonic() - started
