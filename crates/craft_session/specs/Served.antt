@@ -42,6 +42,7 @@ pub record ServedFor {T : Type 0} (world : LentOf T) (first : SessionUser) (old 
   pub prompt : let w = world.lent in IsPrompt (language_for first old.0.shelf) w.link.begun w.link.told w.clock.told (w.link.state old.1) (w.link.state new.1) (w.clock.coming old.2) old.0.seat old.0.users
   pub asked : AreEntered old.0.seat old.0.users (world.lent.gate.asked old.3 new.3) new.0.seat.seen new.0.users.seen
   pub why : EndedFor world.lent.link.told (world.lent.link.state old.1) (world.lent.link.state new.1) end
+  pub hung_up : world.lent.link.hung_up new.1 ≡ world.lent.link.hung_up old.1
   pub stopped : end ≡ Stopped → Rose (world.lent.gate.stops old.3) (world.lent.gate.stops new.3)
   pub unstopped : end ≢ Stopped → world.lent.gate.stops new.3 ≡ world.lent.gate.stops old.3
   pub later : world.lent.gate.stops old.3 ≤ world.lent.gate.stops new.3

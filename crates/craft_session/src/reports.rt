@@ -43,6 +43,7 @@ pub fn report<K: Link, C: Clock, D: Disk + Drop, U: Disk + Drop, R: Wait>(
     ensures users { desk.new.users ≡ desk.old.users }
     ensures reader { desk.new.reader ≡ desk.old.reader }
     ensures link { Writes K.told (K.state link.old) (K.state link.new) }
+    ensures hung_up { K.hung_up link.new ≡ K.hung_up link.old }
     ensures goes { (first : AUser) → (k : LinkState) → (c : List Moment) → (b : Beginning)
         → (r : Reader) → (ahead : List ℕ) → IsAt b desk.old.seat desk.old.users.seat
         → Stands (language_for first (arc_value desk.old.shelf)) K.told C.told k (K.state link.old)
@@ -75,6 +76,7 @@ fn report_since<K: Link, C: Clock, D: Disk + Drop, U: Disk + Drop, R: Wait>(
     ensures users { desk.new.users ≡ desk.old.users }
     ensures reader { desk.new.reader ≡ desk.old.reader }
     ensures link { Writes K.told (K.state link.old) (K.state link.new) }
+    ensures hung_up { K.hung_up link.new ≡ K.hung_up link.old }
     ensures goes { (first : AUser) → (k : LinkState) → (c : List Moment) → (b : Beginning)
         → (r : Reader) → (ahead : List ℕ) → IsAt b desk.old.seat desk.old.users.seat
         → Stands (language_for first (arc_value desk.old.shelf)) K.told C.told k (K.state link.old)
@@ -106,6 +108,7 @@ fn tell<K: Link, C: Clock, D: Disk + Drop, U: Disk + Drop>(
     ensures users { desk.new.users ≡ desk.old.users }
     ensures attending { desk.new.attending ≡ desk.old.attending }
     ensures reader { desk.new.reader ≡ desk.old.reader }
+    ensures hung_up { K.hung_up link.new ≡ K.hung_up link.old }
     ensures told { AreTold (language (arc_value desk.old.shelf)) K.told C.told (K.state link.old)
         (K.state link.new) (C.coming clock.old) (C.coming clock.new) result
         (found_notices looked.since looked.newest desk.old.changes.items) }
@@ -130,6 +133,7 @@ fn tell_lost<K: Link, C: Clock, D: Disk + Drop, U: Disk + Drop>(
     ensures users { desk.new.users ≡ desk.old.users }
     ensures attending { desk.new.attending ≡ desk.old.attending }
     ensures reader { desk.new.reader ≡ desk.old.reader }
+    ensures hung_up { K.hung_up link.new ≡ K.hung_up link.old }
     ensures changes { desk.new.changes ≡ desk.old.changes }
     ensures told { AreTold (language (arc_value desk.old.shelf)) K.told C.told (K.state link.old)
         (K.state link.new) (C.coming clock.old) (C.coming clock.new) result (lead since before) }
@@ -158,6 +162,7 @@ fn tell_changes<K: Link, C: Clock, D: Disk + Drop, U: Disk + Drop>(
     ensures users { desk.new.users ≡ desk.old.users }
     ensures attending { desk.new.attending ≡ desk.old.attending }
     ensures reader { desk.new.reader ≡ desk.old.reader }
+    ensures hung_up { K.hung_up link.new ≡ K.hung_up link.old }
     ensures told { AreTold (language (arc_value desk.old.shelf)) K.told C.told (K.state link.old)
         (K.state link.new) (C.coming clock.old) (C.coming clock.new) result
         (numbered before desk.old.changes.items) }
@@ -188,6 +193,7 @@ fn tell_change<K: Link, C: Clock, D: Disk + Drop, U: Disk + Drop>(
     ensures users { desk.new.users ≡ desk.old.users }
     ensures attending { desk.new.attending ≡ desk.old.attending }
     ensures reader { desk.new.reader ≡ desk.old.reader }
+    ensures hung_up { K.hung_up link.new ≡ K.hung_up link.old }
     ensures changes { desk.new.changes ≡ desk.old.changes }
     ensures told { (d : Change)
         → IsReported K.told C.told (K.state link.old) (K.state link.new) (C.coming clock.old)
@@ -210,6 +216,7 @@ fn tell_one<K: Link, C: Clock, D: Disk + Drop, U: Disk + Drop>(
     ensures users { desk.new.users ≡ desk.old.users }
     ensures attending { desk.new.attending ≡ desk.old.attending }
     ensures reader { desk.new.reader ≡ desk.old.reader }
+    ensures hung_up { K.hung_up link.new ≡ K.hung_up link.old }
     ensures changes { desk.new.changes ≡ desk.old.changes }
     ensures told { IsReported K.told C.told (K.state link.old) (K.state link.new)
         (C.coming clock.old) (C.coming clock.new) result

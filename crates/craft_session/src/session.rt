@@ -45,6 +45,7 @@ fn serve_piece<K: Link, C: Clock, G: Gate, D: Disk + Drop, U: Disk + Drop, R: Wa
     ensures seat { IsSameSeat desk.old.seat desk.new.seat }
     ensures users { IsSameUserSeat desk.old.users.seat desk.new.users.seat }
     ensures link { Writes K.told (K.state link.old) (K.state link.new) }
+    ensures hung_up { K.hung_up link.new ≡ K.hung_up link.old }
     ensures goes { (first : AUser) → (k : LinkState) → (c : List Moment) → (b : Beginning)
         → IsAt b desk.old.seat desk.old.users.seat
         → Stands (language_for first (arc_value desk.old.shelf)) K.told C.told k (K.state link.old)
@@ -84,6 +85,7 @@ fn serve_unit<K: Link, C: Clock, G: Gate, D: Disk + Drop, U: Disk + Drop, R: Wai
     ensures users { IsSameUserSeat desk.old.users.seat desk.new.users.seat }
     ensures reader { desk.new.reader ≡ desk.old.reader }
     ensures link { Writes K.told (K.state link.old) (K.state link.new) }
+    ensures hung_up { K.hung_up link.new ≡ K.hung_up link.old }
     ensures goes { (first : AUser) → (k : LinkState) → (c : List Moment) → (b : Beginning)
         → (ahead : List ℕ) → IsAt b desk.old.seat desk.old.users.seat
         → Stands (language_for first (arc_value desk.old.shelf)) K.told C.told k (K.state link.old)
@@ -118,6 +120,7 @@ fn attend<K: Link, C: Clock, G: Gate, D: Disk + Drop, U: Disk + Drop, R: Wait>(
     ensures users { IsSameUserSeat desk.old.users.seat desk.new.users.seat }
     ensures reader { desk.new.reader ≡ desk.old.reader }
     ensures link { Writes K.told (K.state link.old) (K.state link.new) }
+    ensures hung_up { K.hung_up link.new ≡ K.hung_up link.old }
     ensures goes { (first : AUser) → (k : LinkState) → (c : List Moment) → (b : Beginning)
         → (ahead : List ℕ) → IsAt b desk.old.seat desk.old.users.seat
         → Stands (language_for first (arc_value desk.old.shelf)) K.told C.told k (K.state link.old)
@@ -151,6 +154,7 @@ fn answer<K: Link, C: Clock, G: Gate, D: Disk + Drop, U: Disk + Drop, R: Wait>(
     ensures users { IsSameUserSeat desk.old.users.seat desk.new.users.seat }
     ensures reader { desk.new.reader ≡ desk.old.reader }
     ensures link { Writes K.told (K.state link.old) (K.state link.new) }
+    ensures hung_up { K.hung_up link.new ≡ K.hung_up link.old }
     ensures answered { IsAnswered (arc_value desk.old.shelf) K.told C.told (K.state link.old)
         (K.state link.new) (C.coming clock.old) (C.coming clock.new) (input_of kind desk.old.reader)
         desk.old.seat desk.old.users.seat (now desk.old) (now desk.new) result }
@@ -280,6 +284,7 @@ fn serve<K: Link, C: Clock, G: Gate, D: Disk + Drop, U: Disk + Drop, R: Wait>(
     ensures prompt { IsPrompt (language_for desk.old.attending.user (arc_value desk.old.shelf))
         K.begun K.told C.told (K.state link.old) (K.state link.new) (C.coming clock.old)
         desk.old.seat desk.old.users.seat }
+    ensures hung_up { K.hung_up link.new ≡ K.hung_up link.old }
     ensures end { (result ≡ SessionEnd.End) ↔ IsTrue (K.state link.new).ended }
     ensures all_read { K.told → result ≡ SessionEnd.End → (K.state link.new).left ≡ [] }
     ensures read_fault { result ≡ SessionEnd.ReadFault

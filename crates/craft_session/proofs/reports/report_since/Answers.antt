@@ -25,6 +25,7 @@ returns g c =
       users = said.users;
       reader = said.reader;
       link = record { out = said.told.wrote.part; wrote = said.told.wrote.wrote };
+      hung_up = said.hung_up;
       goes = λ user k c1 b r ahead at s.
           let seat = c.args.desk.now.seat in
           let look = subst (λ (w : Opening × ℕ). (h : List Entry) → Saw w.0 seat.seen h → LookIs w.0 w.1 h c.args.cursor c.look-looked.new.self.seen c.look-looked.result c.look-looked.new.into.items) (λ i. (at.0 i, at.1 i)) c.look-looked.ensures.look in

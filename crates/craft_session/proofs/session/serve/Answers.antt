@@ -28,6 +28,7 @@ loop-init g c = record {
   counted = counted_none _;
   faults = refl;
   not_ended = λ lt. absurd (omega (arith, lt));
+  hung_up = refl;
   room = c.requires.room;
   asked = are_entered_none c.args.desk.now.seat c.args.desk.now.users.seat (g.G.Gate.asked c.args.gate.now c.args.gate.now) (g.G.Gate.unasked c.args.gate.now);
 }
@@ -43,6 +44,7 @@ returns-in-Cut g c =
     let breaks = goes_cut_is _ _ _ _ _ _ _ _ _ _ _ _ _ c.in-Cut.is (moved_goes arc_value c.args.desk.now.attending.user g.K.Link.told g.C.Clock.told _ (g.K.Link.state c.serve_piece.new.link) (g.C.Clock.coming c.loop.clock) (g.C.Clock.coming c.serve_piece.new.clock) (now c.loop.desk) (now c.serve_piece.new.desk) false c.loop.desk.reader c.serve_piece.new.desk.reader c.serve_piece.result c.args.desk.now.shelf c.loop.desk.shelf c.args.desk.now.seat c.loop.desk.seat c.args.desk.now.users.seat c.loop.desk.users.seat _ [] c.loop.invariant.shelf c.loop.invariant.seat c.loop.invariant.users (c.serve_piece.ensures.goes c.args.desk.now.attending.user) _ _ b (refl, refl, refl, c.args.desk.now.same_place) (stands_piece _ _ _ _ _ _ _ _ _ _ _ _ _ _ (c.loop.invariant.stands b (refl, refl, refl, c.args.desk.now.same_place) h.1 p.1) c.in-Bytes.ensures.read (grind (arith, common_steps)))) in
     record {
       shelf = s.shelf ∙ c.loop.invariant.shelf;
+      hung_up = s.hung_up ∙ c.in-Bytes.ensures.hung_up ∙ c.loop.invariant.hung_up;
       seat = (s.seat.0 ∙ c.loop.invariant.seat.0, s.seat.1 ∙ c.loop.invariant.seat.1, s.seat.2 ∙ c.loop.invariant.seat.2);
       users = (s.users.0 ∙ c.loop.invariant.users.0, s.users.1 ∙ c.loop.invariant.users.1, s.users.2 ∙ c.loop.invariant.users.2);
       session = record { before = h.0; users_before = p.0; saw = h.1; users_saw = p.1; attending = _; session = breaks };
@@ -70,6 +72,7 @@ returns-in-Stopped g c =
     let going : (g.K.Link.state c.serve_piece.new.link).ended ≡ false = s.link.wrote.ended ∙ c.in-Bytes.ensures.read.ended in
     record {
       shelf = s.shelf ∙ c.loop.invariant.shelf;
+      hung_up = s.hung_up ∙ c.in-Bytes.ensures.hung_up ∙ c.loop.invariant.hung_up;
       seat = (s.seat.0 ∙ c.loop.invariant.seat.0, s.seat.1 ∙ c.loop.invariant.seat.1, s.seat.2 ∙ c.loop.invariant.seat.2);
       users = (s.users.0 ∙ c.loop.invariant.users.0, s.users.1 ∙ c.loop.invariant.users.1, s.users.2 ∙ c.loop.invariant.users.2);
       session = record { before = h.0; users_before = p.0; saw = h.1; users_saw = p.1; attending = _; session = goes_stopped_is _ _ _ _ _ _ _ _ _ _ _ _ _ c.in-Stopped.is (moved_goes arc_value c.args.desk.now.attending.user g.K.Link.told g.C.Clock.told _ (g.K.Link.state c.serve_piece.new.link) (g.C.Clock.coming c.loop.clock) (g.C.Clock.coming c.serve_piece.new.clock) (now c.loop.desk) (now c.serve_piece.new.desk) false c.loop.desk.reader c.serve_piece.new.desk.reader c.serve_piece.result c.args.desk.now.shelf c.loop.desk.shelf c.args.desk.now.seat c.loop.desk.seat c.args.desk.now.users.seat c.loop.desk.users.seat _ [] c.loop.invariant.shelf c.loop.invariant.seat c.loop.invariant.users (c.serve_piece.ensures.goes c.args.desk.now.attending.user) _ _ b (refl, refl, refl, c.args.desk.now.same_place) (stands_piece _ _ _ _ _ _ _ _ _ _ _ _ _ _ (c.loop.invariant.stands b (refl, refl, refl, c.args.desk.now.same_place) h.1 p.1) c.in-Bytes.ensures.read (grind (arith, common_steps)))) };
@@ -96,6 +99,7 @@ returns-in-End g c =
     let stands = c.loop.invariant.stands b (refl, refl, refl, c.args.desk.now.same_place) h.1 p.1 in
     record {
       shelf = c.loop.invariant.shelf;
+      hung_up = c.in-End.ensures.hung_up ∙ c.loop.invariant.hung_up;
       seat = c.loop.invariant.seat;
       users = c.loop.invariant.users;
       session = record { before = h.0; users_before = p.0; saw = h.1; users_saw = p.1; attending = _; session = served_nothing _ _ _ _ _ _ _ _ _ _ _ _ _ stands c.in-End.ensures.read refl };
@@ -122,6 +126,7 @@ returns-in-Failed g c =
     let stands = c.loop.invariant.stands b (refl, refl, refl, c.args.desk.now.same_place) h.1 p.1 in
     record {
       shelf = c.loop.invariant.shelf;
+      hung_up = c.in-Failed.ensures.hung_up ∙ c.loop.invariant.hung_up;
       seat = c.loop.invariant.seat;
       users = c.loop.invariant.users;
       session = record { before = h.0; users_before = p.0; saw = h.1; users_saw = p.1; attending = _; session = served_nothing _ _ _ _ _ _ _ _ _ _ _ _ _ stands c.in-Failed.ensures.read refl };
@@ -160,6 +165,7 @@ loop-preserved g c =
         counted = rw w.serve_piece.ensures.link.wrote.reads (counted_more _ _ _ _ c.loop.invariant.counted w.in-Bytes.ensures.read.reads);
         faults = w.serve_piece.ensures.link.wrote.read_faults ∙ w.in-Bytes.ensures.read.no_fault (bytes_came _) ∙ c.loop.invariant.faults;
         not_ended = λ _. w.serve_piece.ensures.link.wrote.ended ∙ w.in-Bytes.ensures.read.ended;
+        hung_up = w.serve_piece.ensures.hung_up ∙ w.in-Bytes.ensures.hung_up ∙ c.loop.invariant.hung_up;
         room = search rules;
         asked = are_entered_on g.G.Gate.asked g.G.Gate.asked_on c.args.desk.now.seat c.loop.desk.seat c.args.desk.now.users.seat c.loop.desk.users.seat c.args.gate.now c.loop.gate w.serve_piece.new.gate _ _ c.loop.invariant.asked c.loop.invariant.seat c.loop.invariant.users w.serve_piece.ensures.asked;
       })
@@ -174,6 +180,7 @@ loop-preserved g c =
         counted = rw w.report.ensures.link.wrote.reads (counted_more _ _ _ _ c.loop.invariant.counted w.in-Quiet.ensures.read.reads);
         faults = w.report.ensures.link.wrote.read_faults ∙ w.in-Quiet.ensures.read.no_fault quiet_came ∙ c.loop.invariant.faults;
         not_ended = λ _. w.report.ensures.link.wrote.ended ∙ w.in-Quiet.ensures.read.ended;
+        hung_up = w.report.ensures.hung_up ∙ w.in-Quiet.ensures.hung_up ∙ c.loop.invariant.hung_up;
         room = search rules;
         asked = are_entered_beside g.G.Gate.asked g.G.Gate.asked_on g.G.Gate.unasked c.args.desk.now.seat c.loop.desk.seat c.args.desk.now.users.seat c.args.gate.now c.loop.gate _ _ _ _ c.loop.invariant.asked refl c.loop.invariant.seat (ap (λ (u : UserDesk g.row.U.Denot). u.seat.seen) w.report.ensures.users) w.report.ensures.entered;
       })
@@ -190,6 +197,7 @@ returns-in-Cut-report g c =
     let breaks = goes_cut_is _ _ _ _ _ _ _ _ _ _ _ _ _ cut (moved_goes arc_value c.args.desk.now.attending.user g.K.Link.told g.C.Clock.told _ (g.K.Link.state c.report.new.link) (g.C.Clock.coming c.loop.clock) (g.C.Clock.coming c.report.new.clock) (now c.loop.desk) (now c.report.new.desk) (is_some c.loop.desk.attending.watch) c.loop.desk.reader c.loop.desk.reader c.report.result c.args.desk.now.shelf c.loop.desk.shelf c.args.desk.now.seat c.loop.desk.seat c.args.desk.now.users.seat c.loop.desk.users.seat [] [] c.loop.invariant.shelf c.loop.invariant.seat c.loop.invariant.users (λ k c1 b1. c.report.ensures.goes c.args.desk.now.attending.user k c1 b1 c.loop.desk.reader []) _ _ b (refl, refl, refl, c.args.desk.now.same_place) (stands_quiet _ _ _ _ _ _ _ _ _ _ _ _ (c.loop.invariant.stands b (refl, refl, refl, c.args.desk.now.same_place) h.1 p.1) c.in-Quiet.ensures.read)) in
     record {
       shelf = c.report.ensures.shelf ∙ c.loop.invariant.shelf;
+      hung_up = c.report.ensures.hung_up ∙ c.in-Quiet.ensures.hung_up ∙ c.loop.invariant.hung_up;
       seat = (c.report.ensures.seat.0 ∙ c.loop.invariant.seat.0, c.report.ensures.seat.1 ∙ c.loop.invariant.seat.1, c.report.ensures.seat.2 ∙ c.loop.invariant.seat.2);
       users = (ap (λ (u : UserDesk g.row.U.Denot). u.seat.opening) c.report.ensures.users ∙ c.loop.invariant.users.0, ap (λ (u : UserDesk g.row.U.Denot). u.seat.place) c.report.ensures.users ∙ c.loop.invariant.users.1, ap (λ (u : UserDesk g.row.U.Denot). u.seat.places) c.report.ensures.users ∙ c.loop.invariant.users.2);
       session = record { before = h.0; users_before = p.0; saw = h.1; users_saw = p.1; attending = _; session = breaks };

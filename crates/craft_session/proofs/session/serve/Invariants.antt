@@ -25,6 +25,7 @@ invariant-loop g l =
       counted : Counted (state l.fn.link).reads (state l.link).reads l.counter;
       faults : (state l.link).read_faults ≡ (state l.fn.link).read_faults;
       not_ended : 0 < l.counter → (state l.link).ended ≡ false;
+      hung_up : g.K.Link.hung_up l.link ≡ g.K.Link.hung_up l.fn.link;
       room : 0 < length l.piece;
       asked : AreEntered l.fn.desk.seat l.fn.desk.users.seat (g.G.Gate.asked l.fn.gate l.gate) l.desk.seat.seen l.desk.users.seat.seen;
     }

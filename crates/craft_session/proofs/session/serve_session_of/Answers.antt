@@ -25,6 +25,7 @@ returns g c =
           c.serve-end.ensures.prompt;
       asked = subst (λ (w : SeatAt × UserSeatAt). AreEntered w.0 w.1 (g.G.Gate.asked c.args.gate.now c.serve-end.new.gate) c.serve-end.new.desk.seat.seen c.serve-end.new.desk.users.seat.seen) (λ i. (seat_is i, users_is i)) c.serve-end.ensures.asked;
       why = record { ended = c.serve-end.ensures.end; all_read = c.serve-end.ensures.all_read; read_fault = c.serve-end.ensures.read_fault; no_read_fault = c.serve-end.ensures.no_read_fault; write_fault = c.serve-end.ensures.write_fault; no_write_fault = λ other. no_write_fault _ _ _ _ _ _ _ _ _ _ _ _ c.serve-end.ensures.session other; spent = c.serve-end.ensures.spent; few = c.serve-end.ensures.few };
+      hung_up = c.serve-end.ensures.hung_up;
       stopped = c.serve-end.ensures.stopped;
       unstopped = c.serve-end.ensures.unstopped;
       later = c.serve-end.ensures.later;
