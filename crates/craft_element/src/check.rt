@@ -46,6 +46,7 @@ pub fn run_check<O: Opener + LetGo, K: Link, G: Gate>(
         O.Journal.told O.Journal.state O.gone (opened_on f.disk u.found.disk f.shelf o)) result }
     ensures asked { AskedFor (O.asked opener.old opener.new)
         (files_asked (named names.entry.shelf.now names.entry.journal.now)) (IsOfNoOpening result) }
+    ensures hung_up { K.hung_up terminal.new ≡ K.hung_up terminal.old }
 {
     let Element { controller, users } = match open(alloc, opener, names, WORKERS, gate) {
         Ok(element) => element,
@@ -64,8 +65,9 @@ pub fn run_check<O: Opener + LetGo, K: Link, G: Gate>(
 fn check<K: Link, D: Disk + Drop>(state: &State<D>, listed: &mut Vec<Conn>, link: &mut K) -> Sent
     requires home { state.now.home ≢ Out }
     requires room { ports state.now.table.shape ≤ vec_capacity listed.old }
-    ensures { IsSent K.told (K.state link.old) (K.state link.new) result
+    ensures sent { IsSent K.told (K.state link.old) (K.state link.new) result
         (listing state.now.table.shape (rows state.now.table All) (records_at state.now.home)) }
+    ensures hung_up { K.hung_up link.new ≡ K.hung_up link.old }
 {
     let mut text = ArrayVec::new();
     list(&state.table, Selection::All, listed);
@@ -108,8 +110,9 @@ fn write_rows<K: Link>(
     listed: &[Conn],
 ) -> Sent
     requires { AllByRecursion (IsOfShape shape) listed.now }
-    ensures { IsSent K.told (K.state link.old) (K.state link.new) result
+    ensures sent { IsSent K.told (K.state link.old) (K.state link.new) result
         (flat_map (row_line shape) listed.now) }
+    ensures hung_up { K.hung_up link.new ≡ K.hung_up link.old }
 {
     for at in 0..listed.len() {
         write_line(shape, &listed[at], text);
@@ -123,7 +126,8 @@ fn write_rows<K: Link>(
 
 // Writes how many records there are.
 fn write_count<K: Link>(link: &mut K, text: &mut ArrayVec<u8, 128>, records: u32) -> Sent
-    ensures { IsSent K.told (K.state link.old) (K.state link.new) result (count_line records) }
+    ensures sent { IsSent K.told (K.state link.old) (K.state link.new) result (count_line records) }
+    ensures hung_up { K.hung_up link.new ≡ K.hung_up link.old }
 {
     let mut digits = itoa::Buffer::new();
     text.clear();

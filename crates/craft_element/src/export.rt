@@ -37,6 +37,7 @@ pub fn run_export<O: Opener + LetGo, K: Link, G: Gate>(
     ensures asked { AskedFor (O.asked opener.old opener.new)
         (files_asked (named names.entry.shelf.now names.entry.journal.now))
         (IsOfNoOpening result) }
+    ensures hung_up { K.hung_up terminal.new ≡ K.hung_up terminal.old }
 {
     let Element { controller, users } = match open(alloc, opener, names, WORKERS, gate) {
         Ok(element) => element,
@@ -53,8 +54,9 @@ pub fn run_export<O: Opener + LetGo, K: Link, G: Gate>(
 // Writes a command for each change, with the CTAGs from 1 on.
 fn write_commands<K: Link>(link: &mut K, shape: Shape, changes: &[Change]) -> Sent
     requires { AllByRecursion (IsChangeOf shape) changes.now }
-    ensures { IsSent K.told (K.state link.old) (K.state link.new) result
+    ensures sent { IsSent K.told (K.state link.old) (K.state link.new) result
         (lines_from shape 1 changes.now) }
+    ensures hung_up { K.hung_up link.new ≡ K.hung_up link.old }
 {
     let mut text = ArrayVec::new();
     for at in 0..changes.len() {

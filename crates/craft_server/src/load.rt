@@ -214,8 +214,9 @@ pub(crate) fn run_load<K: Link, G: Gate, R: Wait>(
     gate: &mut G,
     rt: &R,
 ) -> Status
-    ensures { IsLoad number K.told (K.state terminal.old) (K.state terminal.new) (G.stops gate.old)
-        (G.stops gate.new) result }
+    ensures load { IsLoad number K.told (K.state terminal.old) (K.state terminal.new)
+        (G.stops gate.old) (G.stops gate.new) result }
+    ensures hung_up { K.hung_up terminal.new ≡ K.hung_up terminal.old }
 {
     let summary = match loaded(alloc, number, gate, rt) {
         Ok(summary) => summary,

@@ -55,6 +55,7 @@ where
         (lent (sources (O.state opener.new) (O.journal_at opener.new) (G.stops gate.new))
         (K.state terminal.new) (C.coming clock.new) (P.state spawner.new)) result }
     ensures asked { AskedBy (O.asked opener.old opener.new) words.now result }
+    ensures hung_up { K.hung_up terminal.new ≡ K.hung_up terminal.old }
 {
     match line_of(alloc, words) {
         Ok(line) => run_line(alloc, &line, opener, terminal, clock, gate, spawner, rt),
@@ -89,6 +90,7 @@ where
         (K.state terminal.new) (C.coming clock.new) (P.state spawner.new)) result }
     ensures asked { IsInRange line.now
         → AskedFor (O.asked opener.old opener.new) (line_asked line.now) (IsOfNoOpening result) }
+    ensures hung_up { K.hung_up terminal.new ≡ K.hung_up terminal.old }
 {
     match line {
         Line::Script { shelf, journal } => {

@@ -55,26 +55,26 @@ impl Disk for LoadDisk {
     ghost counts_on = { λ d. ⟦<MemDisk as Disk>⟧.counts_on d.inner };
 
     fn length(&mut self) -> Result<u64, DiskFault> {
-        let got = self.inner.length();
-        self.failed |= got.is_err();
-        got
+        let length = self.inner.length();
+        self.failed |= length.is_err();
+        length
     }
 
     fn read(&mut self, at: u64, into: &mut [u8]) -> Result<(), DiskFault> {
-        let got = self.inner.read(at, into);
-        self.failed |= got.is_err();
-        got
+        let read = self.inner.read(at, into);
+        self.failed |= read.is_err();
+        read
     }
 
     fn write_at(&mut self, at: u64, from: &[u8]) -> Result<(), DiskFault> {
-        let done = self.inner.write_at(at, from);
-        self.failed |= done.is_err();
-        done
+        let written = self.inner.write_at(at, from);
+        self.failed |= written.is_err();
+        written
     }
 
     fn sync(&mut self) -> Result<(), DiskFault> {
-        let done = self.inner.sync();
-        self.failed |= done.is_err();
-        done
+        let synced = self.inner.sync();
+        self.failed |= synced.is_err();
+        synced
     }
 }

@@ -40,7 +40,7 @@ returns-clause-opens g c =
         c.in-Ok.ensures.unstopped,
         record {
           sent = c.check.result;
-          wrote = listed_first told state f.shelf x.state st.begins st.shape g.K.Link.told (g.K.Link.state c.args.terminal.now) (g.K.Link.state c.check.new.link) c.check.result c.check.ensures;
+          wrote = listed_first told state f.shelf x.state st.begins st.shape g.K.Link.told (g.K.Link.state c.args.terminal.now) (g.K.Link.state c.check.new.link) c.check.result c.check.ensures.sent;
           status_is = c.of_sent-status.ensures;
         },
         record {

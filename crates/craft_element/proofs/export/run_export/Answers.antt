@@ -46,7 +46,7 @@ returns-clause-opens g c =
           sent = c.write_commands.result;
           wrote = subst (λ (l : List ℕ). IsSent g.K.Link.told (g.K.Link.state c.args.terminal.now) (g.K.Link.state c.write_commands.new.link) c.write_commands.result l)
               (script_first told state f.shelf x.state st.begins st.shape c.shape.result c.equipped.result c.deref-3.result.now (c.shape.ensures ∙ ap (λ (s : Contents). s.shape) (c.deref-2.ensures ∙ st.shelf)) (c.equipped.ensures.value ∙ ap (λ (s : Contents). s.equipped) (c.deref.ensures ∙ st.shelf)) (c.deref-3.ensures.value ∙ c.in-Ok-changes_to.ensures.changes))
-              c.write_commands.ensures;
+              c.write_commands.ensures.sent;
           status_is = c.of_sent-status.ensures;
         },
         record {

@@ -174,10 +174,10 @@ returns-in-Load-clause-run g c = λ fit.
     let at = λ (stops : ℕ) (terminal : LinkState). lent (sources (g.O.Opener.state c.args.opener.now) (g.O.Opener.journal_at c.args.opener.now) stops) terminal (g.C.Clock.coming c.args.clock.now) (g.P.Spawner.state c.args.spawner.now) in
     let before = at (g.G.Gate.stops c.args.gate.now) (g.K.Link.state c.args.terminal.now) in
     let after = at (g.G.Gate.stops c.run_load.new.gate) (g.K.Link.state c.run_load.new.terminal) in
-    subst (λ (l : Line). IsRunOf told jobs state g.O.Peer.Link.state g.O.Listener.Listener.state g.O.Listener.Link.Link.state (g.O.Opener.listener_at c.args.opener.now) l before after c.run_load.result) (sym c.in-Load.is) (record { load = c.run_load.ensures; opener = refl; journal_at = refl; clock = refl; spawner = refl })
+    subst (λ (l : Line). IsRunOf told jobs state g.O.Peer.Link.state g.O.Listener.Listener.state g.O.Listener.Link.Link.state (g.O.Opener.listener_at c.args.opener.now) l before after c.run_load.result) (sym c.in-Load.is) (record { load = c.run_load.ensures.load; opener = refl; journal_at = refl; clock = refl; spawner = refl })
 
 pub returns-in-Load-clause-words : goal.returns-in-Load-clause-words
-returns-in-Load-clause-words g c = λ fit bad. load_words c.in-Load.number g.K.Link.told (g.K.Link.state c.args.terminal.now) (g.K.Link.state c.run_load.new.terminal) (g.G.Gate.stops c.args.gate.now) (g.G.Gate.stops c.run_load.new.gate) c.run_load.result c.run_load.ensures bad
+returns-in-Load-clause-words g c = λ fit bad. load_words c.in-Load.number g.K.Link.told (g.K.Link.state c.args.terminal.now) (g.K.Link.state c.run_load.new.terminal) (g.G.Gate.stops c.args.gate.now) (g.G.Gate.stops c.run_load.new.gate) c.run_load.result c.run_load.ensures.load bad
 
 pub returns-in-Script-clause-asked : goal.returns-in-Script-clause-asked
 returns-in-Script-clause-asked g c = λ fit.
@@ -211,10 +211,10 @@ returns-in-Trial-clause-run g c = λ fit.
     let at = λ (stops : ℕ) (terminal : LinkState) (moments : List Moment). lent (sources (g.O.Opener.state c.args.opener.now) (g.O.Opener.journal_at c.args.opener.now) stops) terminal moments (g.P.Spawner.state c.args.spawner.now) in
     let before = at (g.G.Gate.stops c.args.gate.now) (g.K.Link.state c.args.terminal.now) (g.C.Clock.coming c.args.clock.now) in
     let after = at (g.G.Gate.stops c.run_trial.new.gate) (g.K.Link.state c.run_trial.new.terminal) (g.C.Clock.coming c.run_trial.new.clock) in
-    subst (λ (l : Line). IsRunOf told jobs state g.O.Peer.Link.state g.O.Listener.Listener.state g.O.Listener.Link.Link.state (g.O.Opener.listener_at c.args.opener.now) l before after c.run_trial.result) (sym c.in-Trial.is) (record { trial = c.run_trial.ensures; opener = refl; journal_at = refl; spawner = refl })
+    subst (λ (l : Line). IsRunOf told jobs state g.O.Peer.Link.state g.O.Listener.Listener.state g.O.Listener.Link.Link.state (g.O.Opener.listener_at c.args.opener.now) l before after c.run_trial.result) (sym c.in-Trial.is) (record { trial = c.run_trial.ensures.ran; opener = refl; journal_at = refl; spawner = refl })
 
 pub returns-in-Trial-clause-words : goal.returns-in-Trial-clause-words
-returns-in-Trial-clause-words g c = λ fit bad. trial_words _ c.in-Trial.shape _ _ c.run_trial.result c.run_trial.ensures bad
+returns-in-Trial-clause-words g c = λ fit bad. trial_words _ c.in-Trial.shape _ _ c.run_trial.result c.run_trial.ensures.ran bad
 
 pub returns-in-Trial-clause-asked : goal.returns-in-Trial-clause-asked
 returns-in-Trial-clause-asked g c = λ fit.

@@ -26,11 +26,11 @@ lone_place-requires-clause-users_begin g c = c.requires.element.is_new.users_sta
 pub lone_place-requires-clause-opening : goal.lone_place-requires-clause-opening
 lone_place-requires-clause-opening g c = opened_at g.D.Disk.told g.D.Disk.state c.requires.element.is_new.disk c.requires.element.shelf 1 c.args.element.controller c.requires.element.is_new.started
 
-pub returns-in_default : goal.returns-in_default
-returns-in_default g c = inl (record { terminal = refl; clock = refl; why = inl refl })
+pub returns-in_default-clause-ran : goal.returns-in_default-clause-ran
+returns-in_default-clause-ran g c = inl (record { terminal = refl; clock = refl; why = inl refl })
 
-pub returns : goal.returns
-returns g c =
+pub returns-clause-ran : goal.returns-clause-ran
+returns-clause-ran g c =
     let el = c.requires.element in
     let x = c.args.element in
     let told = g.D.Disk.told in
