@@ -7,6 +7,7 @@ use Rattle.dxc_outside.specs.Asked.{Asking, AskedFor, copy_named, listener_named
 use Rattle.dxc_outside.proofs.Asking.{asked_all, asked_part}
 use Rattle.dxc_outside.specs.Callers.{IsAccept, ListenerState}
 use Rattle.dxc_outside.specs.Links.{LinkState}
+use Rattle.dxc_outside.specs.declared.link.Lost.{Lost}
 use Rattle.dxc_outside.specs.declared.listener.Came.{Came}
 use Rattle.dxc_outside.specs.declared.listener.Came.TheVariants.{Link, End, Failed}
 use Rattle.standby_link.specs.declared.end.StandbyEnd.{StandbyEnd}
@@ -28,22 +29,22 @@ pub no_disk_fault : (disk_told link_told : Type 0) (k k' : LinkState) (d d' : Di
 no_disk_fault disk_told link_told k k' d d' end (inl unbegun) counts sound rose = never_rises d.room d.margin d.faults d'.faults d'.margin 1 counts sound.margin (omega arith) sound.enough (unbegun.spent sound.enough).margin rose
 no_disk_fault disk_told link_told k k' d d' end (inr served) counts sound rose = never_rises d.room d.margin d.faults d'.faults d'.margin (1 + length (bytes_in served.came)) counts sound.margin (omega arith) sound.enough (served.spent sound.enough).1 rose
 
-module _ (opener_told disk_told listener_told link_told : Type 0) {D L K : Type 0} (disk : D → DiskState) (listener : L → ListenerState K) (link : K → LinkState) (begun : LinkState → Type 0) (door new_door : L) where
+module _ (opener_told disk_told listener_told link_told : Type 0) {D L K : Type 0} (disk : D → DiskState) (listener : L → ListenerState K) (link : K → LinkState) (begun : LinkState → Type 0) (hung_up : K → Option Lost) (door new_door : L) where
   -- the first link was served
   pub served_one : (first : Came K) (caller served : K) (d copy : D) (end : StandbyEnd) → first ≡ Link caller → IsFirst listener_told link (listener door) (listener new_door) first → RanStandby disk_told link_told (link caller) (link served) (disk d) (disk copy) end
-      → IsPrompt begun link_told (link caller) (link served) → ServedOne opener_told disk_told listener_told link_told disk listener link begun d (listener door) copy new_door served end
-  served_one first caller served d copy end is came ran prompt =
+      → IsPrompt begun link_told (link caller) (link served) → hung_up served ≡ hung_up caller → ServedOne opener_told disk_told listener_told link_told disk listener link begun hung_up d (listener door) copy new_door served end
+  served_one first caller served d copy end is came ran prompt unhung =
       let one = subst (λ (f : Came K). IsFirst listener_told link (listener door) (listener new_door) f) is came in
-      record { caller = caller; first = one.coming; is_sound = one.sound; ran = ran; prompt = prompt }
+      record { caller = caller; first = one.coming; is_sound = one.sound; ran = ran; prompt = prompt; unhung = unhung }
 
   -- the listener said End
-  pub nobody_came : (first : Came K) → first ≡ End → IsFirst listener_told link (listener door) (listener new_door) first → NobodyCame opener_told disk_told listener_told link_told disk listener link begun (listener door) new_door
+  pub nobody_came : (first : Came K) → first ≡ End → IsFirst listener_told link (listener door) (listener new_door) first → NobodyCame opener_told disk_told listener_told link_told disk listener link begun hung_up (listener door) new_door
   nobody_came first is came =
       let one = subst (λ (f : Came K). IsFirst listener_told link (listener door) (listener new_door) f) is came in
       record { ended = one.ended refl; nobody = λ t. one.coming t ∙ one.end t refl }
 
   -- 16 accepts failed
-  pub none_accepted : (first : Came K) → first ≡ Failed → IsFirst listener_told link (listener door) (listener new_door) first → NoneAccepted opener_told disk_told listener_told link_told disk listener link begun (listener door) new_door
+  pub none_accepted : (first : Came K) → first ≡ Failed → IsFirst listener_told link (listener door) (listener new_door) first → NoneAccepted opener_told disk_told listener_told link_told disk listener link begun hung_up (listener door) new_door
   none_accepted first is came =
       let one = subst (λ (f : Came K). IsFirst listener_told link (listener door) (listener new_door) f) is came in
       record { risen = one.risen refl; unsound = one.sound; nobody = one.coming }
@@ -55,9 +56,9 @@ unopened_ends faults later status closed ends = elim closed [
   | inr cannot ↦ subst IsOfNoOpening cannot.0 ends
 ]
 
-module _ (opener_told disk_told listener_told link_told : Type 0) {D L K : Type 0} (disk : D → DiskState) (listener : L → ListenerState K) (link : K → LinkState) (begun : LinkState → Type 0) (journal_at : List ℕ → Option D) (listener_at : List ℕ → Option L) (faults later : ℕ) (journal address : List ℕ) (asked : List Asking → Type 0) (status : Status) where
+module _ (opener_told disk_told listener_told link_told : Type 0) {D L K : Type 0} (disk : D → DiskState) (listener : L → ListenerState K) (link : K → LinkState) (begun : LinkState → Type 0) (hung_up : K → Option Lost) (journal_at : List ℕ → Option D) (listener_at : List ℕ → Option L) (faults later : ℕ) (journal address : List ℕ) (asked : List Asking → Type 0) (status : Status) where
   -- what was asked for, by what is left
-  pub asked_by : (stood : Stood D L K) → status ≡ status_of_stood stood → Stands opener_told disk_told listener_told link_told disk listener link begun journal_at listener_at faults later journal address stood → asked (stood_asked journal address stood)
+  pub asked_by : (stood : Stood D L K) → status ≡ status_of_stood stood → Stands opener_told disk_told listener_told link_told disk listener link begun hung_up journal_at listener_at faults later journal address stood → asked (stood_asked journal address stood)
       → AskedFor asked (copy_named journal ∷ listener_named address ∷ []) (IsOfNoOpening status)
   asked_by (NoJournal s) is stands made = asked_part asked _ (copy_named journal ∷ []) (listener_named address ∷ []) made (λ ends. unopened_ends faults later s stands (subst IsOfNoOpening is ends))
   asked_by (NoListener copy s) is stands made = asked_all asked _ (copy_named journal ∷ listener_named address ∷ []) made

@@ -7,6 +7,7 @@ use Rattle.dxc_outside.specs.Asked.{Asking, copy_named, listener_named}
 use Rattle.dxc_outside.specs.Callers.{ListenerState, IsSoundCame, came}
 use Rattle.dxc_outside.specs.Links.{IsSoundLink, LinkState}
 use Rattle.dxc_leaving.specs.Values.{AnyValue, any_value}
+use Rattle.dxc_outside.specs.declared.link.Lost.{Lost}
 use Rattle.dxc_outside.specs.declared.listener.Came.{Came}
 use Rattle.dxc_outside.specs.declared.listener.Came.TheVariants as answer
 use Rattle.standby_link.specs.declared.end.StandbyEnd.{StandbyEnd}
@@ -82,7 +83,7 @@ module _ (disk_told link_told : Type 0) (k k' : LinkState) (d d' : DiskState) (e
 abbrev pub IsUnopened : (faults later : ℕ) → Status → Type 0
 IsUnopened faults later status = (status ≡ NoMemory) ⊎ ((status ≡ CannotOpen) × Rose faults later)
 
-module _ (opener_told disk_told listener_told link_told : Type 0) {D L K : Type 0} (disk : D → DiskState) (listener : L → ListenerState K) (link : K → LinkState) (begun : LinkState → Type 0) where
+module _ (opener_told disk_told listener_told link_told : Type 0) {D L K : Type 0} (disk : D → DiskState) (listener : L → ListenerState K) (link : K → LinkState) (begun : LinkState → Type 0) (hung_up : K → Option Lost) where
   -- the disk and the listener that the opener handed out, the one by the journal's name and the other by the address
   pub record HasBoth (journal_at : List ℕ → Option D) (listener_at : List ℕ → Option L) (journal address : List ℕ) : Type 0 where
     pub copy : D
@@ -90,13 +91,14 @@ module _ (opener_told disk_told listener_told link_told : Type 0) {D L K : Type 
     pub door : L
     pub opened : opener_told → listener_at address ≡ Some door
 
-  -- the first link that came was served on the disk; both are left as they stood when its service ended
+  -- the first link that came was served on the disk, and not hung up; both are left as they stood when its service ended
   pub record ServedOne (d : D) (l : ListenerState K) (new_disk : D) (new_door : L) (new_caller : K) (end : StandbyEnd) : Type 0 where
     pub caller : K
     pub first : listener_told → l.coming ≡ caller ∷ (listener new_door).coming
     pub is_sound : IsTrue l.sound → IsSoundLink (link caller)
     pub ran : RanStandby disk_told link_told (link caller) (link new_caller) (disk d) (disk new_disk) end
     pub prompt : IsPrompt begun link_told (link caller) (link new_caller)
+    pub unhung : hung_up new_caller ≡ hung_up caller
 
   -- the listener said End before a link came
   pub record NobodyCame (l : ListenerState K) (new_door : L) : Type 0 where
@@ -128,8 +130,8 @@ module _ (opener_told disk_told listener_told link_told : Type 0) {D L K : Type 
 
 -- by an opener, across the call, with the names of the journal and of the address
 abbrev pub StoodBy : {O : Type 0} (w : Office O) → (gone : AnyValue → Type 0) → Across O → (names : List ℕ × List ℕ) → Status → Type 0
-StoodBy w gone opener names status = StandsBy w.opener.told w.disk.told w.listener.told w.link.told w.disk.state w.listener.state w.link.state w.link.begun (w.opener.journal_at opener.entry.now) (w.opener.listener_at opener.entry.now) (w.opener.state opener.entry.now).faults (w.opener.state opener.exit.now).faults names.0 names.1 gone (w.opener.asked opener.entry.now opener.exit.now) status
+StoodBy w gone opener names status = StandsBy w.opener.told w.disk.told w.listener.told w.link.told w.disk.state w.listener.state w.link.state w.link.begun w.link.hung_up (w.opener.journal_at opener.entry.now) (w.opener.listener_at opener.entry.now) (w.opener.state opener.entry.now).faults (w.opener.state opener.exit.now).faults names.0 names.1 gone (w.opener.asked opener.entry.now opener.exit.now) status
 
 -- and what is left of it
 abbrev pub MetBy : {O : Type 0} (w : Office O) → Across O → (journal address : List ℕ) → Stood w.Disk w.Listener w.Link → Type 0
-MetBy w opener journal address stood = Stands w.opener.told w.disk.told w.listener.told w.link.told w.disk.state w.listener.state w.link.state w.link.begun (w.opener.journal_at opener.entry.now) (w.opener.listener_at opener.entry.now) (w.opener.state opener.entry.now).faults (w.opener.state opener.exit.now).faults journal address stood
+MetBy w opener journal address stood = Stands w.opener.told w.disk.told w.listener.told w.link.told w.disk.state w.listener.state w.link.state w.link.begun w.link.hung_up (w.opener.journal_at opener.entry.now) (w.opener.listener_at opener.entry.now) (w.opener.state opener.entry.now).faults (w.opener.state opener.exit.now).faults journal address stood

@@ -49,7 +49,8 @@ where
         O.Listener.Link.told K.begun O.Listener.Link.begun O.gone (O.asked opener.old opener.new))
         (jobs_told O.Journal.told O.Opener O.Lines.Lines O.Listener.Listener O.Listener.Link.Link
         O.Clock.Clock O.Gate.Gate O.gone (P.handed spawner.old spawner.new)) O.Journal.state
-        O.Peer.state O.Listener.state O.Listener.Link.state (O.listener_at opener.old) words.now
+        O.Peer.state O.Listener.state O.Listener.Link.state O.Listener.Link.hung_up
+        (O.listener_at opener.old) words.now
         (lent (sources (O.state opener.old) (O.journal_at opener.old) (G.stops gate.old))
         (K.state terminal.old) (C.coming clock.old) (P.state spawner.old))
         (lent (sources (O.state opener.new) (O.journal_at opener.new) (G.stops gate.new))
@@ -83,7 +84,8 @@ where
         O.Listener.Link.told K.begun O.Listener.Link.begun O.gone (O.asked opener.old opener.new))
         (jobs_told O.Journal.told O.Opener O.Lines.Lines O.Listener.Listener O.Listener.Link.Link
         O.Clock.Clock O.Gate.Gate O.gone (P.handed spawner.old spawner.new)) O.Journal.state
-        O.Peer.state O.Listener.state O.Listener.Link.state (O.listener_at opener.old) line.now
+        O.Peer.state O.Listener.state O.Listener.Link.state O.Listener.Link.hung_up
+        (O.listener_at opener.old) line.now
         (lent (sources (O.state opener.old) (O.journal_at opener.old) (G.stops gate.old))
         (K.state terminal.old) (C.coming clock.old) (P.state spawner.old))
         (lent (sources (O.state opener.new) (O.journal_at opener.new) (G.stops gate.new))

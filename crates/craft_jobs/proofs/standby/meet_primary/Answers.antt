@@ -26,7 +26,7 @@ returns-in-Link-clause-stands g c = (
     door = c.in-Open-listener.listener;
     opened = λ t. handed g.O.Opener.told (g.O.Opener.listener_at c.args.opener.now) (g.O.Opener.listener_at c.copy.new.self) (g.O.Opener.listener_at c.listener.new.self) c.listener.result c.in-Open-listener.listener c.args.address.now c.copy.ensures.listeners c.in-Open-listener.is c.listener.ensures.hands t;
   },
-  served_one g.O.Opener.told g.O.Journal.Disk.told g.O.Listener.Listener.told g.O.Listener.Link.Link.told g.O.Journal.Disk.state g.O.Listener.Listener.state g.O.Listener.Link.Link.state g.O.Listener.Link.Link.begun c.in-Open-listener.listener c.first_link.new.listener c.first_link.result c.in-Link.link c.stand_by-end.new.link c.in-Open.disk c.stand_by-end.new.disk c.stand_by-end.result c.in-Link.is c.first_link.ensures c.stand_by-end.ensures.ran c.stand_by-end.ensures.prompt,
+  served_one g.O.Opener.told g.O.Journal.Disk.told g.O.Listener.Listener.told g.O.Listener.Link.Link.told g.O.Journal.Disk.state g.O.Listener.Listener.state g.O.Listener.Link.Link.state g.O.Listener.Link.Link.begun g.O.Listener.Link.Link.hung_up c.in-Open-listener.listener c.first_link.new.listener c.first_link.result c.in-Link.link c.stand_by-end.new.link c.in-Open.disk c.stand_by-end.new.disk c.stand_by-end.result c.in-Link.is c.first_link.ensures c.stand_by-end.ensures.ran c.stand_by-end.ensures.prompt c.stand_by-end.ensures.hung_up,
 )
 
 pub returns-in-End-clause-stands : goal.returns-in-End-clause-stands
@@ -38,7 +38,7 @@ returns-in-End-clause-stands g c = (
     opened = λ t. handed g.O.Opener.told (g.O.Opener.listener_at c.args.opener.now) (g.O.Opener.listener_at c.copy.new.self) (g.O.Opener.listener_at c.listener.new.self) c.listener.result c.in-Open-listener.listener c.args.address.now c.copy.ensures.listeners c.in-Open-listener.is c.listener.ensures.hands t;
   },
   refl,
-  nobody_came g.O.Opener.told g.O.Journal.Disk.told g.O.Listener.Listener.told g.O.Listener.Link.Link.told g.O.Journal.Disk.state g.O.Listener.Listener.state g.O.Listener.Link.Link.state g.O.Listener.Link.Link.begun c.in-Open-listener.listener c.first_link.new.listener c.first_link.result c.in-End.is c.first_link.ensures,
+  nobody_came g.O.Opener.told g.O.Journal.Disk.told g.O.Listener.Listener.told g.O.Listener.Link.Link.told g.O.Journal.Disk.state g.O.Listener.Listener.state g.O.Listener.Link.Link.state g.O.Listener.Link.Link.begun g.O.Listener.Link.Link.hung_up c.in-Open-listener.listener c.first_link.new.listener c.first_link.result c.in-End.is c.first_link.ensures,
 )
 
 pub returns-in-Failed-first_link-clause-stands : goal.returns-in-Failed-first_link-clause-stands
@@ -50,7 +50,7 @@ returns-in-Failed-first_link-clause-stands g c = (
     opened = λ t. handed g.O.Opener.told (g.O.Opener.listener_at c.args.opener.now) (g.O.Opener.listener_at c.copy.new.self) (g.O.Opener.listener_at c.listener.new.self) c.listener.result c.in-Open-listener.listener c.args.address.now c.copy.ensures.listeners c.in-Open-listener.is c.listener.ensures.hands t;
   },
   refl,
-  none_accepted g.O.Opener.told g.O.Journal.Disk.told g.O.Listener.Listener.told g.O.Listener.Link.Link.told g.O.Journal.Disk.state g.O.Listener.Listener.state g.O.Listener.Link.Link.state g.O.Listener.Link.Link.begun c.in-Open-listener.listener c.first_link.new.listener c.first_link.result c.in-Failed-first_link.is c.first_link.ensures,
+  none_accepted g.O.Opener.told g.O.Journal.Disk.told g.O.Listener.Listener.told g.O.Listener.Link.Link.told g.O.Journal.Disk.state g.O.Listener.Listener.state g.O.Listener.Link.Link.state g.O.Listener.Link.Link.begun g.O.Listener.Link.Link.hung_up c.in-Open-listener.listener c.first_link.new.listener c.first_link.result c.in-Failed-first_link.is c.first_link.ensures,
 )
 
 pub returns-in-Failed-clause-asked : goal.returns-in-Failed-clause-asked
