@@ -8,6 +8,7 @@ pub mod Walks
 pub mod Changing
 pub mod Askings
 pub mod Gated
+pub mod Commands
 pub mod Acting
 pub mod Progresses
 pub mod Runs

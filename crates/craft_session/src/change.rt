@@ -1,7 +1,6 @@
 //! A changing command: planned in one turn, journalled and driven to its end outside of any, and taken by the table in another.
-ghost use Rattle.std.specs.Prelude.{◌≡◌, ◌≢◌, ◌≤◌, ◌⊎◌, false, true, List, [], length, Option};
+ghost use Rattle.std.specs.Prelude.{◌≡◌, ◌≢◌, ◌≤◌, [], length, Option};
 ghost use Rattle.dxc_causes.specs.Causes.{Rose};
-ghost use Rattle.dxc_model.specs.declared.entry.Entry.{Entry};
 ghost use Rattle.dxc_model.specs.declared.op.Change.{Change};
 ghost use Rattle.dxc_model.specs.declared.op.Op.{Op};
 ghost use Rattle.dxc_model.specs.Operations.{IsApt};
@@ -9,14 +8,13 @@ ghost use Rattle.roll_engine.specs.Rollings.{rest_of};
 ghost use Rattle.xc_core.specs.Reckonings.{Past};
 ghost use Rattle.xc_core.specs.Provisioners.{Rolls, ground_of};
 ghost use Rattle.xc_core.specs.Restarts.{Resumes};
-ghost use Rattle.xc_core.specs.Begins.{plan_of};
 ghost use Rattle.xc_core.specs.Drives.{CanDrive};
-ghost use Rattle.xc_core.specs.Seeing.{HasPlan, HasTaken, Saw};
 ghost use Rattle.xc_core.specs.States.{opening_of};
 ghost use Rattle.xc_core.specs.Turns.{HasPass, SawNoneAstray};
+ghost use Rattle.xc_core.specs.Views.{After, HasSeen, OutFor, PlannedFor, Upon};
 ghost use Rattle.craft_session.specs.Askings.{AskedBehind, ChangeAsked, RollAsked};
-ghost use Rattle.craft_session.specs.Changing.{ChangedIs};
-ghost use Rattle.craft_session.specs.Gated.{Entered, after_journal};
+ghost use Rattle.craft_session.specs.Commands.{AsksFor, AsksOut, ChangesTo, DriveAsked};
+ghost use Rattle.craft_session.specs.Gated.{after_journal};
 
 use crate::mend::{Mended, mend};
 use dxc_disk::Disk;
@@ -24,6 +22,7 @@ use dxc_model::{Cause, Op};
 use dxc_outside::{Gate, GatePlace, Pass1};
 use fabric_words::Fabric;
 use roll_engine::{Advance, Rolling};
+use std::snapshot::Snapshot;
 use std::sync::Wait;
 use turnstile::{Pass, Rest, Turnstile};
 use xc_core::turns::{self, Took};
@@ -88,19 +87,17 @@ fn drive_out<D: Disk + Drop, G: Gate, R: Wait>(
 ) -> Changed
     requires pass { HasPass turns.now pass.old }
     requires fabric { (opening_of D.state turns.now.first).site.fabric ≡ fabric.now }
-    requires taken { (h : List Entry) × Saw (opening_of D.state turns.now.first) pass.old.seen h
-        × HasTaken D.told D.state (opening_of D.state turns.now.first) pass.old.number op.now h
-        driver.value.p driver.value.rolling }
+    requires taken { Upon D.Disk turns.now pass.old (OutFor D.Disk op.now driver.value) }
     ensures pass { HasPass turns.now pass.new × (pass.new.number ≡ pass.old.number) }
-    ensures changed { (h : List Entry) → Saw (opening_of D.state turns.now.first) pass.old.seen h
-        → ChangedIs (opening_of D.state turns.now.first) pass.old.number h op.now pass.new.seen
-        result }
+    ensures changed { After D.Disk turns.now pass.old (ChangesTo op.now pass.new result) }
     ensures astray { SawNoneAstray D.told pass.new.seen }
     ensures done { result ≢ Changed.Stopped → G.stops gate.new ≡ G.stops gate.old }
     ensures stopped { result ≡ Changed.Stopped → Rose (G.stops gate.old) (G.stops gate.new) }
     ensures later { G.stops gate.old ≤ G.stops gate.new }
-    ensures asked { ((result ≡ Changed.Done) × RollAsked (G.asked gate.old gate.new) (length (rest_of driver.value.rolling)) Pass1.Go) ⊎ ((result ≡ Changed.Stopped) × RollAsked (G.asked gate.old gate.new) (length (rest_of driver.value.rolling)) Pass1.Stop) }
-    ensures entered { (h : List Entry) → Saw (opening_of D.state turns.now.first) pass.old.seen h → Entered (opening_of D.state turns.now.first) pass.old.number (after_journal (G.asked gate.old gate.new)) true false h pass.new.seen }
+    ensures asked { DriveAsked (G.asked gate.old gate.new) (length (rest_of driver.value.rolling))
+        result }
+    ensures entered { After D.Disk turns.now pass.old
+        (AsksOut (after_journal (G.asked gate.old gate.new)) pass.new) }
 {
     let mut driver = driver;
     let held = &mut *driver;
@@ -129,19 +126,22 @@ fn carry_out<D: Disk + Drop, G: Gate, R: Wait>(
 ) -> Changed
     requires pass { HasPass turns.now pass.old }
     requires fabric { (opening_of D.state turns.now.first).site.fabric ≡ fabric.now }
-    requires planned { (h : List Entry) × Saw (opening_of D.state turns.now.first) pass.old.seen h × HasPlan D.told D.state (opening_of D.state turns.now.first) pass.old.number h driver.value.p (plan_of op.now driver.value.rolling bytes.now) }
+    requires planned { Upon D.Disk turns.now pass.old
+        (PlannedFor D.Disk op.now driver.value bytes.now) }
     ensures pass { HasPass turns.now pass.new × (pass.new.number ≡ pass.old.number) }
-    ensures changed { (h : List Entry) → Saw (opening_of D.state turns.now.first) pass.old.seen h → ChangedIs (opening_of D.state turns.now.first) pass.old.number h op.now pass.new.seen result }
+    ensures changed { After D.Disk turns.now pass.old (ChangesTo op.now pass.new result) }
     ensures astray { SawNoneAstray D.told pass.new.seen }
     ensures done { result ≢ Changed.Stopped → G.stops gate.new ≡ G.stops gate.old }
     ensures stopped { result ≡ Changed.Stopped → Rose (G.stops gate.old) (G.stops gate.new) }
     ensures later { G.stops gate.old ≤ G.stops gate.new }
     ensures asked { AskedBehind (G.asked gate.old gate.new) [] result }
-    ensures entered { (h : List Entry) → Saw (opening_of D.state turns.now.first) pass.old.seen h → Entered (opening_of D.state turns.now.first) pass.old.number (G.asked gate.old gate.new) true false h pass.new.seen }
+    ensures entered { After D.Disk turns.now pass.old
+        (AsksOut (G.asked gate.old gate.new) pass.new) }
 {
     let mut driver = driver;
     let held = &mut *driver;
-    match note(&mut held.p, &held.rolling, op, bytes, gate) {
+    let rolling = Snapshot::of(&held.rolling);
+    match note(&mut held.p, rolling, op, bytes, gate) {
         Noted::Rolling => drive_out(pass, turns, fabric, op, driver, gate, rt),
         Noted::Fault => {
             turns::fail(pass, turns, op, Cause::DiskFault, driver, rt);
@@ -168,19 +168,16 @@ pub fn change<D: Disk + Drop, G: Gate, R: Wait>(
     requires pass { HasPass turns.now pass.old }
     requires fabric { (opening_of D.state turns.now.first).site.fabric ≡ fabric.now }
     requires apt { IsApt (opening_of D.state turns.now.first).first.fold.table.shape op.now }
-    requires seen { (h : List Entry) × Saw (opening_of D.state turns.now.first) pass.old.seen h }
+    requires seen { HasSeen D.Disk turns.now pass.old }
     ensures pass { HasPass turns.now pass.new × (pass.new.number ≡ pass.old.number) }
-    ensures changed { (h : List Entry) → Saw (opening_of D.state turns.now.first) pass.old.seen h
-        → ChangedIs (opening_of D.state turns.now.first) pass.old.number h op.now pass.new.seen
-        result }
+    ensures changed { After D.Disk turns.now pass.old (ChangesTo op.now pass.new result) }
     ensures astray { SawNoneAstray D.told pass.new.seen }
     ensures done { result ≢ Changed.Stopped → G.stops gate.new ≡ G.stops gate.old }
     ensures stopped { result ≡ Changed.Stopped → Rose (G.stops gate.old) (G.stops gate.new) }
     ensures later { G.stops gate.old ≤ G.stops gate.new }
     ensures asked { ChangeAsked (G.asked gate.old gate.new) result }
-    ensures entered { (h : List Entry) → Saw (opening_of D.state turns.now.first) pass.old.seen h
-        → Entered (opening_of D.state turns.now.first) pass.old.number (G.asked gate.old gate.new)
-        false false h pass.new.seen }
+    ensures entered { After D.Disk turns.now pass.old
+        (AsksFor (G.asked gate.old gate.new) pass.new) }
 {
     let mut rest = Rest::new();
     for _ in rt.forever() {

@@ -1,16 +1,14 @@
 //! A restart: begun in one turn, its journal read and the rest of a work driven outside of any, and ended in another.
-ghost use Rattle.std.specs.Prelude.{◌≡◌, ◌≢◌, ◌≤◌, ◌⊎◌, false, true, List, length};
+ghost use Rattle.std.specs.Prelude.{◌≡◌, ◌≢◌, ◌≤◌, length};
 ghost use Rattle.dxc_causes.specs.Causes.{Rose};
-ghost use Rattle.dxc_model.specs.declared.entry.Entry.{Entry};
-ghost use Rattle.dxc_model.specs.declared.op.Op.TheVariants.{Restart};
 ghost use Rattle.dxc_model.specs.Steps.{IsDriven};
-ghost use Rattle.xc_core.specs.Seeing.{HasHeld, HasRestart, Saw};
 ghost use Rattle.xc_core.specs.States.{opening_of};
 ghost use Rattle.xc_core.specs.Turns.{HasPass, SawNoneAstray};
+ghost use Rattle.xc_core.specs.Views.{After, HasSeen, HeldFor, OutToRestart, Upon};
 ghost use Rattle.roll_engine.specs.Rollings.{rest_of};
-ghost use Rattle.craft_session.specs.Askings.{MendAsked, RollAsked, WarmAsked};
-ghost use Rattle.craft_session.specs.Changing.{MendedIs, WarmRestartIs};
-ghost use Rattle.craft_session.specs.Gated.{Entered, after_journal};
+ghost use Rattle.craft_session.specs.Askings.{MendAsked, WarmAsked};
+ghost use Rattle.craft_session.specs.Commands.{AsksFor, AsksOut, MendsTo, RestAsked, RestartsTo};
+ghost use Rattle.craft_session.specs.Gated.{after_journal};
 
 use crate::change::{Changed, roll};
 use dxc_disk::Disk;
@@ -47,19 +45,17 @@ fn resume<D: Disk + Drop, G: Gate, R: Wait>(
 ) -> Mended
     requires pass { HasPass turns.now pass.old }
     requires fabric { (opening_of D.state turns.now.first).site.fabric ≡ fabric.now }
-    requires restart { (h : List Entry) × Saw (opening_of D.state turns.now.first) pass.old.seen h
-        × HasRestart D.told D.state (opening_of D.state turns.now.first) pass.old.number asked.now h
-        driver.value.p driver.value.rolling }
+    requires restart { Upon D.Disk turns.now pass.old (OutToRestart D.Disk asked.now driver.value) }
     ensures pass { HasPass turns.now pass.new × (pass.new.number ≡ pass.old.number) }
-    ensures mended { (h : List Entry) → Saw (opening_of D.state turns.now.first) pass.old.seen h
-        → MendedIs (opening_of D.state turns.now.first) pass.old.number h asked.now pass.new.seen
-        result }
+    ensures mended { After D.Disk turns.now pass.old (MendsTo asked.now pass.new result) }
     ensures astray { SawNoneAstray D.told pass.new.seen }
     ensures going { result ≢ Mended.Stopped → G.stops gate.new ≡ G.stops gate.old }
     ensures stopped { result ≡ Mended.Stopped → Rose (G.stops gate.old) (G.stops gate.new) }
     ensures later { G.stops gate.old ≤ G.stops gate.new }
-    ensures asked { ((result ≡ Mended.Ready) × RollAsked (G.asked gate.old gate.new) (length (rest_of driver.value.rolling)) Pass1.Go) ⊎ ((result ≡ Mended.Stopped) × RollAsked (G.asked gate.old gate.new) (length (rest_of driver.value.rolling)) Pass1.Stop) }
-    ensures entered { (h : List Entry) → Saw (opening_of D.state turns.now.first) pass.old.seen h → Entered (opening_of D.state turns.now.first) pass.old.number (after_journal (G.asked gate.old gate.new)) true false h pass.new.seen }
+    ensures asked { RestAsked (G.asked gate.old gate.new) (length (rest_of driver.value.rolling))
+        result }
+    ensures entered { After D.Disk turns.now pass.old
+        (AsksOut (after_journal (G.asked gate.old gate.new)) pass.new) }
 {
     let mut driver = driver;
     let held = &mut *driver;
@@ -89,15 +85,16 @@ fn go_on<D: Disk + Drop, G: Gate, R: Wait>(
     requires pass { HasPass turns.now pass.old }
     requires fabric { (opening_of D.state turns.now.first).site.fabric ≡ fabric.now }
     requires asked { IsDriven asked.now }
-    requires held { (h : List Entry) × Saw (opening_of D.state turns.now.first) pass.old.seen h × HasHeld D.told D.state (opening_of D.state turns.now.first) pass.old.number asked.now h driver.value.p }
+    requires held { Upon D.Disk turns.now pass.old (HeldFor D.Disk asked.now driver.value) }
     ensures pass { HasPass turns.now pass.new × (pass.new.number ≡ pass.old.number) }
-    ensures mended { (h : List Entry) → Saw (opening_of D.state turns.now.first) pass.old.seen h → MendedIs (opening_of D.state turns.now.first) pass.old.number h asked.now pass.new.seen result }
+    ensures mended { After D.Disk turns.now pass.old (MendsTo asked.now pass.new result) }
     ensures astray { SawNoneAstray D.told pass.new.seen }
     ensures going { result ≢ Mended.Stopped → G.stops gate.new ≡ G.stops gate.old }
     ensures stopped { result ≡ Mended.Stopped → Rose (G.stops gate.old) (G.stops gate.new) }
     ensures later { G.stops gate.old ≤ G.stops gate.new }
     ensures asked { MendAsked (G.asked gate.old gate.new) result }
-    ensures entered { (h : List Entry) → Saw (opening_of D.state turns.now.first) pass.old.seen h → Entered (opening_of D.state turns.now.first) pass.old.number (G.asked gate.old gate.new) true false h pass.new.seen }
+    ensures entered { After D.Disk turns.now pass.old
+        (AsksOut (G.asked gate.old gate.new) pass.new) }
 {
     let mut driver = driver;
     let held = &mut *driver;
@@ -129,19 +126,16 @@ pub fn mend<D: Disk + Drop, G: Gate, R: Wait>(
     requires pass { HasPass turns.now pass.old }
     requires fabric { (opening_of D.state turns.now.first).site.fabric ≡ fabric.now }
     requires asked { IsDriven asked.now }
-    requires seen { (h : List Entry) × Saw (opening_of D.state turns.now.first) pass.old.seen h }
+    requires seen { HasSeen D.Disk turns.now pass.old }
     ensures pass { HasPass turns.now pass.new × (pass.new.number ≡ pass.old.number) }
-    ensures mended { (h : List Entry) → Saw (opening_of D.state turns.now.first) pass.old.seen h
-        → MendedIs (opening_of D.state turns.now.first) pass.old.number h asked.now pass.new.seen
-        result }
+    ensures mended { After D.Disk turns.now pass.old (MendsTo asked.now pass.new result) }
     ensures astray { SawNoneAstray D.told pass.new.seen }
     ensures going { result ≢ Mended.Stopped → G.stops gate.new ≡ G.stops gate.old }
     ensures stopped { result ≡ Mended.Stopped → Rose (G.stops gate.old) (G.stops gate.new) }
     ensures later { G.stops gate.old ≤ G.stops gate.new }
     ensures asked { MendAsked (G.asked gate.old gate.new) result }
-    ensures entered { (h : List Entry) → Saw (opening_of D.state turns.now.first) pass.old.seen h
-        → Entered (opening_of D.state turns.now.first) pass.old.number (G.asked gate.old gate.new)
-        false false h pass.new.seen }
+    ensures entered { After D.Disk turns.now pass.old
+        (AsksFor (G.asked gate.old gate.new) pass.new) }
 {
     match hold(pass, turns, asked, rt) {
         Held::Held(driver) => go_on(pass, turns, fabric, asked, driver, gate, rt),
@@ -160,19 +154,16 @@ pub fn warm_restart<D: Disk + Drop, G: Gate, R: Wait>(
 ) -> Changed
     requires pass { HasPass turns.now pass.old }
     requires fabric { (opening_of D.state turns.now.first).site.fabric ≡ fabric.now }
-    requires seen { (h : List Entry) × Saw (opening_of D.state turns.now.first) pass.old.seen h }
+    requires seen { HasSeen D.Disk turns.now pass.old }
     ensures pass { HasPass turns.now pass.new × (pass.new.number ≡ pass.old.number) }
-    ensures restarted { (h : List Entry) → Saw (opening_of D.state turns.now.first) pass.old.seen h
-        → WarmRestartIs (opening_of D.state turns.now.first) pass.old.number h pass.new.seen
-        result }
+    ensures restarted { After D.Disk turns.now pass.old (RestartsTo pass.new result) }
     ensures astray { SawNoneAstray D.told pass.new.seen }
     ensures done { result ≢ Changed.Stopped → G.stops gate.new ≡ G.stops gate.old }
     ensures stopped { result ≡ Changed.Stopped → Rose (G.stops gate.old) (G.stops gate.new) }
     ensures later { G.stops gate.old ≤ G.stops gate.new }
     ensures asked { WarmAsked (G.asked gate.old gate.new) result }
-    ensures entered { (h : List Entry) → Saw (opening_of D.state turns.now.first) pass.old.seen h
-        → Entered (opening_of D.state turns.now.first) pass.old.number (G.asked gate.old gate.new)
-        false false h pass.new.seen }
+    ensures entered { After D.Disk turns.now pass.old
+        (AsksFor (G.asked gate.old gate.new) pass.new) }
 {
     let mut rest = Rest::new();
     for _ in rt.forever() {

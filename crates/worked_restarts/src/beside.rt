@@ -1,12 +1,11 @@
 //! A change that is driven while a worker holds its frame.
-ghost use Rattle.std.specs.Prelude.{◌≡◌, IfOk, IfSome, List, []};
-ghost use Rattle.dxc_model.specs.declared.entry.Entry.{Entry};
+ghost use Rattle.std.specs.Prelude.{◌≡◌, IfOk, IfSome, []};
 ghost use Rattle.dxc_model.specs.Operations.{IsApt};
 ghost use Rattle.fabric_core.specs.Working.{CanBegin, HasOutput, Runs};
 ghost use Rattle.roll_engine.specs.Rollings.{rest_of};
-ghost use Rattle.xc_core.specs.Seeing.{HasTaken, Saw};
 ghost use Rattle.xc_core.specs.States.{opening_of};
 ghost use Rattle.xc_core.specs.Turns.{HasPass};
+ghost use Rattle.xc_core.specs.Views.{OutFor, PlannedFor, Upon};
 ghost use Rattle.craft_session.specs.Seats.{IsSeated};
 
 use anyhow::{Result, bail};
@@ -17,6 +16,7 @@ use dxc_outside::MemGate;
 use fabric_words::{Fabric, WorkerSeat};
 use roll_engine::Advance;
 use std::alloc::Global;
+use std::snapshot::Snapshot;
 use std::sync::Wait;
 use turnstile::{Pass, Turnstile};
 use worked_frames::{follow, hold};
@@ -40,7 +40,7 @@ pub struct Beside {
     pub asked_in_all: u64,
 }
 
-/// Begins the change in one turn of the pass; drives it while the worker holds a frame in which it loaded OUT of the output, and again when that
+/// Begins the change in one turn of the pass, and journals it; drives it while the worker holds a frame in which it loaded OUT of the output, and again when that
 /// frame has ended; and ends it in another turn.
 pub fn change_beside<D: Disk + Drop, R: Wait>(
     alloc: Global,
@@ -58,14 +58,43 @@ pub fn change_beside<D: Disk + Drop, R: Wait>(
     requires rests { CanBegin reader.old.reader.worker }
     ensures seated { IfOk result (λ b. IsSeated D.told D.state pass.new turns.now fabric.now) }
 {
-    let mut gate = MemGate::new(Vec::new(alloc));
     let Took::Rolling(driver, bytes) = turns::take(pass, turns, op, rt) else {
         bail!("no work came of it");
     };
-    let mut driver = driver;
+    note_beside(
+        alloc, pass, turns, fabric, op, driver, &bytes, reader, output, rt,
+    )
+}
+
+// Journals the planned change, and drives it.
+fn note_beside<D: Disk + Drop, R: Wait>(
+    alloc: Global,
+    pass: &mut Pass,
+    turns: &Turnstile<State<D>>,
+    fabric: &Fabric,
+    op: &Op,
+    mut driver: Box<Driver<D>>,
+    bytes: &[u8; 64],
+    reader: &mut WorkerSeat,
+    output: Port,
+    rt: &R,
+) -> Result<Beside>
+    requires pass { HasPass turns.now pass.old }
+    requires fabric { (opening_of D.state turns.now.first).site.fabric ≡ fabric.now }
+    requires planned { Upon D.Disk turns.now pass.old
+        (PlannedFor D.Disk op.now driver.value bytes.now) }
+    requires own { reader.old.reader.fabric ≡ fabric.now }
+    requires rests { CanBegin reader.old.reader.worker }
+    ensures seated { IfOk result (λ b. IsSeated D.told D.state pass.new turns.now fabric.now) }
+{
+    let mut gate = MemGate::new(Vec::new(alloc));
     let out = &mut *driver;
-    match note(&mut out.p, &out.rolling, op, &bytes, &mut gate) {
-        Noted::Rolling => {}
+    let rolling = Snapshot::of(&out.rolling);
+    match note(&mut out.p, rolling, op, bytes, &mut gate) {
+        Noted::Rolling => {
+            let held = hold(fabric, reader, output);
+            Ok(drive_beside(pass, turns, fabric, op, driver, reader, held, &mut gate, rt))
+        }
         Noted::Fault => {
             turns::fail(pass, turns, op, Cause::DiskFault, driver, rt);
             bail!("its record wasn't appended");
@@ -75,8 +104,6 @@ pub fn change_beside<D: Disk + Drop, R: Wait>(
             bail!("the gate stopped before the journal");
         }
     }
-    let held = hold(fabric, reader, output);
-    Ok(drive_beside(pass, turns, fabric, op, driver, reader, held, &mut gate, rt))
 }
 
 fn drive_beside<D: Disk + Drop, R: Wait>(
@@ -92,9 +119,7 @@ fn drive_beside<D: Disk + Drop, R: Wait>(
 ) -> Beside
     requires pass { HasPass turns.now pass.old }
     requires fabric { (opening_of D.state turns.now.first).site.fabric ≡ fabric.now }
-    requires taken { (h : List Entry) × Saw (opening_of D.state turns.now.first) pass.old.seen h
-        × HasTaken D.told D.state (opening_of D.state turns.now.first) pass.old.number op.now h
-        driver.value.p driver.value.rolling }
+    requires taken { Upon D.Disk turns.now pass.old (OutFor D.Disk op.now driver.value) }
     requires own { reader.old.reader.fabric ≡ fabric.now }
     requires held { IfSome held
         (λ word. Runs reader.old.reader.worker × HasOutput reader.old.reader.worker.hold) }
@@ -129,9 +154,7 @@ fn bring_or_cut<D: Disk + Drop, R: Wait>(
 )
     requires pass { HasPass turns.now pass.old }
     requires fabric { (opening_of D.state turns.now.first).site.fabric ≡ fabric.now }
-    requires taken { (h : List Entry) × Saw (opening_of D.state turns.now.first) pass.old.seen h
-        × HasTaken D.told D.state (opening_of D.state turns.now.first) pass.old.number op.now h
-        driver.value.p driver.value.rolling }
+    requires taken { Upon D.Disk turns.now pass.old (OutFor D.Disk op.now driver.value) }
     requires done { then ≡ Advance.Done → rest_of driver.value.rolling ≡ [] }
     ensures { IsSeated D.told D.state pass.new turns.now fabric.now }
 {

@@ -1,5 +1,5 @@
 -- What a pass has seen of a turnstile's history, and what holds after it.
-use Rattle.std.specs.Prelude.{◌≡◌, ◌⊎◌, ℕ, List}
+use Rattle.std.specs.Prelude.{◌≡◌, ◌⊎◌, ℕ, List, [], ◌∷◌, ◌++◌}
 use Rattle.std.specs.List.{AllByRecursion}
 use Rattle.turnstile.specs.Passing.{Gate, Token}
 use Rattle.dxc_num.specs.Dimensions.{Dimensions}
@@ -7,22 +7,26 @@ use Rattle.dxc_disk.specs.declared.disk.Disk.{Ghosts as DiskOf}
 use Rattle.dxc_model.specs.declared.cause.Cause.{Cause}
 use Rattle.dxc_model.specs.declared.conn.Conn.{Conn}
 use Rattle.dxc_model.specs.declared.entry.Entry.{Entry}
+use Rattle.dxc_model.specs.declared.entry.Outcome.TheVariants.{Cut, Failed}
 use Rattle.dxc_model.specs.declared.op.Change.{Change}
 use Rattle.dxc_model.specs.declared.op.Op.{Op}
+use Rattle.dxc_model.specs.declared.op.Op.TheVariants.{Restart}
 use Rattle.dxc_model.specs.declared.op.Selection.{Selection}
 use Rattle.dxc_model.specs.Operations.{IsApt, op_of}
 use Rattle.dxc_model.specs.Tables.{Board, IsOfShape, rows}
+use Rattle.roll_engine.specs.Rollings.{RollingAt}
 use Rattle.xc_core.specs.declared.provisioner.Driver.{Driver}
 use Rattle.xc_core.specs.declared.provisioner.Provisioner.{Provisioner}
 use Rattle.xc_core.specs.declared.restarts.Held.{Held}
+use Rattle.xc_core.specs.declared.resuming.Reread.{Reread}
 use Rattle.xc_core.specs.declared.state.State.{State}
 use Rattle.xc_core.specs.declared.turns.Inventory.{Inventory}
 use Rattle.xc_core.specs.declared.turns.Looked.{Looked}
 use Rattle.xc_core.specs.declared.turns.Took.{Took}
-use Rattle.xc_core.specs.Seeing.{HasFailed, HasPlan, HasRestart, HasStopped, HasTaken, Rests, Saw}
-use Rattle.xc_core.specs.Begins.{plan_of}
-use Rattle.xc_core.specs.States.{Opening, opening_of}
-use Rattle.xc_core.specs.Turns.{CutIs, DoneIs, FailedIs, HoldIs, InventoryIs, LookIs, MarkIs, RestartCutIs, RestartedIs, RowsAre, TookIs}
+use Rattle.xc_core.specs.Seeing.{HasFailed, HasHeld, HasPlan, HasRestart, HasStopped, HasTaken, Rests, Saw, entry}
+use Rattle.xc_core.specs.Begins.{Plan, plan_of}
+use Rattle.xc_core.specs.States.{Opening, StandsFor, opening_of}
+use Rattle.xc_core.specs.Turns.{CutIs, DoneIs, FailedIs, HeldIs, HoldIs, InventoryIs, LookIs, MarkIs, RereadIs, RestartCutIs, RestartedIs, RowsAre, TakenIs, TookIs}
 
 -- where the history began, and whose pass it is
 pub record View : Type 0 where
@@ -56,6 +60,13 @@ AtRest v h = Rests v.own h
 -- it has it out for a change, or for a restart
 abbrev pub OutFor : {D : Type 0} → DiskOf D → Op → Driver D → View → List Entry → Type 0
 OutFor g op d v h = HasTaken g.told g.state v.opening v.own op h d.p d.rolling
+
+-- the change is planned, and not journalled yet; or a restart is to settle and read the journal
+abbrev pub PlannedFor : {D : Type 0} → DiskOf D → Op → Driver D → List ℕ → View → List Entry → Type 0
+PlannedFor g op d bytes v h = HasPlan g.told g.state v.opening v.own h d.p (plan_of op d.rolling bytes)
+
+abbrev pub HeldFor : {D : Type 0} → DiskOf D → Op → Driver D → View → List Entry → Type 0
+HeldFor g asked d v h = HasHeld g.told g.state v.opening v.own asked h d.p
 
 abbrev pub OutToRestart : {D : Type 0} → DiskOf D → Op → Driver D → View → List Entry → Type 0
 OutToRestart g asked d v h = HasRestart g.told g.state v.opening v.own asked h d.p d.rolling
@@ -121,3 +132,37 @@ AreRowsOf d which given = (t : Board) × IsOfShape t × (t.shape ≡ d) × (give
 -- the operations of these changes are apt in that shape
 abbrev pub AreApt : Dimensions → List Change → Type 0
 AreApt d cs = AllByRecursion (λ c. IsApt d (op_of c)) cs
+
+-- What is done with the state within a turn, or with the Provisioner between two of them, whatever history and whatever place that is.
+-- A turn takes the Provisioner out for a change, or for a restart; or it leaves the state as it was.
+abbrev pub TakesOut : {D : Type 0} → DiskOf D → Op → State D → State D → Took D → Type 0
+TakesOut g op s t took = (o : Opening) (own : ℕ) (h : List Entry) → StandsFor g.told g.state o s h → TakenIs g.told g.state o own h op t took
+
+abbrev pub HoldsOut : {D : Type 0} → DiskOf D → Op → State D → State D → Held D → Type 0
+HoldsOut g asked s t held = (o : Opening) (own : ℕ) (h : List Entry) → StandsFor g.told g.state o s h → HeldIs g.told g.state o own h asked t held
+
+-- one that a place has out for a restart is settled and reads its journal
+abbrev pub IsHeld : {D : Type 0} → DiskOf D → Op → Provisioner D → Type 0
+IsHeld g asked p = (o : Opening) × (own : ℕ) × (h : List Entry) × HasHeld g.told g.state o own asked h p
+
+abbrev pub Rereads : {D : Type 0} → DiskOf D → Op → Provisioner D → Provisioner D → Reread → Type 0
+Rereads g asked p q answer = (o : Opening) (own : ℕ) (h : List Entry) → HasHeld g.told g.state o own asked h p → RereadIs g.told g.state o own asked h q answer
+
+-- it comes home by a fault of its journal
+abbrev pub FailsHome : {D : Type 0} → DiskOf D → State D → Driver D → State D → Type 0
+FailsHome g s d t = (o : Opening) (own : ℕ) (h : List Entry) (taken op : Op) (cause : Cause) → StandsFor g.told g.state o s h → HasFailed g.told g.state o own taken op cause h d.p
+    → StandsFor g.told g.state o t (h ++ entry own op (Failed cause) ∷ [])
+
+-- by a stop: of a change that isn't journalled, or whose work was under way
+abbrev pub CutsPlanned : {D : Type 0} → DiskOf D → State D → Driver D → State D → Type 0
+CutsPlanned g s d t = (o : Opening) (own : ℕ) (h : List Entry) (plan : Plan) → StandsFor g.told g.state o s h → HasPlan g.told g.state o own h d.p plan → StandsFor g.told g.state o t (h ++ entry own plan.op Cut ∷ [])
+
+abbrev pub CutsWork : {D : Type 0} → DiskOf D → State D → Driver D → State D → Type 0
+CutsWork g s d t = (o : Opening) (own : ℕ) (h : List Entry) (op : Op) (r : RollingAt) → StandsFor g.told g.state o s h → HasTaken g.told g.state o own op h d.p r → StandsFor g.told g.state o t (h ++ entry own op Cut ∷ [])
+
+-- of a restart before its journal was read, or when the rest of a work was under way
+abbrev pub CutsUnread : {D : Type 0} → DiskOf D → State D → Driver D → State D → Type 0
+CutsUnread g s d t = (o : Opening) (own : ℕ) (h : List Entry) (asked : Op) → StandsFor g.told g.state o s h → HasStopped g.told g.state o own asked h d.p → StandsFor g.told g.state o t (h ++ entry own Restart Cut ∷ [])
+
+abbrev pub CutsRest : {D : Type 0} → DiskOf D → State D → Driver D → State D → Type 0
+CutsRest g s d t = (o : Opening) (own : ℕ) (h : List Entry) (asked : Op) (r : RollingAt) → StandsFor g.told g.state o s h → HasRestart g.told g.state o own asked h d.p r → StandsFor g.told g.state o t (h ++ entry own Restart Cut ∷ [])

@@ -2,14 +2,13 @@
 ghost use Rattle.std.specs.Prelude.{◌≡◌, ◌++◌, ◌∷◌, List, [], ℕ};
 ghost use Rattle.dxc_model.specs.declared.entry.Entry.{Entry};
 ghost use Rattle.dxc_model.specs.declared.op.Op.{Op};
-ghost use Rattle.dxc_model.specs.declared.entry.Outcome.TheVariants.{Cut, Done, Failed};
-ghost use Rattle.dxc_model.specs.declared.cause.Cause.{Cause};
+ghost use Rattle.dxc_model.specs.declared.entry.Outcome.TheVariants.{Done};
 ghost use Rattle.dxc_model.specs.Operations.{IsApt};
-ghost use Rattle.roll_engine.specs.Rollings.{RollingAt, rest_of};
-ghost use Rattle.xc_core.specs.Seeing.{HasFailed, HasPlan, HasTaken, entry, refused as refused_by};
-ghost use Rattle.xc_core.specs.Begins.{Plan};
+ghost use Rattle.roll_engine.specs.Rollings.{rest_of};
+ghost use Rattle.xc_core.specs.Seeing.{HasTaken, entry, refused as refused_by};
 ghost use Rattle.xc_core.specs.States.{Opening, StandsFor};
-ghost use Rattle.xc_core.specs.Turns.{TakenIs, journal_home, journal_taken, outcome_of as outcome_for};
+ghost use Rattle.xc_core.specs.Turns.{journal_home, journal_taken, outcome_of as outcome_for};
+ghost use Rattle.xc_core.specs.Views.{CutsPlanned, CutsWork, FailsHome, TakesOut};
 
 use crate::beginning::plan_copied;
 use crate::provisioner::{Driver, halt};
@@ -23,9 +22,7 @@ use dxc_model::{Cause, Change, Op, Outcome};
 pub fn take<D: Disk + Drop>(state: &mut State<D>, op: &Op) -> Took<D>
     requires apt { IsApt state.old.table.shape op.now }
     requires stands { (o : Opening) × (h : List Entry) × StandsFor D.told D.state o state.old h }
-    ensures took { (o : Opening) → (own : ℕ) → (h : List Entry)
-        → StandsFor D.told D.state o state.old h
-        → TakenIs D.told D.state o own h op.now state.new result }
+    ensures took { TakesOut D.Disk op.now state.old state.new result }
     ensures origin { state.new.origin ≡ state.old.origin }
     ensures still { journal_taken state.new.home result ≡ journal_home state.old.home }
 {
@@ -48,7 +45,7 @@ pub fn take<D: Disk + Drop>(state: &mut State<D>, op: &Op) -> Took<D>
 
 /// Brings the Provisioner home as a fault of its journal left it.
 pub fn fail<D: Disk + Drop>(state: &mut State<D>, driver: Box<Driver<D>>)
-    ensures failed { (o : Opening) → (own : ℕ) → (h : List Entry) → (taken : Op) → (op : Op) → (cause : Cause) → StandsFor D.told D.state o state.old h → HasFailed D.told D.state o own taken op cause h driver.value.p → StandsFor D.told D.state o state.new (h ++ entry own op (Failed cause) ∷ []) }
+    ensures failed { FailsHome D.Disk state.old driver.value state.new }
     ensures origin { state.new.origin ≡ state.old.origin }
 {
     state.bring_home(driver);
@@ -75,8 +72,8 @@ pub fn bring<D: Disk + Drop>(state: &mut State<D>, driver: Box<Driver<D>>) -> Ch
 
 /// Brings the Provisioner home halted.
 pub fn cut<D: Disk + Drop>(state: &mut State<D>, driver: Box<Driver<D>>)
-    ensures unnoted { (o : Opening) → (own : ℕ) → (h : List Entry) → (plan : Plan) → StandsFor D.told D.state o state.old h → HasPlan D.told D.state o own h driver.value.p plan → StandsFor D.told D.state o state.new (h ++ entry own plan.op Cut ∷ []) }
-    ensures cut { (o : Opening) → (own : ℕ) → (h : List Entry) → (op : Op) → (r : RollingAt) → StandsFor D.told D.state o state.old h → HasTaken D.told D.state o own op h driver.value.p r → StandsFor D.told D.state o state.new (h ++ entry own op Cut ∷ []) }
+    ensures unnoted { CutsPlanned D.Disk state.old driver.value state.new }
+    ensures cut { CutsWork D.Disk state.old driver.value state.new }
     ensures origin { state.new.origin ≡ state.old.origin }
 {
     let mut driver = driver;

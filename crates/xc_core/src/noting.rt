@@ -16,6 +16,7 @@ use dxc_disk::{Disk, DiskFault};
 use dxc_model::Op;
 use dxc_outside::{Gate, GatePlace, Pass1};
 use roll_engine::Rolling;
+use std::snapshot::Snapshot;
 
 /// What came of a planned change before its first register write.
 #[derive(Clone, Copy, PartialEq, Eq)]
@@ -29,19 +30,19 @@ pub enum Noted {
 }
 
 /// Journals a planned change, for a Provisioner that is as its plan left it. The gate is asked first. Fault: only where the disk's count of
-/// faults rose.
+/// faults rose. Clauses alone read the rolling: it is what the work will be driven by.
 ///
 /// Where the journal's area is full or of an earlier version, a checkpoint of the copied table is written first. It takes at most 4,600,114
 /// of the disk's room.
 pub fn note<D: Disk, G: Gate>(
     p: &mut Provisioner<D>,
-    rolling: &Rolling,
+    rolling: Snapshot<Rolling>,
     op: &Op,
     bytes: &[u8; 64],
     gate: &mut G,
 ) -> Noted
     requires planned { (b : Past)
-        × MayNote D.told D.state b p.old (plan_of op.now rolling.now bytes.now) }
+        × MayNote D.told D.state b p.old (plan_of op.now rolling.value bytes.now) }
     requires sealed { slice_index bytes.now 0 ≡ set_seal }
     ensures ground { ground_of p.new ≡ ground_of p.old }
     ensures mover { p.new.mover ≡ p.old.mover }
@@ -50,11 +51,11 @@ pub fn note<D: Disk, G: Gate>(
     ensures later { G.stops gate.old ≤ G.stops gate.new }
     ensures asked { G.asked gate.old gate.new (Journal ∷ []) }
     ensures noted { (b : Past)
-        → MayNote D.told D.state b p.old (plan_of op.now rolling.now bytes.now)
-        → NotedIs D.told D.state b p.old p.new (plan_of op.now rolling.now bytes.now) result }
+        → MayNote D.told D.state b p.old (plan_of op.now rolling.value bytes.now)
+        → NotedIs D.told D.state b p.old p.new (plan_of op.now rolling.value bytes.now) result }
     // A crash at any moment leaves the changes so far, or one more.
     ensures any_moment { D.told → (b : Past)
-        → MayNote D.told D.state b p.old (plan_of op.now rolling.now bytes.now) → LeavesOnly
+        → MayNote D.told D.state b p.old (plan_of op.now rolling.value bytes.now) → LeavesOnly
         (D.state p.old.journal.0) (D.state p.new.journal.0) (IsOldOrOneMore b p.old.doubt op.now) }
     // What was acknowledged stays: each image continues the journal's list, or a checkpoint of the table.
     ensures acknowledged { D.told → (b : Past) → IsHome D.told D.state b p.old → IsCopied b p.old
@@ -68,7 +69,7 @@ pub fn note<D: Disk, G: Gate>(
         → Spends 69 (D.state p.old.journal.0) (D.state p.new.journal.0) }
     ensures sound { IsSound 4_600_114 (D.state p.old.journal.0) → result ≢ Noted.Fault }
 {
-    let _ = rolling;
+    drop(rolling);
     match gate.pass(GatePlace::Journal) {
         Pass1::Stop => return Noted::Stopped,
         Pass1::Go => {}

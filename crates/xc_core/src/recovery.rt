@@ -114,8 +114,10 @@ fn read<D: Disk>(p: &mut Provisioner<D>) -> Result<Work, ReplayFault>
     ensures others { p.new ≡ record p.old { journal = p.new.journal; second = p.new.second } }
     ensures ground { ground_of p.new ≡ ground_of p.old }
     ensures copy { p.new.second.expected ≡ p.old.second.expected }
-    ensures halted { (b : Past) → IsHalted D.told D.state b p.old → IsHalted D.told D.state b p.new }
-    ensures reads { (b : Past) → IsHalted D.told D.state b p.old → ReadIs D.told D.state b p.new result }
+    ensures halted { (b : Past) → IsHalted D.told D.state b p.old
+        → IsHalted D.told D.state b p.new }
+    ensures reads { (b : Past) → IsHalted D.told D.state b p.old
+        → ReadIs D.told D.state b p.new result }
     ensures good { D.told → (i : ℕ) → result ≢ Err (ReplayFault.BadRecord i) }
     ensures any_moment { D.told → (b : Past) → IsHalted D.told D.state b p.old → LeavesOnly
         (D.state p.old.journal.0) (D.state p.new.journal.0) (IsOldOrDoubted b p.old.doubt) }
@@ -137,12 +139,19 @@ fn read<D: Disk>(p: &mut Provisioner<D>) -> Result<Work, ReplayFault>
 // How the registers can go on with what was read, beside the copy of the state's table.
 fn go_on<D: Disk>(p: &mut Provisioner<D>, fabric: &Fabric, work: Work) -> Recovered
     requires own { p.old.mover.fabric ≡ fabric.now }
-    requires reads { (b : Past) × Reads D.told D.state b p.old work.ops.items × (p.old.second.expected ≡ b.fold.table) }
+    requires reads { (b : Past) × Reads D.told D.state b p.old work.ops.items
+        × (p.old.second.expected ≡ b.fold.table) }
     ensures others { p.new ≡ record p.old { second = p.new.second } }
-    ensures halted { (b : Past) → Reads D.told D.state b p.old work.ops.items → p.old.second.expected ≡ b.fold.table → IsHalted D.told D.state b p.new }
-    ensures recovered { (b : Past) → Reads D.told D.state b p.old work.ops.items → p.old.second.expected ≡ b.fold.table → RecoveredIs D.told D.state b p.old p.new result }
-    ensures resumes { (b : Past) → Reads D.told D.state b p.old work.ops.items → p.old.second.expected ≡ b.fold.table → IfWarm result (λ r. (lacking : Option Change) × (g : Past) × Resumes D.told D.state b lacking g p.new r) }
-    ensures rejoins { (b : Past) → Reads D.told D.state b p.old work.ops.items → p.old.second.expected ≡ b.fold.table → IfCold result (λ r. (lacking : Option Change) × (g : Past) × Rejoins D.told D.state b lacking g p.new r) }
+    ensures halted { (b : Past) → Reads D.told D.state b p.old work.ops.items
+        → p.old.second.expected ≡ b.fold.table → IsHalted D.told D.state b p.new }
+    ensures recovered { (b : Past) → Reads D.told D.state b p.old work.ops.items
+        → p.old.second.expected ≡ b.fold.table → RecoveredIs D.told D.state b p.old p.new result }
+    ensures resumes { (b : Past) → Reads D.told D.state b p.old work.ops.items
+        → p.old.second.expected ≡ b.fold.table → IfWarm result
+        (λ r. (lacking : Option Change) × (g : Past) × Resumes D.told D.state b lacking g p.new r) }
+    ensures rejoins { (b : Past) → Reads D.told D.state b p.old work.ops.items
+        → p.old.second.expected ≡ b.fold.table → IfCold result
+        (λ r. (lacking : Option Change) × (g : Past) × Rejoins D.told D.state b lacking g p.new r) }
     ensures astray { D.told → (i : ℕ) → result ≢ Recovered.Astray i }
     ensures warm { D.told → (r : RollingAt) → result ≢ Recovered.Cold r }
     ensures answered { (result ≢ Recovered.Fault) × (result ≢ Recovered.Stopped) }
@@ -162,13 +171,20 @@ fn go_on<D: Disk>(p: &mut Provisioner<D>, fabric: &Fabric, work: Work) -> Recove
 /// It writes no register. It takes at most 131,079 of the disk's room.
 pub fn recover<D: Disk, G: Gate>(p: &mut Provisioner<D>, fabric: &Fabric, gate: &mut G) -> Recovered
     requires own { p.old.mover.fabric ≡ fabric.now }
-    requires halted { (b : Past) × IsHalted D.told D.state b p.old × (p.old.second.expected ≡ b.fold.table) }
+    requires halted { (b : Past) × IsHalted D.told D.state b p.old
+        × (p.old.second.expected ≡ b.fold.table) }
     ensures ground { ground_of p.new ≡ ground_of p.old }
     ensures others { p.new ≡ record p.old { journal = p.new.journal; second = p.new.second } }
-    ensures halted { (b : Past) → IsHalted D.told D.state b p.old → p.old.second.expected ≡ b.fold.table → IsHalted D.told D.state b p.new }
-    ensures recovered { (b : Past) → IsHalted D.told D.state b p.old → p.old.second.expected ≡ b.fold.table → RecoveredIs D.told D.state b p.old p.new result }
-    ensures resumes { (b : Past) → IsHalted D.told D.state b p.old → p.old.second.expected ≡ b.fold.table → IfWarm result (λ r. (lacking : Option Change) × (g : Past) × Resumes D.told D.state b lacking g p.new r) }
-    ensures rejoins { (b : Past) → IsHalted D.told D.state b p.old → p.old.second.expected ≡ b.fold.table → IfCold result (λ r. (lacking : Option Change) × (g : Past) × Rejoins D.told D.state b lacking g p.new r) }
+    ensures halted { (b : Past) → IsHalted D.told D.state b p.old
+        → p.old.second.expected ≡ b.fold.table → IsHalted D.told D.state b p.new }
+    ensures recovered { (b : Past) → IsHalted D.told D.state b p.old
+        → p.old.second.expected ≡ b.fold.table → RecoveredIs D.told D.state b p.old p.new result }
+    ensures resumes { (b : Past) → IsHalted D.told D.state b p.old
+        → p.old.second.expected ≡ b.fold.table → IfWarm result
+        (λ r. (lacking : Option Change) × (g : Past) × Resumes D.told D.state b lacking g p.new r) }
+    ensures rejoins { (b : Past) → IsHalted D.told D.state b p.old
+        → p.old.second.expected ≡ b.fold.table → IfCold result
+        (λ r. (lacking : Option Change) × (g : Past) × Rejoins D.told D.state b lacking g p.new r) }
     // A disk that tells its content is never astray, and the registers are at a stage of what it tells.
     ensures astray { D.told → (i : ℕ) → result ≢ Recovered.Astray i }
     ensures warm { D.told → (r : RollingAt) → result ≢ Recovered.Cold r }

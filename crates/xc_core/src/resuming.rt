@@ -3,18 +3,19 @@ ghost use Rattle.std.specs.Prelude.{◌≡◌, ◌≢◌, ◌≤◌, ◌⊎◌, 
 ghost use Rattle.dxc_causes.specs.Causes.{HasCause, Rose};
 ghost use Rattle.dxc_disk.specs.Disks.{Spends};
 ghost use Rattle.dxc_model.specs.declared.entry.Entry.{Entry};
-ghost use Rattle.dxc_model.specs.declared.entry.Outcome.TheVariants.{Cut, Restarted};
+ghost use Rattle.dxc_model.specs.declared.entry.Outcome.TheVariants.{Restarted};
 ghost use Rattle.dxc_model.specs.declared.op.Op.{Op};
 ghost use Rattle.dxc_model.specs.declared.op.Op.TheVariants.{Restart};
 ghost use Rattle.dxc_model.specs.Steps.{IsDriven};
-ghost use Rattle.roll_engine.specs.Rollings.{RollingAt, rest_of};
+ghost use Rattle.roll_engine.specs.Rollings.{rest_of};
 ghost use Rattle.xc_core.specs.Reckonings.{Past};
 ghost use Rattle.xc_core.specs.Provisioners.{HasNoDoubt, IsHome, StillDoubts, ground_of};
 ghost use Rattle.xc_core.specs.Restarts.{IsHalted};
 ghost use Rattle.xc_core.specs.Askings.{RereadAsked};
-ghost use Rattle.xc_core.specs.Seeing.{HasHeld, HasRestart, HasStopped, entry};
+ghost use Rattle.xc_core.specs.Seeing.{HasRestart, entry};
 ghost use Rattle.xc_core.specs.States.{Opening, StandsFor};
-ghost use Rattle.xc_core.specs.Turns.{HeldIs, RereadIs, TakesUpOfStop, held_entry_of as entry_for, journal_held, journal_home};
+ghost use Rattle.xc_core.specs.Turns.{TakesUpOfStop, held_entry_of as entry_for, journal_held, journal_home};
+ghost use Rattle.xc_core.specs.Views.{CutsRest, CutsUnread, HoldsOut, IsHeld, Rereads};
 
 use crate::provisioner::{Driver, Provisioner, halt, settle};
 use crate::recovery::{Recovered, end_recovery, recover};
@@ -30,8 +31,10 @@ use roll_engine::Rolling;
 fn make_halted<D: Disk>(p: &mut Provisioner<D>) -> Result<(), DiskFault>
     requires home { (b : Past) × (IsHome D.told D.state b p.old ⊎ IsHalted D.told D.state b p.old) }
     ensures ground { ground_of p.new ≡ ground_of p.old }
-    ensures halted { OnOk result ((b : Past) → IsHome D.told D.state b p.old ⊎ IsHalted D.told D.state b p.old → IsHalted D.told D.state b p.new) }
-    ensures unsettled { OnErr result ((p.old.halted ≡ false) × ((b : Past) → IsHome D.told D.state b p.old → IsHome D.told D.state b p.new)) }
+    ensures halted { OnOk result ((b : Past) → IsHome D.told D.state b p.old
+        ⊎ IsHalted D.told D.state b p.old → IsHalted D.told D.state b p.new) }
+    ensures unsettled { OnErr result ((p.old.halted ≡ false)
+        × ((b : Past) → IsHome D.told D.state b p.old → IsHome D.told D.state b p.new)) }
     ensures second { p.new.second ≡ p.old.second }
     ensures mover { p.new.mover ≡ p.old.mover }
     ensures doubt { StillDoubts p.old p.new }
@@ -59,7 +62,7 @@ fn goes_for<D: Disk>(p: &Provisioner<D>, asked: &Op) -> bool
 /// halted. The journal isn't called.
 pub fn hold<D: Disk + Drop>(state: &mut State<D>, asked: &Op) -> Held<D>
     requires stands { (o : Opening) × (h : List Entry) × StandsFor D.told D.state o state.old h }
-    ensures held { (o : Opening) → (own : ℕ) → (h : List Entry) → StandsFor D.told D.state o state.old h → HeldIs D.told D.state o own h asked.now state.new result }
+    ensures held { HoldsOut D.Disk asked.now state.old state.new result }
     ensures origin { state.new.origin ≡ state.old.origin }
     ensures still { journal_held state.new.home result ≡ journal_home state.old.home }
 {
@@ -106,9 +109,9 @@ pub fn read_anew<D: Disk, G: Gate>(
 ) -> Reread
     requires asked { IsDriven asked.now }
     requires own { p.old.mover.fabric ≡ fabric.now }
-    requires held { (o : Opening) × (own : ℕ) × (h : List Entry) × HasHeld D.told D.state o own asked.now h p.old }
+    requires held { IsHeld D.Disk asked.now p.old }
     ensures ground { ground_of p.new ≡ ground_of p.old }
-    ensures reread { (o : Opening) → (own : ℕ) → (h : List Entry) → HasHeld D.told D.state o own asked.now h p.old → RereadIs D.told D.state o own asked.now h p.new result }
+    ensures reread { Rereads D.Disk asked.now p.old p.new result }
     ensures stopped { result ≡ Reread.Stopped → Rose (G.stops gate.old) (G.stops gate.new) }
     ensures unstopped { result ≢ Reread.Stopped → G.stops gate.new ≡ G.stops gate.old }
     ensures later { G.stops gate.old ≤ G.stops gate.new }
@@ -150,8 +153,8 @@ pub fn end<D: Disk + Drop>(state: &mut State<D>, driver: Box<Driver<D>>) -> Opti
 
 /// Brings the Provisioner home, halted still.
 pub fn cut<D: Disk + Drop>(state: &mut State<D>, driver: Box<Driver<D>>)
-    ensures unread { (o : Opening) → (own : ℕ) → (h : List Entry) → (asked : Op) → StandsFor D.told D.state o state.old h → HasStopped D.told D.state o own asked h driver.value.p → StandsFor D.told D.state o state.new (h ++ entry own Restart Cut ∷ []) }
-    ensures cut { (o : Opening) → (own : ℕ) → (h : List Entry) → (asked : Op) → (r : RollingAt) → StandsFor D.told D.state o state.old h → HasRestart D.told D.state o own asked h driver.value.p r → StandsFor D.told D.state o state.new (h ++ entry own Restart Cut ∷ []) }
+    ensures unread { CutsUnread D.Disk state.old driver.value state.new }
+    ensures cut { CutsRest D.Disk state.old driver.value state.new }
     ensures origin { state.new.origin ≡ state.old.origin }
 {
     state.bring_home(driver);

@@ -1,4 +1,4 @@
-use Rattle.std.proofs.Common.{List, [], ◌∷◌, ◌++◌, sym}
+use Rattle.std.proofs.Common.{List, [], ◌∷◌, ◌++◌, sym, inr}
 use Rattle.dxc_model.specs.declared.entry.Outcome.TheVariants.{Cut, Done}
 use Rattle.xc_core.specs.Seeing.{entry}
 use Rattle.xc_core.proofs.Turning.{rests_now}
@@ -19,3 +19,6 @@ returns-in_default g c =
     let before = w.0 ++ cut.0.later in
     let e = entry c.args.pass.now.number c.args.op.now Cut in
     (c.cut.ensures.pass.0, c.requires.fabric, (before ++ e ∷ [], cut.0.saw, rests_now c.cut.new.pass.number before e (sym c.cut.ensures.pass.1) (λ is. cc)), c.cut.ensures.astray)
+
+pub cut-requires-clause-taken : goal.cut-requires-clause-taken
+cut-requires-clause-taken g c = let w = c.requires.taken in (w.0, w.1, inr w.2)

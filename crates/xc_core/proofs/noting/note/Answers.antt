@@ -30,11 +30,11 @@ abbrev made_ready : (g : given.Over) → After-append g → After-make_ready g
 made_ready g c = c.before.before.before.before.before
 
 abbrev MayNoteHere : (g : given.Over) (c : After-make_ready g) → Past → Type 0
-MayNoteHere g c b = MayNote g.D.Disk.told g.D.Disk.state b c.args.p.now (plan_of c.args.op.now c.args.rolling.now c.args.bytes.now)
+MayNoteHere g c b = MayNote g.D.Disk.told g.D.Disk.state b c.args.p.now (plan_of c.args.op.now c.args.rolling.value c.args.bytes.now)
 
 -- the change is within the limits
 within_limits : (g : given.Over) (c : After-make_ready g) (b : Past) → MayNoteHere g c b → IsWithin b c.args.op.now
-within_limits g c b m = is_within g.D.Disk.told g.D.Disk.state b c.args.op.now c.args.p.now m.home c.args.rolling.now.work c.args.bytes.now m.is
+within_limits g c b m = is_within g.D.Disk.told g.D.Disk.state b c.args.op.now c.args.p.now m.home c.args.rolling.value.work c.args.bytes.now m.is
 
 -- the Provisioner whose journal is ready
 ready_home : (g : given.Over) (c : After-make_ready g) (b : Past) → MayNoteHere g c b → IsHome g.D.Disk.told g.D.Disk.state b c.make_ready.new.p
@@ -67,13 +67,13 @@ returns-in-Ok-append-clause-noted g c = λ b m.
     let j = c.append.new.self in
     let p = c.make_ready.new.p in
     subst (λ (r : RollingAt). Starts g.D.Disk.told g.D.Disk.state b c.args.op.now (with_journal p j (Some c.args.op.now)) r) (sym m.unmade_is)
-    (starts g.D.Disk.told g.D.Disk.state b c.args.op.now p (ready_home g (made_ready g c.before) b m) c.args.rolling.now.work c.args.bytes.now m.is c.in-Ok.ensures.ready.0 j c.append.ensures.whole (λ t. (c.append.ensures.appends t).kept)
+    (starts g.D.Disk.told g.D.Disk.state b c.args.op.now p (ready_home g (made_ready g c.before) b m) c.args.rolling.value.work c.args.bytes.now m.is c.in-Ok.ensures.ready.0 j c.append.ensures.whole (λ t. (c.append.ensures.appends t).kept)
     j.1.reach (p.journal.1.count + 1) c.in-Ok-append.ensures.ok c.in-Ok.ensures.ready.1.0 (λ t. (c.in-Ok-append.ensures.appends t).ok.1) (λ t. (c.in-Ok-append.ensures.appends t).ok.0))
 
 pub returns-in-Err-append-clause-noted : goal.returns-in-Err-append-clause-noted
 returns-in-Err-append-clause-noted g c = λ b m.
     let j = c.append.new.self in (
-      not_appended g.D.Disk.told g.D.Disk.state b c.args.op.now c.make_ready.new.p (ready_home g (made_ready g c.before) b m) c.args.rolling.now.work c.args.bytes.now m.is c.in-Ok.ensures.ready.0 j c.append.ensures.whole (λ t. (c.append.ensures.appends t).kept)
+      not_appended g.D.Disk.told g.D.Disk.state b c.args.op.now c.make_ready.new.p (ready_home g (made_ready g c.before) b m) c.args.rolling.value.work c.args.bytes.now m.is c.in-Ok.ensures.ready.0 j c.append.ensures.whole (λ t. (c.append.ensures.appends t).kept)
           j.1.reach j.1.to_mend c.in-Err-append.ensures.err (λ t. (c.in-Err-append.ensures.appends t).err) (λ t. (c.in-Err-append.ensures.appends t).doubt),
       within_limits g (made_ready g c.before) b m,
       inr (inr (ready_still c.make_ready.new.p.journal.1 j.1 j.1.to_mend j.1.reach c.in-Err-append.ensures.err c.in-Ok.ensures.ready.0, refl)),
@@ -86,7 +86,7 @@ appended_left g c told b m =
     let j = c.append.new.self in
     begun_left b c.args.p.now.doubt p.doubt c.args.op.now (g.D.Disk.state c.args.p.now.journal.0) (g.D.Disk.state p.journal.0) (g.D.Disk.state j.0) (inr c.in-Ok.ensures.ready.1.1)
     (c.make_ready.ensures.any_moment told b m.home m.copied)
-    (append_left g.D.Disk.told g.D.Disk.state b c.args.op.now p (ready_home g (made_ready g c) b m) c.args.rolling.now.work c.args.bytes.now m.is c.in-Ok.ensures.ready.0 j c.append.ensures.whole (λ t. (c.append.ensures.appends t).kept) told (c.append.ensures.appends told).any_moment)
+    (append_left g.D.Disk.told g.D.Disk.state b c.args.op.now p (ready_home g (made_ready g c) b m) c.args.rolling.value.work c.args.bytes.now m.is c.in-Ok.ensures.ready.0 j c.append.ensures.whole (λ t. (c.append.ensures.appends t).kept) told (c.append.ensures.appends told).any_moment)
 
 pub returns-in-Ok-append-clause-any_moment : goal.returns-in-Ok-append-clause-any_moment
 returns-in-Ok-append-clause-any_moment g c = λ told b m. appended_left g c.before told b m
