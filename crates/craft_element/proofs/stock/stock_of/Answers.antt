@@ -23,3 +23,29 @@ stock_in-requires g c =
       room = subst (λ (d : Dimensions). ports d ≤ vec_capacity c.args.rows.now)
           (sym (ap (λ (s : State g.row.D.Denot). s.table.shape) c.state.ensures ∙ state_shape told state o x (began o.due ++ (f.begun ++ f.later)) (found_stands told state o x (f.begun ++ f.later) f.opening_is f.stands_for))) c.requires.room;
     }
+
+pub unreachable-requires : goal.unreachable-requires
+unreachable-requires g c =
+    let home : c.enter-turn.result.state.home ≡ Out = sym (ap (λ (s : State g.row.D.Denot). s.home) c.state_mut.ensures.value) ∙ c.in_default-take_out.ensures.none in
+    let stock = subst (λ (s : State g.row.D.Denot). IsStock s c.in-Some.stock) c.state.ensures c.in-Some.ensures.stock in
+    let no : In stock.driver ≡ Out = sym stock.is_home ∙ home in
+    cc
+
+pub returns-in_default : goal.returns-in_default
+returns-in_default g c = record {
+  left = λ h saw. tt;
+  none = λ h saw.
+      held_up_at g.D.Disk.told g.D.Disk.state (opening_of g.D.Disk.state c.args.turns.now.first) c.args.pass.now.number c.enter-turn.result.own c.args.turns.now.passes h c.args.pass.now.seen c.enter-turn.result.seen c.enter-turn.result.state c.enter-turn.ensures.turn.1 c.enter-turn.ensures.found saw
+      (subst (λ (s : State g.row.D.Denot). IsAway s) c.state.ensures c.in_default.ensures.none);
+}
+
+pub returns : goal.returns
+returns g c = record {
+  left = λ h saw.
+      let x = c.enter-turn.result.state in
+      let home : x.home ≡ In c.in-Some-take_out.driver = sym (ap (λ (s : State g.row.D.Denot). s.home) c.state_mut.ensures.value) ∙ c.in-Some-take_out.ensures.found in
+      left_at g.D.Disk.told g.D.Disk.state (opening_of g.D.Disk.state c.args.turns.now.first) c.args.pass.now.number c.enter-turn.result.own c.args.turns.now.passes h c.args.pass.now.seen c.enter-turn.result.seen x c.in-Some.stock c.in-Some-take_out.driver c.disk_in-disk.result c.enter-turn.ensures.turn.1 c.enter-turn.ensures.found saw
+      (subst (λ (s : State g.row.D.Denot). IsStock s c.in-Some.stock) c.state.ensures c.in-Some.ensures.stock) home
+      (c.disk_in-disk.ensures ∙ ap (λ (v : Driver g.row.D.Denot). v.p.journal.0) c.into_inner.ensures);
+  none = λ h saw. tt;
+}
