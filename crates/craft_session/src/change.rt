@@ -88,6 +88,7 @@ fn drive_out<D: Disk + Drop, G: Gate, R: Wait>(
     requires pass { HasPass turns.now pass.old }
     requires fabric { (opening_of D.state turns.now.first).site.fabric ≡ fabric.now }
     requires taken { Upon D.Disk turns.now pass.old (OutFor D.Disk op.now driver.value) }
+    requires unmade { driver.value.rolling.step ≡ 0 }
     ensures pass { HasPass turns.now pass.new × (pass.new.number ≡ pass.old.number) }
     ensures changed { After D.Disk turns.now pass.old (ChangesTo op.now pass.new result) }
     ensures astray { SawNoneAstray D.told pass.new.seen }

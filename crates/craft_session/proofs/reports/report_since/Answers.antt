@@ -33,5 +33,5 @@ returns g c =
       unstopped = sent_goes _ _ c.of.ensures;
       entered = λ h saw.
           let seat = c.args.desk.now.seat in
-          subst (λ (seen : List Gv). Entered seat.opening seat.place NothingAsked false false h seen) (sym (ap (λ (s : SeatAt). s.seen) said.seat)) (entered_at seat.opening seat.place NothingAsked h c.look-looked.new.self.seen false false _ [] (answers _) refl (looked.look h saw).0);
+          subst (λ (seen : List Gv). Entered seat.opening seat.place NothingAsked false false h seen) (sym (ap (λ (s : SeatAt). s.seen) said.seat)) (entered_at seat.opening seat.place NothingAsked h c.look-looked.new.self.seen false false _ [] (λ k. answers k _) refl (looked.look h saw).0);
     }
