@@ -69,7 +69,7 @@ pub fn note<D: Disk, G: Gate>(
         → Spends 69 (D.state p.old.journal.0) (D.state p.new.journal.0) }
     ensures sound { IsSound 4_600_114 (D.state p.old.journal.0) → result ≢ Noted.Fault }
 {
-    let _ = rolling;
+    drop(rolling);
     match gate.pass(GatePlace::Journal) {
         Pass1::Stop => return Noted::Stopped,
         Pass1::Go => {}

@@ -49,7 +49,7 @@ fail-requires-clause-failed g c =
     let x = subst (λ (y : Driver g.row.D.Denot). HasPlan g.D.Disk.told g.D.Disk.state (opening_of g.D.Disk.state c.args.turns.now.first) c.args.pass.now.number w.0 y.p (plan_of c.args.op.now y.rolling c.args.bytes.now)) (sym c.deref_mut-held.ensures.value) w.2 in
     let y = subst (λ (r : RollingAt). HasPlan g.D.Disk.told g.D.Disk.state (opening_of g.D.Disk.state c.args.turns.now.first) c.args.pass.now.number w.0 v.p (plan_of c.args.op.now r c.args.bytes.now)) (sym c.of-rolling.ensures) x in
     let n = c.in-Fault.ensures.noted y.out.now y.may in
-    (w.0, w.1, c.args.op.now, plan_failed g.D.Disk.told g.D.Disk.state (opening_of g.D.Disk.state c.args.turns.now.first) c.args.pass.now.number w.0 v.p c.note.new.p (plan_of c.args.op.now c.of-rolling.result.value c.args.bytes.now) y c.note.ensures.ground c.note.ensures.room c.note.ensures.fault.later (c.in-Fault.ensures.fault.cause refl) n.0 n.2)
+    (w.0, w.1, (c.args.op.now, plan_failed g.D.Disk.told g.D.Disk.state (opening_of g.D.Disk.state c.args.turns.now.first) c.args.pass.now.number w.0 v.p c.note.new.p (plan_of c.args.op.now c.of-rolling.result.value c.args.bytes.now) y c.note.ensures.ground c.note.ensures.room c.note.ensures.fault.later (c.in-Fault.ensures.fault.cause refl) n.0 n.2))
 
 pub cut-requires-clause-taken : goal.cut-requires-clause-taken
 cut-requires-clause-taken g c =

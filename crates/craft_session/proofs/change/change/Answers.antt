@@ -136,8 +136,8 @@ returns-in-Denied-mend g c =
       entered = λ h saw. entered_on g.G.Gate.asked g.G.Gate.asked_on c.args.gate.now c.loop.gate c.mend.new.gate _ _ _ _ _ _ _ _ _ (t.pass.1 ∙ k.number) (entered_take_on g.G.Gate.asked g.G.Gate.asked_on c.args.gate.now c.loop.gate c.loop.gate _ _ _ _ _ _ g.D.Disk.told g.D.Disk.state c.args.op.now c.take.result _ (ap takes_out c.in-Halted.is) k.number (k.entered h saw) (g.G.Gate.unasked c.loop.gate) t.took) m.entered;
     }
 
-pub returns-in-Stopped-mend : goal.returns-in-Stopped-mend
-returns-in-Stopped-mend g c =
+pub returns-in-Stopped : goal.returns-in-Stopped
+returns-in-Stopped g c =
     let k = c.loop.invariant in
     let t = c.take.ensures in
     let m = c.mend.ensures in
@@ -146,14 +146,14 @@ returns-in-Stopped-mend g c =
       pass = (m.pass.0, m.pass.1 ∙ t.pass.1 ∙ k.number);
       astray = m.astray;
       done = λ not. absurd (not refl);
-      stopped = λ is. rose_behind _ _ _ unstopped (m.stopped c.in-Stopped-mend.is);
+      stopped = λ is. rose_behind _ _ _ unstopped (m.stopped c.in-Stopped.is);
       later = later_behind _ _ _ unstopped m.later;
       changed = λ h saw.
           let b = c.loop.invariant.mended h saw in
           let k = subst (λ (n : ℕ). TookIs g.D.Disk.told g.D.Disk.state (opening_of g.D.Disk.state c.args.turns.now.first) n (h ++ b.front) c.args.op.now c.take.new.pass.seen c.take.result) c.loop.invariant.number (c.take.ensures.took (h ++ b.front) b.saw) in
           let d = mended_back (opening_of g.D.Disk.state c.args.turns.now.first) c.args.pass.now.number h c.loop.pass.seen c.take.new.pass.seen b (turned_back_passed (opening_of g.D.Disk.state c.args.turns.now.first) c.args.pass.now.number (h ++ b.front) c.take.new.pass.seen (took_halted (opening_of g.D.Disk.state c.args.turns.now.first) c.args.pass.now.number (h ++ b.front) g.D.Disk.told g.D.Disk.state c.args.op.now c.take.new.pass.seen c.take.result k c.in-Halted.is)) in
           let m = subst (λ (n : ℕ). MendedIs (opening_of g.D.Disk.state c.args.turns.now.first) n (h ++ d.front) c.args.op.now c.mend.new.pass.seen c.mend.result) (c.take.ensures.pass.1 ∙ c.loop.invariant.number) (c.mend.ensures.mended (h ++ d.front) d.saw) in
-          changed_on (opening_of g.D.Disk.state c.args.turns.now.first) c.args.pass.now.number h c.args.op.now c.take.new.pass.seen c.mend.new.pass.seen d Stopped (mend_stopped (opening_of g.D.Disk.state c.args.turns.now.first) c.args.pass.now.number (h ++ d.front) (opening_of g.D.Disk.state c.args.turns.now.first).first.fold.table.shape c.args.op.now c.requires.apt c.mend.new.pass.seen (subst (λ (z : Mended). MendedIs (opening_of g.D.Disk.state c.args.turns.now.first) c.args.pass.now.number (h ++ d.front) c.args.op.now c.mend.new.pass.seen z) c.in-Stopped-mend.is m));
-      asked = mending_stopped g.G.Gate.asked g.G.Gate.asked_on c.args.gate.now c.loop.gate c.mend.new.gate c.loop.invariant.asked.0 c.loop.invariant.asked.1 (nothing_more g.G.Gate.asked g.G.Gate.asked_on c.args.gate.now c.loop.gate c.loop.gate c.loop.invariant.asked.0 c.loop.invariant.asked.2 (g.G.Gate.unasked c.loop.gate)) c.mend.result c.in-Stopped-mend.is c.mend.ensures.asked;
+          changed_on (opening_of g.D.Disk.state c.args.turns.now.first) c.args.pass.now.number h c.args.op.now c.take.new.pass.seen c.mend.new.pass.seen d Stopped (mend_stopped (opening_of g.D.Disk.state c.args.turns.now.first) c.args.pass.now.number (h ++ d.front) (opening_of g.D.Disk.state c.args.turns.now.first).first.fold.table.shape c.args.op.now c.requires.apt c.mend.new.pass.seen (subst (λ (z : Mended). MendedIs (opening_of g.D.Disk.state c.args.turns.now.first) c.args.pass.now.number (h ++ d.front) c.args.op.now c.mend.new.pass.seen z) c.in-Stopped.is m));
+      asked = mending_stopped g.G.Gate.asked g.G.Gate.asked_on c.args.gate.now c.loop.gate c.mend.new.gate c.loop.invariant.asked.0 c.loop.invariant.asked.1 (nothing_more g.G.Gate.asked g.G.Gate.asked_on c.args.gate.now c.loop.gate c.loop.gate c.loop.invariant.asked.0 c.loop.invariant.asked.2 (g.G.Gate.unasked c.loop.gate)) c.mend.result c.in-Stopped.is c.mend.ensures.asked;
       entered = λ h saw. entered_on g.G.Gate.asked g.G.Gate.asked_on c.args.gate.now c.loop.gate c.mend.new.gate _ _ _ _ _ _ _ _ _ (t.pass.1 ∙ k.number) (entered_take_on g.G.Gate.asked g.G.Gate.asked_on c.args.gate.now c.loop.gate c.loop.gate _ _ _ _ _ _ g.D.Disk.told g.D.Disk.state c.args.op.now c.take.result _ (ap takes_out c.in-Halted.is) k.number (k.entered h saw) (g.G.Gate.unasked c.loop.gate) t.took) m.entered;
     }

@@ -36,7 +36,7 @@ fail-requires-clause-failed g c =
     let w = c.requires.held in
     let v = c.deref_mut-held.result.now in
     let x = subst (λ (y : Driver g.row.D.Denot). HasHeld g.D.Disk.told g.D.Disk.state (opening_of g.D.Disk.state c.args.turns.now.first) c.args.pass.now.number c.args.asked.now w.0 y.p) (sym c.deref_mut-held.ensures.value) w.2 in
-    (w.0, w.1, Restart, c.in-Failed.ensures.reread (opening_of g.D.Disk.state c.args.turns.now.first) c.args.pass.now.number w.0 x)
+    (w.0, w.1, (Restart, c.in-Failed.ensures.reread (opening_of g.D.Disk.state c.args.turns.now.first) c.args.pass.now.number w.0 x))
 
 pub cut_restart-requires-clause-restart : goal.cut_restart-requires-clause-restart
 cut_restart-requires-clause-restart g c =
