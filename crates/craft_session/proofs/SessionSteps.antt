@@ -277,25 +277,28 @@ module _ (l : Language Request Moment) (told clock_told : Type 0) (k : LinkState
           → stamped (stamp_at d j seat users) → IsTimely l (telling told clock_told stamped) (starting k c b) j j2
       unfolding past_answered
       answered_in_time stamped seat users sent said at seen users_seen was t n from below =
-          let p = past_answered l clock_told c b d now s.items s.rest s.out s.past u is d2 said.moment said.now said.later reply after hears acts in
-          (stamp_at d j seat users, was, record {
-            items = s.items;
-            ahead = ahead;
-            out = s.out;
-            exchanged = s.exchanged;
-            walk = p.walk;
-            rest = [];
-            happened = p.happened;
-            run = p.run;
-            at = at;
-            saw = subst (λ (x : List Gv). Saw b.opening x p.walk.history) (sym seen) p.saw;
-            consulted = subst (λ (x : List Gv). Consulted l b x p.walk.happenings p.walk.attending.user) (sym users_seen) p.consulted;
-            message = l.response said.moment u reply;
-            says = inl (record { before = s.past.walk.moments; moment = said.moment; unit = u; reply = reply; all = refl; gave = λ ct. (s.past.gave ct, said.now ct); is = refl });
-            written = sym p.written;
-            follows = from;
-            within = in_message told j j2 said.wrote.part said.wrote.rest (l.response said.moment u reply) said.wrote.wrote said.wrote.split t n below;
-          })
+          let p = past_answered l clock_told c b d now s.items s.rest s.out s.past u is d2 said.moment said.now said.later reply after hears acts in (
+            stamp_at d j seat users,
+            was,
+            record {
+              items = s.items;
+              ahead = ahead;
+              out = s.out;
+              exchanged = s.exchanged;
+              walk = p.walk;
+              rest = [];
+              happened = p.happened;
+              run = p.run;
+              at = at;
+              saw = subst (λ (x : List Gv). Saw b.opening x p.walk.history) (sym seen) p.saw;
+              consulted = subst (λ (x : List Gv). Consulted l b x p.walk.happenings p.walk.attending.user) (sym users_seen) p.consulted;
+              message = l.response said.moment u reply;
+              says = inl (record { before = s.past.walk.moments; moment = said.moment; unit = u; reply = reply; all = refl; gave = λ ct. (s.past.gave ct, said.now ct); is = refl });
+              written = sym p.written;
+              follows = from;
+              within = in_message told j j2 said.wrote.part said.wrote.rest (l.response said.moment u reply) said.wrote.wrote said.wrote.split t n below;
+            },
+          )
 
     -- a unit that ended, whole or too long
     module _ (kind : UnitKind) (ahead : List ℕ) (s : Stands l told clock_told k j c d b now false kind r ahead) (u : Request) (ended : IsUnit s.rest u.input × (hand r ≡ [])) where
@@ -482,22 +485,26 @@ module _ (l : Language Request Moment) (told clock_told : Type 0) (k : LinkState
           let p = past_look_cut l clock_told c b d now due_now.items due_now.rest due_now.out past_now cursor watch looked given seen look_now (x.taken ++ x.untaken) x.bytes x.reported (rest_of due_now.made) d2 x.taken x.untaken refl x.gave x.wrote.part x.wrote.rest x.wrote.split in
           elim was [
             | inl none ↦ absurd (let e = ap (λ (y : LinkState). length y.written) none.0 in omega (arith, e, from, below))
-            | inr there ↦ (stamp_at d j seat users, there, record {
-              items = due_now.items;
-              ahead = ahead;
-              out = due_now.out;
-              exchanged = due_now.exchanged;
-              walk = p.walk;
-              rest = due_now.rest;
-              happened = p.happened;
-              run = p.run;
-              at = at;
-              saw = subst (λ (y : List Gv). Saw b.opening y p.walk.history) (sym seat_seen) p.saw;
-              consulted = subst (λ (y : List Gv). Consulted l b y p.walk.happenings p.walk.attending.user) (sym users_seen) p.consulted;
-              message = x.bytes;
-              says = inr (record { notices = notices found cursor; moments = x.taken ++ x.untaken; are = x.reported });
-              written = sym (ap (λ (y : List ℕ). y ++ x.bytes) past_now.written ∙ append_assoc past_now.walk.earlier past_now.walk.latest x.bytes);
-              follows = from;
-              within = in_message told j j2 x.wrote.part x.wrote.rest x.bytes x.wrote.wrote x.wrote.split t n below;
-            })
+            | inr there ↦ (
+              stamp_at d j seat users,
+              there,
+              record {
+                items = due_now.items;
+                ahead = ahead;
+                out = due_now.out;
+                exchanged = due_now.exchanged;
+                walk = p.walk;
+                rest = due_now.rest;
+                happened = p.happened;
+                run = p.run;
+                at = at;
+                saw = subst (λ (y : List Gv). Saw b.opening y p.walk.history) (sym seat_seen) p.saw;
+                consulted = subst (λ (y : List Gv). Consulted l b y p.walk.happenings p.walk.attending.user) (sym users_seen) p.consulted;
+                message = x.bytes;
+                says = inr (record { notices = notices found cursor; moments = x.taken ++ x.untaken; are = x.reported });
+                written = sym (ap (λ (y : List ℕ). y ++ x.bytes) past_now.written ∙ append_assoc past_now.walk.earlier past_now.walk.latest x.bytes);
+                follows = from;
+                within = in_message told j j2 x.wrote.part x.wrote.rest x.bytes x.wrote.wrote x.wrote.split t n below;
+              },
+            )
           ]

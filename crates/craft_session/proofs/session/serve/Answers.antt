@@ -51,9 +51,9 @@ returns-in-Cut g c =
       session = record { before = h.0; users_before = p.0; saw = h.1; users_saw = p.1; attending = _; session = breaks };
       prompt = prompt_more (language_for c.args.desk.now.attending.user (arc_value c.args.desk.now.shelf)) g.K.Link.begun g.K.Link.told g.C.Timestamps.told (g.K.Link.state c.args.link.now) (g.C.Timestamps.coming c.args.clock.now) c.args.desk.now.seat c.args.desk.now.users.seat (g.K.Link.state c.loop.link) (g.K.Link.state c.serve_piece.new.link) _ (g.C.Timestamps.coming c.loop.clock) (now c.loop.desk) c.loop.desk.reader c.loop.invariant.prompt c.in-Bytes.ensures.begun c.loop.invariant.stands c.in-Bytes.ensures.read.reads s.link.wrote.reads;
       timely = λ b at saw users.
-            timely_read (language_for c.args.desk.now.attending.user (arc_value c.args.desk.now.shelf)) (telling g.K.Link.told g.C.Timestamps.told g.C.Timestamps.stamped) (starting (g.K.Link.state c.args.link.now) (g.C.Timestamps.coming c.args.clock.now) b) (g.K.Link.state c.args.link.now) (g.K.Link.state c.loop.link) _ (g.K.Link.state c.serve_piece.new.link) _ _ (c.loop.invariant.timely b at saw users) c.in-Bytes.ensures.read
-            (timely_moved arc_value (telling g.K.Link.told g.C.Timestamps.told g.C.Timestamps.stamped) (g.C.Timestamps.coming c.loop.clock) _ (g.K.Link.state c.serve_piece.new.link) (in_hand c.loop.desk.attending false More c.loop.desk.reader _) c.args.desk.now.shelf c.loop.desk.shelf c.args.desk.now.seat c.loop.desk.seat c.args.desk.now.users.seat c.loop.desk.users.seat c.loop.invariant.shelf c.loop.invariant.seat c.loop.invariant.users c.serve_piece.ensures.timely c.args.desk.now.attending.user _ _ b at
-            (stands_piece _ _ _ _ _ _ _ _ _ _ _ _ _ _ (c.loop.invariant.stands b at saw users) c.in-Bytes.ensures.read (grind (arith, common_steps))));
+          timely_read (language_for c.args.desk.now.attending.user (arc_value c.args.desk.now.shelf)) (telling g.K.Link.told g.C.Timestamps.told g.C.Timestamps.stamped) (starting (g.K.Link.state c.args.link.now) (g.C.Timestamps.coming c.args.clock.now) b) (g.K.Link.state c.args.link.now) (g.K.Link.state c.loop.link) _ (g.K.Link.state c.serve_piece.new.link) _ _ (c.loop.invariant.timely b at saw users) c.in-Bytes.ensures.read
+          (timely_moved arc_value (telling g.K.Link.told g.C.Timestamps.told g.C.Timestamps.stamped) (g.C.Timestamps.coming c.loop.clock) _ (g.K.Link.state c.serve_piece.new.link) (in_hand c.loop.desk.attending false More c.loop.desk.reader _) c.args.desk.now.shelf c.loop.desk.shelf c.args.desk.now.seat c.loop.desk.seat c.args.desk.now.users.seat c.loop.desk.users.seat c.loop.invariant.shelf c.loop.invariant.seat c.loop.invariant.users c.serve_piece.ensures.timely c.args.desk.now.attending.user _ _ b at
+          (stands_piece _ _ _ _ _ _ _ _ _ _ _ _ _ _ (c.loop.invariant.stands b at saw users) c.in-Bytes.ensures.read (grind (arith, common_steps))));
       end = ((λ is. write_no _ is refl), (λ ended. unheld _ going ended));
       all_read = λ t is. write_no _ is refl;
       read_fault = λ is. write_no _ is refl;
@@ -82,9 +82,9 @@ returns-in-Stopped g c =
       session = record { before = h.0; users_before = p.0; saw = h.1; users_saw = p.1; attending = _; session = goes_stopped_is _ _ _ _ _ _ _ _ _ _ _ _ _ c.in-Stopped.is (moved_goes arc_value c.args.desk.now.attending.user g.K.Link.told g.C.Timestamps.told _ (g.K.Link.state c.serve_piece.new.link) (g.C.Timestamps.coming c.loop.clock) (g.C.Timestamps.coming c.serve_piece.new.clock) (now c.loop.desk) (now c.serve_piece.new.desk) false c.loop.desk.reader c.serve_piece.new.desk.reader c.serve_piece.result c.args.desk.now.shelf c.loop.desk.shelf c.args.desk.now.seat c.loop.desk.seat c.args.desk.now.users.seat c.loop.desk.users.seat _ [] c.loop.invariant.shelf c.loop.invariant.seat c.loop.invariant.users (c.serve_piece.ensures.goes c.args.desk.now.attending.user) _ _ b (refl, refl, refl, c.args.desk.now.same_place) (stands_piece _ _ _ _ _ _ _ _ _ _ _ _ _ _ (c.loop.invariant.stands b (refl, refl, refl, c.args.desk.now.same_place) h.1 p.1) c.in-Bytes.ensures.read (grind (arith, common_steps)))) };
       prompt = prompt_more (language_for c.args.desk.now.attending.user (arc_value c.args.desk.now.shelf)) g.K.Link.begun g.K.Link.told g.C.Timestamps.told (g.K.Link.state c.args.link.now) (g.C.Timestamps.coming c.args.clock.now) c.args.desk.now.seat c.args.desk.now.users.seat (g.K.Link.state c.loop.link) (g.K.Link.state c.serve_piece.new.link) _ (g.C.Timestamps.coming c.loop.clock) (now c.loop.desk) c.loop.desk.reader c.loop.invariant.prompt c.in-Bytes.ensures.begun c.loop.invariant.stands c.in-Bytes.ensures.read.reads s.link.wrote.reads;
       timely = λ b at saw users.
-            timely_read (language_for c.args.desk.now.attending.user (arc_value c.args.desk.now.shelf)) (telling g.K.Link.told g.C.Timestamps.told g.C.Timestamps.stamped) (starting (g.K.Link.state c.args.link.now) (g.C.Timestamps.coming c.args.clock.now) b) (g.K.Link.state c.args.link.now) (g.K.Link.state c.loop.link) _ (g.K.Link.state c.serve_piece.new.link) _ _ (c.loop.invariant.timely b at saw users) c.in-Bytes.ensures.read
-            (timely_moved arc_value (telling g.K.Link.told g.C.Timestamps.told g.C.Timestamps.stamped) (g.C.Timestamps.coming c.loop.clock) _ (g.K.Link.state c.serve_piece.new.link) (in_hand c.loop.desk.attending false More c.loop.desk.reader _) c.args.desk.now.shelf c.loop.desk.shelf c.args.desk.now.seat c.loop.desk.seat c.args.desk.now.users.seat c.loop.desk.users.seat c.loop.invariant.shelf c.loop.invariant.seat c.loop.invariant.users c.serve_piece.ensures.timely c.args.desk.now.attending.user _ _ b at
-            (stands_piece _ _ _ _ _ _ _ _ _ _ _ _ _ _ (c.loop.invariant.stands b at saw users) c.in-Bytes.ensures.read (grind (arith, common_steps))));
+          timely_read (language_for c.args.desk.now.attending.user (arc_value c.args.desk.now.shelf)) (telling g.K.Link.told g.C.Timestamps.told g.C.Timestamps.stamped) (starting (g.K.Link.state c.args.link.now) (g.C.Timestamps.coming c.args.clock.now) b) (g.K.Link.state c.args.link.now) (g.K.Link.state c.loop.link) _ (g.K.Link.state c.serve_piece.new.link) _ _ (c.loop.invariant.timely b at saw users) c.in-Bytes.ensures.read
+          (timely_moved arc_value (telling g.K.Link.told g.C.Timestamps.told g.C.Timestamps.stamped) (g.C.Timestamps.coming c.loop.clock) _ (g.K.Link.state c.serve_piece.new.link) (in_hand c.loop.desk.attending false More c.loop.desk.reader _) c.args.desk.now.shelf c.loop.desk.shelf c.args.desk.now.seat c.loop.desk.seat c.args.desk.now.users.seat c.loop.desk.users.seat c.loop.invariant.shelf c.loop.invariant.seat c.loop.invariant.users c.serve_piece.ensures.timely c.args.desk.now.attending.user _ _ b at
+          (stands_piece _ _ _ _ _ _ _ _ _ _ _ _ _ _ (c.loop.invariant.stands b at saw users) c.in-Bytes.ensures.read (grind (arith, common_steps))));
       end = ((λ is. stop_no _ is refl), (λ ended. unheld _ going ended));
       all_read = λ t is. stop_no _ is refl;
       read_fault = λ is. stop_no _ is refl;
@@ -216,9 +216,9 @@ returns-in-Cut-report g c =
       session = record { before = h.0; users_before = p.0; saw = h.1; users_saw = p.1; attending = _; session = breaks };
       prompt = prompt_more (language_for c.args.desk.now.attending.user (arc_value c.args.desk.now.shelf)) g.K.Link.begun g.K.Link.told g.C.Timestamps.told (g.K.Link.state c.args.link.now) (g.C.Timestamps.coming c.args.clock.now) c.args.desk.now.seat c.args.desk.now.users.seat (g.K.Link.state c.loop.link) (g.K.Link.state c.report.new.link) _ (g.C.Timestamps.coming c.loop.clock) (now c.loop.desk) c.loop.desk.reader c.loop.invariant.prompt c.in-Quiet.ensures.begun c.loop.invariant.stands c.in-Quiet.ensures.read.reads c.report.ensures.link.wrote.reads;
       timely = λ b at saw users.
-            timely_read (language_for c.args.desk.now.attending.user (arc_value c.args.desk.now.shelf)) (telling g.K.Link.told g.C.Timestamps.told g.C.Timestamps.stamped) (starting (g.K.Link.state c.args.link.now) (g.C.Timestamps.coming c.args.clock.now) b) (g.K.Link.state c.args.link.now) (g.K.Link.state c.loop.link) _ (g.K.Link.state c.report.new.link) _ _ (c.loop.invariant.timely b at saw users) c.in-Quiet.ensures.read
-            (timely_moved arc_value (telling g.K.Link.told g.C.Timestamps.told g.C.Timestamps.stamped) (g.C.Timestamps.coming c.loop.clock) _ (g.K.Link.state c.report.new.link) (in_hand c.loop.desk.attending (is_some c.loop.desk.attending.watch) More c.loop.desk.reader []) c.args.desk.now.shelf c.loop.desk.shelf c.args.desk.now.seat c.loop.desk.seat c.args.desk.now.users.seat c.loop.desk.users.seat c.loop.invariant.shelf c.loop.invariant.seat c.loop.invariant.users (c.report.ensures.timely c.loop.desk.reader []) c.args.desk.now.attending.user _ _ b at
-            (stands_quiet _ _ _ _ _ _ _ _ _ _ _ _ (c.loop.invariant.stands b at saw users) c.in-Quiet.ensures.read));
+          timely_read (language_for c.args.desk.now.attending.user (arc_value c.args.desk.now.shelf)) (telling g.K.Link.told g.C.Timestamps.told g.C.Timestamps.stamped) (starting (g.K.Link.state c.args.link.now) (g.C.Timestamps.coming c.args.clock.now) b) (g.K.Link.state c.args.link.now) (g.K.Link.state c.loop.link) _ (g.K.Link.state c.report.new.link) _ _ (c.loop.invariant.timely b at saw users) c.in-Quiet.ensures.read
+          (timely_moved arc_value (telling g.K.Link.told g.C.Timestamps.told g.C.Timestamps.stamped) (g.C.Timestamps.coming c.loop.clock) _ (g.K.Link.state c.report.new.link) (in_hand c.loop.desk.attending (is_some c.loop.desk.attending.watch) More c.loop.desk.reader []) c.args.desk.now.shelf c.loop.desk.shelf c.args.desk.now.seat c.loop.desk.seat c.args.desk.now.users.seat c.loop.desk.users.seat c.loop.invariant.shelf c.loop.invariant.seat c.loop.invariant.users (c.report.ensures.timely c.loop.desk.reader []) c.args.desk.now.attending.user _ _ b at
+          (stands_quiet _ _ _ _ _ _ _ _ _ _ _ _ (c.loop.invariant.stands b at saw users) c.in-Quiet.ensures.read));
       end = ((λ is. write_no _ is refl), (λ ended. unheld _ going ended));
       all_read = λ t is. write_no _ is refl;
       read_fault = λ is. write_no _ is refl;
