@@ -199,7 +199,7 @@ module _ {D : Type 0} (told : Type 0) (state : D → DiskState) (s : State D) (b
         (let e : Some dr.value.p.journal.0 ≡ Some d = home in cc),
         subst (λ (b : Past). IsBetween told state b dr.value.p) now_first (is_between begins.stands.now (began at.due ++ []) dr.value.p h.1.stage),
       )
-  at_home d Out is home = absurd (let e : None ≡ Some d = home in cc)
+  at_home d (Out e) is home = absurd (let e : None ≡ Some d = home in cc)
 
 pub start_command : {D : Type 0} (told : Type 0) (state : D → DiskState) → StartsAreCommands told state
 start_command told state t d shelf fabric due number calls s settled are home opens leaves begins =

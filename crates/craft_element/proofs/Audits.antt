@@ -8,6 +8,7 @@ use Rattle.dxc_model.specs.declared.op.Selection.TheVariants.{All}
 use Rattle.dxc_model.specs.Tables.{Board, rows}
 use Rattle.dxc_num.specs.Dimensions.{Dimensions}
 use Rattle.shelf_file.specs.Contents.{Contents}
+use Rattle.xc_core.specs.declared.state.Errand.{Errand}
 use Rattle.xc_core.specs.declared.state.Home.{Home}
 use Rattle.xc_core.specs.declared.state.Home.TheVariants.{In, Out}
 use Rattle.xc_core.specs.declared.state.State.{State}
@@ -20,11 +21,11 @@ use Rattle.craft_element.specs.Listings.{listing, records_at}
 module _ {D : Type 0} (told : Type 0) (state : D → DiskState) where
   records_home : (n : ℕ) (x : Home D) → count_home x ≡ Some n → records_at x ≡ n
   records_home n (In d) is = cc
-  records_home n Out is = cc
+  records_home n (Out e) is = cc
 
   -- the Provisioner of a state that begins is at home
-  pub at_home : (x : State D) → Begins told state x → x.home ≢ Out
-  at_home x b is = let no : None ≡ Some b.disk = ap disk_home (sym is) ∙ b.is_home in cc
+  pub at_home : (x : State D) → Begins told state x → (e : Errand) → x.home ≢ Out e
+  at_home x b e is = let no : None ≡ Some b.disk = ap disk_home (sym is) ∙ b.is_home in cc
 
   module _ (s : Contents) (x : State D) (b : Begins told state x) (shape : (opening_of state x).first.fold.table.shape ≡ s.shape) where
     abbrev o : Opening

@@ -1,68 +1,31 @@
 -- A controller that was opened, or wasn't.
 use Rattle.std.proofs.Common.{◌≡◌, ◌≢◌, ◌⊎◌, ◌≤◌, ℕ, Bool, List, length, length-append, codes, Option, Some, Result, Ok, Err, inl, inr, refl, sym, ◌∙◌, ap, subst, arith}
-use Rattle.std.specs.Prelude.{MatchResult, IfErr, IfSome}
+use Rattle.std.specs.Prelude.{MatchResult, IfSome}
 use Rattle.std.specs.Arc.{arc_value}
 use Rattle.dxc_causes.specs.Causes.{HasCause, Rose}
-use Rattle.dxc_disk.specs.Disks.{CountsOn, DiskState, IsSound, Spends}
+use Rattle.dxc_disk.specs.Disks.{CountsOn, DiskState, IsDisk, IsSound, Spends}
+use Rattle.dxc_leaving.specs.Values.{AnyValue}
 use Rattle.fabric_words.specs.New.{AreNew}
 use Rattle.fabric_words.specs.Seats.{FabricId}
 use Rattle.shelf_file.specs.Contents.{Contents}
 use Rattle.journal_core.specs.Rooms.{opening_room}
-use Rattle.journal_core.specs.declared.fault.JournalWhy.{JournalWhy}
-use Rattle.journal_core.specs.declared.fault.JournalWhy.TheVariants as why_of
 use Rattle.user_admin.specs.declared.fault.UserOpenFault.{UserOpenFault}
-use Rattle.user_admin.specs.declared.fault.UserOpenFault.TheVariants as users_fault
 use Rattle.user_admin.specs.declared.state.UserState.{UserState}
 use Rattle.user_admin.specs.Histories.{Opening as UsersOpening}
-use Rattle.user_admin.specs.Openings.{Begins as UsersBegin, Fails as UsersFail, IsDiskErr, IsOpening as IsUsersOpening, disk_left as users_disk_left}
+use Rattle.user_admin.specs.Openings.{Begins as UsersBegin, IsOpening as IsUsersOpening, disk_left as users_disk_left}
 use Rattle.user_admin.specs.States.{opening_of as users_opening}
 use Rattle.xc_core.specs.declared.fault.OpenFault.{OpenFault}
 use Rattle.xc_core.specs.declared.fault.OpenFault.TheVariants as fault_of
 use Rattle.xc_core.specs.declared.state.State.{State}
-use Rattle.xc_core.specs.Openings.{Begins, Fails, IsDiskFault, IsOpening, IsStopFault, disk_home, disk_of}
+use Rattle.xc_core.specs.Openings.{Begins, Fails, IsDiskFault, IsOpening, IsStopFault, LeavesOpened, disk_home, disk_of, disk_of_fault}
+use Rattle.xc_core.proofs.Opened.{none_opened as untouched}
 use Rattle.xc_core.specs.States.{Opening, opening_of}
 use Rattle.xc_recovery.proofs.LastWorks.{comes_shape}
 use Rattle.craft_element.specs.declared.opening.Controller.{Controller}
 use Rattle.craft_words.specs.declared.status.Status.{Status}
-use Rattle.craft_words.specs.declared.status.Status.TheVariants.{CannotOpen, Disk, NoMemory, Stopped}
-use Rattle.craft_element.specs.Statuses.{status_of_fault, status_of_users_fault, status_of_users_why, status_of_why}
+use Rattle.craft_words.specs.declared.status.Status.TheVariants.{CannotOpen, NoMemory}
 use Rattle.craft_jobs.proofs.Counting.{rose_behind}
-use Rattle.craft_element.specs.Openings.{AreUsersNotStarted, AreUsersStarted, Began, Found, HasController, HasOpening, HasUsers, IsStarted, IsTaken, Named, NoController, NoUsers, NotStarted, Opens, Sources, users_name}
-
--- the users' disk stood against it
-why_disk : (w : JournalWhy) → status_of_users_why w ≡ Disk → w ≡ why_of.Disk
-why_disk (why_of.BadHeader bytes) was = cc
-why_disk why_of.Disk was = refl
-
-disk_error : {D : Type 0} (f : UserOpenFault D) → status_of_users_fault f ≡ Disk → IsDiskErr {D = D} (Err f)
-disk_error (users_fault.Journal f) was = why_disk f.why was
-disk_error (users_fault.BadRecord i d) was = cc
-disk_error (users_fault.Disk d) was = tt
-disk_error (users_fault.NoMemory d) was = cc
-
--- the journal's disk stood against it
-why_journal : (w : JournalWhy) → status_of_why w ≡ Disk → w ≡ why_of.Disk
-why_journal (why_of.BadHeader bytes) was = cc
-why_journal why_of.Disk was = refl
-
-disk_failed_by : {D : Type 0} (f : OpenFault D) → status_of_fault f ≡ Disk → IsDiskFault f
-disk_failed_by (fault_of.Journal f) was = why_journal f.why was
-disk_failed_by (fault_of.BadRecord i d) was = cc
-disk_failed_by (fault_of.Disk d) was = tt
-disk_failed_by (fault_of.NoMemory d) was = cc
-disk_failed_by (fault_of.Stopped d) was = cc
-
--- no status of a journal that couldn't be opened is that of a stop
-why_unstopped : (w : JournalWhy) → status_of_why w ≡ Stopped → ⊥
-why_unstopped (why_of.BadHeader bytes) was = cc
-why_unstopped why_of.Disk was = cc
-
-stopped_by : {D : Type 0} (f : OpenFault D) → status_of_fault f ≡ Stopped → IsStopFault f
-stopped_by (fault_of.Journal f) was = absurd (why_unstopped f.why was)
-stopped_by (fault_of.BadRecord i d) was = cc
-stopped_by (fault_of.Disk d) was = cc
-stopped_by (fault_of.NoMemory d) was = cc
-stopped_by (fault_of.Stopped d) was = tt
+use Rattle.craft_element.specs.Openings.{AreUsersNotStarted, AreUsersStarted, Began, Found, HasController, HasOpening, HasUsers, IsStarted, IsTaken, Named, NoController, NoUsers, NotStarted, Opens, Sources, StartFails, users_name}
 
 -- the name of a users' journal isn't that of the journal beside it
 users_apart : (n : List ℕ) → users_name n ≢ n
@@ -99,27 +62,26 @@ module _ {D : Type 0} (disk_told : Type 0) (state : D → DiskState) where
     each = seats.0;
   }
 
-  -- memory was wanting
-  pub no_memory : (disk : D) (s : Contents) (stops later : ℕ) → NotStarted disk_told state disk s stops later NoMemory
-  no_memory disk s stops later = record { fault = fault_of.NoMemory disk; is = refl; why = λ _. tt; disk_failed = λ is. cc; stopped = λ is. cc }
+  -- memory was wanting, and nothing was done on the disk
+  pub no_memory : (disk : D) (s : Contents) (rose : Type 0) → (disk_told → IsDisk (state disk)) → StartFails disk_told state disk s rose (fault_of.NoMemory disk)
+  no_memory disk s rose is_disk = record { why = λ _. tt; left = λ t. untouched s (state disk) (is_disk t); disk_failed = λ is on. is; stopped = λ is. absurd is }
 
   -- an opening of the core that failed, on a shelf that was lent
-  pub not_opened : (disk : D) (s lent : Contents) (stops later : ℕ) (fault : OpenFault D) (status : Status) → lent ≡ s → status ≡ status_of_fault fault → (disk_told → Fails state (state disk) lent.shape fault)
-      → (IsSound opening_room (state disk) → IsDiskFault fault → ⊥) → (IsStopFault fault → Rose stops later) → NotStarted disk_told state disk s stops later status
-  not_opened disk s lent stops later fault status lent_is is why sound stopped = record {
-    fault = fault;
-    is = is;
+  pub not_opened : (disk : D) (s lent : Contents) (rose : Type 0) (fault : OpenFault D) → lent ≡ s → (disk_told → Fails state (state disk) lent.shape fault) → (disk_told → LeavesOpened lent (state disk) (state (disk_of_fault fault)))
+      → (IsSound opening_room (state disk) → IsDiskFault fault → ⊥) → (IsStopFault fault → rose) → StartFails disk_told state disk s rose fault
+  not_opened disk s lent rose fault lent_is why left sound stopped = record {
     why = λ told. subst (λ (y : Contents). Fails state (state disk) y.shape fault) lent_is (why told);
-    disk_failed = λ was on. sound on (disk_failed_by fault (sym is ∙ was));
-    stopped = λ was. stopped (stopped_by fault (sym is ∙ was));
+    left = λ told. subst (λ (y : Contents). LeavesOpened y (state disk) (state (disk_of_fault fault))) lent_is (left told);
+    disk_failed = λ failed on. sound on failed;
+    stopped = stopped;
   }
 
   -- started or not, on what was found
-  pub opened : (opener_told : Type 0) (names : Named) (workers : ℕ) (before after : Sources D) (f : Found opener_told names before) (r : Result (Controller D) Status)
-      → MatchResult r (IsStarted disk_told state f.disk f.shelf workers) (NotStarted disk_told state f.disk f.shelf before.stops after.stops)
-      → MatchResult r (HasController opener_told disk_told state names workers before) (NoController opener_told disk_told state names before after)
-  opened opener_told names workers before after f (Ok x) is = (f, is)
-  opened opener_told names workers before after f (Err e) not = inr (inr (f, not))
+  pub opened : (opener_told : Type 0) (gone : AnyValue → Type 0) (names : Named) (workers : ℕ) (before after : Sources D) (f : Found opener_told names before) (r : Result (Controller D) Status)
+      → MatchResult r (IsStarted disk_told state f.disk f.shelf workers) (NotStarted disk_told state gone f.disk f.shelf (Rose before.stops after.stops))
+      → MatchResult r (HasController opener_told disk_told state names workers before) (NoController opener_told disk_told state gone names before after)
+  opened opener_told gone names workers before after f (Ok x) is = (f, is)
+  opened opener_told gone names workers before after f (Err e) not = inr (inr (f, not))
 
   -- the users were taken up, on what their opening came to
   pub users_started : (failed : Type 0) → ((x : D) → CountsOn (state x)) → (disk : D) (s : Contents) (x : UserState D) (r : Result (UserState D) (UserOpenFault D)) → r ≡ Ok x → IsUsersOpening disk_told (state disk).reads_as s (users_opening state x) → UsersBegin disk_told state x
@@ -132,30 +94,16 @@ module _ {D : Type 0} (disk_told : Type 0) (state : D → DiskState) where
         (subst (λ (y : Result (UserState D) (UserOpenFault D)). Spends opening_room (state disk) (state (users_disk_left y))) is spends);
   }
 
-  -- or why they weren't
-  pub users_not_started : (disk : D) (s : Contents) (fault : UserOpenFault D) (r : Result (UserState D) (UserOpenFault D)) (status : Status) → r ≡ Err fault → status ≡ status_of_users_fault fault → (disk_told → IfErr r (UsersFail state (state disk) s))
-      → (IsSound opening_room (state disk) → IsDiskErr r → ⊥) → AreUsersNotStarted disk_told state disk s status
-  users_not_started disk s fault r status is status_is why sound = record {
-    fault = fault;
-    is = status_is;
-    why = λ t. subst (λ (y : Result (UserState D) (UserOpenFault D)). IfErr y (UsersFail state (state disk) s)) is (why t);
-    disk_failed = λ was enough. sound enough (subst (λ (y : Result (UserState D) (UserOpenFault D)). IsDiskErr y) (sym is) (disk_error fault (sym status_is ∙ was)));
-  }
-
-  -- memory was wanting
-  pub users_no_memory : (disk : D) (s : Contents) → AreUsersNotStarted disk_told state disk s NoMemory
-  users_no_memory disk s = record { fault = users_fault.NoMemory disk; is = refl; why = λ _. tt; disk_failed = λ is. cc }
-
   -- the users beside a controller, by what a later call tells
-  pub with_users : (opener_told : Type 0) (names : Named) (before mid after : Sources D) (s lent : Contents) (r : Result (UserState D) Status) → lent ≡ s → (opener_told → (n : List ℕ) → n ≢ names.journal → mid.journal_at n ≡ before.journal_at n) → before.opener.faults ≤ mid.opener.faults
+  pub with_users : (opener_told : Type 0) (gone : AnyValue → Type 0) (names : Named) (before mid after : Sources D) (s lent : Contents) (r : Result (UserState D) Status) → lent ≡ s → (opener_told → (n : List ℕ) → n ≢ names.journal → mid.journal_at n ≡ before.journal_at n) → before.opener.faults ≤ mid.opener.faults
       → MatchResult r (λ u. (d : D) × (opener_told → mid.journal_at (users_name names.journal) ≡ Some d) × AreUsersStarted disk_told state d lent u)
-      (λ status. ((status ≡ NoMemory) ⊎ ((status ≡ CannotOpen) × Rose mid.opener.faults after.opener.faults)) ⊎ ((d : D) × (opener_told → mid.journal_at (users_name names.journal) ≡ Some d) × AreUsersNotStarted disk_told state d lent status))
-      → MatchResult r (HasUsers opener_told disk_told state names before s) (NoUsers opener_told disk_told state names before after s)
-  with_users opener_told names before mid after s lent (Ok u) is others later given =
+      (λ status. ((status ≡ NoMemory) ⊎ ((status ≡ CannotOpen) × Rose mid.opener.faults after.opener.faults)) ⊎ ((d : D) × (opener_told → mid.journal_at (users_name names.journal) ≡ Some d) × AreUsersNotStarted disk_told state gone d lent status))
+      → MatchResult r (HasUsers opener_told disk_told state names before s) (NoUsers opener_told disk_told state gone names before after s)
+  with_users opener_told gone names before mid after s lent (Ok u) is others later given =
       (record { disk = given.0; handed = λ t. sym (others t (users_name names.journal) (users_apart names.journal)) ∙ given.1 t }, subst (λ (y : Contents). AreUsersStarted disk_told state given.0 y u) is given.2)
-  with_users opener_told names before mid after s lent (Err status) is others later given = elim given [
+  with_users opener_told gone names before mid after s lent (Err status) is others later given = elim given [
     | inl none ↦ inl (elim none [ inl m ↦ inl m | inr f ↦ inr (f.0, rose_behind before.opener.faults mid.opener.faults after.opener.faults later f.1) ])
-    | inr not ↦ inr (record { disk = not.0; handed = λ t. sym (others t (users_name names.journal) (users_apart names.journal)) ∙ not.1 t }, subst (λ (y : Contents). AreUsersNotStarted disk_told state not.0 y status) is not.2)
+    | inr not ↦ inr (record { disk = not.0; handed = λ t. sym (others t (users_name names.journal) (users_apart names.journal)) ∙ not.1 t }, subst (λ (y : Contents). AreUsersNotStarted disk_told state gone not.0 y status) is not.2)
   ]
 
   -- where the history of the users begins
@@ -167,10 +115,10 @@ module _ {D : Type 0} (disk_told : Type 0) (state : D → DiskState) where
   begun disk s workers x started = record { fabric = arc_value x.fabric; opening = started.opening; taken = started.taken }
 
   -- what was opened by these names was by the line's, and what was done there is what the line asks for
-  pub opens_for : (opener_told : Type 0) (names other : Named) → names ≡ other → (before after : Sources D) (untouched still : Type 0) (P Q : Contents → D → Opening → D → UsersOpening → Type 0) (status : Status) → (untouched → still) → ((s : Contents) (d : D) (o : Opening) (e : D) (p : UsersOpening) → P s d o e p → Q s d o e p)
-      → Opens opener_told disk_told state names before after untouched (λ f o u. P f.shelf f.disk o u.found.disk u.opening) status → Opens opener_told disk_told state other before after still (λ f o u. Q f.shelf f.disk o u.found.disk u.opening) status
-  opens_for opener_told names other same before after untouched still P Q status keep on opens =
-      subst (λ (n : Named). Opens opener_told disk_told state n before after still (λ f o u. Q f.shelf f.disk o u.found.disk u.opening) status) same (elim opens [
+  pub opens_for : (opener_told : Type 0) (gone : AnyValue → Type 0) (names other : Named) → names ≡ other → (before after : Sources D) (untouched still : Type 0) (P Q : Contents → D → Opening → D → UsersOpening → Type 0) (status : Status) → (untouched → still) → ((s : Contents) (d : D) (o : Opening) (e : D) (p : UsersOpening) → P s d o e p → Q s d o e p)
+      → Opens opener_told disk_told state gone names before after untouched (λ f o u. P f.shelf f.disk o u.found.disk u.opening) status → Opens opener_told disk_told state gone other before after still (λ f o u. Q f.shelf f.disk o u.found.disk u.opening) status
+  opens_for opener_told gone names other same before after untouched still P Q status keep on opens =
+      subst (λ (n : Named). Opens opener_told disk_told state gone n before after still (λ f o u. Q f.shelf f.disk o u.found.disk u.opening) status) same (elim opens [
         | inl not ↦ inl (not.0, keep not.1)
         | inr ran ↦ inr (ran.0, ran.1, ran.2, ran.3, on ran.0.shelf ran.0.disk ran.1 ran.3.found.disk ran.3.opening ran.4)
       ])

@@ -2,6 +2,7 @@
 use Rattle.std.proofs.Common.{◌≡◌, ℕ, List, inl, inr, sym, subst}
 use Rattle.dxc_disk.specs.Disks.{DiskState}
 use Rattle.dxc_outside.specs.Links.{LinkState}
+use Rattle.dxc_leaving.specs.Values.{AnyValue}
 use Rattle.dxc_outside.specs.Openings.{OpenerState}
 use Rattle.dxc_outside.specs.declared.send.Sent.{Sent}
 use Rattle.dxc_outside.specs.declared.send.Sent.TheVariants as sent
@@ -61,15 +62,15 @@ no_shelf_ends told before after name NotEmpty not is = not
 no_disk_ends : {D : Type 0} (before after : Sources D) (s : Status) → NoDisk before after s → IsOfNoOpening s → ⊥
 no_disk_ends before after s not is = elim not.1 [ inl e ↦ subst IsOfNoOpening e is | inr e ↦ subst IsOfNoOpening e.0 is ]
 
-no_users_ends : {D : Type 0} (opener_told told : Type 0) (state : D → DiskState) (names : Named) (before after : Sources D) (s : Contents) (status : Status) → NoUsers opener_told told state names before after s status → IsOfNoOpening status → ⊥
-no_users_ends opener_told told state names before after s status none is = elim none [
+no_users_ends : {D : Type 0} (opener_told told : Type 0) (state : D → DiskState) (gone : AnyValue → Type 0) (names : Named) (before after : Sources D) (s : Contents) (status : Status) → NoUsers opener_told told state gone names before after s status → IsOfNoOpening status → ⊥
+no_users_ends opener_told told state gone names before after s status none is = elim none [
   | inl no_disk ↦ (elim no_disk [ inl e ↦ subst IsOfNoOpening e is | inr e ↦ subst IsOfNoOpening e.0 is ])
   | inr not ↦ users_fault_ends not.1.fault (subst IsOfNoOpening not.1.is is)
 ]
 
 -- what wasn't opened ends with a status of an opening
-pub not_opened_ends : (opener_told : Type 0) {D : Type 0} (told : Type 0) (state : D → DiskState) (names : Named) (before after : Sources D) (status : Status) → NotOpened opener_told told state names before after status → IsOfNoOpening status → ⊥
-not_opened_ends opener_told told state names before after status not is = elim not [
+pub not_opened_ends : (opener_told : Type 0) {D : Type 0} (told : Type 0) (state : D → DiskState) (gone : AnyValue → Type 0) (names : Named) (before after : Sources D) (status : Status) → NotOpened opener_told told state gone names before after status → IsOfNoOpening status → ⊥
+not_opened_ends opener_told told state gone names before after status not is = elim not [
   | inl no_controller ↦ (elim no_controller [
     | inl no_shelf ↦ no_shelf_ends opener_told before.opener after.opener names.shelf status no_shelf.1 is
     | inr further ↦ (elim further [
@@ -77,12 +78,12 @@ not_opened_ends opener_told told state names before after status not is = elim n
       | inr not_on ↦ fault_ends not_on.1.fault (subst IsOfNoOpening not_on.1.is is)
     ])
   ])
-  | inr no_users ↦ no_users_ends opener_told told state names before after no_users.0.shelf status no_users.4 is
+  | inr no_users ↦ no_users_ends opener_told told state gone names before after no_users.0.shelf status no_users.3 is
 ]
 
 -- nor what wasn't mirrored
-pub not_mirrored_ends : {D K : Type 0} (told link_told : Type 0) (state : D → DiskState) (link : K → LinkState) (opener_told : Type 0) (names : Named) (before after : Sources D) (status : Status) → NotMirrored told link_told state link opener_told names before after status → IsOfNoOpening status → ⊥
-not_mirrored_ends told link_told state link opener_told names before after status not is = elim not [
+pub not_mirrored_ends : {D K : Type 0} (told link_told : Type 0) (state : D → DiskState) (link : K → LinkState) (opener_told : Type 0) (gone : AnyValue → Type 0) (names : Named) (before after : Sources D) (status : Status) → NotMirrored told link_told state link opener_told gone names before after status → IsOfNoOpening status → ⊥
+not_mirrored_ends told link_told state link opener_told gone names before after status not is = elim not [
   | inl no_controller ↦ (elim no_controller [
     | inl no_shelf ↦ no_shelf_ends opener_told before.opener after.opener names.shelf status no_shelf.1 is
     | inr further ↦ (elim further [
@@ -90,7 +91,7 @@ not_mirrored_ends told link_told state link opener_told names before after statu
       | inr not_on ↦ fault_ends not_on.1.fault (subst IsOfNoOpening not_on.1.is is)
     ])
   ])
-  | inr no_users ↦ no_users_ends opener_told told state names before after no_users.0.shelf status no_users.4 is
+  | inr no_users ↦ no_users_ends opener_told told state gone names before after no_users.0.shelf status no_users.3 is
 ]
 
 -- none of lines that were written ends as words that are no line
@@ -99,17 +100,17 @@ sent_words sent.Whole is = cc
 sent_words sent.Cut is = cc
 
 -- nor what was opened by these names, where what was done there doesn't
-pub opens_words : (opener_told : Type 0) {D : Type 0} (told : Type 0) (state : D → DiskState) (names : Named) (before after : Sources D) (untouched : Type 0) (done : (f : Found opener_told names before) → Opening → Began opener_told told state names before f.shelf → Type 0) (status : Status)
-    → ((f : Found opener_told names before) (o : Opening) (u : Began opener_told told state names before f.shelf) → done f o u → status ≡ BadWords → ⊥) → Opens opener_told told state names before after untouched done status → status ≡ BadWords → ⊥
-opens_words opener_told told state names before after untouched done status other opens is = elim opens [
-  | inl not ↦ not_opened_ends opener_told told state names before after status not.0 (subst IsOfNoOpening (sym is) tt)
+pub opens_words : (opener_told : Type 0) {D : Type 0} (told : Type 0) (state : D → DiskState) (gone : AnyValue → Type 0) (names : Named) (before after : Sources D) (untouched : Type 0) (done : (f : Found opener_told names before) → Opening → Began opener_told told state names before f.shelf → Type 0) (status : Status)
+    → ((f : Found opener_told names before) (o : Opening) (u : Began opener_told told state names before f.shelf) → done f o u → status ≡ BadWords → ⊥) → Opens opener_told told state gone names before after untouched done status → status ≡ BadWords → ⊥
+opens_words opener_told told state gone names before after untouched done status other opens is = elim opens [
+  | inl not ↦ not_opened_ends opener_told told state gone names before after status not.0 (subst IsOfNoOpening (sym is) tt)
   | inr ran ↦ other ran.0 ran.1 ran.3 ran.4 is
 ]
 
 -- and by these with a peer
-pub mirrors_words : {D K : Type 0} (told link_told : Type 0) (state : D → DiskState) (link : K → LinkState) (opener_told : Type 0) (names : Named) (before after : Sources D) (untouched : Type 0) (P : Contents → Opening → UsersOpening → Type 0) (status : Status) → ((s : Contents) (o : Opening) (p : UsersOpening) → P s o p → status ≡ BadWords → ⊥)
-    → Mirrors told link_told state link opener_told names before after untouched (λ f o u. P f.shelf o u.opening) status → status ≡ BadWords → ⊥
-mirrors_words told link_told state link opener_told names before after untouched P status other mirrors is = elim mirrors [
-  | inl not ↦ not_mirrored_ends told link_told state link opener_told names before after status not.0 (subst IsOfNoOpening (sym is) tt)
+pub mirrors_words : {D K : Type 0} (told link_told : Type 0) (state : D → DiskState) (link : K → LinkState) (opener_told : Type 0) (gone : AnyValue → Type 0) (names : Named) (before after : Sources D) (untouched : Type 0) (P : Contents → Opening → UsersOpening → Type 0) (status : Status) → ((s : Contents) (o : Opening) (p : UsersOpening) → P s o p → status ≡ BadWords → ⊥)
+    → Mirrors told link_told state link opener_told gone names before after untouched (λ f o u. P f.shelf o u.opening) status → status ≡ BadWords → ⊥
+mirrors_words told link_told state link opener_told gone names before after untouched P status other mirrors is = elim mirrors [
+  | inl not ↦ not_mirrored_ends told link_told state link opener_told gone names before after status not.0 (subst IsOfNoOpening (sym is) tt)
   | inr ran ↦ other ran.0.shelf ran.1 ran.3.opening ran.4 is
 ]

@@ -43,6 +43,6 @@ lent sources terminal = record { sources = sources; terminal = terminal }
 
 -- nothing was opened and written, and why; or the commands of what was opened were written, and it was let go as it was opened
 abbrev pub Exports : {D : Type 0} → Told D → Named → (before after : Lent D) → Status → Type 0
-Exports told names before after status = Opens told.opener told.disk told.state names before.sources after.sources (after.terminal ≡ before.terminal)
+Exports told names before after status = Opens told.opener told.disk told.state told.gone names before.sources after.sources (after.terminal ≡ before.terminal)
     (λ f o u. (after.sources.stops ≡ before.sources.stops) × IsExport told.link f.shelf o before.terminal after.terminal status
     × WasLetGo told.disk told.state told.gone (opened_on f.disk u.found.disk f.shelf o)) status

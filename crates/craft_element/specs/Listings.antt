@@ -21,7 +21,7 @@ row_line d x = with_conn [] d x ++ 10 ∷ []
 -- how many records the journal of a Provisioner counts
 abbrev pub records_at : {D : Type 0} → Home D → ℕ
 records_at (In d) = d.value.p.journal.1.count
-records_at Out = 0
+records_at (Out e) = 0
 
 -- a line with the number of records
 abbrev pub count_line : ℕ → List ℕ

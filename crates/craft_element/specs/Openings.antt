@@ -1,5 +1,5 @@
 -- What the words name is opened, or why it isn't.
-use Rattle.std.specs.Prelude.{◌≡◌, ◌≢◌, ◌⊎◌, ◌≤◌, ◌<◌, ◌+◌, ℕ, List, [], ◌∷◌, ◌++◌, length, codes, Option, Some}
+use Rattle.std.specs.Prelude.{◌≡◌, ◌≢◌, ◌⊎◌, ◌≤◌, ◌<◌, ◌+◌, ℕ, List, [], ◌∷◌, ◌++◌, length, codes, Option, Some, Err}
 use Rattle.std.specs.Arc.{arc_value}
 use Rattle.dxc_causes.specs.Causes.{Rose, last}
 use Rattle.dxc_disk.specs.Disks.{DiskState, IsSound}
@@ -13,12 +13,12 @@ use Rattle.shelf_file.specs.declared.fault.ShelfFault.TheVariants as fault
 use Rattle.shelf_file.specs.Contents.{Contents, IsShelf}
 use Rattle.shelf_file.specs.Checks.{IsFirstFault}
 use Rattle.xc_core.specs.declared.fault.OpenFault.{OpenFault}
-use Rattle.xc_core.specs.Openings.{Begins, Fails, IsOpening}
+use Rattle.xc_core.specs.Openings.{Begins, Fails, IsDiskFault, IsOpening, IsStopFault, LeavesOpened, disk_of_fault}
 use Rattle.xc_core.specs.States.{Opening, opening_of}
 use Rattle.user_admin.specs.declared.fault.UserOpenFault.{UserOpenFault}
 use Rattle.user_admin.specs.declared.state.UserState.{UserState}
 use Rattle.user_admin.specs.Histories.{Opening as UsersOpening}
-use Rattle.user_admin.specs.Openings.{Begins as UsersBegin, Fails as UsersFail, IsOpening as IsUsersOpening}
+use Rattle.user_admin.specs.Openings.{Begins as UsersBegin, Fails as UsersFail, IsDiskErr as IsUsersDiskErr, IsOpening as IsUsersOpening, LeavesOpened as LeavesUsersOpened, disk_left as users_disk_left}
 use Rattle.user_admin.specs.States.{opening_of as users_opening}
 use Rattle.craft_element.specs.declared.opening.Controller.{Controller}
 use Rattle.craft_element.specs.declared.opening.Element.{Element}
@@ -86,14 +86,25 @@ pub record IsTaken (d : DiskState) (faults room margin : ℕ) : Type 0 where
   pub paid : opening_room ≤ d.room → faults + margin ≤ d.faults + d.margin
   pub counts : 0 < room → faults < last
 
+-- A fault of which this holds was let go, with the disk that it hands back, and the status is the fault's.
+pub record LetGoOf {F : Type 0} (gone : AnyValue → Type 0) (status_of : F → Status) (holds : F → Type 0) (status : Status) : Type 0 where
+  pub fault : F
+  pub is : status ≡ status_of fault
+  pub fails : holds fault
+  pub let_go : gone (any_value fault)
+
 module _ {D : Type 0} (disk_told : Type 0) (state : D → DiskState) where
-  -- why the controller didn't start on this disk
-  pub record NotStarted (disk : D) (s : Contents) (stops later : ℕ) (status : Status) : Type 0 where
-    pub fault : OpenFault D
-    pub is : status ≡ status_of_fault fault
+  -- A start on this disk came to this fault, which hands the disk back. A crash at any moment of it leaves what the disk might have left before, or a file
+  -- that stands for the same list. The gate stopped only where its count rose.
+  pub record StartFails (disk : D) (s : Contents) (rose : Type 0) (fault : OpenFault D) : Type 0 where
     pub why : disk_told → Fails state (state disk) s.shape fault
-    pub disk_failed : status ≡ Disk → IsSound opening_room (state disk) → ⊥
-    pub stopped : status ≡ Stopped → Rose stops later
+    pub left : disk_told → LeavesOpened s (state disk) (state (disk_of_fault fault))
+    pub disk_failed : IsDiskFault fault → IsSound opening_room (state disk) → ⊥
+    pub stopped : IsStopFault fault → rose
+
+  -- why the controller didn't start on this disk, which was let go as the start handed it back
+  abbrev pub NotStarted : (gone : AnyValue → Type 0) → D → Contents → (rose : Type 0) → Status → Type 0
+  NotStarted gone disk s rose status = LetGoOf gone status_of_fault (StartFails disk s rose) status
 
   -- where the history begins that the disk's journal came to, on a fabric of its own
   pub record HasOpening (disk : D) (s : Contents) (o : Opening) : Type 0 where
@@ -111,6 +122,13 @@ module _ {D : Type 0} (disk_told : Type 0) (state : D → DiskState) where
     pub taken : IsTaken (state disk) (opening_of state x.state).faults (opening_of state x.state).room (opening_of state x.state).margin
     pub seats : AreNew (arc_value x.fabric) 0 x.seats.items
     pub each : length x.seats.items ≡ workers
+
+  -- a controller that had started on this disk was let go so
+  pub record LeftStarted (gone : AnyValue → Type 0) (disk : D) (s : Contents) : Type 0 where
+    pub workers : ℕ
+    pub controller : Controller D
+    pub started : IsStarted disk s workers controller
+    pub let_go : gone (any_value controller)
 
 -- the shelf that the file of the name describes, and the disk that the opener handed out for the journal
 pub record Found (opener_told : Type 0) {D : Type 0} (names : Named) (before : Sources D) : Type 0 where
@@ -131,12 +149,15 @@ module _ {D : Type 0} (disk_told : Type 0) (state : D → DiskState) where
     pub begins : UsersBegin disk_told state x
     pub taken : IsTaken (state disk) (users_opening state x).faults (users_opening state x).room (users_opening state x).margin
 
-  -- why they weren't taken up
-  pub record AreUsersNotStarted (disk : D) (s : Contents) (status : Status) : Type 0 where
-    pub fault : UserOpenFault D
-    pub is : status ≡ status_of_users_fault fault
+  -- a taking up from this disk came to this fault, which hands the disk back, as a start does
+  pub record UsersStartFails (disk : D) (s : Contents) (fault : UserOpenFault D) : Type 0 where
     pub why : disk_told → UsersFail state (state disk) s fault
-    pub disk_failed : status ≡ Disk → IsSound opening_room (state disk) → ⊥
+    pub left : disk_told → LeavesUsersOpened s (state disk) (state (users_disk_left (Err fault)))
+    pub disk_failed : IsUsersDiskErr (Err fault) → IsSound opening_room (state disk) → ⊥
+
+  -- why they weren't taken up; the disk was let go as it was handed back
+  abbrev pub AreUsersNotStarted : (gone : AnyValue → Type 0) → D → Contents → Status → Type 0
+  AreUsersNotStarted gone disk s status = LetGoOf gone status_of_users_fault (UsersStartFails disk s) status
 
 -- the disks of a controller's journal and of its users', the shelf, and where the controller's history began
 pub record OpenedOn (D : Type 0) : Type 0 where
@@ -161,32 +182,13 @@ module _ (opener_told : Type 0) {D : Type 0} (disk_told : Type 0) (state : D →
   abbrev pub HasController : Named → ℕ → Sources D → Controller D → Type 0
   HasController names workers before x = (f : Found opener_told names before) × IsStarted disk_told state f.disk f.shelf workers x
 
-  -- no shelf, no disk, or one on which the controller didn't start
-  abbrev pub NoController : Named → (before after : Sources D) → Status → Type 0
-  NoController names before after status =
-      ((after.stops ≡ before.stops) × NoShelf opener_told before.opener after.opener names.shelf status)
-      ⊎ (((s : Contents) × HasShelf opener_told before.opener names.shelf s × NoDisk before after status)
-      ⊎ ((f : Found opener_told names before) × NotStarted disk_told state f.disk f.shelf before.stops after.stops status))
-
   -- the users of that journal
   abbrev pub HasUsers : Named → Sources D → Contents → UserState D → Type 0
   HasUsers names before s x = (u : FoundUsers opener_told names before) × AreUsersStarted disk_told state u.disk s x
 
-  -- no disk for it, or one on which they weren't taken up
-  abbrev pub NoUsers : Named → (before after : Sources D) → Contents → Status → Type 0
-  NoUsers names before after s status =
-      ((status ≡ NoMemory) ⊎ ((status ≡ CannotOpen) × Rose before.opener.faults after.opener.faults))
-      ⊎ ((u : FoundUsers opener_told names before) × AreUsersNotStarted disk_told state u.disk s status)
-
   -- the controller that the names stand for, and its users
   abbrev pub IsOpened : Named → ℕ → Sources D → Element D D → Type 0
   IsOpened names workers before x = (h : HasController names workers before x.controller) × HasUsers names before h.0.shelf x.users
-
-  -- no controller, or none of its users
-  abbrev pub NotOpened : Named → (before after : Sources D) → Status → Type 0
-  NotOpened names before after status =
-      NoController names before after status
-      ⊎ ((f : Found opener_told names before) × (o : Opening) × HasOpening disk_told state f.disk f.shelf o × (after.stops ≡ before.stops) × NoUsers names before after f.shelf status)
 
   -- where the users' history begins that the second disk's journal came to
   pub record Began (names : Named) (before : Sources D) (s : Contents) : Type 0 where
@@ -195,8 +197,28 @@ module _ (opener_told : Type 0) {D : Type 0} (disk_told : Type 0) (state : D →
     pub is : IsUsersOpening disk_told (state found.disk).reads_as s opening
     pub taken : IsTaken (state found.disk) opening.faults opening.room opening.margin
 
+module _ (opener_told : Type 0) {D : Type 0} (disk_told : Type 0) (state : D → DiskState) (gone : AnyValue → Type 0) where
+  -- no shelf, no disk, or one on which the controller didn't start
+  abbrev pub NoController : Named → (before after : Sources D) → Status → Type 0
+  NoController names before after status =
+      ((after.stops ≡ before.stops) × NoShelf opener_told before.opener after.opener names.shelf status)
+      ⊎ (((s : Contents) × HasShelf opener_told before.opener names.shelf s × NoDisk before after status)
+      ⊎ ((f : Found opener_told names before) × NotStarted disk_told state gone f.disk f.shelf (Rose before.stops after.stops) status))
+
+  -- no disk for the users' journal, or one on which they weren't taken up
+  abbrev pub NoUsers : Named → (before after : Sources D) → Contents → Status → Type 0
+  NoUsers names before after s status =
+      ((status ≡ NoMemory) ⊎ ((status ≡ CannotOpen) × Rose before.opener.faults after.opener.faults))
+      ⊎ ((u : FoundUsers opener_told names before) × AreUsersNotStarted disk_told state gone u.disk s status)
+
+  -- No controller, or none of its users. What was opened was let go so.
+  abbrev pub NotOpened : Named → (before after : Sources D) → Status → Type 0
+  NotOpened names before after status =
+      NoController names before after status
+      ⊎ ((f : Found opener_told names before) × LeftStarted disk_told state gone f.disk f.shelf × (after.stops ≡ before.stops) × NoUsers names before after f.shelf status)
+
   -- Nothing was opened, why, and nothing else happened; or this was done on what was opened.
-  abbrev pub Opens : (names : Named) (before after : Sources D) (untouched : Type 0) (done : (f : Found opener_told names before) → Opening → Began names before f.shelf → Type 0) → Status → Type 0
+  abbrev pub Opens : (names : Named) (before after : Sources D) (untouched : Type 0) (done : (f : Found opener_told names before) → Opening → Began opener_told disk_told state names before f.shelf → Type 0) → Status → Type 0
   Opens names before after untouched done status =
       (NotOpened names before after status × untouched)
-      ⊎ ((f : Found opener_told names before) × (o : Opening) × HasOpening disk_told state f.disk f.shelf o × (u : Began names before f.shelf) × done f o u)
+      ⊎ ((f : Found opener_told names before) × (o : Opening) × HasOpening disk_told state f.disk f.shelf o × (u : Began opener_told disk_told state names before f.shelf) × done f o u)

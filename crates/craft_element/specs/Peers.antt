@@ -1,8 +1,10 @@
 -- A controller whose journal is mirrored to a standby.
 use Rattle.std.specs.Prelude.{◌≡◌, ◌⊎◌, ◌≤◌, ℕ, List, [], ◌∷◌, Option, Some, IsSomeAnd}
+use Rattle.dxc_causes.specs.Causes.{Rose}
 use Rattle.dxc_disk.specs.Disks.{DiskState, Looks}
 use Rattle.dxc_outside.specs.Asked.{Asking, shelf_named, journal_named, peer_named}
 use Rattle.dxc_outside.specs.Links.{LinkState}
+use Rattle.dxc_leaving.specs.Values.{AnyValue}
 use Rattle.shelf_file.specs.Contents.{Contents}
 use Rattle.standby_link.specs.declared.mirror_disk.MirrorDisk.{MirrorDisk}
 use Rattle.standby_link.specs.Lines.{line_at}
@@ -11,7 +13,7 @@ use Rattle.xc_core.specs.States.{Opening}
 use Rattle.craft_element.specs.declared.opening.Controller.{Controller}
 use Rattle.craft_element.specs.declared.opening.Element.{Element}
 use Rattle.craft_words.specs.declared.status.Status.{Status}
-use Rattle.craft_element.specs.Openings.{Began, HasOpening, HasShelf, HasUsers, IsStarted, Named, NoDisk, NoShelf, NotStarted, NoUsers, Sources, users_name}
+use Rattle.craft_element.specs.Openings.{Began, HasOpening, HasShelf, HasUsers, IsStarted, LeftStarted, Named, NoDisk, NoShelf, NotStarted, NoUsers, Sources, users_name}
 
 -- what an opener is asked for by these names, with a peer
 abbrev pub mirror_asked : Named → List ℕ → List Asking
@@ -47,25 +49,26 @@ module _ {D K : Type 0} (disk_told link_told : Type 0) (state : D → DiskState)
     abbrev pub HasMirrored : Named → ℕ → Sources D → Controller (MirrorDisk D K) → Type 0
     HasMirrored names workers before x = (f : FoundMirror names before) × IsStarted disk_told (mirror_state state) f.mirror f.shelf workers x
 
-    -- no shelf, no disk or no peer, or a mirror on which the controller didn't start
-    abbrev pub NoMirrored : Named → (before after : Sources D) → Status → Type 0
-    NoMirrored names before after status =
-        ((after.stops ≡ before.stops) × NoShelf opener_told before.opener after.opener names.shelf status)
-        ⊎ (((s : Contents) × HasShelf opener_told before.opener names.shelf s × NoDisk before after status)
-        ⊎ ((f : FoundMirror names before) × NotStarted disk_told (mirror_state state) f.mirror f.shelf before.stops after.stops status))
-
     -- the controller that the names stand for, on the mirror, and its users, on a journal that isn't mirrored
     abbrev pub IsOpenedOn : Named → ℕ → Sources D → Element (MirrorDisk D K) D → Type 0
     IsOpenedOn names workers before x = (h : HasMirrored names workers before x.controller) × HasUsers opener_told disk_told state names before h.0.shelf x.users
 
-    -- no controller, or none of its users
-    abbrev pub NotMirrored : Named → (before after : Sources D) → Status → Type 0
-    NotMirrored names before after status =
-        NoMirrored names before after status
-        ⊎ ((f : FoundMirror names before) × (o : Opening) × HasOpening disk_told (mirror_state state) f.mirror f.shelf o × (after.stops ≡ before.stops) × NoUsers opener_told disk_told state names before after f.shelf status)
+    module _ (gone : AnyValue → Type 0) where
+      -- no shelf, no disk or no peer, or a mirror on which the controller didn't start
+      abbrev pub NoMirrored : Named → (before after : Sources D) → Status → Type 0
+      NoMirrored names before after status =
+          ((after.stops ≡ before.stops) × NoShelf opener_told before.opener after.opener names.shelf status)
+          ⊎ (((s : Contents) × HasShelf opener_told before.opener names.shelf s × NoDisk before after status)
+          ⊎ ((f : FoundMirror names before) × NotStarted disk_told (mirror_state state) gone f.mirror f.shelf (Rose before.stops after.stops) status))
 
-    -- Nothing was opened, why, and nothing else happened; or this was done on what was opened and mirrored.
-    abbrev pub Mirrors : (names : Named) (before after : Sources D) (untouched : Type 0) (done : (f : FoundMirror names before) → Opening → Began opener_told disk_told state names before f.shelf → Type 0) → Status → Type 0
-    Mirrors names before after untouched done status =
-        (NotMirrored names before after status × untouched)
-        ⊎ ((f : FoundMirror names before) × (o : Opening) × HasOpening disk_told (mirror_state state) f.mirror f.shelf o × (u : Began opener_told disk_told state names before f.shelf) × done f o u)
+      -- No controller, or none of its users. What was opened was let go so.
+      abbrev pub NotMirrored : Named → (before after : Sources D) → Status → Type 0
+      NotMirrored names before after status =
+          NoMirrored names before after status
+          ⊎ ((f : FoundMirror names before) × LeftStarted disk_told (mirror_state state) gone f.mirror f.shelf × (after.stops ≡ before.stops) × NoUsers opener_told disk_told state gone names before after f.shelf status)
+
+      -- Nothing was opened, why, and nothing else happened; or this was done on what was opened and mirrored.
+      abbrev pub Mirrors : (names : Named) (before after : Sources D) (untouched : Type 0) (done : (f : FoundMirror names before) → Opening → Began opener_told disk_told state names before f.shelf → Type 0) → Status → Type 0
+      Mirrors names before after untouched done status =
+          (NotMirrored names before after status × untouched)
+          ⊎ ((f : FoundMirror names before) × (o : Opening) × HasOpening disk_told (mirror_state state) f.mirror f.shelf o × (u : Began opener_told disk_told state names before f.shelf) × done f o u)

@@ -7,6 +7,7 @@ use Rattle.dxc_model.specs.declared.entry.Entry.{Entry}
 use Rattle.dxc_model.specs.declared.op.Selection.TheVariants.{All}
 use Rattle.dxc_model.specs.Histories.{IsLegal, changes_of, table_after}
 use Rattle.dxc_model.specs.Tables.{rows}
+use Rattle.xc_core.specs.declared.state.Errand.{Errand}
 use Rattle.xc_core.specs.declared.state.Home.TheVariants.{In, Out}
 use Rattle.xc_core.specs.declared.state.State.{State}
 use Rattle.xc_core.specs.Provisioners.{Boxed}
@@ -30,7 +31,7 @@ pub record IsHaltedHome {D : Type 0} (x : State D) : Type 0 where
 
 -- a place has the Provisioner, or a restart is due
 abbrev pub IsAway : {D : Type 0} → State D → Type 0
-IsAway x = (x.home ≡ Out) ⊎ IsHaltedHome x
+IsAway x = ((e : Errand) × (x.home ≡ Out e)) ⊎ IsHaltedHome x
 
 -- behind a history from the opening on: the connections of the plain table after it, and the switches of its changes, each by its planned work
 pub record IsStockAfter (o : Opening) (h : List Entry) (s : Stock) : Type 0 where

@@ -8,6 +8,7 @@ ghost use Rattle.craft_jobs.specs.Missing.{IsOfNoOpening};
 ghost use Rattle.tl1_answer.specs.Texts.{IsOfShape};
 ghost use Rattle.dxc_model.specs.declared.op.Selection.TheVariants.{All};
 ghost use Rattle.dxc_model.specs.Tables.{rows};
+ghost use Rattle.xc_core.specs.declared.state.Errand.{Errand};
 ghost use Rattle.xc_core.specs.declared.state.Home.TheVariants.{Out};
 ghost use Rattle.craft_element.specs.Listings.{IsCheck, row_line, count_line, listing, records_at};
 ghost use Rattle.craft_element.specs.Openings.{Opens, WasLetGo, files_asked, named, opened_on, sources};
@@ -36,7 +37,7 @@ pub fn run_check<O: Opener + LetGo, K: Link, G: Gate>(
     terminal: &mut K,
     gate: &mut G,
 ) -> Status
-    ensures opens { Opens O.told O.Journal.told O.Journal.state
+    ensures opens { Opens O.told O.Journal.told O.Journal.state O.gone
         (named names.entry.shelf.now names.entry.journal.now)
         (sources (O.state opener.old) (O.journal_at opener.old) (G.stops gate.old))
         (sources (O.state opener.new) (O.journal_at opener.new) (G.stops gate.new))
@@ -63,7 +64,7 @@ pub fn run_check<O: Opener + LetGo, K: Link, G: Gate>(
 
 // Writes each row of the table, and how many records its journal has. `listed` has room for the rows of its shape.
 fn check<K: Link, D: Disk + Drop>(state: &State<D>, listed: &mut Vec<Conn>, link: &mut K) -> Sent
-    requires home { state.now.home ≢ Out }
+    requires home { (e : Errand) → state.now.home ≢ Out e }
     requires room { ports state.now.table.shape ≤ vec_capacity listed.old }
     ensures sent { IsSent K.told (K.state link.old) (K.state link.new) result
         (listing state.now.table.shape (rows state.now.table All) (records_at state.now.home)) }
@@ -77,7 +78,7 @@ fn check<K: Link, D: Disk + Drop>(state: &State<D>, listed: &mut Vec<Conn>, link
     }
     let records = match &state.home {
         Home::In(p) => p.records(),
-        Home::Out => unreachable!(),
+        Home::Out(_) => unreachable!(),
     };
     write_count(link, &mut text, records)
 }

@@ -3,7 +3,9 @@ ghost use Rattle.std.specs.Prelude.{◌≡◌, ◌≤◌, IfOk, MatchResult};
 ghost use Rattle.dxc_disk.specs.MemView.{mem_state};
 ghost use Rattle.craft_element.specs.Loads.{IsInMemory, IsNewDisk, IsNewUsersDisk, IsNewController, IsNewElement, NotLoaded};
 
-use crate::opening::{Controller, Element, start, start_users};
+use crate::opening::{
+    Controller, Element, not_started, start_on, start_users_on, users_not_started,
+};
 use craft_words::Status;
 use dxc_causes::NoMemory;
 use dxc_disk::{Disk, MemDisk};
@@ -45,7 +47,10 @@ fn new_controller<D: Disk + Drop, G: Gate>(
     ensures unstopped { MatchResult result (λ x. G.stops gate.new ≡ G.stops gate.old)
         (λ s. G.stops gate.old ≤ G.stops gate.new) }
 {
-    start(alloc, shelf, disk, 1, gate)
+    match start_on(alloc, shelf, disk, 1, gate) {
+        Ok(controller) => Ok(controller),
+        Err(fault) => Err(not_started(&fault)),
+    }
 }
 
 /// The element of the shelf on that new disk: a controller with one worker, and its users, on a new disk in memory.
@@ -67,9 +72,9 @@ pub(crate) fn new_element<D: Disk + Drop, G: Gate>(
     let Ok(users_disk) = new_users_disk(alloc) else {
         return Err(Status::NoMemory);
     };
-    match start_users(alloc, &controller.shelf, users_disk) {
+    match start_users_on(alloc, &controller.shelf, users_disk) {
         Ok(users) => Ok(Element { controller, users }),
-        Err(status) => Err(status),
+        Err(fault) => Err(users_not_started(&fault)),
     }
 }
 

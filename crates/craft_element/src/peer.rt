@@ -7,6 +7,7 @@ ghost use Rattle.craft_element.specs.Peers.{HasMirrored, IsMirrorOf, IsOpenedOn,
 
 use crate::opening::{Controller, Element, Names, open_users, shelf_of_file, start};
 use craft_words::Status;
+use dxc_leaving::LetGo;
 use dxc_outside::{Gate, Opened, Opener};
 use standby_link::MirrorDisk;
 use std::alloc::Global;
@@ -16,8 +17,8 @@ pub type Mirror<O> = MirrorDisk<<O as Opener>::Journal, <O as Opener>::Peer>;
 
 /// Opens the shelf file and the journal of these names, joins the standby at the peer, and starts the controller with so many
 /// workers on what the journal came to; then the users' journal beside it, which isn't mirrored. Where the joining is lost the
-/// journal is served alone.
-pub fn open_mirrored<O: Opener, G: Gate>(
+/// journal is served alone. Where the element doesn't start, what is left of it is let go as it was handed back.
+pub fn open_mirrored<O: Opener + LetGo, G: Gate>(
     alloc: Global,
     opener: &mut O,
     names: Names<'_>,
@@ -29,7 +30,7 @@ pub fn open_mirrored<O: Opener, G: Gate>(
     ensures opened { MatchResult result (IsOpenedOn O.Journal.told O.Peer.told O.Journal.state
         O.Peer.state O.told (named names.entry.shelf.now names.entry.journal.now) workers
         (sources (O.state opener.old) (O.journal_at opener.old) (G.stops gate.old)))
-        (NotMirrored O.Journal.told O.Peer.told O.Journal.state O.Peer.state O.told
+        (NotMirrored O.Journal.told O.Peer.told O.Journal.state O.Peer.state O.told O.gone
         (named names.entry.shelf.now names.entry.journal.now)
         (sources (O.state opener.old) (O.journal_at opener.old) (G.stops gate.old))
         (sources (O.state opener.new) (O.journal_at opener.new) (G.stops gate.new))) }
@@ -43,12 +44,15 @@ pub fn open_mirrored<O: Opener, G: Gate>(
     let controller = mirrored_controller(alloc, opener, names, peer, workers, gate)?;
     match open_users(alloc, opener, names.journal, &controller.shelf) {
         Ok(users) => Ok(Element { controller, users }),
-        Err(status) => Err(status),
+        Err(status) => {
+            opener.let_go(controller);
+            Err(status)
+        }
     }
 }
 
 // The shelf file, the journal and the peer of these names, and the controller on what the mirrored journal came to.
-fn mirrored_controller<O: Opener, G: Gate>(
+fn mirrored_controller<O: Opener + LetGo, G: Gate>(
     alloc: Global,
     opener: &mut O,
     names: Names<'_>,
@@ -60,7 +64,7 @@ fn mirrored_controller<O: Opener, G: Gate>(
     ensures opened { MatchResult result (HasMirrored O.Journal.told O.Peer.told O.Journal.state
         O.Peer.state O.told (named names.entry.shelf.now names.entry.journal.now) workers
         (sources (O.state opener.old) (O.journal_at opener.old) (G.stops gate.old)))
-        (NoMirrored O.Journal.told O.Peer.told O.Journal.state O.Peer.state O.told
+        (NoMirrored O.Journal.told O.Peer.told O.Journal.state O.Peer.state O.told O.gone
         (named names.entry.shelf.now names.entry.journal.now)
         (sources (O.state opener.old) (O.journal_at opener.old) (G.stops gate.old))
         (sources (O.state opener.new) (O.journal_at opener.new) (G.stops gate.new))) }
@@ -74,7 +78,7 @@ fn mirrored_controller<O: Opener, G: Gate>(
 {
     let shelf = shelf_of_file(alloc, opener, names.shelf)?;
     let mirror = mirror_of(alloc, opener, names.journal, peer)?;
-    start(alloc, shelf, mirror, workers, gate)
+    start(alloc, opener, shelf, mirror, workers, gate)
 }
 
 // The disk of the journal of that name, mirrored to the standby at the peer.

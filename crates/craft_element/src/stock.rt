@@ -11,7 +11,7 @@ use dxc_disk::Disk;
 use dxc_model::{Conn, Selection};
 use std::sync::Wait;
 use turnstile::{Pass, Turnstile};
-use xc_core::{Driver, Home, State, release};
+use xc_core::{Driver, Errand, Home, State, release};
 
 /// How many connections there are, and how many switches were made since the fabric was.
 #[derive(Clone, Copy)]
@@ -70,7 +70,7 @@ pub fn stock_of<D: Disk + Drop, R: Wait>(
     let Some(stock) = stock_in(turn.state(), rows) else {
         return None;
     };
-    let Some(driver) = turn.state_mut().take_out() else {
+    let Some(driver) = turn.state_mut().take_out(Errand::Restart) else {
         unreachable!()
     };
     let disk = disk_in(Box::into_inner(driver));

@@ -7,6 +7,7 @@ use Rattle.dxc_outside.specs.Asked.{Asking, AskedFor, copy_named, listener_named
 use Rattle.dxc_outside.proofs.Asking.{asked_all, asked_part}
 use Rattle.dxc_outside.specs.Callers.{IsAccept, ListenerState}
 use Rattle.dxc_outside.specs.Links.{LinkState}
+use Rattle.dxc_outside.specs.declared.link.Lost.{Lost}
 use Rattle.dxc_outside.specs.declared.listener.Came.{Came}
 use Rattle.dxc_outside.specs.declared.listener.Came.TheVariants.{Link, End, Failed}
 use Rattle.standby_link.specs.declared.end.StandbyEnd.{StandbyEnd}
@@ -30,36 +31,36 @@ pub no_disk_fault : (disk_told link_told : Type 0) (k k' : LinkState) (d d' : Di
 no_disk_fault disk_told link_told k k' d d' end (inl unbegun) counts sound rose = never_rises d.room d.margin d.faults d'.faults d'.margin 1 counts sound.margin (omega arith) sound.enough (unbegun.spent sound.enough).margin rose
 no_disk_fault disk_told link_told k k' d d' end (inr served) counts sound rose = never_rises d.room d.margin d.faults d'.faults d'.margin (1 + length (bytes_in served.came)) counts sound.margin (omega arith) sound.enough (served.spent sound.enough).1 rose
 
-module _ (disk_told listener_told link_told : Type 0) {D L K : Type 0} (disk : D → DiskState) (listener : L → ListenerState K) (link : K → LinkState) (begun : LinkState → Type 0) (d : D) (l : L) (copy : D) (door new_door : L) (passed : Passed disk_told listener_told link_told disk listener link begun d l copy door) where
+module _ (disk_told listener_told link_told : Type 0) {D L K : Type 0} (disk : D → DiskState) (listener : L → ListenerState K) (link : K → LinkState) (begun : LinkState → Type 0) (hung_up : K → Option Lost) (d : D) (l : L) (copy : D) (door new_door : L) (passed : Passed disk_told listener_told link_told disk listener link begun hung_up d l copy door) where
   -- after those who were passed over, one was served
-  pub served_one : (first : Came K) (caller served : K) (new_copy : D) (end : StandbyEnd) → first ≡ Link caller → IsFirst listener_told link (listener door) (listener new_door) first → Stays disk_told link_told disk link begun caller served copy new_copy end
-      → Meets disk_told listener_told link_told disk listener link begun d l new_copy new_door (ServedMet served end)
+  pub served_one : (first : Came K) (caller served : K) (new_copy : D) (end : StandbyEnd) → first ≡ Link caller → IsFirst listener_told link (listener door) (listener new_door) first → Stays disk_told link_told disk link begun hung_up caller served copy new_copy end
+      → Meets disk_told listener_told link_told disk listener link begun hung_up d l new_copy new_door (ServedMet served end)
   served_one first caller served new_copy end is came stays =
       let one = subst (λ (f : Came K). IsFirst listener_told link (listener door) (listener new_door) f) is came in
       (copy, door, passed, record { caller = caller; first = one.coming; is_sound = one.sound; stays = stays })
 
   -- one more was passed over
-  pub passed_one : (first : Came K) (caller left : K) (new_copy : D) → first ≡ Link caller → IsFirst listener_told link (listener door) (listener new_door) first → ServesOrPasses disk_told link_told disk link begun caller left copy new_copy None
-      → Passed disk_told listener_told link_told disk listener link begun d l new_copy new_door
+  pub passed_one : (first : Came K) (caller left : K) (new_copy : D) → first ≡ Link caller → IsFirst listener_told link (listener door) (listener new_door) first → ServesOrPasses disk_told link_told disk link begun hung_up caller left copy new_copy None
+      → Passed disk_told listener_told link_told disk listener link begun hung_up d l new_copy new_door
   passed_one first caller left new_copy is came passes =
       one_more copy new_copy door new_door caller left passes.0 passed (subst (λ (f : Came K). IsFirst listener_told link (listener door) (listener new_door) f) is came) passes.1
 
   -- the listener said End
-  pub nobody_came : (first : Came K) → first ≡ End → IsFirst listener_told link (listener door) (listener new_door) first → Meets disk_told listener_told link_told disk listener link begun d l copy new_door Nobody
+  pub nobody_came : (first : Came K) → first ≡ End → IsFirst listener_told link (listener door) (listener new_door) first → Meets disk_told listener_told link_told disk listener link begun hung_up d l copy new_door Nobody
   nobody_came first is came =
       let one = subst (λ (f : Came K). IsFirst listener_told link (listener door) (listener new_door) f) is came in
       (door, passed, record { ended = one.ended refl; nobody = λ t. one.coming t ∙ one.end t refl })
 
   -- 16 accepts failed
-  pub none_accepted : (first : Came K) → first ≡ Failed → IsFirst listener_told link (listener door) (listener new_door) first → Meets disk_told listener_told link_told disk listener link begun d l copy new_door NoneHeard
+  pub none_accepted : (first : Came K) → first ≡ Failed → IsFirst listener_told link (listener door) (listener new_door) first → Meets disk_told listener_told link_told disk listener link begun hung_up d l copy new_door NoneHeard
   none_accepted first is came =
       let one = subst (λ (f : Came K). IsFirst listener_told link (listener door) (listener new_door) f) is came in
       (door, passed, record { risen = one.risen refl; unsound = one.sound; nobody = one.coming })
 
 -- what came of the callers, by what it is
-pub met_by : (disk_told listener_told link_told : Type 0) {D L K : Type 0} (disk : D → DiskState) (listener : L → ListenerState K) (link : K → LinkState) (begun : LinkState → Type 0) (d : D) (l : L) (copy : D) (door : L) (met is : Met K) → met ≡ is → Meets disk_told listener_told link_told disk listener link begun d l copy door met
-    → Meets disk_told listener_told link_told disk listener link begun d l copy door is
-met_by disk_told listener_told link_told disk listener link begun d l copy door met is same meets = subst (Meets disk_told listener_told link_told disk listener link begun d l copy door) same meets
+pub met_by : (disk_told listener_told link_told : Type 0) {D L K : Type 0} (disk : D → DiskState) (listener : L → ListenerState K) (link : K → LinkState) (begun : LinkState → Type 0) (hung_up : K → Option Lost) (d : D) (l : L) (copy : D) (door : L) (met is : Met K) → met ≡ is → Meets disk_told listener_told link_told disk listener link begun hung_up d l copy door met
+    → Meets disk_told listener_told link_told disk listener link begun hung_up d l copy door is
+met_by disk_told listener_told link_told disk listener link begun hung_up d l copy door met is same meets = subst (Meets disk_told listener_told link_told disk listener link begun hung_up d l copy door) same meets
 
 -- no listener was asked for only where the status is one of an opening
 unopened_ends : (faults later : ℕ) (status : Status) → IsUnopened faults later status → IsOfNoOpening status → ⊥
@@ -68,9 +69,9 @@ unopened_ends faults later status closed ends = elim closed [
   | inr cannot ↦ subst IsOfNoOpening cannot.0 ends
 ]
 
-module _ (opener_told disk_told listener_told link_told : Type 0) {D L K : Type 0} (disk : D → DiskState) (listener : L → ListenerState K) (link : K → LinkState) (begun : LinkState → Type 0) (journal_at : List ℕ → Option D) (listener_at : List ℕ → Option L) (faults later : ℕ) (journal address : List ℕ) (asked : List Asking → Type 0) (status : Status) where
+module _ (opener_told disk_told listener_told link_told : Type 0) {D L K : Type 0} (disk : D → DiskState) (listener : L → ListenerState K) (link : K → LinkState) (begun : LinkState → Type 0) (hung_up : K → Option Lost) (journal_at : List ℕ → Option D) (listener_at : List ℕ → Option L) (faults later : ℕ) (journal address : List ℕ) (asked : List Asking → Type 0) (status : Status) where
   -- what was asked for, by what is left
-  pub asked_by : (stood : Stood D L K) → status ≡ status_of_stood stood → Stands opener_told disk_told listener_told link_told disk listener link begun journal_at listener_at faults later journal address stood → asked (stood_asked journal address stood)
+  pub asked_by : (stood : Stood D L K) → status ≡ status_of_stood stood → Stands opener_told disk_told listener_told link_told disk listener link begun hung_up journal_at listener_at faults later journal address stood → asked (stood_asked journal address stood)
       → AskedFor asked (copy_named journal ∷ listener_named address ∷ []) (IsOfNoOpening status)
   asked_by (NoJournal s) is stands made = asked_part asked _ (copy_named journal ∷ []) (listener_named address ∷ []) made (λ ends. unopened_ends faults later s stands (subst IsOfNoOpening is ends))
   asked_by (NoListener copy s) is stands made = asked_all asked _ (copy_named journal ∷ listener_named address ∷ []) made

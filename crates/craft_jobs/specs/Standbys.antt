@@ -6,6 +6,7 @@ use Rattle.dxc_disk.specs.Disks.{DiskState, IsLength, IsSound}
 use Rattle.dxc_disk.specs.declared.disk.DiskFault.{DiskFault}
 use Rattle.dxc_disk.specs.declared.disk.Disk.{Ghosts as DiskOf}
 use Rattle.dxc_outside.specs.declared.link.Link.{Ghosts as LinkOf}
+use Rattle.dxc_outside.specs.declared.link.Lost.{Lost}
 use Rattle.dxc_outside.specs.Asked.{Asking, copy_named, listener_named}
 use Rattle.dxc_outside.specs.Callers.{ListenerState, IsSoundCame, came}
 use Rattle.dxc_outside.specs.Links.{IsSoundLink, LinkState}
@@ -97,12 +98,13 @@ MayGoOn standby.DiskFault = ⊥
 MayGoOn standby.NotEmpty = ⊥
 MayGoOn standby.Spent = ⊥
 
-module _ (disk_told link_told : Type 0) {D K : Type 0} (disk : D → DiskState) (link : K → LinkState) (begun : LinkState → Type 0) where
-  -- A caller was served on the disk to its end. After that the disk was asked for its length, or for nothing.
+module _ (disk_told link_told : Type 0) {D K : Type 0} (disk : D → DiskState) (link : K → LinkState) (begun : LinkState → Type 0) (hung_up : K → Option Lost) where
+  -- A caller was served on the disk to its end, and not hung up. After that the disk was asked for its length, or for nothing.
   pub record Serves (k k' : K) (d d' : D) (end : StandbyEnd) : Type 0 where
     pub served : D
     pub ran : RanStandby disk_told link_told (link k) (link k') (disk d) (disk served) end
     pub prompt : IsPrompt begun link_told (link k) (link k')
+    pub unhung : hung_up k' ≡ hung_up k
     pub measured : (d' ≡ served) ⊎ ((length : Result ℕ DiskFault) × IsLength disk_told (disk served) (disk d') length)
 
   -- it left the disk empty
@@ -121,18 +123,18 @@ module _ (disk_told link_told : Type 0) {D K : Type 0} (disk : D → DiskState) 
   ServesOrPasses k k' d d' (Some end) = Stays k k' d d' end
   ServesOrPasses k k' d d' None = (end : StandbyEnd) × Passes k k' d d' end
 
-module _ (disk_told listener_told link_told : Type 0) {D L K : Type 0} (disk : D → DiskState) (listener : L → ListenerState K) (link : K → LinkState) (begun : LinkState → Type 0) where
+module _ (disk_told listener_told link_told : Type 0) {D L K : Type 0} (disk : D → DiskState) (listener : L → ListenerState K) (link : K → LinkState) (begun : LinkState → Type 0) (hung_up : K → Option Lost) where
   -- callers one after another, each of whom left the disk empty
   pub data Passed (d : D) (l : L) : D → L → Type 0 where
     nobody : Passed d l d l
-    one_more : (mid d' : D) (door l' : L) (caller left : K) (end : StandbyEnd) → Passed d l mid door → IsFirst listener_told link (listener door) (listener l') (answer.Link caller) → Passes disk_told link_told disk link begun caller left mid d' end → Passed d l d' l'
+    one_more : (mid d' : D) (door l' : L) (caller left : K) (end : StandbyEnd) → Passed d l mid door → IsFirst listener_told link (listener door) (listener l') (answer.Link caller) → Passes disk_told link_told disk link begun hung_up caller left mid d' end → Passed d l d' l'
 
   -- the next link that came was served on the disk; both are left as they stood when its service ended
   pub record ServedOne (d : D) (l : ListenerState K) (new_disk : D) (new_door : L) (new_caller : K) (end : StandbyEnd) : Type 0 where
     pub caller : K
     pub first : listener_told → l.coming ≡ caller ∷ (listener new_door).coming
     pub is_sound : IsTrue l.sound → IsSoundLink (link caller)
-    pub stays : Stays disk_told link_told disk link begun caller new_caller d new_disk end
+    pub stays : Stays disk_told link_told disk link begun hung_up caller new_caller d new_disk end
 
   -- the listener said End before a link came
   pub record NobodyCame (l : ListenerState K) (new_door : L) : Type 0 where
@@ -151,7 +153,7 @@ module _ (disk_told listener_told link_told : Type 0) {D L K : Type 0} (disk : D
   Meets d l new_disk new_door Nobody = (door : L) × Passed d l new_disk door × NobodyCame (listener door) new_door
   Meets d l new_disk new_door NoneHeard = (door : L) × Passed d l new_disk door × NoneAccepted (listener door) new_door
 
-module _ (opener_told disk_told listener_told link_told : Type 0) {D L K : Type 0} (disk : D → DiskState) (listener : L → ListenerState K) (link : K → LinkState) (begun : LinkState → Type 0) where
+module _ (opener_told disk_told listener_told link_told : Type 0) {D L K : Type 0} (disk : D → DiskState) (listener : L → ListenerState K) (link : K → LinkState) (begun : LinkState → Type 0) (hung_up : K → Option Lost) where
   -- the disk and the listener that the opener handed out, the one by the journal's name and the other by the address
   pub record HasBoth (journal_at : List ℕ → Option D) (listener_at : List ℕ → Option L) (journal address : List ℕ) : Type 0 where
     pub copy : D
@@ -164,9 +166,9 @@ module _ (opener_told disk_told listener_told link_told : Type 0) {D L K : Type 
   abbrev pub Stands : (journal_at : List ℕ → Option D) (listener_at : List ℕ → Option L) (faults later : ℕ) (journal address : List ℕ) → Stood D L K → Type 0
   Stands journal_at listener_at faults later journal address (NoJournal status) = IsUnopened faults later status
   Stands journal_at listener_at faults later journal address (NoListener copy status) = (opener_told → journal_at journal ≡ Some copy) × IsUnopened faults later status
-  Stands journal_at listener_at faults later journal address (Unmet copy door) = (b : HasBoth journal_at listener_at journal address) × Meets disk_told listener_told link_told disk listener link begun b.copy b.door copy door Nobody
-  Stands journal_at listener_at faults later journal address (Unheard copy door) = (b : HasBoth journal_at listener_at journal address) × Meets disk_told listener_told link_told disk listener link begun b.copy b.door copy door NoneHeard
-  Stands journal_at listener_at faults later journal address (ServedStood copy door caller end) = (b : HasBoth journal_at listener_at journal address) × Meets disk_told listener_told link_told disk listener link begun b.copy b.door copy door (ServedMet caller end)
+  Stands journal_at listener_at faults later journal address (Unmet copy door) = (b : HasBoth journal_at listener_at journal address) × Meets disk_told listener_told link_told disk listener link begun hung_up b.copy b.door copy door Nobody
+  Stands journal_at listener_at faults later journal address (Unheard copy door) = (b : HasBoth journal_at listener_at journal address) × Meets disk_told listener_told link_told disk listener link begun hung_up b.copy b.door copy door NoneHeard
+  Stands journal_at listener_at faults later journal address (ServedStood copy door caller end) = (b : HasBoth journal_at listener_at journal address) × Meets disk_told listener_told link_told disk listener link begun hung_up b.copy b.door copy door (ServedMet caller end)
 
   -- What a standby came to: its status is that of what is left of it, which was let go so.
   pub record StandsBy (journal_at : List ℕ → Option D) (listener_at : List ℕ → Option L) (faults later : ℕ) (journal address : List ℕ) (gone : AnyValue → Type 0) (asked : List Asking → Type 0) (status : Status) : Type 0 where
@@ -178,16 +180,16 @@ module _ (opener_told disk_told listener_told link_told : Type 0) {D L K : Type 
 
 -- what came of the callers, by the ghost members of disk, listener and links, across a call
 abbrev pub MetAt : {D L K : Type 0} (w : Doorway D L K) → Across D → Across L → Met K → Type 0
-MetAt w disk listener met = Meets w.disk.told w.listener.told w.link.told w.disk.state w.listener.state w.link.state w.link.begun disk.entry.now listener.entry.now disk.exit.now listener.exit.now met
+MetAt w disk listener met = Meets w.disk.told w.listener.told w.link.told w.disk.state w.listener.state w.link.state w.link.begun w.link.hung_up disk.entry.now listener.entry.now disk.exit.now listener.exit.now met
 
 -- what came of one of them
 abbrev pub ServedAt : {D K : Type 0} (disk : DiskOf D) (link : LinkOf K) → Across K → Across D → Option StandbyEnd → Type 0
-ServedAt disk link k d end = ServesOrPasses disk.told link.told disk.state link.state link.begun k.entry.now k.exit.now d.entry.now d.exit.now end
+ServedAt disk link k d end = ServesOrPasses disk.told link.told disk.state link.state link.begun link.hung_up k.entry.now k.exit.now d.entry.now d.exit.now end
 
 -- by an opener, across the call, with the names of the journal and of the address
 abbrev pub StoodBy : {O : Type 0} (w : Office O) → (gone : AnyValue → Type 0) → Across O → (names : List ℕ × List ℕ) → Status → Type 0
-StoodBy w gone opener names status = StandsBy w.opener.told w.disk.told w.listener.told w.link.told w.disk.state w.listener.state w.link.state w.link.begun (w.opener.journal_at opener.entry.now) (w.opener.listener_at opener.entry.now) (w.opener.state opener.entry.now).faults (w.opener.state opener.exit.now).faults names.0 names.1 gone (w.opener.asked opener.entry.now opener.exit.now) status
+StoodBy w gone opener names status = StandsBy w.opener.told w.disk.told w.listener.told w.link.told w.disk.state w.listener.state w.link.state w.link.begun w.link.hung_up (w.opener.journal_at opener.entry.now) (w.opener.listener_at opener.entry.now) (w.opener.state opener.entry.now).faults (w.opener.state opener.exit.now).faults names.0 names.1 gone (w.opener.asked opener.entry.now opener.exit.now) status
 
 -- and what is left of it
 abbrev pub MetBy : {O : Type 0} (w : Office O) → Across O → (journal address : List ℕ) → Stood w.Disk w.Listener w.Link → Type 0
-MetBy w opener journal address stood = Stands w.opener.told w.disk.told w.listener.told w.link.told w.disk.state w.listener.state w.link.state w.link.begun (w.opener.journal_at opener.entry.now) (w.opener.listener_at opener.entry.now) (w.opener.state opener.entry.now).faults (w.opener.state opener.exit.now).faults journal address stood
+MetBy w opener journal address stood = Stands w.opener.told w.disk.told w.listener.told w.link.told w.disk.state w.listener.state w.link.state w.link.begun w.link.hung_up (w.opener.journal_at opener.entry.now) (w.opener.listener_at opener.entry.now) (w.opener.state opener.entry.now).faults (w.opener.state opener.exit.now).faults journal address stood

@@ -144,6 +144,7 @@ fn stand_by<K: Link, D: Disk>(link: &mut K, disk: &mut D) -> StandbyEnd
     ensures ran { RanStandby D.told K.told (K.state link.old) (K.state link.new) (D.state disk.old)
         (D.state disk.new) result }
     ensures prompt { IsPrompt K.begun K.told (K.state link.old) (K.state link.new) }
+    ensures hung_up { K.hung_up link.new ≡ K.hung_up link.old }
 {
     serve_standby(link, disk)
 }

@@ -1,4 +1,5 @@
 pub mod Calling
+pub mod Noting
 pub mod Crossing
 pub mod Serves
 pub mod Starting

@@ -4,6 +4,7 @@ use Rattle.dxc_disk.specs.Disks.{DiskState}
 use Rattle.dxc_outside.specs.declared.clock.Moment.{Moment}
 use Rattle.dxc_outside.specs.Asked.{Asking}
 use Rattle.dxc_outside.specs.Callers.{ListenerState}
+use Rattle.dxc_outside.specs.declared.link.Lost.{Lost}
 use Rattle.dxc_outside.specs.Links.{LinkState}
 use Rattle.dxc_outside.specs.Threads.{SpawnerState}
 use Rattle.dxc_model.specs.declared.user.SessionUser.TheVariants.{Nobody}
@@ -118,20 +119,20 @@ module _ (told : Told) {N L C G : Type 0} (jobs : JobsTold N L C G) {D : Type 0}
 
   -- what its names stand for was opened, or why not, and the mode ran on it
   abbrev pub OpensFor : Line → (before after : Lent D) → Status → Type 0
-  OpensFor l before after status = Opens told.opener told.disk state (named_in l) before.sources after.sources (IsUntouched before after) (Ran l before after status) status
+  OpensFor l before after status = Opens told.opener told.disk state told.gone (named_in l) before.sources after.sources (IsUntouched before after) (Ran l before after status) status
 
 -- the words are no line, or memory was wanting to read them
 abbrev pub NoLine : List (List ℕ) → Status → Type 0
 NoLine words status = ((status ≡ BadWords) × ((l : Line) → IsLine words l → ⊥)) ⊎ (status ≡ NoMemory)
 
-module _ (told : Told) {N L C G : Type 0} (jobs : JobsTold N L C G) {D K J : Type 0} (state : D → DiskState) (peer : K → LinkState) (listener : L → ListenerState J) (link : J → LinkState) (listener_at : List ℕ → Option L) where
+module _ (told : Told) {N L C G : Type 0} (jobs : JobsTold N L C G) {D K J : Type 0} (state : D → DiskState) (peer : K → LinkState) (listener : L → ListenerState J) (link : J → LinkState) (hung_up : J → Option Lost) (listener_at : List ℕ → Option L) where
   -- what the names stand for was opened and mirrored, or why not, and sessions and frame workers were started on it
   abbrev pub MirrorsFor : (names : Named) → SiteAt → (before after : Lent D) → Status → Type 0
-  MirrorsFor names site before after status = Mirrors told.disk told.peer state peer told.opener names before.sources after.sources (IsUntouched before after) (λ f o u. RanServe (MirrorDisk D K) jobs site before after f.shelf o u.opening status) status
+  MirrorsFor names site before after status = Mirrors told.disk told.peer state peer told.opener told.gone names before.sources after.sources (IsUntouched before after) (λ f o u. RanServe (MirrorDisk D K) jobs site before after f.shelf o u.opening status) status
 
   -- a standby ran, by what the opener would hand out, with terminal, clock, spawner and gate untouched
   pub record RanBy (journal address : List ℕ) (before after : Lent D) (status : Status) : Type 0 where
-    pub stands_by : StandsBy told.opener told.disk told.listener told.link state listener link told.link_begun before.sources.journal_at listener_at before.sources.opener.faults after.sources.opener.faults journal address told.gone told.asked status
+    pub stands_by : StandsBy told.opener told.disk told.listener told.link state listener link told.link_begun hung_up before.sources.journal_at listener_at before.sources.opener.faults after.sources.opener.faults journal address told.gone told.asked status
     pub untouched : IsUntouched before after
     pub gate : after.sources.stops ≡ before.sources.stops
 

@@ -4,10 +4,11 @@ use Rattle.craft_session.specs.declared.end.SessionEnd.TheVariants as end
 use Rattle.craft_words.specs.declared.status.Status.{Status}
 use Rattle.craft_words.specs.declared.status.Status.TheVariants.{Done, Link, Stopped, Spent}
 
--- after a session over the terminal
+-- after a session over the terminal, which doesn't end since nobody is logged in
 abbrev pub status_of : SessionEnd → Status
 status_of end.End = Done
 status_of end.ReadFault = Link
 status_of end.WriteFault = Link
 status_of end.Stopped = Stopped
 status_of end.Spent = Spent
+status_of end.Unattended = Spent

@@ -81,6 +81,7 @@ fn serve_load<D: Disk + Drop, U: Disk + Drop, G: Gate, R: Wait>(
         SessionEnd::Stopped => Err(Status::Stopped),
         SessionEnd::ReadFault => unreachable!(),
         SessionEnd::Spent => unreachable!(),
+        SessionEnd::Unattended => unreachable!(),
     }
 }
 

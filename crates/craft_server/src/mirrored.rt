@@ -12,6 +12,7 @@ use crate::serve::{Site, serve_on};
 use craft_element::{Controller, Element, Names, open_mirrored};
 use craft_words::Status;
 use dxc_leaving::LetGo;
+use dxc_notes::Noted;
 use dxc_outside::{Gate, Listener, Opener, Spawner};
 use std::alloc::Global;
 use std::sync::Wait;
@@ -28,9 +29,11 @@ pub(crate) fn serve_mirrored<O: Opener + LetGo, G: Gate, P: Spawner, R: Wait>(
     rt: &R,
 ) -> Status
 where
+    O::Listener: Noted,
     <O::Listener as Listener>::Link: Send + 'static,
+    <O::Listener as Noted>::Notes: Send + 'static,
     requires { (1 ≤ site.workers) × (site.workers ≤ 8) }
-    ensures mirrors { Mirrors O.Journal.told O.Peer.told O.Journal.state O.Peer.state O.told
+    ensures mirrors { Mirrors O.Journal.told O.Peer.told O.Journal.state O.Peer.state O.told O.gone
         (named names.entry.shelf.now names.entry.journal.now)
         (sources (O.state opener.old) (O.journal_at opener.old) (G.stops gate.old))
         (sources (O.state opener.new) (O.journal_at opener.new) (G.stops gate.new))

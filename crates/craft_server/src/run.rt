@@ -16,6 +16,7 @@ use craft_element::{Names, run_check, run_export};
 use craft_jobs::run_standby;
 use craft_words::{Line, Status, WordsFault, line_of};
 use dxc_leaving::LetGo;
+use dxc_notes::Noted;
 use dxc_outside::{Clock, Gate, Link, Listener, Name, Opener, Spawner};
 use std::alloc::Global;
 use std::sync::Wait;
@@ -43,18 +44,22 @@ pub fn dxc_run<O: Opener + LetGo, K: Link, C: Clock, G: Gate, P: Spawner, R: Wai
     rt: &R,
 ) -> Status
 where
+    O::Listener: Noted,
     <O::Listener as Listener>::Link: Send + 'static,
+    <O::Listener as Noted>::Notes: Send + 'static,
     ensures words { result ≡ Status.BadWords → (l : ALine) → IsLine words.now l → ⊥ }
     ensures run { IsRun (told_by O.told O.Journal.told K.told C.told O.Peer.told O.Listener.told
         O.Listener.Link.told K.begun O.Listener.Link.begun O.gone (O.asked opener.old opener.new))
         (jobs_told O.Journal.told O.Opener O.Lines.Lines O.Listener.Listener O.Listener.Link.Link
         O.Clock.Clock O.Gate.Gate O.gone (P.handed spawner.old spawner.new)) O.Journal.state
-        O.Peer.state O.Listener.state O.Listener.Link.state (O.listener_at opener.old) words.now
+        O.Peer.state O.Listener.state O.Listener.Link.state O.Listener.Link.hung_up
+        (O.listener_at opener.old) words.now
         (lent (sources (O.state opener.old) (O.journal_at opener.old) (G.stops gate.old))
         (K.state terminal.old) (C.coming clock.old) (P.state spawner.old))
         (lent (sources (O.state opener.new) (O.journal_at opener.new) (G.stops gate.new))
         (K.state terminal.new) (C.coming clock.new) (P.state spawner.new)) result }
     ensures asked { AskedBy (O.asked opener.old opener.new) words.now result }
+    ensures hung_up { K.hung_up terminal.new ≡ K.hung_up terminal.old }
 {
     match line_of(alloc, words) {
         Ok(line) => run_line(alloc, &line, opener, terminal, clock, gate, spawner, rt),
@@ -75,20 +80,24 @@ fn run_line<O: Opener + LetGo, K: Link, C: Clock, G: Gate, P: Spawner, R: Wait>(
     rt: &R,
 ) -> Status
 where
+    O::Listener: Noted,
     <O::Listener as Listener>::Link: Send + 'static,
+    <O::Listener as Noted>::Notes: Send + 'static,
     ensures words { IsInRange line.now → result ≢ Status.BadWords }
     ensures run { IsInRange line.now
         → IsRunOf (told_by O.told O.Journal.told K.told C.told O.Peer.told O.Listener.told
         O.Listener.Link.told K.begun O.Listener.Link.begun O.gone (O.asked opener.old opener.new))
         (jobs_told O.Journal.told O.Opener O.Lines.Lines O.Listener.Listener O.Listener.Link.Link
         O.Clock.Clock O.Gate.Gate O.gone (P.handed spawner.old spawner.new)) O.Journal.state
-        O.Peer.state O.Listener.state O.Listener.Link.state (O.listener_at opener.old) line.now
+        O.Peer.state O.Listener.state O.Listener.Link.state O.Listener.Link.hung_up
+        (O.listener_at opener.old) line.now
         (lent (sources (O.state opener.old) (O.journal_at opener.old) (G.stops gate.old))
         (K.state terminal.old) (C.coming clock.old) (P.state spawner.old))
         (lent (sources (O.state opener.new) (O.journal_at opener.new) (G.stops gate.new))
         (K.state terminal.new) (C.coming clock.new) (P.state spawner.new)) result }
     ensures asked { IsInRange line.now
         → AskedFor (O.asked opener.old opener.new) (line_asked line.now) (IsOfNoOpening result) }
+    ensures hung_up { K.hung_up terminal.new ≡ K.hung_up terminal.old }
 {
     match line {
         Line::Script { shelf, journal } => {

@@ -1,4 +1,4 @@
-ghost use Rattle.std.specs.Prelude.{◌≡◌};
+ghost use Rattle.std.specs.Prelude.{◌≡◌, ◌≢◌};
 ghost use Rattle.dxc_outside.specs.Asked.{AskedFor};
 ghost use Rattle.craft_jobs.specs.Missing.{IsOfNoOpening};
 ghost use Rattle.craft_element.specs.Openings.{Opens, files_asked, named, sources};
@@ -26,7 +26,7 @@ pub(crate) fn run_script<O: Opener + LetGo, K: Link, C: Clock, G: Gate, R: Wait>
     gate: &mut G,
     rt: &R,
 ) -> Status
-    ensures opens { Opens O.told O.Journal.told O.Journal.state
+    ensures opens { Opens O.told O.Journal.told O.Journal.state O.gone
         (named names.entry.shelf.now names.entry.journal.now)
         (sources (O.state opener.old) (O.journal_at opener.old) (G.stops gate.old))
         (sources (O.state opener.new) (O.journal_at opener.new) (G.stops gate.new))
@@ -37,6 +37,7 @@ pub(crate) fn run_script<O: Opener + LetGo, K: Link, C: Clock, G: Gate, R: Wait>
         (G.stops gate.new) result) result }
     ensures asked { AskedFor (O.asked opener.old opener.new)
         (files_asked (named names.entry.shelf.now names.entry.journal.now)) (IsOfNoOpening result) }
+    ensures hung_up { K.hung_up terminal.new ≡ K.hung_up terminal.old }
 {
     let Element { controller, users } = match open(alloc, opener, names, WORKERS, gate) {
         Ok(element) => element,
@@ -58,6 +59,7 @@ pub(crate) fn run_script<O: Opener + LetGo, K: Link, C: Clock, G: Gate, R: Wait>
 
 /// The status of a session that ended so.
 pub(crate) fn after_session(end: SessionEnd) -> Status
+    requires attended { end ≢ SessionEnd.Unattended }
     ensures { result ≡ status_of end }
 {
     match end {
@@ -65,5 +67,6 @@ pub(crate) fn after_session(end: SessionEnd) -> Status
         SessionEnd::ReadFault | SessionEnd::WriteFault => Status::Link,
         SessionEnd::Stopped => Status::Stopped,
         SessionEnd::Spent => Status::Spent,
+        SessionEnd::Unattended => unreachable!(),
     }
 }

@@ -28,6 +28,7 @@ use craft_session::places::open_places;
 use craft_words::{Line, Status};
 use dxc_disk::Disk;
 use dxc_leaving::LetGo;
+use dxc_notes::Noted;
 use dxc_outside::{Clock, Gate, Lines, Listener, Opener, Spawner, Started};
 use fabric_words::{Fabric, WorkerSeat};
 use shelf_file::Shelf;
@@ -40,7 +41,7 @@ use xc_core::State;
 fn run_jobs<
     D: Disk + Send + Drop + 'static,
     U: Disk + Send + Drop + 'static,
-    L: Listener + Send + Drop + 'static,
+    L: Listener + Noted + Send + Drop + 'static,
     C: Clock + Send + Drop + 'static,
     G: Gate + Send + Drop + 'static,
     N: Lines + Send + Drop + 'static,
@@ -57,6 +58,7 @@ fn run_jobs<
 ) -> Status
 where
     L::Link: Send + 'static,
+    L::Notes: Send + 'static,
     ensures serving { (faults : ℕ) → (later : ℕ) → IsServing (vec_len workers + vec_len sessions)
         faults later (P.state spawner.old) (P.state spawner.new) result }
     ensures handed { result ≡ Status.Done
@@ -106,7 +108,9 @@ pub(crate) fn serve_on<
     rt: &R,
 ) -> Status
 where
+    O::Listener: Noted,
     <O::Listener as Listener>::Link: Send + 'static,
+    <O::Listener as Noted>::Notes: Send + 'static,
     requires seats { AreNew (arc_value fabric.now) 0 seats.items }
     requires each { length seats.items ≡ site.workers }
     requires sized { (arc_value fabric.now).size
@@ -151,9 +155,11 @@ fn serve_alone<O: Opener + LetGo, G: Gate, P: Spawner, R: Wait>(
     rt: &R,
 ) -> Status
 where
+    O::Listener: Noted,
     <O::Listener as Listener>::Link: Send + 'static,
+    <O::Listener as Noted>::Notes: Send + 'static,
     requires { (1 ≤ site.workers) × (site.workers ≤ 8) }
-    ensures opens { Opens O.told O.Journal.told O.Journal.state
+    ensures opens { Opens O.told O.Journal.told O.Journal.state O.gone
         (named names.entry.shelf.now names.entry.journal.now)
         (sources (O.state opener.old) (O.journal_at opener.old) (G.stops gate.old))
         (sources (O.state opener.new) (O.journal_at opener.new) (G.stops gate.new))
@@ -197,10 +203,12 @@ pub fn serve_all<O: Opener + LetGo, G: Gate, P: Spawner, R: Wait>(
     rt: &R,
 ) -> Status
 where
+    O::Listener: Noted,
     <O::Listener as Listener>::Link: Send + 'static,
+    <O::Listener as Noted>::Notes: Send + 'static,
     requires { IsServe line.now }
     ensures alone { peer_of line.now ≡ None
-        → Opens O.told O.Journal.told O.Journal.state (named_in line.now)
+        → Opens O.told O.Journal.told O.Journal.state O.gone (named_in line.now)
         (sources (O.state opener.old) (O.journal_at opener.old) (G.stops gate.old))
         (sources (O.state opener.new) (O.journal_at opener.new) (G.stops gate.new))
         (P.state spawner.new ≡ P.state spawner.old) (λ f o u. ServedSite O.Journal O.Journal
@@ -209,8 +217,8 @@ where
         (sources (O.state opener.old) (O.journal_at opener.old) (G.stops gate.old))
         (sources (O.state opener.new) (O.journal_at opener.new) (G.stops gate.new))
         (P.state spawner.old) (P.state spawner.new) f.shelf o u.opening result) result }
-    ensures mirrored { IsSome (peer_of line.now)
-        → Mirrors O.Journal.told O.Peer.told O.Journal.state O.Peer.state O.told (named_in line.now)
+    ensures mirrored { IsSome (peer_of line.now) → Mirrors O.Journal.told O.Peer.told
+        O.Journal.state O.Peer.state O.told O.gone (named_in line.now)
         (sources (O.state opener.old) (O.journal_at opener.old) (G.stops gate.old))
         (sources (O.state opener.new) (O.journal_at opener.new) (G.stops gate.new))
         (P.state spawner.new ≡ P.state spawner.old)
@@ -260,9 +268,11 @@ pub(crate) fn serve_line<O: Opener + LetGo, G: Gate, P: Spawner, R: Wait>(
     rt: &R,
 ) -> Status
 where
+    O::Listener: Noted,
     <O::Listener as Listener>::Link: Send + 'static,
+    <O::Listener as Noted>::Notes: Send + 'static,
     ensures alone { IsServe line.now → peer_of line.now ≡ None
-        → Opens O.told O.Journal.told O.Journal.state (named_in line.now)
+        → Opens O.told O.Journal.told O.Journal.state O.gone (named_in line.now)
         (sources (O.state opener.old) (O.journal_at opener.old) (G.stops gate.old))
         (sources (O.state opener.new) (O.journal_at opener.new) (G.stops gate.new))
         (P.state spawner.new ≡ P.state spawner.old) (λ f o u. ServedSite O.Journal O.Journal
@@ -271,8 +281,8 @@ where
         (sources (O.state opener.old) (O.journal_at opener.old) (G.stops gate.old))
         (sources (O.state opener.new) (O.journal_at opener.new) (G.stops gate.new))
         (P.state spawner.old) (P.state spawner.new) f.shelf o u.opening result) result }
-    ensures mirrored { IsServe line.now → IsSome (peer_of line.now)
-        → Mirrors O.Journal.told O.Peer.told O.Journal.state O.Peer.state O.told (named_in line.now)
+    ensures mirrored { IsServe line.now → IsSome (peer_of line.now) → Mirrors O.Journal.told
+        O.Peer.told O.Journal.state O.Peer.state O.told O.gone (named_in line.now)
         (sources (O.state opener.old) (O.journal_at opener.old) (G.stops gate.old))
         (sources (O.state opener.new) (O.journal_at opener.new) (G.stops gate.new))
         (P.state spawner.new ≡ P.state spawner.old)

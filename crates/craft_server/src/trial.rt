@@ -1,5 +1,5 @@
 //! A trial: one session of the user of a new element, whose journals are in memory.
-ghost use Rattle.std.specs.Prelude.{IfOk, MatchResult};
+ghost use Rattle.std.specs.Prelude.{◌≡◌, IfOk, MatchResult};
 ghost use Rattle.craft_server.specs.Trials.{IsTrialElement, IsTrialOn, IsUntried, memory_told, trial_lent, trial_told};
 
 use crate::script::after_session;
@@ -25,9 +25,10 @@ fn trial_on<D: Disk + Drop, K: Link, C: Clock, G: Gate, R: Wait>(
     rt: &R,
 ) -> Status
     requires element { IsTrialElement D.told D.state shape element }
-    ensures { IsTrialOn (trial_told D.told D.state K.told C.told K.begun) shape
+    ensures ran { IsTrialOn (trial_told D.told D.state K.told C.told K.begun) shape
         (trial_lent (K.state terminal.old) (C.coming clock.old) (G.stops gate.old))
         (trial_lent (K.state terminal.new) (C.coming clock.new) (G.stops gate.new)) result }
+    ensures hung_up { K.hung_up terminal.new ≡ K.hung_up terminal.old }
 {
     let _ = shape;
     let Element { controller, users } = element;
@@ -55,12 +56,13 @@ fn trial_opened<D: Disk + Drop, K: Link, C: Clock, G: Gate, R: Wait>(
     rt: &R,
 ) -> Status
     requires element { IfOk opened (IsTrialElement D.told D.state shape) }
-    ensures { MatchResult opened
+    ensures ran { MatchResult opened
         (λ _. IsTrialOn (trial_told D.told D.state K.told C.told K.begun) shape
         (trial_lent (K.state terminal.old) (C.coming clock.old) (G.stops gate.old))
         (trial_lent (K.state terminal.new) (C.coming clock.new) (G.stops gate.new)) result)
         (IsUntried (trial_lent (K.state terminal.old) (C.coming clock.old) (G.stops gate.old))
         (trial_lent (K.state terminal.new) (C.coming clock.new) (G.stops gate.new)) result) }
+    ensures hung_up { K.hung_up terminal.new ≡ K.hung_up terminal.old }
 {
     match opened {
         Ok(element) => trial_on(alloc, shape, element, terminal, clock, gate, rt),
@@ -77,9 +79,10 @@ pub(crate) fn run_trial<K: Link, C: Clock, G: Gate, R: Wait>(
     gate: &mut G,
     rt: &R,
 ) -> Status
-    ensures { IsTrialOn (memory_told K.told C.told K.begun) shape
+    ensures ran { IsTrialOn (memory_told K.told C.told K.begun) shape
         (trial_lent (K.state terminal.old) (C.coming clock.old) (G.stops gate.old))
         (trial_lent (K.state terminal.new) (C.coming clock.new) (G.stops gate.new)) result }
+    ensures hung_up { K.hung_up terminal.new ≡ K.hung_up terminal.old }
 {
     let Ok(shelf) = trial_shelf(alloc, shape) else {
         return Status::NoMemory;

@@ -183,6 +183,9 @@ module _ (o : Opening) (own : ℕ) (h : List Entry) where
   abbrev pub turned_back_passed : (seen : List Gv) → TurnedBack o own h seen → PassedBy o own h seen
   turned_back_passed seen t = record { passed = t.later; unused = others_unused own t.later t.others; saw = t.saw }
 
+  abbrev pub turned_back_mended : (seen : List Gv) → TurnedBack o own h seen → MendedBy o own h seen
+  turned_back_mended seen t = record { front = t.later; mends = unused_mends own h t.later (others_unused own t.later t.others); saw = t.saw }
+
   pub mended_on_turns : (asked : Op) (seen then_seen : List Gv) (b : PassedBy o own h seen) (how : Mended) → MendedIs o own (h ++ b.passed) asked then_seen how → MendedIs o own h asked then_seen how
   mended_on_turns asked seen then_seen b mended.Ready x = (x.0, passed_on _ seen then_seen b x.1, subst (λ (l : List Entry). IsDueFor asked l) (append_assoc h b.passed x.1.passed) x.2, subst (λ (l : List Entry). IsOfStop x.0 l) (append_assoc h b.passed x.1.passed) x.3)
   mended_on_turns asked seen then_seen b (mended.Denied q) x = (passed_on _ seen then_seen b x.0, x.1, subst (λ (l : List Entry). IsDueFor asked l) (append_assoc h b.passed x.0.passed) x.2)

@@ -103,6 +103,14 @@ abbrev is_stopped : SessionEnd → Bool
 is_stopped session.Stopped = true
 is_stopped _ = false
 
+abbrev is_spent : SessionEnd → Bool
+is_spent session.Spent = true
+is_spent _ = false
+
+abbrev is_unattended : SessionEnd → Bool
+is_unattended session.Unattended = true
+is_unattended _ = false
+
 module _ {X : Type 0} (e : SessionEnd) where
   pub end_no : session.End ≡ e → is_end e ≡ false → X
   end_no is other = absurd (apart is_end session.End session.End e refl refl other is)
@@ -115,6 +123,12 @@ module _ {X : Type 0} (e : SessionEnd) where
 
   pub stop_no : session.Stopped ≡ e → is_stopped e ≡ false → X
   stop_no is other = absurd (apart is_stopped session.Stopped session.Stopped e refl refl other is)
+
+  pub spent_no : session.Spent ≡ e → is_spent e ≡ false → X
+  spent_no is other = absurd (apart is_spent session.Spent session.Spent e refl refl other is)
+
+  pub unattended_no : session.Unattended ≡ e → is_unattended e ≡ false → X
+  unattended_no is other = absurd (apart is_unattended session.Unattended session.Unattended e refl refl other is)
 
 -- a count that stayed first
 pub later_behind : (a b c : ℕ) → b ≡ a → b ≤ c → a ≤ c
@@ -140,6 +154,10 @@ counted_none n = record { reached = omega arith; no_more = omega arith }
 pub few_more : (limit a b c d n : ℕ) → Counted a b n → Counted b c 1 → d ≡ c → n < limit → d ≤ a + limit
 few_more limit a b c d n so_far one is within = omega (arith, so_far.no_more, one.no_more, is, within)
 
+-- so many reads are
+pub few_here : (limit a b n : ℕ) → Counted a b n → n < limit → b ≤ a + limit
+few_here limit a b n so_far within = omega (arith, so_far.no_more, within)
+
 -- a read that answered wasn't Failed
 pub bytes_came : (n : ℕ) → Bytes n ≡ NotRead → ⊥
 bytes_came n is = cc
@@ -155,6 +173,7 @@ unfailed : (l : Language Request Moment) (told clock_told : Type 0) (k j : LinkS
 unfailed l told clock_told k j c d b now session.End x other = x.no_fault
 unfailed l told clock_told k j c d b now session.ReadFault x other = x.no_fault
 unfailed l told clock_told k j c d b now session.Spent x other = x.no_fault
+unfailed l told clock_told k j c d b now session.Unattended x other = x.served.no_fault
 unfailed l told clock_told k j c d b now session.Stopped x other = x.no_fault
 unfailed l told clock_told k j c d b now session.WriteFault x other = absurd (other refl)
 

@@ -132,6 +132,11 @@ pub roll_done : (asked : List GatePlace → Type 0) (writes : ℕ) (how : Pass1)
 roll_done asked writes Go x = x
 roll_done asked writes Stop x = inr x
 
+-- a restart that failed: before the gate was asked only by the disk
+pub failed_first : (asked : List GatePlace → Type 0) (q : Cause) → RereadAsked asked (reread.Failed q) → ((q ≡ DiskFault) × asked []) ⊎ asked (Journal ∷ [])
+failed_first asked DiskFault x = elim x [ inl none ↦ inl (refl, none) | inr one ↦ inr one ]
+failed_first asked _ x = inr x
+
 -- a restart that failed, or at which the gate stopped
 pub failed_asked : (asked : List GatePlace → Type 0) (q : Cause) → RereadAsked asked (reread.Failed q) → asked [] ⊎ asked (Journal ∷ [])
 failed_asked asked DiskFault x = x

@@ -18,6 +18,7 @@ pub mod Consulted
 pub mod Timely
 pub mod SessionSteps
 pub mod Prompt
+pub mod Waiting
 pub mod Answering
 pub mod Telling
 pub mod Playing

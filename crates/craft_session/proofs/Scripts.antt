@@ -21,7 +21,8 @@ use Rattle.dxc_model.proofs.Lasting.{lasts_before, lasts_no_more}
 use Rattle.tl1_text.specs.Units.{Input, IsRest, IsStream}
 use Rattle.user_admin.specs.declared.op.UserEntry.{UserEntry}
 use Rattle.user_admin.specs.Histories.{Opening as UsersOpening}
-use Rattle.user_admin.specs.Turns.{AreNumbered as AreUsersNumbered, codes as user_codes}
+use Rattle.user_admin.specs.Turns.{AreNumbered as AreUsersNumbered, Saw as SawUsers}
+use Rattle.user_admin.proofs.Turning.{nothing_seen, numbered_seen}
 use Rattle.dxc_model.specs.declared.user.SessionUser.{SessionUser}
 use base.Stored.{Gv}
 use Rattle.xc_core.specs.Seeing.{Saw, codes, entry}
@@ -31,7 +32,7 @@ use Rattle.xc_core.specs.Turns.{AreNumbered, SawNoneAstray}
 use Rattle.craft_session.specs.declared.ask.Ask.{Ask}
 use Rattle.craft_session.specs.declared.ask.Ask.TheVariants.{Refused, LogsIn, LogsOut, Completes, Allows, Inhibits, Lists, Shows, Restarts, Changes}
 use Rattle.craft_session.specs.declared.end.SessionEnd.{SessionEnd}
-use Rattle.craft_session.specs.declared.end.SessionEnd.TheVariants.{End, ReadFault, WriteFault, Stopped, Spent}
+use Rattle.craft_session.specs.declared.end.SessionEnd.TheVariants.{End, ReadFault, WriteFault, Stopped, Spent, Unattended}
 use Rattle.craft_session.specs.Asks.{Language, Reply, user_after}
 use Rattle.craft_session.specs.Happenings.{Happening, Request, unit, bytes_in, inputs_in, units_in}
 use Rattle.craft_session.specs.PlainUsers.{ConsultsAlone, IsUsersOpeningOf}
@@ -316,7 +317,7 @@ module _ (disk_told : Type 0) (disk users_disk : DiskState) (own : ℕ) (o : Ope
     some_alone some = elim played_alone [ inl x ↦ absurd (some x.happenings) | inr x ↦ x ]
 
   module _ (told clock_told : Type 0) (k l : LinkState) (c d : List Moment) (tongue : Language Request Moment) (now : Now) (mine : (h : List Entry) → now.seen ≡ codes h → AllByRecursion (λ e. e.place ≡ own) h) (never : SawNoneAstray disk_told now.seen)
-      (mine_users : (h : List UserEntry) → now.users ≡ user_codes h → AllByRecursion (λ e. e.place ≡ own) h) where
+      (mine_users : (h : List UserEntry) → SawUsers p now.users h → AllByRecursion (λ e. e.place ≡ own) h) where
     abbrev b : Beginning
     b = record { opening = o; users = p; place = own; before = []; users_before = [] }
 
@@ -333,7 +334,7 @@ module _ (disk_told : Type 0) (disk users_disk : DiskState) (own : ℕ) (o : Ope
 
     -- what was heard of the users
     asked_alone : (hs : List (Happening Request)) (user : SessionUser) → Consulted tongue b now.users hs user → ConsultsAlone tongue users_disk own p (length (units_in hs)) hs user
-    asked_alone hs user c = consults_alone tongue users_disk own p users_is hs c.history user c.heard c.saw.history (mine_users c.history c.saw.codes_are)
+    asked_alone hs user c = consults_alone tongue users_disk own p users_is hs c.history user c.heard c.saw.history (mine_users c.history c.saw)
 
     answered : (items : List Item) (rest out : List ℕ) → IsRest rest → Past tongue clock_told c d b now false items rest out → Answered disk_told disk users_disk own o p clock_told c d tongue items out
     answered items rest out no_unit q =
@@ -445,16 +446,13 @@ module _ (disk_told : Type 0) (disk users_disk : DiskState) (own : ℕ) (o : Ope
     scripted End x = wrote_all x
     scripted ReadFault x = wrote_all x
     scripted Spent x = wrote_all x
+    scripted Unattended x = wrote_all x.served
     scripted WriteFault x = record { items = x.items; ahead = x.ahead; out = x.out; exchanged = x.exchanged; answered = in_part x.items x.out x.past; rose = x.rose }
     scripted Stopped x = record { items = x.items; ahead = x.ahead; out = x.out; exchanged = x.exchanged; no_fault = x.no_fault; answered = stopped x.items x.out x.past }
 
 no_codes : (h : List Entry) → codes h ≡ [] → h ≡ []
 no_codes [] is = refl
 no_codes (e ∷ es) is = cc
-
-no_user_codes : (h : List UserEntry) → user_codes h ≡ [] → h ≡ []
-no_user_codes [] is = refl
-no_user_codes (e ∷ es) is = cc
 
 users_mine : (own : ℕ) → own ≡ 0 → (h : List UserEntry) → Each (λ e. e.place < 1) h → AllByRecursion (λ e. e.place ≡ own) h
 users_mine own zero [] a = tt
@@ -464,15 +462,15 @@ users_mine own zero (e ∷ es) a = (omega (arith, zero, a.0), users_mine own zer
 seen_mine : (own places : ℕ) (seen : List Gv) → own ≡ 0 → places ≡ 1 → AreNumbered places seen → (h : List Entry) → seen ≡ codes h → AllByRecursion (λ e. e.place ≡ own) h
 seen_mine own places seen zero one numbers h is = mine_of own zero h (subst (λ (n : ℕ). Each (λ e. e.place < n) h) one (numbers h is))
 
-users_seen_mine : (own places : ℕ) (seen : List Gv) → own ≡ 0 → places ≡ 1 → AreUsersNumbered places seen → (h : List UserEntry) → seen ≡ user_codes h → AllByRecursion (λ e. e.place ≡ own) h
-users_seen_mine own places seen zero one numbers h is = users_mine own zero h (subst (λ (n : ℕ). Each (λ e. e.place < n) h) one (numbers h is))
+users_seen_mine : (o : UsersOpening) (own places : ℕ) (seen : List Gv) → own ≡ 0 → places ≡ 1 → AreUsersNumbered places seen → (h : List UserEntry) → SawUsers o seen h → AllByRecursion (λ e. e.place ≡ own) h
+users_seen_mine o own places seen zero one numbers h saw = users_mine own zero h (subst (λ (n : ℕ). Each (λ e. e.place < n) h) one (numbered_seen o places seen h saw numbers))
 
 -- the session of a place that had seen nothing
 session_alone : (told clock_told : Type 0) (k l : LinkState) (c d : List Moment) (tongue : Language Request Moment) (old new : SeatAt) (users then_users : UserSeatAt) (end : SessionEnd) → old.opening.due ≡ false → old.seen ≡ [] → users.seen ≡ [] → (x : IsServed tongue told clock_told k l c d old new users then_users end)
     → IsSession tongue told clock_told k l c d (record { opening = old.opening; users = users.opening; place = old.place; before = []; users_before = [] }) (record { seen = new.seen; users = then_users.seen; attending = x.attending }) end
 session_alone told clock_told k l c d tongue old new users then_users end ready none no_users x =
     let nothing : x.before ≡ [] = no_codes x.before (sym (seen_all old.opening old.seen x.before ready x.saw) ∙ none) in
-    let no_user : x.users_before ≡ [] = no_user_codes x.users_before (sym x.users_saw.codes_are ∙ no_users) in
+    let no_user : x.users_before ≡ [] = nothing_seen users.opening x.users_before (subst (λ (s : List Gv). SawUsers users.opening s x.users_before) no_users x.users_saw) in
     subst (λ (h : List Entry × List UserEntry). IsSession tongue told clock_told k l c d (record { opening = old.opening; users = users.opening; place = old.place; before = h.0; users_before = h.1 }) (record { seen = new.seen; users = then_users.seen; attending = x.attending }) end) (λ i. (nothing i, no_user i)) x.session
 
 -- What the one session of turnstiles with one pass wrote, on the openings of two disks.
@@ -481,7 +479,7 @@ pub script_of : (disk_told told clock_told : Type 0) (disk users_disk : DiskStat
     → SawNoneAstray disk_told new.seen → IsServed tongue told clock_told k l c d old new users then_users end → IsScript disk_told disk users_disk old.place old.opening users.opening clock_told c d tongue told k l end
 script_of disk_told told clock_told disk users_disk k l c d tongue old new users then_users end is users_is none no_users zero users_zero one users_one numbers users_numbers never x =
     let now : Now = record { seen = new.seen; users = then_users.seen; attending = x.attending } in
-    scripted disk_told disk users_disk old.place old.opening users.opening is users_is told clock_told k l c d tongue now (seen_mine old.place new.places new.seen zero one numbers) never (users_seen_mine old.place then_users.places then_users.seen zero users_one users_numbers) end
+    scripted disk_told disk users_disk old.place old.opening users.opening is users_is told clock_told k l c d tongue now (seen_mine old.place new.places new.seen zero one numbers) never (users_seen_mine users.opening old.place then_users.places then_users.seen zero users_one users_numbers) end
     (session_alone told clock_told k l c d tongue old new users then_users end is.ready none no_users x)
 
 -- Where it ended with its link, all that its seat has seen is the history of what it wrote.
@@ -492,4 +490,4 @@ unfolding wrote_all session_alone answered
 script_seen disk_told told clock_told disk users_disk k l c d tongue old new users then_users is users_is none no_users zero one users_one numbers users_numbers never x =
     let now : Now = record { seen = new.seen; users = then_users.seen; attending = x.attending } in
     let session = session_alone told clock_told k l c d tongue old new users then_users End is.ready none no_users x in
-    (wrote_all disk_told disk users_disk old.place old.opening users.opening is users_is told clock_told k l c d tongue now (seen_mine old.place new.places new.seen zero one numbers) never (users_seen_mine old.place then_users.places then_users.seen zero users_one users_numbers) session, session.past.saw)
+    (wrote_all disk_told disk users_disk old.place old.opening users.opening is users_is told clock_told k l c d tongue now (seen_mine old.place new.places new.seen zero one numbers) never (users_seen_mine users.opening old.place then_users.places then_users.seen zero users_one users_numbers) session, session.past.saw)

@@ -25,11 +25,12 @@ use Rattle.user_admin.specs.declared.op.UserOp.{UserOp}
 use Rattle.user_admin.specs.declared.op.UserOp.TheVariants as user_op
 use Rattle.user_admin.specs.declared.op.UserOutcome.TheVariants as user_outcome
 use Rattle.user_admin.specs.declared.op.UserRow.{UserRow}
-use Rattle.user_admin.specs.declared.state.UserState.{UserState}
+use Rattle.user_admin.specs.declared.shared.SharedUsers.{SharedUsers}
 use Rattle.user_admin.specs.declared.turns.UserTook.{UserTook}
 use Rattle.user_admin.specs.declared.turns.UserTook.TheVariants as took
 use Rattle.user_admin.specs.Histories.{Opening as UsersOpening}
-use Rattle.user_admin.specs.States.{entry as user_entry, opening_of as users_opening, refused as user_refused}
+use Rattle.user_admin.specs.Shared.{opening_at as users_opening}
+use Rattle.user_admin.specs.States.{entry as user_entry, refused as user_refused}
 use Rattle.user_admin.specs.Turns.{HasPass as HasUsersPass, RowsAre, RowsDenied, Saw as SawUsers, TookIs, Turned as UsersTurned}
 
 -- what was seen ends with an entry of the place's own, by which it didn't take the Provisioner
@@ -81,12 +82,12 @@ module _ {D : Type 0} (told : Type 0) (state : D → DiskState) where
 
 -- a seat at the users after one of its turns
 module _ {U : Type 0} (state : U → DiskState) where
-  pub users_saw_there : (p : Token) (t u : Gate (UserState U)) (h : List UserEntry) → u ≡ t → SawUsers (users_opening state t.first) p.seen h → SawUsers (users_opening state u.first) p.seen h
-  users_saw_there p t u h is saw = subst (λ (x : Gate (UserState U)). SawUsers (users_opening state x.first) p.seen h) (sym is) saw
+  pub users_saw_there : (p : Token) (t u : Gate (SharedUsers U)) (h : List UserEntry) → u ≡ t → SawUsers (users_opening state t.first) p.seen h → SawUsers (users_opening state u.first) p.seen h
+  users_saw_there p t u h is saw = subst (λ (x : Gate (SharedUsers U)). SawUsers (users_opening state x.first) p.seen h) (sym is) saw
 
   -- what was seen then is a history
-  pub user_seated_on : (q : Token) (t u : Gate (UserState U)) → u ≡ t → HasUsersPass u q → ((h : List UserEntry) × SawUsers (users_opening state u.first) q.seen h) → IsUserSeated state q t
-  user_seated_on q t u is pass saw = subst (λ (x : Gate (UserState U)). IsUserSeated state q x) is (pass, saw)
+  pub user_seated_on : (q : Token) (t u : Gate (SharedUsers U)) → u ≡ t → HasUsersPass u q → ((h : List UserEntry) × SawUsers (users_opening state u.first) q.seen h) → IsUserSeated state q t
+  user_seated_on q t u is pass saw = subst (λ (x : Gate (SharedUsers U)). IsUserSeated state q x) is (pass, saw)
 
 pub turn_seen : (o : UsersOpening) (own : ℕ) (h : List UserEntry) (e : UserEntry) (seen : List Gv) → UsersTurned o own h e seen → (g : List UserEntry) × SawUsers o seen g
 turn_seen o own h e seen t = ((h ++ t.later) ++ e ∷ [], t.saw)

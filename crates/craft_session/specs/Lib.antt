@@ -24,4 +24,5 @@ pub mod Places
 pub mod Stamps
 pub mod Timely
 pub mod Lending
+pub mod Waiting
 pub mod Served

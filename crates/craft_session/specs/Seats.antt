@@ -9,10 +9,10 @@ use Rattle.fabric_words.specs.Seats.{FabricId}
 use Rattle.shelf_file.specs.Contents.{Contents}
 use Rattle.shelf_file.specs.contracts.shelf.Shelf as shelf_row
 use Rattle.user_admin.specs.declared.op.UserEntry.{UserEntry}
-use Rattle.user_admin.specs.declared.state.UserState.{UserState}
+use Rattle.user_admin.specs.declared.shared.SharedUsers.{SharedUsers}
 use Rattle.user_admin.specs.Coding.{opening_coded as users_coded}
 use Rattle.user_admin.specs.Histories.{Opening as UsersOpening}
-use Rattle.user_admin.specs.States.{opening_of as users_opening}
+use Rattle.user_admin.specs.Shared.{opening_at as users_opening}
 use Rattle.user_admin.specs.Turns.{HasPass as HasUsersPass, Saw as SawUsers}
 use Rattle.xc_core.specs.declared.state.State.{State}
 use Rattle.xc_core.specs.Coding.{opening_coded}
@@ -54,14 +54,14 @@ pub record UserSeatAt : Type 0 where
 abbrev pub user_seat_coded : Coded UserSeatAt
 user_seat_coded = code_by (UsersOpening × (Ident × (ℕ × (ℕ × List Gv)))) (coded× users_coded (coded× ident_code (coded× coded_ℕ (coded× coded_ℕ seen_code)))) (λ s. (s.opening, (s.turnstile, (s.place, (s.places, s.seen))))) (λ p. record { opening = p.0; turnstile = p.1.0; place = p.1.1.0; places = p.1.1.1.0; seen = p.1.1.1.1 }) (λ _. refl)
 
-abbrev pub user_seat_at : {U : Type 0} → (U → DiskState) → Token → Gate (UserState U) → UserSeatAt
+abbrev pub user_seat_at : {U : Type 0} → (U → DiskState) → Token → Gate (SharedUsers U) → UserSeatAt
 user_seat_at state p t = record { opening = users_opening state t.first; turnstile = t.id; place = p.number; places = t.passes; seen = p.seen }
 
 abbrev pub IsSameUserSeat : UserSeatAt → UserSeatAt → Type 0
 IsSameUserSeat old new = (new.opening ≡ old.opening) × (new.place ≡ old.place) × (new.places ≡ old.places) × (new.turnstile ≡ old.turnstile)
 
 -- the pass is the turnstile's, no turn of it is out, and it has seen a history
-abbrev pub IsUserSeated : {U : Type 0} → (U → DiskState) → Token → Gate (UserState U) → Type 0
+abbrev pub IsUserSeated : {U : Type 0} → (U → DiskState) → Token → Gate (SharedUsers U) → Type 0
 IsUserSeated state p t = HasUsersPass t p × ((h : List UserEntry) × SawUsers (users_opening state t.first) p.seen h)
 
 -- a shelf, and the seats of one place

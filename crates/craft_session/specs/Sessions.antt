@@ -19,11 +19,12 @@ use Rattle.user_admin.specs.Histories.{Opening as UsersOpening}
 use Rattle.user_admin.specs.Turns.{Saw as SawUsers}
 use Rattle.user_admin.specs.Verdicts.{IsChanging}
 use Rattle.dxc_model.specs.declared.user.SessionUser.{SessionUser}
+use Rattle.dxc_model.specs.declared.user.SessionUser.TheVariants.{Nobody}
 use Rattle.xc_core.specs.States.{Opening}
 use Rattle.xc_core.specs.Seeing.{IsHistory, Saw}
 use Rattle.craft_session.specs.declared.attending.Attending.{Attending}
 use Rattle.craft_session.specs.declared.end.SessionEnd.{SessionEnd}
-use Rattle.craft_session.specs.declared.end.SessionEnd.TheVariants.{End, ReadFault, WriteFault, Stopped as Session_stopped, Spent}
+use Rattle.craft_session.specs.declared.end.SessionEnd.TheVariants.{End, ReadFault, WriteFault, Stopped as Session_stopped, Spent, Unattended}
 use Rattle.craft_session.specs.declared.end.Progress.{Progress}
 use Rattle.craft_session.specs.declared.end.Progress.TheVariants.{On, Cut, Stopped}
 use Rattle.craft_session.specs.Asks.{Reply, Language, user_after}
@@ -188,11 +189,17 @@ module _ (l : Language Request Moment) where
     pub no_unit : IsRest rest
     pub past : Past clock_told c d b now false items rest out
 
+  -- the same where nobody is logged in then
+  pub record ServedAlone (told clock_told : Type 0) (k j : LinkState) (c d : List Moment) (b : Beginning) (now : Now) : Type 0 where
+    pub served : Served told clock_told k j c d b now
+    pub nobody : now.attending.user ≡ Nobody
+
   -- what a session did, by its end
   abbrev pub IsSession : (told clock_told : Type 0) (k j : LinkState) (c d : List Moment) (b : Beginning) (now : Now) (end : SessionEnd) → Type 0
   IsSession told clock_told k j c d b now End = Served told clock_told k j c d b now
   IsSession told clock_told k j c d b now ReadFault = Served told clock_told k j c d b now
   IsSession told clock_told k j c d b now Spent = Served told clock_told k j c d b now
+  IsSession told clock_told k j c d b now Unattended = ServedAlone told clock_told k j c d b now
   IsSession told clock_told k j c d b now WriteFault = Breaks told clock_told k j c d b now
   IsSession told clock_told k j c d b now Session_stopped = Halts told clock_told k j c d b now
 

@@ -1,5 +1,5 @@
 //! A changing command: planned in one turn, journalled and driven to its end outside of any, and taken by the table in another.
-ghost use Rattle.std.specs.Prelude.{◌≡◌, ◌≢◌, ◌≤◌, [], length, Option};
+ghost use Rattle.std.specs.Prelude.{◌≡◌, ◌≢◌, ◌≤◌, [], length, IfSome, Option};
 ghost use Rattle.dxc_causes.specs.Causes.{Rose};
 ghost use Rattle.dxc_model.specs.declared.op.Change.{Change};
 ghost use Rattle.dxc_model.specs.declared.op.Op.{Op};
@@ -11,7 +11,7 @@ ghost use Rattle.xc_core.specs.Restarts.{Resumes};
 ghost use Rattle.xc_core.specs.Drives.{CanDrive};
 ghost use Rattle.xc_core.specs.States.{opening_of};
 ghost use Rattle.xc_core.specs.Turns.{HasPass, SawNoneAstray};
-ghost use Rattle.xc_core.specs.Views.{After, HasSeen, OutFor, PlannedFor, Upon};
+ghost use Rattle.xc_core.specs.Views.{After, AtRest, Denies, HasSeen, OutFor, PlannedFor, Upon};
 ghost use Rattle.craft_session.specs.Askings.{AskedBehind, ChangeAsked, RollAsked};
 ghost use Rattle.craft_session.specs.Commands.{AsksFor, AsksOut, ChangesTo, DriveAsked};
 ghost use Rattle.craft_session.specs.Gated.{after_journal};
@@ -88,6 +88,7 @@ fn drive_out<D: Disk + Drop, G: Gate, R: Wait>(
     requires pass { HasPass turns.now pass.old }
     requires fabric { (opening_of D.state turns.now.first).site.fabric ≡ fabric.now }
     requires taken { Upon D.Disk turns.now pass.old (OutFor D.Disk op.now driver.value) }
+    requires unmade { driver.value.rolling.step ≡ 0 }
     ensures pass { HasPass turns.now pass.new × (pass.new.number ≡ pass.old.number) }
     ensures changed { After D.Disk turns.now pass.old (ChangesTo op.now pass.new result) }
     ensures astray { SawNoneAstray D.told pass.new.seen }
@@ -154,10 +155,70 @@ fn carry_out<D: Disk + Drop, G: Gate, R: Wait>(
     }
 }
 
+/// Stands in the line of those who change something. Who waits there for long asks the table first: what that denies doesn't wait for a slow disk or a
+/// silent standby. Some: the cause; the place stands in no line then.
+fn stand<D: Disk + Drop, R: Wait>(
+    pass: &mut Pass,
+    turns: &Turnstile<State<D>>,
+    op: &Op,
+    rt: &R,
+) -> Option<Cause>
+    requires pass { HasPass turns.now pass.old }
+    requires apt { IsApt (opening_of D.state turns.now.first).first.fold.table.shape op.now }
+    requires seen { Upon D.Disk turns.now pass.old AtRest }
+    ensures pass { HasPass turns.now pass.new × (pass.new.number ≡ pass.old.number) }
+    ensures denied { After D.Disk turns.now pass.old (Denies D.Disk op.now pass.new result) }
+    ensures astray { IfSome result (λ _. SawNoneAstray D.told pass.new.seen) }
+{
+    if turns.try_line(rt) {
+        return None;
+    }
+    match turns::deny(pass, turns, op, rt) {
+        Some(cause) => Some(cause),
+        None => {
+            turns.stand_in_line(rt);
+            None
+        }
+    }
+}
+
+/// Makes a change in the line of those who change something, where the table doesn't deny it before.
+pub fn change_in_line<D: Disk + Drop, G: Gate, R: Wait>(
+    pass: &mut Pass,
+    turns: &Turnstile<State<D>>,
+    fabric: &Fabric,
+    op: &Op,
+    gate: &mut G,
+    rt: &R,
+) -> Changed
+    requires pass { HasPass turns.now pass.old }
+    requires fabric { (opening_of D.state turns.now.first).site.fabric ≡ fabric.now }
+    requires apt { IsApt (opening_of D.state turns.now.first).first.fold.table.shape op.now }
+    requires seen { Upon D.Disk turns.now pass.old AtRest }
+    ensures pass { HasPass turns.now pass.new × (pass.new.number ≡ pass.old.number) }
+    ensures changed { After D.Disk turns.now pass.old (ChangesTo op.now pass.new result) }
+    ensures astray { SawNoneAstray D.told pass.new.seen }
+    ensures done { result ≢ Changed.Stopped → G.stops gate.new ≡ G.stops gate.old }
+    ensures stopped { result ≡ Changed.Stopped → Rose (G.stops gate.old) (G.stops gate.new) }
+    ensures later { G.stops gate.old ≤ G.stops gate.new }
+    ensures asked { ChangeAsked (G.asked gate.old gate.new) result }
+    ensures entered { After D.Disk turns.now pass.old
+        (AsksFor (G.asked gate.old gate.new) pass.new) }
+{
+    match stand(pass, turns, op, rt) {
+        Some(cause) => Changed::Denied(cause),
+        None => {
+            let changed = change(pass, turns, fabric, op, gate, rt);
+            turns.step_aside();
+            changed
+        }
+    }
+}
+
 /// Makes a change of the table, and of the registers before it. It tries again while another place has the Provisioner, and makes a restart first
 /// where one is due.
 #[inline(never)]
-pub fn change<D: Disk + Drop, G: Gate, R: Wait>(
+fn change<D: Disk + Drop, G: Gate, R: Wait>(
     pass: &mut Pass,
     turns: &Turnstile<State<D>>,
     fabric: &Fabric,

@@ -22,7 +22,7 @@ use std::sync::Arc;
 use tl1_answer::Answer;
 use tl1_text::UnitReader;
 use turnstile::{Pass, Turnstile};
-use user_admin::UserState;
+use user_admin::SharedUsers;
 use xc_core::State;
 
 /// The most bytes of one read.
@@ -77,7 +77,7 @@ impl<D: Disk + Drop, U: Disk + Drop> Place<D, U> {
         shelf: Arc<Shelf>,
         fabric: Arc<Fabric>,
         turns: Arc<Turnstile<State<D>>>,
-        users: Arc<Turnstile<UserState<U>>>,
+        users: Arc<Turnstile<SharedUsers<U>>>,
     ) -> Result<Place<D, U>, NoMemory>
         requires number { number ≡ pass.number }
         requires users_number { number ≡ users_pass.number }

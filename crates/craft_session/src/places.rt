@@ -2,11 +2,12 @@
 ghost use Rattle.std.specs.Prelude.{◌≡◌, ◌<◌, ◌+◌, ℕ, [], IfOk, length, vec_len};
 ghost use Rattle.std.specs.Arc.{arc_value};
 ghost use Rattle.user_admin.specs.Openings.{Begins as UsersBegin};
+ghost use Rattle.user_admin.specs.Shared.{SharedStands as UsersStand, opening_at as shared_opening};
 ghost use Rattle.user_admin.specs.States.{opening_of as users_opening};
 ghost use Rattle.turnstile.specs.Passing.{Ident};
 ghost use Rattle.xc_core.specs.Openings.{Begins};
 ghost use Rattle.xc_core.specs.States.{opening_of};
-ghost use Rattle.craft_session.specs.Places.{AreFresh, HasPlaces, IsAtOpening, IsLonePlace, fresh_pass, place_at, turnstiles_of};
+ghost use Rattle.craft_session.specs.Places.{AreFresh, HasPlaces, IsAtOpening, IsLonePlace, IsMadeFor, fresh_pass, place_at, turnstiles_of};
 
 use crate::place::Place;
 use dxc_causes::NoMemory;
@@ -16,14 +17,14 @@ use shelf_file::Shelf;
 use std::alloc::Global;
 use std::sync::Arc;
 use turnstile::{Pass, Sequential, Turnstile};
-use user_admin::UserState;
+use user_admin::{SharedUsers, UserState};
 use xc_core::State;
 
 /// The turns of a state.
 pub type Turns<D> = Arc<Turnstile<State<D>>>;
 
 /// The turns of the users.
-pub type UsersTurns<U> = Arc<Turnstile<UserState<U>>>;
+pub type UsersTurns<U> = Arc<Turnstile<SharedUsers<U>>>;
 
 /// So many places at the state and at the users, on the shelf and on the fabric that the state's Provisioner writes. They have the numbers from 0 on.
 pub fn open_places<D: Disk + Drop, U: Disk + Drop>(
@@ -44,7 +45,8 @@ pub fn open_places<D: Disk + Drop, U: Disk + Drop>(
         (users_opening U.state users) count ps.items) }
 {
     let (turns, mut passes) = turns_of(alloc, state, count)?;
-    let (users, mut users_passes) = turns_of(alloc, users, count)?;
+    let shared = SharedUsers::of(alloc, users)?;
+    let (users, mut users_passes) = turns_of(alloc, shared, count)?;
     let mut places = Vec::with_capacity(alloc, count as usize)?;
     for number in 0..count {
         let pass = next_pass(&mut passes);
@@ -67,6 +69,9 @@ pub fn turns_of<S: Sequential + Drop>(
     requires stands { S.stands state [] }
     ensures turns { IfOk result
         (λ r. ((arc_value r.0).first ≡ state) × ((arc_value r.0).passes ≡ count)) }
+    // Which turnstile it is tells how it was made.
+    ensures made { IfOk result
+        (λ r. IsMadeFor (S.opening_code.code (S.opening state)) count (arc_value r.0).id) }
     ensures each { IfOk result (λ r. length r.1.items ≡ count) }
     ensures fresh { IfOk result (λ r. AreFresh (arc_value r.0).id 0 r.1.items) }
 {
@@ -103,13 +108,13 @@ pub fn place_of<D: Disk + Drop, U: Disk + Drop>(
     requires within { number < (arc_value turns.now).passes }
     requires users_within { number < (arc_value users.now).passes }
     requires begins { Begins D.told D.state (arc_value turns.now).first }
-    requires users_begin { UsersBegin U.told U.state (arc_value users.now).first }
+    requires users_stand { UsersStand U.told U.state (arc_value users.now).first [] }
     requires opening { IsAtOpening (opening_of D.state (arc_value turns.now).first)
         (arc_value shelf.now) (arc_value fabric.now) }
     requires places { (arc_value users.now).passes ≡ (arc_value turns.now).passes }
     ensures { IfOk result
         (λ p. p ≡ place_at (arc_value shelf.now) (opening_of D.state (arc_value turns.now).first)
-        (users_opening U.state (arc_value users.now).first)
+        (shared_opening U.state (arc_value users.now).first)
         (turnstiles_of (arc_value turns.now) (arc_value users.now)) number) }
 {
     let (Ok(shelf), Ok(fabric), Ok(turns), Ok(users)) = (

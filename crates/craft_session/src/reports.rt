@@ -46,6 +46,7 @@ pub fn report<K: Link, C: Timestamps, D: Disk + Drop, U: Disk + Drop, R: Wait>(
     ensures users { desk.new.users ≡ desk.old.users }
     ensures reader { desk.new.reader ≡ desk.old.reader }
     ensures link { Writes K.told (K.state link.old) (K.state link.new) }
+    ensures hung_up { K.hung_up link.new ≡ K.hung_up link.old }
     ensures goes { (first : AUser) → (k : LinkState) → (c : List Moment) → (b : Beginning)
         → (r : Reader) → (ahead : List ℕ) → IsAt b desk.old.seat desk.old.users.seat
         → Stands (language_for first (arc_value desk.old.shelf)) K.told C.told k (K.state link.old)
@@ -83,6 +84,7 @@ fn report_since<K: Link, C: Timestamps, D: Disk + Drop, U: Disk + Drop, R: Wait>
     ensures users { desk.new.users ≡ desk.old.users }
     ensures reader { desk.new.reader ≡ desk.old.reader }
     ensures link { Writes K.told (K.state link.old) (K.state link.new) }
+    ensures hung_up { K.hung_up link.new ≡ K.hung_up link.old }
     ensures goes { (first : AUser) → (k : LinkState) → (c : List Moment) → (b : Beginning)
         → (r : Reader) → (ahead : List ℕ) → IsAt b desk.old.seat desk.old.users.seat
         → Stands (language_for first (arc_value desk.old.shelf)) K.told C.told k (K.state link.old)
@@ -119,6 +121,7 @@ fn tell<K: Link, C: Timestamps, D: Disk + Drop, U: Disk + Drop>(
     ensures users { desk.new.users ≡ desk.old.users }
     ensures attending { desk.new.attending ≡ desk.old.attending }
     ensures reader { desk.new.reader ≡ desk.old.reader }
+    ensures hung_up { K.hung_up link.new ≡ K.hung_up link.old }
     ensures told { AreTold (language (arc_value desk.old.shelf)) K.told C.told (K.state link.old)
         (K.state link.new) (C.coming clock.old) (C.coming clock.new) result
         (found_notices looked.since looked.newest desk.old.changes.items) }
@@ -146,6 +149,7 @@ fn tell_lost<K: Link, C: Timestamps, D: Disk + Drop, U: Disk + Drop>(
     ensures users { desk.new.users ≡ desk.old.users }
     ensures attending { desk.new.attending ≡ desk.old.attending }
     ensures reader { desk.new.reader ≡ desk.old.reader }
+    ensures hung_up { K.hung_up link.new ≡ K.hung_up link.old }
     ensures changes { desk.new.changes ≡ desk.old.changes }
     ensures told { AreTold (language (arc_value desk.old.shelf)) K.told C.told (K.state link.old)
         (K.state link.new) (C.coming clock.old) (C.coming clock.new) result (lead since before) }
@@ -177,6 +181,7 @@ fn tell_changes<K: Link, C: Timestamps, D: Disk + Drop, U: Disk + Drop>(
     ensures users { desk.new.users ≡ desk.old.users }
     ensures attending { desk.new.attending ≡ desk.old.attending }
     ensures reader { desk.new.reader ≡ desk.old.reader }
+    ensures hung_up { K.hung_up link.new ≡ K.hung_up link.old }
     ensures told { AreTold (language (arc_value desk.old.shelf)) K.told C.told (K.state link.old)
         (K.state link.new) (C.coming clock.old) (C.coming clock.new) result
         (numbered before desk.old.changes.items) }
@@ -210,6 +215,7 @@ fn tell_change<K: Link, C: Timestamps, D: Disk + Drop, U: Disk + Drop>(
     ensures users { desk.new.users ≡ desk.old.users }
     ensures attending { desk.new.attending ≡ desk.old.attending }
     ensures reader { desk.new.reader ≡ desk.old.reader }
+    ensures hung_up { K.hung_up link.new ≡ K.hung_up link.old }
     ensures changes { desk.new.changes ≡ desk.old.changes }
     ensures told { (d : Change)
         → IsReported K.told C.told (K.state link.old) (K.state link.new) (C.coming clock.old)
@@ -234,6 +240,7 @@ fn tell_one<K: Link, C: Timestamps, D: Disk + Drop, U: Disk + Drop>(
     ensures users { desk.new.users ≡ desk.old.users }
     ensures attending { desk.new.attending ≡ desk.old.attending }
     ensures reader { desk.new.reader ≡ desk.old.reader }
+    ensures hung_up { K.hung_up link.new ≡ K.hung_up link.old }
     ensures changes { desk.new.changes ≡ desk.old.changes }
     ensures told { IsReported K.told C.told (K.state link.old) (K.state link.new)
         (C.coming clock.old) (C.coming clock.new) result

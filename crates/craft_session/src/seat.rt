@@ -14,7 +14,7 @@ ghost use Rattle.craft_session.specs.Changing.{ChangedIs, WarmRestartIs};
 ghost use Rattle.craft_session.specs.Gated.{Entered};
 ghost use Rattle.craft_session.specs.Seats.{IsSameSeat, IsSeated, seat_at};
 
-use crate::change::{Changed, change};
+use crate::change::{Changed, change_in_line};
 use crate::mend::warm_restart;
 use dxc_disk::Disk;
 use dxc_model::{Change, Conn, Op, Selection};
@@ -133,6 +133,11 @@ impl<D: Disk + Drop> Seat<D> {
         turns::read_inventory(&mut self.pass, &self.turns, rt)
     }
 
+    /// Lets the next one go on who waits in the line of those who change something: for a session that makes no change until its caller sends more.
+    pub fn call_next(&self) {
+        self.turns.call_next();
+    }
+
     /// Makes a restart. It waits in the line of those who change something, and for frames in the way.
     pub fn restart<G: Gate, R: Wait>(&mut self, gate: &mut G, rt: &R) -> Changed
         ensures same { IsSameSeat self.old self.new }
@@ -149,11 +154,12 @@ impl<D: Disk + Drop> Seat<D> {
         let turns: &Turnstile<State<D>> = &self.turns;
         turns.stand_in_line(rt);
         let restarted = warm_restart(&mut self.pass, turns, &self.fabric, gate, rt);
-        turns.leave_line();
+        turns.step_aside();
         restarted
     }
 
-    /// Makes a change of the table, and of the registers before it. It waits in the line of those who change something, and for frames in the way.
+    /// Makes a change of the table, and of the registers before it. It waits in the line of those who change something, and for frames in the way; what
+    /// the table denies meanwhile waits for the turn alone.
     pub fn change<G: Gate, R: Wait>(&mut self, op: &Op, gate: &mut G, rt: &R) -> Changed
         requires apt { IsApt self.old.opening.first.fold.table.shape op.now }
         ensures same { IsSameSeat self.old self.new }
@@ -168,9 +174,6 @@ impl<D: Disk + Drop> Seat<D> {
             self.new.seen }
     {
         let turns: &Turnstile<State<D>> = &self.turns;
-        turns.stand_in_line(rt);
-        let changed = change(&mut self.pass, turns, &self.fabric, op, gate, rt);
-        turns.leave_line();
-        changed
+        change_in_line(&mut self.pass, turns, &self.fabric, op, gate, rt)
     }
 }

@@ -9,12 +9,12 @@ ghost use Rattle.std.specs.Arc.{arc_value};
 ghost use Rattle.craft_session.specs.Asks.{IsAptAsk};
 ghost use Rattle.craft_session.specs.Gated.{AreEntered};
 ghost use Rattle.craft_session.specs.Meanings.{language_for};
-ghost use Rattle.craft_session.specs.Desks.{now, input_of, ConsultedIs, IsAnswered};
+ghost use Rattle.craft_session.specs.Desks.{now, place_of, input_of, ConsultedIs, IsAnswered};
 ghost use Rattle.craft_session.specs.Seats.{IsSameSeat, IsSameUserSeat};
-ghost use Rattle.craft_session.specs.Served.{Served, ServedFor};
 ghost use Rattle.craft_session.specs.Sessions.{Beginning, IsAt, Writes, Stands, Goes, IsPrompt, IsServed};
 ghost use Rattle.craft_session.specs.Stamps.{stamp_at};
 ghost use Rattle.craft_session.specs.Timely.{IsTimelyFrom, WasTimely, in_hand, telling};
+ghost use Rattle.craft_session.specs.Waiting.{IsLetGo, IsUnattended};
 ghost use Rattle.craft_session.specs.Walks.{begun_by};
 
 use crate::act::act;
@@ -23,12 +23,12 @@ use crate::desk::Desk;
 use crate::end::{Progress, SessionEnd};
 use crate::lent::Lent;
 use crate::meaning::consult;
-use crate::place::Place;
+use crate::patience::{BYTES, Patience, QUIET, waited_after};
 use crate::reports::report;
 use crate::say::say;
 use crate::timestamps::Timestamps;
 use dxc_disk::Disk;
-use dxc_model::{Cause, SessionUser};
+use dxc_model::Cause;
 use dxc_outside::{Gate, Got, Link, Pass1};
 use std::sync::Wait;
 use tl1_text::{Ctag, UnitKind};
@@ -48,6 +48,7 @@ fn serve_piece<K: Link, C: Timestamps, G: Gate, D: Disk + Drop, U: Disk + Drop, 
     ensures seat { IsSameSeat desk.old.seat desk.new.seat }
     ensures users { IsSameUserSeat desk.old.users.seat desk.new.users.seat }
     ensures link { Writes K.told (K.state link.old) (K.state link.new) }
+    ensures hung_up { K.hung_up link.new ≡ K.hung_up link.old }
     ensures goes { (first : AUser) → (k : LinkState) → (c : List Moment) → (b : Beginning)
         → IsAt b desk.old.seat desk.old.users.seat
         → Stands (language_for first (arc_value desk.old.shelf)) K.told C.told k (K.state link.old)
@@ -90,6 +91,7 @@ fn serve_unit<K: Link, C: Timestamps, G: Gate, D: Disk + Drop, U: Disk + Drop, R
     ensures users { IsSameUserSeat desk.old.users.seat desk.new.users.seat }
     ensures reader { desk.new.reader ≡ desk.old.reader }
     ensures link { Writes K.told (K.state link.old) (K.state link.new) }
+    ensures hung_up { K.hung_up link.new ≡ K.hung_up link.old }
     ensures goes { (first : AUser) → (k : LinkState) → (c : List Moment) → (b : Beginning)
         → (ahead : List ℕ) → IsAt b desk.old.seat desk.old.users.seat
         → Stands (language_for first (arc_value desk.old.shelf)) K.told C.told k (K.state link.old)
@@ -128,6 +130,7 @@ fn attend<K: Link, C: Timestamps, G: Gate, D: Disk + Drop, U: Disk + Drop, R: Wa
     ensures users { IsSameUserSeat desk.old.users.seat desk.new.users.seat }
     ensures reader { desk.new.reader ≡ desk.old.reader }
     ensures link { Writes K.told (K.state link.old) (K.state link.new) }
+    ensures hung_up { K.hung_up link.new ≡ K.hung_up link.old }
     ensures goes { (first : AUser) → (k : LinkState) → (c : List Moment) → (b : Beginning)
         → (ahead : List ℕ) → IsAt b desk.old.seat desk.old.users.seat
         → Stands (language_for first (arc_value desk.old.shelf)) K.told C.told k (K.state link.old)
@@ -165,6 +168,7 @@ fn answer<K: Link, C: Timestamps, G: Gate, D: Disk + Drop, U: Disk + Drop, R: Wa
     ensures users { IsSameUserSeat desk.old.users.seat desk.new.users.seat }
     ensures reader { desk.new.reader ≡ desk.old.reader }
     ensures link { Writes K.told (K.state link.old) (K.state link.new) }
+    ensures hung_up { K.hung_up link.new ≡ K.hung_up link.old }
     ensures answered { IsAnswered (arc_value desk.old.shelf) K.told C.told (K.state link.old)
         (K.state link.new) (C.coming clock.old) (C.coming clock.new) (input_of kind desk.old.reader)
         desk.old.seat desk.old.users.seat (now desk.old) (now desk.new) result }
@@ -239,45 +243,11 @@ fn ask_of<G: Gate, D: Disk + Drop, U: Disk + Drop, R: Wait>(
     }
 }
 
-/// Serves the link, until it ends or fails, the gate stops, or 2^32 reads were made. It waits for its turn at the state, for the Provisioner, and for
-/// frames that stand in the way of a circuit's move. It takes no memory. Nobody is logged in where it begins.
-pub fn serve_session<K: Link, C: Timestamps, G: Gate, D: Disk + Drop, U: Disk + Drop, R: Wait>(
-    place: &mut Place<D, U>,
-    link: &mut K,
-    clock: &mut C,
-    gate: &mut G,
-    rt: &R,
-) -> SessionEnd
-    ensures { Served ⟦<(K, C, G, D) as Lent>⟧ (place.old, link.old, clock.old, gate.old)
-        (place.new, link.new, clock.new, gate.new) result }
-{
-    serve_session_of(place, SessionUser::Nobody, link, clock, gate, rt)
-}
-
-/// Serves the link as `serve_session` does, in a session that begins with this user logged in.
-pub fn serve_session_of<K: Link, C: Timestamps, G: Gate, D: Disk + Drop, U: Disk + Drop, R: Wait>(
-    place: &mut Place<D, U>,
-    first: SessionUser,
-    link: &mut K,
-    clock: &mut C,
-    gate: &mut G,
-    rt: &R,
-) -> SessionEnd
-    ensures { ServedFor ⟦<(K, C, G, D) as Lent>⟧ first
-        (place.old, link.old, clock.old, gate.old)
-        (place.new, link.new, clock.new, gate.new) result }
-{
-    place.desk.begin(first);
-    let end = serve(&mut place.desk, &mut place.piece, link, clock, gate, rt);
-    // Their clauses tell whose entries the seats have seen.
-    place.desk.seat.seen();
-    place.desk.users.seat.seen();
-    end
-}
-
-fn serve<K: Link, C: Timestamps, G: Gate, D: Disk + Drop, U: Disk + Drop, R: Wait>(
+/// Serves the link from a desk that has read nothing yet.
+pub(crate) fn serve<K: Link, C: Timestamps, G: Gate, D: Disk + Drop, U: Disk + Drop, R: Wait>(
     desk: &mut Desk<D, U>,
     piece: &mut [u8],
+    patience: Patience,
     link: &mut K,
     clock: &mut C,
     gate: &mut G,
@@ -300,6 +270,7 @@ fn serve<K: Link, C: Timestamps, G: Gate, D: Disk + Drop, U: Disk + Drop, R: Wai
         (telling K.told C.told C.stamped)
         (stamp_at (C.coming clock.old) (K.state link.old) desk.old.seat desk.old.users.seat)
         (K.state link.new) }
+    ensures hung_up { K.hung_up link.new ≡ K.hung_up link.old }
     ensures end { (result ≡ SessionEnd.End) ↔ IsTrue (K.state link.new).ended }
     ensures all_read { K.told → result ≡ SessionEnd.End → (K.state link.new).left ≡ [] }
     ensures read_fault { result ≡ SessionEnd.ReadFault
@@ -316,24 +287,41 @@ fn serve<K: Link, C: Timestamps, G: Gate, D: Disk + Drop, U: Disk + Drop, R: Wai
     ensures spent { result ≡ SessionEnd.Spent
         → Counted (K.state link.old).reads (K.state link.new).reads (2 ^ 32) }
     ensures few { (K.state link.new).reads ≤ (K.state link.old).reads + 2 ^ 32 }
+    ensures unattended { result ≡ SessionEnd.Unattended → IsUnattended ⟦<(K, C, G, D) as Lent>⟧
+        desk.old.attending.user (place_of desk.old, link.old, clock.old, gate.old)
+        (K.state link.new) }
+    ensures attended { patience ≡ Patience.Endless → result ≢ SessionEnd.Unattended }
+    ensures let_go { patience ≡ Patience.Limited → IsLetGo ⟦<(K, C, G, D) as Lent>⟧
+        desk.old.attending.user (place_of desk.old, link.old, clock.old, gate.old)
+        (K.state link.new) }
 {
     // Their clauses tell that the seats have seen histories.
     desk.seat.seen();
     desk.users.seat.seen();
+    let mut waited = 0;
     for _ in 0..READS {
-        match link.read(piece) {
-            Got::Bytes(count) => match serve_piece(desk, link, clock, gate, rt, &piece[..count]) {
-                Progress::On => {}
-                Progress::Cut => return SessionEnd::WriteFault,
-                Progress::Stopped => return SessionEnd::Stopped,
-            },
+        if patience.is_over(&desk.attending, waited) {
+            return SessionEnd::Unattended;
+        }
+        let user = desk.attending.user;
+        let read = match link.read(piece) {
+            Got::Bytes(count) => {
+                let progress = serve_piece(desk, link, clock, gate, rt, &piece[..count]);
+                desk.seat.call_next();
+                match progress {
+                    Progress::On => BYTES,
+                    Progress::Cut => return SessionEnd::WriteFault,
+                    Progress::Stopped => return SessionEnd::Stopped,
+                }
+            }
             Got::Quiet => match report(desk, link, clock, rt) {
-                Progress::On => {}
+                Progress::On => QUIET,
                 Progress::Cut | Progress::Stopped => return SessionEnd::WriteFault,
             },
             Got::End => return SessionEnd::End,
             Got::Failed => return SessionEnd::ReadFault,
-        }
+        };
+        waited = waited_after(user, waited, read);
     }
     SessionEnd::Spent
 }

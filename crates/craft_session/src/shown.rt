@@ -30,9 +30,10 @@ fn add_module<K: Link>(
     requires short { length answer.old.head ≤ 64 }
     requires inside { IsModule shape number }
     requires few { number < 64 }
-    ensures { Adds K.told (K.state link.old) (K.state link.new)
+    ensures filled { Adds K.told (K.state link.old) (K.state link.new)
         (record { sent = result; old = answer.old; new = answer.new })
         (map text_of_module (filter (has_bit equipped) (number ∷ []))) }
+    ensures hung_up { K.hung_up link.new ≡ K.hung_up link.old }
 {
     if !equipment::has(equipped, number) {
         return Sent::Whole;
@@ -52,9 +53,10 @@ fn add_modules<K: Link>(
     requires unended { IsUnended answer.old }
     requires begun { IsBegun answer.old }
     requires short { length answer.old.head ≤ 64 }
-    ensures { Adds K.told (K.state link.old) (K.state link.new)
+    ensures filled { Adds K.told (K.state link.old) (K.state link.new)
         (record { sent = result; old = answer.old; new = answer.new })
         (map text_of_module (modules_in shape equipped)) }
+    ensures hung_up { K.hung_up link.new ≡ K.hung_up link.old }
 {
     for number in 0..shape.modules() {
         match add_module(answer, text, link, shape, equipped, number) {
@@ -77,9 +79,10 @@ fn add_middle<K: Link>(
     requires begun { IsBegun answer.old }
     requires short { length answer.old.head ≤ 64 }
     requires working { IfSome out (λ m. IsWorking shape m.0) }
-    ensures { Adds K.told (K.state link.old) (K.state link.new)
+    ensures filled { Adds K.told (K.state link.old) (K.state link.new)
         (record { sent = result; old = answer.old; new = answer.new })
         (map text_of_middle (option_to_list out)) }
+    ensures hung_up { K.hung_up link.new ≡ K.hung_up link.old }
 {
     match out {
         Some(middle) => {
@@ -103,9 +106,10 @@ pub fn add_inventory<K: Link>(
     requires begun { IsBegun answer.old }
     requires short { length answer.old.head ≤ 64 }
     requires of_shape { IsInventoryOf shape inventory }
-    ensures { Adds K.told (K.state link.old) (K.state link.new)
+    ensures filled { Adds K.told (K.state link.old) (K.state link.new)
         (record { sent = result; old = answer.old; new = answer.new })
         (shown_lines subject (equipped_in inventory) inventory.out) }
+    ensures hung_up { K.hung_up link.new ≡ K.hung_up link.old }
 {
     match subject {
         Subject::Middle => add_middle(answer, text, link, shape, inventory.out),

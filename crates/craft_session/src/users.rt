@@ -17,14 +17,14 @@ use std::marker::Model;
 use std::sync::{Arc, Wait};
 use turnstile::{Pass, Turnstile};
 use user_admin::turns::{self, UserTook};
-use user_admin::{UserOp, UserRows, UserState};
+use user_admin::{SharedUsers, UserOp, UserRows};
 
 /// The right of one place to take turns at the users. Contracts see where their history began, the number of the place, and what it has seen of
 /// the history.
 #[derive(Drop)]
 pub struct UserSeat<U: Disk> {
     pass: Pass,
-    turns: Arc<Turnstile<UserState<U>>>,
+    turns: Arc<Turnstile<SharedUsers<U>>>,
 }
 
 impl<U: Disk> Model for UserSeat<U> {
@@ -43,7 +43,7 @@ impl<U: Disk> Model for UserSeat<U> {
 }
 
 impl<U: Disk + Drop> UserSeat<U> {
-    pub fn new(pass: Pass, turns: Arc<Turnstile<UserState<U>>>) -> UserSeat<U>
+    pub fn new(pass: Pass, turns: Arc<Turnstile<SharedUsers<U>>>) -> UserSeat<U>
         requires { IsUserSeated U.state pass (arc_value turns) }
         ensures { result ≡ user_seat_at U.state pass (arc_value turns) }
     {

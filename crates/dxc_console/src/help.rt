@@ -1,6 +1,10 @@
+ghost use Rattle.std.specs.Prelude.{◌≡◌, ◌⊎◌, IfSome, MatchResult, is_some};
+ghost use Rattle.dxc_console.specs.Words.{asks_for_help};
+
 use crate::sources::SOURCES;
 use craft_words::Status;
 use dxc_outside::Name;
+use std::io;
 
 const HELP: &str = "dxc: the controller of a digital cross-connect
 
@@ -60,10 +64,13 @@ Status: 0 done, 2 words not understood, 3 shelf file refused, 4 journal refused,
 ";
 
 // CHANGELOG.md tells what each version changed.
-const VERSION: &str = "1.3.0";
+const VERSION: &str = "1.4.0";
 
 /// Prints what the one word `--help` or `--version` asks for, and gives the status that the program then ends with. None: the words ask for neither.
-pub fn help_asked<R: Print>(rt: &R, words: &[Name]) -> Option<Status> {
+pub fn help_asked<R: Print>(rt: &R, words: &[Name]) -> Option<Status>
+    ensures asked { is_some result ≡ asks_for_help words.now }
+    ensures status { IfSome result (λ s. (s ≡ Status.Done) ⊎ (s ≡ Status.Link)) }
+{
     let [word] = words else {
         return None;
     };
@@ -72,8 +79,15 @@ pub fn help_asked<R: Print>(rt: &R, words: &[Name]) -> Option<Status> {
         "--version" => print!(rt; "dxc {VERSION}\nsources {SOURCES}\n"),
         _ => return None,
     };
+    Some(status_of(printed))
+}
+
+// How the program ends behind what it printed.
+fn status_of(printed: io::Result<()>) -> Status
+    ensures { MatchResult printed (λ t. result ≡ Status.Done) (λ e. result ≡ Status.Link) }
+{
     match printed {
-        Ok(()) => Some(Status::Done),
-        Err(_) => Some(Status::Link),
+        Ok(()) => Status::Done,
+        Err(_) => Status::Link,
     }
 }

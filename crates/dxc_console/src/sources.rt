@@ -1,2 +1,2 @@
 /// SHA-256 of the sources that the program is proved from, this file left out, in hexadecimal. `tools/release` writes it.
-pub const SOURCES: &str = "3ccd539be6815109b966adad2d5746ae302f7aeecdd195580556cd55908bd184";
+pub const SOURCES: &str = "d27ce60fb593815f91eff32c36e42535a0aa219e7121199e40629dbf3cd5f678";

@@ -1,7 +1,7 @@
 ghost use Rattle.std.specs.Prelude.{◌≤◌, length, IfOk};
 
 use crate::entrance::Seat;
-use crate::keepalive;
+use crate::keepalive::{self, FarEnd};
 use std::io::{self, ErrorKind, Read, Write};
 use std::net::{Shutdown, TcpStream};
 use std::time::Duration;
@@ -26,11 +26,11 @@ pub(crate) struct Caller {
 
 impl Caller {
     /// What is written isn't delayed by the host.
-    pub(crate) fn new(stream: TcpStream, seat: Option<Seat>) -> io::Result<Caller> {
+    pub(crate) fn new(stream: TcpStream, seat: Option<Seat>, far: FarEnd) -> io::Result<Caller> {
         stream.set_read_timeout(Some(Duration::from_millis(READ_MILLIS)))?;
         stream.set_write_timeout(Some(Duration::from_millis(WRITE_MILLIS)))?;
         stream.set_nodelay(true)?;
-        keepalive::watch(&stream)?;
+        keepalive::watch(&stream, far)?;
         Ok(Caller { stream, seat })
     }
 

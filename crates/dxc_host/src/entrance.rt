@@ -1,8 +1,9 @@
+use crate::peer_watch::PeerWatch;
 use libc::net::POLLIN;
 use libc::types::pollfd;
 use std::alloc::{AllocError, Global};
 use std::io::{self, Read, Write};
-use std::net::{Shutdown, TcpListener, TcpStream};
+use std::net::{Shutdown, SocketAddr, TcpListener, TcpStream};
 use std::os::fd::AsRawFd;
 use std::sync::Arc;
 use std::sync::atomic::{AtomicU64, Ordering};
@@ -13,11 +14,14 @@ const FULL: &[u8] = b"dxc: all places are taken, call again later\r\n";
 /// So many bytes of what such a caller sent are read before it is let go: where some are left, TCP drops what it was told.
 const MOST_SENT: usize = 4096;
 
-/// A listening socket at an address, and how many of the doors there have no caller.
+/// A listening socket at an address, how many doors it has, and how many of these have no caller. Where the program has a standby, those who wait
+/// here look after its connection too.
 #[derive(Drop)]
 struct Hall {
     listener: TcpListener,
+    doors: AtomicU64,
     free: AtomicU64,
+    standby: Option<PeerWatch>,
 }
 
 /// A way into the hall, for each door of an address.
@@ -28,10 +32,19 @@ pub struct Entrance {
 
 impl Entrance {
     /// Its accepts don't wait.
-    pub(crate) fn new(alloc: Global, listener: TcpListener) -> io::Result<Entrance> {
+    pub(crate) fn new(
+        alloc: Global,
+        listener: TcpListener,
+        standby: Option<PeerWatch>,
+    ) -> io::Result<Entrance> {
         listener.set_nonblocking(true)?;
-        let free = AtomicU64::new(0);
-        let hall = Arc::new(alloc, Hall { listener, free })?;
+        let hall = Hall {
+            listener,
+            doors: AtomicU64::new(0),
+            free: AtomicU64::new(0),
+            standby,
+        };
+        let hall = Arc::new(alloc, hall)?;
         Ok(Entrance { hall })
     }
 
@@ -41,28 +54,47 @@ impl Entrance {
         Ok(Entrance { hall })
     }
 
+    /// Makes one door more, which has no caller; its number, from 1 on.
+    pub(crate) fn door(&self) -> u64 {
+        self.free();
+        let before = self.hall.doors.fetch_add(1, Ordering::SeqCst);
+        before.saturating_add(1)
+    }
+
     /// One door more has no caller.
-    pub(crate) fn free(&self) {
+    fn free(&self) {
         self.hall.free.fetch_add(1, Ordering::SeqCst);
     }
 
-    /// Waits until someone calls. Another one may be faster to answer.
+    /// Waits until someone calls, or the standby's connection ends. Another one may be faster to answer.
     pub(crate) fn wait(&self) -> io::Result<()> {
-        let mut asked = [pollfd {
+        let listener = pollfd {
             fd: self.hall.listener.as_raw_fd(),
             events: POLLIN,
             revents: 0,
-        }];
-        if libc::net::poll(&mut asked, -1) < 0 {
-            return Err(io::Error::from_raw_os_error(os::errno()));
-        }
+        };
+        let Some(standby) = &self.hall.standby else {
+            return poll(&mut [listener], -1);
+        };
+        let mut asked = [listener, standby.asked()];
+        poll(&mut asked, -1)?;
+        standby.answered(&asked[1]);
         Ok(())
     }
 
-    /// The next caller. `WouldBlock` where nobody calls.
-    pub(crate) fn accept(&self) -> io::Result<TcpStream> {
-        let (stream, _) = self.hall.listener.accept()?;
-        Ok(stream)
+    /// Looks after the standby's connection without waiting.
+    fn look(&self) {
+        if let Some(standby) = &self.hall.standby {
+            let mut asked = [standby.asked()];
+            if poll(&mut asked, 0).is_ok() {
+                standby.answered(&asked[0]);
+            }
+        }
+    }
+
+    /// The next caller, and its address. `WouldBlock` where nobody calls.
+    pub(crate) fn accept(&self) -> io::Result<(TcpStream, SocketAddr)> {
+        self.hall.listener.accept()
     }
 
     /// A seat for a caller, whose door isn't free until it is given back.
@@ -88,15 +120,24 @@ impl Drop for Seat {
 }
 
 impl Seat {
-    /// Tells the next caller, if there is one, that all places are taken, and lets it go; does nothing while a door has no caller.
+    /// Tells the next caller, if there is one, that all places are taken, and lets it go, and looks after the standby's connection; does nothing
+    /// while a door has no caller, which waits for both.
     pub(crate) fn turn_away(&self) {
         if self.entrance.hall.free.load(Ordering::SeqCst) > 0 {
             return;
         }
-        if let Ok(stream) = self.entrance.accept() {
+        self.entrance.look();
+        if let Ok((stream, _)) = self.entrance.accept() {
             let _ = tell_full(stream);
         }
     }
+}
+
+fn poll(asked: &mut [pollfd], millis: i32) -> io::Result<()> {
+    if libc::net::poll(asked, millis) < 0 {
+        return Err(io::Error::from_raw_os_error(os::errno()));
+    }
+    Ok(())
 }
 
 // Nobody is left who could be told of a fault.

@@ -1,5 +1,6 @@
 ghost use Rattle.std.specs.Prelude.{[], ◌≡◌, false, IfOk};
 
+use crate::error_lines::ErrorLines;
 use crate::held::Held;
 use dxc_outside::{Frame, Lines, Put};
 use std::alloc::{AllocError, Global};
@@ -13,20 +14,31 @@ const ROOM: usize = 1 << 16;
 /// Lines over two files of the operating system. They tell nothing of their content. A read takes what the input gives at once, up to 64 KiB,
 /// and no frame may be longer. Frames that are written are held until the input is to be read again, or until they have no room; so who
 /// trickles frames into the input sees what comes of each at once. Output is written at its place: a frame that failed is whole at the
-/// next try. The output keeps what it held before until the first frame is to be read.
-#[derive(Drop)]
+/// next try. The output keeps what it held before until the first frame is to be read. Where frames were carried, standard error is told as the lines
+/// are dropped.
 pub struct FileLines {
     input: File,
     ahead: Held,
     output: Output,
+    /// Of the worker whose frames they are.
+    worker: u16,
+    lines: ErrorLines,
+    /// The last read or write that failed.
+    fault: Option<io::Error>,
     ended: bool,
     read_faults: u64,
     write_faults: u64,
 }
 
 impl FileLines {
-    /// Lines from the one file into the other, which is to be open for writing.
-    pub(crate) fn new(alloc: Global, input: File, output: File) -> Result<FileLines, AllocError>
+    /// Lines of the worker from the one file into the other, which is to be open for writing.
+    pub(crate) fn new(
+        alloc: Global,
+        input: File,
+        output: File,
+        worker: u16,
+        lines: ErrorLines,
+    ) -> Result<FileLines, AllocError>
         ensures ended { IfOk result (λ l. l.ended ≡ false) }
         ensures read_faults { IfOk result (λ l. l.read_faults ≡ 0) }
         ensures write_faults { IfOk result (λ l. l.write_faults ≡ 0) }
@@ -42,6 +54,9 @@ impl FileLines {
                 end: 0,
                 is_begun: false,
             },
+            worker,
+            lines,
+            fault: None,
             ended: false,
             read_faults: 0,
             write_faults: 0,
@@ -99,6 +114,34 @@ impl Output {
     }
 }
 
+impl Drop for FileLines {
+    fn drop(self) {
+        let FileLines {
+            input: _,
+            ahead: _,
+            output,
+            worker,
+            lines,
+            fault,
+            ended,
+            read_faults: _,
+            write_faults: _,
+        } = self;
+        if output.is_begun {
+            tell_end(&lines, worker, ended, fault.as_ref());
+        }
+    }
+}
+
+// Why the frames of a worker go on no more.
+fn tell_end(lines: &ErrorLines, worker: u16, ended: bool, fault: Option<&io::Error>) {
+    match fault {
+        Some(error) => lines.tell_worker(worker, error),
+        None if ended => lines.tell_worker(worker, &"its input ended"),
+        None => lines.tell_worker(worker, &"its input ended within a frame"),
+    }
+}
+
 impl Lines for FileLines {
     ghost told = { ⊥ };
 
@@ -123,7 +166,8 @@ impl Lines for FileLines {
                 self.ahead.take(into);
                 Frame::Whole
             }
-            _ => {
+            read => {
+                self.fault = read.err();
                 self.read_faults = self.read_faults.saturating_add(1);
                 Frame::Failed
             }
@@ -133,7 +177,8 @@ impl Lines for FileLines {
     fn write_frame(&mut self, from: &[u8]) -> Put {
         // A whole frame ahead: the input isn't read before the next write.
         let may_wait = self.ahead.count() >= from.len();
-        if self.output.write(from, may_wait).is_err() {
+        if let Err(error) = self.output.write(from, may_wait) {
+            self.fault = Some(error);
             self.write_faults = self.write_faults.saturating_add(1);
             return Put::Failed;
         }

@@ -6,8 +6,11 @@ ghost use Rattle.dxc_outside.specs.Openings.{IsClosed, most_shelf_bytes};
 use crate::changes::Changes;
 use crate::copied::Copied;
 use crate::entrance::Entrance;
+use crate::error_lines::ErrorLines;
+use crate::keepalive::FarEnd;
 use crate::last_sync::LastSync;
 use crate::lines_files::{open_input, open_output};
+use crate::peer_watch::PeerWatch;
 use crate::staged_file::{StagedFile, is_free};
 use crate::{FileLines, HostClock, HostDisk, HostGate, PeerLink, Refusal, TcpDoor, TcpLink};
 use dxc_disk::FileDisk;
@@ -29,6 +32,8 @@ pub struct HostOpener<T> {
     bound: Vec<(String, Entrance)>,
     /// What its listeners and its gates share, from the first listener on.
     changes: Option<Changes>,
+    /// What all that it hands out tells standard error by, from the first of these on.
+    lines: Option<ErrorLines>,
     faults: u64,
     /// Journals are copied, and no byte of a file is changed.
     only_looks: bool,
@@ -36,6 +41,8 @@ pub struct HostOpener<T> {
     refusal: Option<Refusal>,
     /// The copy of a journal that was to be made last.
     copied: Option<Copied>,
+    /// The connection to a standby, for those who wait for callers.
+    standby: Option<PeerWatch>,
 }
 
 impl<T: Drop> HostOpener<T> {
@@ -48,10 +55,12 @@ impl<T: Drop> HostOpener<T> {
             system,
             bound,
             changes: None,
+            lines: None,
             faults: 0,
             only_looks: false,
             refusal: None,
             copied: None,
+            standby: None,
         }
     }
 
@@ -102,7 +111,8 @@ impl<T: Files<File = File>> HostOpener<T> {
         }
         let last_sync = LastSync::new(alloc)?;
         let shared = last_sync.shared()?;
-        let staged = StagedFile::new(alloc, &self.system, name, place, shared)?;
+        let lines = share_lines(alloc, &mut self.lines);
+        let staged = StagedFile::new(alloc, &self.system, name, place, shared, lines)?;
         self.copied = Some(Copied::new(alloc, name, last_sync)?);
         Ok(HostDisk::staged(staged))
     }
@@ -125,19 +135,27 @@ fn append_file<T: Files<File = File>>(files: &T, path: &str, into: &mut Vec<u8>)
     Ok(())
 }
 
-// The entrance at the address: the one that was bound there before, or else a new one.
+// The entrance at the address: the one that was bound there before, or else a new one, of which standard error is told. Who waits at it looks after
+// the standby.
 fn bind<T: Net<Listener = TcpListener, Stream = TcpStream>>(
     alloc: Global,
     net: &T,
     bound: &mut Vec<(String, Entrance)>,
     address: &str,
+    lines: &ErrorLines,
+    standby: Option<PeerWatch>,
 ) -> io::Result<Entrance> {
     if let Some((_, entrance)) = bound.iter().find(|(held, _)| held.as_str() == address) {
         return Ok(entrance.shared()?);
     }
-    let entrance = Entrance::new(alloc, TcpListener::bind(net, address)?)?;
+    let listener = TcpListener::bind(net, address)?;
+    let at = listener.local_addr()?;
+    let entrance = Entrance::new(alloc, listener, standby)?;
     let held = entrance.shared()?;
     bound.push((address.to_string(alloc)?, held))?;
+    if let Ok(what) = format!(in alloc; "listening at {at}") {
+        lines.tell(&what.as_str());
+    }
     Ok(entrance)
 }
 
@@ -152,20 +170,47 @@ fn share(alloc: Global, changes: &mut Option<Changes>) -> Result<Changes, AllocE
     Ok(shared)
 }
 
-// A link to whoever listens at the address, which is tried in each form that its name has. No gate is asked for what it is sent.
+// Standard error's, for one more holder.
+fn share_lines(alloc: Global, lines: &mut Option<ErrorLines>) -> ErrorLines {
+    if let Some(lines) = lines {
+        return lines.shared();
+    }
+    let made = ErrorLines::new(alloc);
+    let shared = made.shared();
+    *lines = Some(made);
+    shared
+}
+
+// A link to whoever listens at the address, which is tried in each form that its name has.
 fn call<T: Net<Listener = TcpListener, Stream = TcpStream>>(
     alloc: Global,
     net: &T,
     address: &str,
-) -> io::Result<TcpLink> {
+    lines: &ErrorLines,
+) -> io::Result<PeerLink> {
     let mut last = io::Error::new(ErrorKind::InvalidInput, "the name has no address");
     for at in address.to_socket_addrs(net)? {
         match TcpStream::connect_timeout(net, &at, Duration::from_secs(CALL_SECONDS)) {
-            Ok(stream) => return TcpLink::new(alloc, stream, None, Changes::new(alloc)?),
+            Ok(stream) => return peer_link(alloc, stream, lines.shared()),
             Err(error) => last = error,
         }
     }
     Err(last)
+}
+
+// No gate is asked for what it is sent.
+fn peer_link(alloc: Global, stream: TcpStream, lines: ErrorLines) -> io::Result<PeerLink> {
+    let watch = PeerWatch::new(alloc, stream.try_clone()?, lines)?;
+    let link = TcpLink::new(alloc, stream, None, FarEnd::Peer, Changes::new(alloc)?)?;
+    Ok(PeerLink::new(link, watch))
+}
+
+fn tell_called(alloc: Global, lines: &ErrorLines, address: &str) {
+    if let Ok(what) = format!(in alloc;
+        "standby at {address}: called, the journal is copied to it"
+    ) {
+        lines.tell(&what.as_str());
+    }
 }
 
 impl<
@@ -278,7 +323,8 @@ impl<
             Ok(file) => file,
             Err(error) => return self.not_opened(alloc, to.as_str(), &error),
         };
-        match FileLines::new(alloc, input, output) {
+        let lines = share_lines(alloc, &mut self.lines);
+        match FileLines::new(alloc, input, output, worker, lines) {
             Ok(lines) => Opened::Open(lines),
             Err(_) => Opened::NoMemory,
         }
@@ -294,8 +340,33 @@ impl<
         let Ok(changes) = share(alloc, &mut self.changes) else {
             return Opened::NoMemory;
         };
-        match bind(alloc, &self.system, &mut self.bound, address) {
-            Ok(entrance) => Opened::Open(TcpDoor::new(alloc, entrance, self.system, changes)),
+        let lines = share_lines(alloc, &mut self.lines);
+        let standby = self
+            .standby
+            .as_ref()
+            .and_then(|standby| standby.shared().ok());
+        // Who has a copy to make is called by its primary.
+        let far = if self.copied.is_some() {
+            FarEnd::Peer
+        } else {
+            FarEnd::Caller
+        };
+        match bind(
+            alloc,
+            &self.system,
+            &mut self.bound,
+            address,
+            &lines,
+            standby,
+        ) {
+            Ok(entrance) => Opened::Open(TcpDoor::new(
+                alloc,
+                entrance,
+                self.system,
+                changes,
+                lines,
+                far,
+            )),
             Err(error) => self.not_opened(alloc, address, &error),
         }
     }
@@ -306,8 +377,13 @@ impl<
         ensures no_fault { result ≢ Opened.Failed → self.new.faults ≡ self.old.faults }
         ensures looks { self.new.only_looks ≡ self.old.only_looks }
     {
-        match call(alloc, &self.system, address) {
-            Ok(link) => Opened::Open(PeerLink::new(alloc, link)),
+        let lines = share_lines(alloc, &mut self.lines);
+        match call(alloc, &self.system, address, &lines) {
+            Ok(link) => {
+                tell_called(alloc, &lines, address);
+                self.standby = link.watch();
+                Opened::Open(link)
+            }
             Err(error) => self.not_opened(alloc, address, &error),
         }
     }

@@ -9,27 +9,58 @@ use std::io;
 use std::net::TcpStream;
 use std::os::fd::AsRawFd;
 
-/// A caller who sends nothing for so long is asked whether its machine is there.
-const IDLE_SECONDS: i32 = 60;
-
-/// How long after an asking the next one comes.
-const AGAIN_SECONDS: i32 = 10;
-
 /// After so many askings without an answer the stream is broken.
 const ASKINGS: i32 = 3;
 
-/// Bytes that weren't acknowledged for so long break the stream too.
-const UNANSWERED_MILLIS: i32 = 90_000;
+/// Who is at the other end of a stream, whose machine may be silent for so long.
+#[derive(Clone, Copy, Drop)]
+pub(crate) enum FarEnd {
+    /// A technician: a minute and a half.
+    Caller,
+    /// The other controller of a pair, of whose silence both say within ten seconds: eight seconds.
+    Peer,
+}
 
-/// Breaks the stream where its caller's machine has been silent for a minute and a half, whether anything was sent to it or not (RFC 1122,
+impl FarEnd {
+    /// Who sends nothing for so long is asked whether its machine is there.
+    fn idle_seconds(self) -> i32 {
+        match self {
+            FarEnd::Caller => 60,
+            FarEnd::Peer => 2,
+        }
+    }
+
+    /// How long after an asking the next one comes.
+    fn again_seconds(self) -> i32 {
+        match self {
+            FarEnd::Caller => 10,
+            FarEnd::Peer => 2,
+        }
+    }
+
+    /// Bytes that weren't acknowledged for so long break the stream too.
+    fn unanswered_millis(self) -> i32 {
+        match self {
+            FarEnd::Caller => 90_000,
+            FarEnd::Peer => 8_000,
+        }
+    }
+}
+
+/// Breaks the stream where the machine at its other end has been silent for so long, whether anything was sent to it or not (RFC 1122,
 /// 4.2.3.6; RFC 5482).
-pub(crate) fn watch(stream: &TcpStream) -> io::Result<()> {
+pub(crate) fn watch(stream: &TcpStream, far: FarEnd) -> io::Result<()> {
     let socket = stream.as_raw_fd();
     set(socket, SOL_SOCKET, SO_KEEPALIVE, 1)?;
-    set(socket, IPPROTO_TCP, TCP_KEEPIDLE, IDLE_SECONDS)?;
-    set(socket, IPPROTO_TCP, TCP_KEEPINTVL, AGAIN_SECONDS)?;
+    set(socket, IPPROTO_TCP, TCP_KEEPIDLE, far.idle_seconds())?;
+    set(socket, IPPROTO_TCP, TCP_KEEPINTVL, far.again_seconds())?;
     set(socket, IPPROTO_TCP, TCP_KEEPCNT, ASKINGS)?;
-    set(socket, IPPROTO_TCP, TCP_USER_TIMEOUT, UNANSWERED_MILLIS)
+    set(
+        socket,
+        IPPROTO_TCP,
+        TCP_USER_TIMEOUT,
+        far.unanswered_millis(),
+    )
 }
 
 fn set(socket: i32, level: i32, option: i32, number: i32) -> io::Result<()>

@@ -5,7 +5,9 @@
 mod caller;
 mod changes;
 mod copied;
+mod door_notes;
 mod entrance;
+mod error_lines;
 mod file_copy;
 mod file_lines;
 mod held;
@@ -20,6 +22,7 @@ mod lines_files;
 mod outbox;
 mod patient;
 mod peer_link;
+mod peer_watch;
 mod refusal;
 mod shown;
 mod staged_file;
@@ -31,6 +34,7 @@ mod told;
 mod utc;
 
 pub use copied::Copied;
+pub use door_notes::DoorNotes;
 pub use file_lines::FileLines;
 pub use host_clock::HostClock;
 pub use host_disk::HostDisk;

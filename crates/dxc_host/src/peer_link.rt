@@ -1,20 +1,24 @@
 ghost use Rattle.dxc_host.specs.TcpLinks.{tcp_state};
 
 use crate::TcpLink;
-use crate::told::tell;
+use crate::peer_watch::PeerWatch;
 use dxc_outside::{Got, Link, Lost, Put};
-use std::alloc::Global;
 
-/// A TCP link to a standby. Where it is hung up standard error is told when and why, since the sessions go on without it.
+/// A TCP link to a standby. Where it ends, or is hung up, standard error is told when and why, since the sessions go on without it.
 #[derive(Drop)]
 pub struct PeerLink {
     link: TcpLink,
-    alloc: Global,
+    watch: PeerWatch,
 }
 
 impl PeerLink {
-    pub(crate) fn new(alloc: Global, link: TcpLink) -> PeerLink {
-        PeerLink { link, alloc }
+    pub(crate) fn new(link: TcpLink, watch: PeerWatch) -> PeerLink {
+        PeerLink { link, watch }
+    }
+
+    /// What those see of its end who wait for callers; none where memory is wanting.
+    pub(crate) fn watch(&self) -> Option<PeerWatch> {
+        self.watch.shared().ok()
     }
 }
 
@@ -36,17 +40,8 @@ impl Link for PeerLink {
     }
 
     fn hang_up(&mut self, why: Lost) {
+        // First: whoever waits for callers meets the end that is made here.
+        self.watch.tell(why);
         self.link.hang_up(why);
-        tell(self.alloc, lost_text(why));
-    }
-}
-
-fn lost_text(why: Lost) -> &'static str {
-    match why {
-        Lost::Link => "standby lost, the connection failed: serving alone",
-        Lost::End => "standby lost, it hung up: serving alone",
-        Lost::Silent => "standby lost, it was silent for 25 reads: serving alone",
-        Lost::BadMessage => "standby lost, it sent what is no message: serving alone",
-        Lost::Disk => "standby lost, the journal's disk failed: serving alone",
     }
 }

@@ -1,6 +1,6 @@
+use crate::error_lines::ErrorLines;
 use crate::file_copy::folder_of;
 use crate::last_sync::LastSync;
-use crate::told::tell;
 use dxc_disk::{Disk, DiskFault, FileDisk};
 use std::alloc::Global;
 use std::fs::{self, File};
@@ -16,7 +16,7 @@ const BESIDE: &str = ".joining";
 /// The file of a copy, which is made beside its name and gets it with its first sync, so that the name never stands for a part.
 #[derive(Drop)]
 pub(crate) struct StagedFile {
-    alloc: Global,
+    lines: ErrorLines,
     staged: FileDisk,
     beside: String,
     name: String,
@@ -35,6 +35,7 @@ impl StagedFile {
         name: &str,
         place: FileDisk,
         last_sync: LastSync,
+        lines: ErrorLines,
     ) -> io::Result<StagedFile> {
         let mut beside = String::new(alloc);
         beside.push_str(name)?;
@@ -46,7 +47,7 @@ impl StagedFile {
         let staged = FileDisk::open(alloc, files, beside.as_str())?;
         let folder = File::open(files, folder_of(name))?;
         Ok(StagedFile {
-            alloc,
+            lines,
             staged,
             beside,
             name: name.to_string(alloc)?,
@@ -88,7 +89,7 @@ impl StagedFile {
             return Err(DiskFault);
         }
         self.is_named = true;
-        tell(self.alloc, "standby joined, its copy is whole");
+        self.lines.tell(&"standby joined, its copy is whole");
         Ok(())
     }
 }

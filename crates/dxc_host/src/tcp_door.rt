@@ -2,10 +2,15 @@ ghost use Rattle.std.specs.Prelude.{[], ◌≡◌, ◌≢◌};
 
 use crate::TcpLink;
 use crate::changes::Changes;
+use crate::door_notes::DoorNotes;
 use crate::entrance::Entrance;
+use crate::error_lines::ErrorLines;
+use crate::keepalive::FarEnd;
+use dxc_notes::Noted;
 use dxc_outside::{Came, Listener};
 use std::alloc::Global;
 use std::io::{self, ErrorKind};
+use std::net::SocketAddr;
 use std::rt::Clock as SystemClock;
 use std::sync::Wait;
 use std::thread;
@@ -14,70 +19,108 @@ use std::time::Duration;
 /// How long an accept that failed rests: a host without free descriptors may have some again.
 const REST_MILLIS: u64 = 100;
 
-/// A listener over TCP, which never says End. It tells nothing of who calls. Where the host is short of descriptors or memory, or a caller
-/// is gone before it was answered, it goes on after a rest; only what stays wrong of the listening socket itself is a fault.
+/// A listener over TCP, which never says End. It tells standard error who comes, and where nobody can be let in; no clause tells of it. Where the
+/// host is short of descriptors or memory, or a caller is gone before it was answered, it goes on after a rest; only what stays wrong of the
+/// listening socket itself is a fault.
 #[derive(Drop)]
 pub struct TcpDoor<T> {
     alloc: Global,
     entrance: Entrance,
     system: T,
     changes: Changes,
+    lines: ErrorLines,
+    /// Of the place whose callers come in here, from 1 on.
+    place: u64,
+    /// Who calls here.
+    far: FarEnd,
     faults: u64,
 }
 
 impl<T: SystemClock + Drop> TcpDoor<T> {
     /// What a link needs is taken as it is made.
-    pub(crate) fn new(alloc: Global, entrance: Entrance, system: T, changes: Changes) -> TcpDoor<T>
+    pub(crate) fn new(
+        alloc: Global,
+        entrance: Entrance,
+        system: T,
+        changes: Changes,
+        lines: ErrorLines,
+        far: FarEnd,
+    ) -> TcpDoor<T>
         ensures { result.faults ≡ 0 }
     {
-        entrance.free();
+        let place = entrance.door();
         TcpDoor {
             alloc,
             entrance,
             system,
             changes,
+            lines,
+            place,
+            far,
             faults: 0,
         }
     }
 
     // None: nobody could be let in, and the next try may be better.
-    fn answer(&self) -> io::Result<Option<TcpLink>> {
+    fn answer(&self, is_told: &mut bool) -> io::Result<Option<TcpLink>> {
         match self.let_in() {
-            Ok(link) => Ok(Some(link)),
-            Err(error) if stays(&error) => {
-                self.rest();
-                Err(error)
+            Ok((link, address)) => {
+                self.tell_caller(address);
+                Ok(Some(link))
             }
+            // Another door was faster, or a signal came.
+            Err(error) if is_missed(&error) => Ok(None),
             Err(error) => {
-                // Another door was faster, or a signal came.
-                if !matches!(error.kind(), ErrorKind::WouldBlock | ErrorKind::Interrupted) {
-                    self.rest();
-                }
-                Ok(None)
+                self.rest(&error, is_told);
+                if stays(&error) { Err(error) } else { Ok(None) }
             }
         }
     }
 
-    fn let_in(&self) -> io::Result<TcpLink> {
+    fn let_in(&self) -> io::Result<(TcpLink, SocketAddr)> {
         self.entrance.wait()?;
-        let stream = self.entrance.accept()?;
+        let (stream, address) = self.entrance.accept()?;
         let seat = self.entrance.seat()?;
-        TcpLink::new(self.alloc, stream, Some(seat), self.changes.shared()?)
+        let changes = self.changes.shared()?;
+        let link = TcpLink::new(self.alloc, stream, Some(seat), self.far, changes)?;
+        Ok((link, address))
     }
 
     // The next caller, however long that takes.
     fn next<R: Wait>(&self, rt: &R) -> io::Result<TcpLink> {
+        let mut is_told = false;
         for _ in rt.forever() {
-            if let Some(link) = self.answer()? {
+            if let Some(link) = self.answer(&mut is_told)? {
                 return Ok(link);
             }
         }
         unreachable!()
     }
 
-    fn rest(&self) {
+    fn tell_caller(&self, address: SocketAddr) {
+        if let Ok(what) = format!(in self.alloc; "caller from {address}") {
+            self.lines.tell_at(self.place, &what.as_str());
+        }
+    }
+
+    // Standard error is told why, once for tries that fail one after another.
+    fn rest(&self, error: &io::Error, is_told: &mut bool) {
+        if !*is_told {
+            *is_told = true;
+            self.tell_short(error);
+        }
         thread::sleep(&self.system, Duration::from_millis(REST_MILLIS));
     }
+
+    fn tell_short(&self, error: &io::Error) {
+        if let Ok(what) = format!(in self.alloc; "nobody can be let in: {error}") {
+            self.lines.tell_at(self.place, &what.as_str());
+        }
+    }
+}
+
+fn is_missed(error: &io::Error) -> bool {
+    matches!(error.kind(), ErrorKind::WouldBlock | ErrorKind::Interrupted)
 }
 
 // No accept of the socket will be better (accept(2)).
@@ -109,5 +152,13 @@ impl<T: SystemClock + Drop> Listener for TcpDoor<T> {
                 Came::Failed
             }
         }
+    }
+}
+
+impl<T> Noted for TcpDoor<T> {
+    type Notes = DoorNotes;
+
+    fn notes(&self) -> DoorNotes {
+        DoorNotes::new(self.place, self.lines.shared())
     }
 }

@@ -4,6 +4,7 @@ ghost use Rattle.dxc_host.specs.TcpLinks.{tcp_state};
 use crate::caller::Caller;
 use crate::changes::Changes;
 use crate::entrance::Seat;
+use crate::keepalive::FarEnd;
 use crate::outbox::Outbox;
 use dxc_outside::{Got, Link, Lost, Put};
 use std::alloc::Global;
@@ -30,6 +31,7 @@ impl TcpLink {
         alloc: Global,
         stream: TcpStream,
         seat: Option<Seat>,
+        far: FarEnd,
         changes: Changes,
     ) -> io::Result<TcpLink>
         ensures ended { IfOk result (λ t. t.ended ≡ false) }
@@ -37,7 +39,7 @@ impl TcpLink {
         ensures read_faults { IfOk result (λ t. t.read_faults ≡ 0) }
         ensures write_faults { IfOk result (λ t. t.write_faults ≡ 0) }
     {
-        let caller = Caller::new(stream, seat)?;
+        let caller = Caller::new(stream, seat, far)?;
         let outbox = Outbox::new(alloc, changes)?;
         Ok(TcpLink {
             caller,

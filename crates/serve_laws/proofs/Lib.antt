@@ -3,4 +3,5 @@ pub mod Serving
 pub mod Placing
 pub mod Owning
 pub mod Leaving
+pub mod Earlier
 pub mod Whole

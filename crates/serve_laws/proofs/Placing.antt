@@ -1,7 +1,6 @@
 -- All places: the jobs that were handed out, the sessions of each, and the one element.
 use Rattle.std.proofs.Common.{◌≡◌, ◌⊎◌, ◌<◌, ◌≤◌, ◌+◌, ℕ, zero, suc, Bool, true, false, arith, List, [], ◌∷◌, ◌++◌, length, map, Some, option_map, IsTrue, refl, sym, ◌∙◌, ap, subst, inl, inr}
 use Rattle.std.specs.List.{AllByRecursion, slice_get}
-use Rattle.std.proofs.lemmas.Bool.Decides.{leb_tells}
 use Rattle.std.proofs.lemmas.Option.{slice_get-map}
 use base.Stored.{Gv}
 use Rattle.turnstile.specs.Laws.{HasSeen}
@@ -12,7 +11,10 @@ use Rattle.dxc_model.specs.declared.entry.Entry.{Entry}
 use Rattle.dxc_model.specs.Histories.{IsLegal}
 use Rattle.shelf_file.specs.Contents.{Contents}
 use Rattle.user_admin.specs.declared.op.UserEntry.{UserEntry}
-use Rattle.user_admin.specs.Coding.{entry_coded as user_coded, place_of as user_place_of}
+use Rattle.user_admin.specs.declared.op.UserMark.{UserMark}
+use Rattle.user_admin.specs.Coding.{mark_coded as user_coded}
+use Rattle.user_admin.specs.Marks.{entries_of, place_of as user_place_of}
+use Rattle.user_admin.proofs.Marking.{each_entries}
 use Rattle.user_admin.specs.Histories.{IsLegal as AreLegal, Opening as UsersOpening, failures, users_after}
 use Rattle.xc_core.specs.Seeing.{entry_coded, place_of}
 use Rattle.xc_core.specs.States.{LimitBehind, Opening, began, rules_of}
@@ -24,6 +26,8 @@ use Rattle.switch_laws.specs.Element.{ComesTo, Session}
 use Rattle.switch_laws.specs.Laws.{IsExcused, Lives, element}
 use Rattle.switch_laws.specs.Users.{AreHeard, Hearing, Listens}
 use Rattle.switch_laws.proofs.Following.{together}
+use Rattle.switch_laws.specs.Moments.{AreUsersThen}
+use Rattle.switch_laws.proofs.HeardThen.{compared, users_then}
 use Rattle.switch_laws.proofs.Listening.{heard_together}
 use Rattle.craft_jobs.specs.Begun.{AreRan}
 use Rattle.craft_jobs.specs.Leaves.{left_by}
@@ -44,9 +48,6 @@ ran_length ran [] [] all = refl
 ran_length ran [] (l ∷ ls) all = absurd all
 ran_length ran (j ∷ js) [] all = absurd all
 ran_length ran (j ∷ js) (l ∷ ls) all = ap suc (ran_length ran js ls all.1)
-
-compared : (p n : ℕ) → (p < n) ⊎ (n ≤ p)
-compared p n = elim (leb_tells n p) [ inl t ↦ inr t.1 | inr t ↦ inl t.1 ]
 
 each_all : (n : ℕ) (h : List Entry) → Each (λ e. e.place < n) h → AllByRecursion (λ e. e.place < n) h
 each_all n [] a = tt
@@ -140,14 +141,26 @@ module _ (w : World) (s : Contents) (o : Opening) (p : UsersOpening) (t : Turnst
       played_as_one legal numbers excused all =
           together (language s) (rules_of o) (λ q. IsTrue (excused q)) (began o.due) 16 (began o.due ++ history) sessions (omega arith) (legal, all, within 16 o.due history (omega arith) numbers) lives_each none_beyond
 
-    module _ (history : List UserEntry) (seen : (k : ℕ) (q : PlaceAt) → slice_get lefts k ≡ Some q → HasSeen user_coded.code user_place_of history k q.users.seen) where
+    module _ (left : List UserMark) (seen : (k : ℕ) (q : PlaceAt) → slice_get lefts k ≡ Some q → HasSeen user_coded.code user_place_of left k q.users.seen) where
+      abbrev history : List UserEntry
+      history = entries_of left
+
       listens_each : (k : ℕ) → k < 16 → Listens (language s) k p history (hearings k)
       unfolding hearings
       listens_each k lt = elim (compared k 16) as (λ d. Listens (language s) k p history (hearings_by k d)) [
-        | inl below ↦ (let x = ran_at k below in heard_along w.disk.told w.uses.clock.told w.office.link.told w.office.link.state w.office.link.begun w.uses.gate.stops w.uses.gate.asked s o k p (first_at k below) x.ran.served.callers (last_at k below) x.ran.served.served history (place_lived k below) (seen k x.left x.left_is))
+        | inl below ↦ (let x = ran_at k below in heard_along w.disk.told w.uses.clock.told w.office.link.told w.office.link.state w.office.link.begun w.uses.gate.stops w.uses.gate.asked s o k p (first_at k below) x.ran.served.callers (last_at k below) x.ran.served.served left (place_lived k below) (seen k x.left x.left_is))
         | inr ge ↦ absurd (omega (arith, lt, ge))
       ]
 
-      pub heard_as_one : AreLegal p history → Each (λ e. e.place < 16) history → (failing : Bool) → (1 ≤ failures history → IsTrue failing)
+      numbered : Each (λ m. user_place_of m < 16) left → AllByRecursion (λ e. e.place < 16) history
+      numbered numbers = each_user 16 history (each_entries (λ n. n < 16) left numbers)
+
+      pub heard_as_one : AreLegal p history → Each (λ m. user_place_of m < 16) left → (failing : Bool) → (1 ≤ failures history → IsTrue failing)
           → AreHeard (language s) p.shelf.sid (IsTrue failing) (record { users = p.users; sessions = λ k. [] }) (record { users = users_after p history; sessions = hearings })
-      heard_as_one legal numbers failing fails = heard_together (language s) p (IsTrue failing) 16 history hearings (omega arith) (legal, fails, each_user 16 history numbers) listens_each none_heard_beyond
+      heard_as_one legal numbers failing fails = heard_together (language s) p (IsTrue failing) 16 history hearings (omega arith) (legal, fails, numbered numbers) listens_each none_heard_beyond
+
+      pub heard_then : AreLegal p history → Each (λ m. user_place_of m < 16) left → (failing : Bool) → (1 ≤ failures history → IsTrue failing) → (earlier later : List UserEntry) → history ≡ earlier ++ later → AreUsersThen (language s) p (IsTrue failing) earlier hearings
+      heard_then legal numbers failing fails earlier later is =
+          let listens = λ (k : ℕ) (lt : k < 16). subst (λ (g : List UserEntry). Listens (language s) k p g (hearings k)) is (listens_each k lt) in
+          let all = subst (λ (g : List UserEntry). AllByRecursion (λ e. e.place < 16) g) is (numbered numbers) in
+          users_then (language s) (IsTrue failing) p earlier later 16 hearings listens (subst (λ (g : List UserEntry). AreLegal p g) is legal) (subst (λ (g : List UserEntry). 1 ≤ failures g → IsTrue failing) is fails) (omega arith) all

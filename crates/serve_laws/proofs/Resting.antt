@@ -13,8 +13,10 @@ use Rattle.turnstile.specs.declared.board.Held.{Held}
 use Rattle.turnstile.specs.declared.board.Opened.{Opened}
 use Rattle.turnstile.specs.Laws.{HasSeen, IsOne}
 use Rattle.turnstile.specs.Passing.{Ident, Token}
+use Rattle.turnstile.specs.Shown.{token}
 use Rattle.turnstile.specs.Turning.{Each, Kept, Sits}
 use Rattle.turnstile.proofs.OneHistory.{one_history}
+use Rattle.craft_session.specs.Places.{IsMadeFor}
 use Rattle.serve_laws.specs.Passes.{ArePassesIn, IsPassIn, IsRestOf}
 
 -- what a list has at a number below its length
@@ -38,16 +40,12 @@ seat_inside Idle number dealt j is x = x
 seat_inside Drawn number dealt j is x = x
 seat_inside Inside number dealt j is x = x
 
-module _ {X E O : Type 0} (mark : O → Gv) (code : E → Gv) (opening : X → O) (number : E → ℕ) (stands : X → List E → Type 0) (id : Ident) (o : O) (seen : List (List Gv)) (key : Opened X) (z : State (Option (Held X E)) View) (r : IsRestOf mark code opening number stands id o seen key z) where
+module _ {X E O : Type 0} (mark : O → Gv) (code : E → Gv) (opening : X → O) (number : E → ℕ) (stands : X → List E → Type 0) (id : Ident) (seen : List (List Gv)) (key : Opened X) (z : State (Option (Held X E)) View) (r : IsRestOf mark code opening number stands id seen key z) where
   one : IsOne mark code opening number stands key z
   one = one_history mark code opening number stands key z r.kept
 
   pub history : List E
   history = one.history
-
-  pub numbers : Each (λ e. number e < length seen) history
-  unfolding history
-  numbers = subst (λ (n : ℕ). Each (λ e. number e < n) one.history) r.count one.numbers
 
   pass : (k : ℕ) (s : List Gv) → slice_get seen k ≡ Some s → IsPassIn z id k s
   pass k s e = subst (λ (m : ℕ). IsPassIn z id m s) (omega arith) (pass_from z id 0 seen k s r.passes e)
@@ -61,33 +59,56 @@ module _ {X E O : Type 0} (mark : O → Gv) (code : E → Gv) (opening : X → O
       let saw : p.view.seen ≡ s = ap (λ (t : Token). t.seen) p.is in
       subst (λ (y : ℕ × List Gv). HasSeen code number one.history y.0 y.1) (λ i. (own i, saw i)) (one.seen (k + 1) p.view p.there)
 
-  -- no pass has the turn
-  all_rest : (j : ℕ) (v : View) → get_elem? z.views j ≡ some v → v.stage ≢ Inside
-  all_rest j v at = λ inside.
-      let here : v.number + 1 ≡ j = seat_inside v.stage v.number r.kept.dealt j inside (r.kept.each j v at).sits in
-      let below : j < length z.views = at_below z.views v j at in
-      let seats = r.kept.seats in
-      let few = r.kept.few.0 in
-      let count = r.count in
-      let low : v.number < length seen = omega (arith, here, below, seats, few, count) in
-      let s = get_below seen v.number low in
-      let p = pass v.number s.0 s.1 in
-      let same : p.view ≡ v = some-injective p.view v (sym p.there ∙ ap (get_elem? z.views) here ∙ at) in
-      let no : Idle ≡ Inside = sym p.rests.0 ∙ ap (λ (x : View). x.stage) same ∙ inside in
-      cc
+  -- where the turnstile was made with a state of this opening, for as many passes as rest
+  module _ (inj : (x y : O) → mark x ≡ mark y → x ≡ y) (o : O) (n : ℕ) (made : IsMadeFor (mark o) n id) (many : length seen ≡ n) (pos : 0 < n) where
+    -- a pass of it tells how it was made
+    told_by : (v : View) (own : ℕ) (s : List Gv) → token own id.table (v ∷ []) ≡ record { number = own; free = true; id = id; seen = s } → (v.first ≡ mark (opening key.first.value)) × (v.passes ≡ key.passes) → (mark (opening key.first.value) ≡ mark o) × (key.passes ≡ n)
+    told_by v own s is same = (sym same.0 ∙ ap (λ (t : Token). t.id.first) is ∙ made.0, sym same.1 ∙ ap (λ (t : Token). t.id.passes) is ∙ made.1)
 
-  -- the state that lies there stands for it
-  pub lying : Held X E
-  lying = (one.home all_rest).0
+    key_is : (mark (opening key.first.value) ≡ mark o) × (key.passes ≡ n)
+    key_is =
+        let s = get_below seen 0 (omega (arith, many, pos)) in
+        let p = pass 0 s.0 s.1 in
+        told_by p.view 0 s.0 p.is (r.kept.each 1 p.view p.there).same
 
-  pub at_home : z.homes ≡ some (Some lying) ∷ []
-  unfolding lying
-  at_home = (one.home all_rest).1
+    pub count : key.passes ≡ n
+    count = key_is.1
 
-  pub opening_is : opening lying.state ≡ o
-  unfolding lying
-  opening_is = (one.home all_rest).2 ∙ r.begun
+    pub numbers : Each (λ e. number e < n) history
+    unfolding history
+    numbers = subst (λ (m : ℕ). Each (λ e. number e < m) one.history) key_is.1 one.numbers
 
-  pub stand : stands lying.state history
-  unfolding lying history
-  stand = (one.home all_rest).3
+    -- no pass has the turn
+    all_rest : (j : ℕ) (v : View) → get_elem? z.views j ≡ some v → v.stage ≢ Inside
+    all_rest j v at = λ inside.
+        let here : v.number + 1 ≡ j = seat_inside v.stage v.number r.kept.dealt j inside (r.kept.each j v at).sits in
+        let below : j < length z.views = at_below z.views v j at in
+        let seats = r.kept.seats in
+        let few = r.kept.few.0 in
+        let count = key_is.1 in
+        let low : v.number < length seen = omega (arith, here, below, seats, few, count, many) in
+        let s = get_below seen v.number low in
+        let p = pass v.number s.0 s.1 in
+        let same : p.view ≡ v = some-injective p.view v (sym p.there ∙ ap (get_elem? z.views) here ∙ at) in
+        let no : Idle ≡ Inside = sym p.rests.0 ∙ ap (λ (x : View). x.stage) same ∙ inside in
+        cc
+
+    -- the state that lies there stands for it
+    pub lying : Held X E
+    lying = (one.home all_rest).0
+
+    pub at_home : z.homes ≡ some (Some lying) ∷ []
+    unfolding lying
+    at_home = (one.home all_rest).1
+
+    -- the turnstile was made with a state of this opening
+    pub begun : opening key.first.value ≡ o
+    begun = inj (opening key.first.value) o key_is.0
+
+    pub opening_is : opening lying.state ≡ o
+    unfolding lying
+    opening_is = (one.home all_rest).2 ∙ begun
+
+    pub stand : stands lying.state history
+    unfolding lying history
+    stand = (one.home all_rest).3

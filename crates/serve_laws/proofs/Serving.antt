@@ -19,15 +19,19 @@ use Rattle.dxc_model.specs.Histories.{IsLegal}
 use Rattle.dxc_model.specs.Tables.{Board}
 use Rattle.shelf_file.specs.Contents.{Contents}
 use Rattle.user_admin.specs.declared.op.UserEntry.{UserEntry}
-use Rattle.user_admin.specs.Coding.{entry_coded as user_coded, place_of as user_place_of}
+use Rattle.user_admin.specs.declared.op.UserMark.{UserMark}
+use Rattle.user_admin.specs.Coding.{mark_coded as user_coded}
 use Rattle.user_admin.specs.Histories.{IsLegal as AreLegal, Opening as UsersOpening, failures, users_after}
+use Rattle.user_admin.specs.Marks.{entries_of, place_of as user_place_of}
 use Rattle.user_admin.specs.Turns.{codes as user_codes}
+use Rattle.user_admin.proofs.Marking.{entries_append, others_entries}
+use Rattle.user_admin.proofs.Turning.{same_marks}
 use Rattle.switch_laws.specs.Users.{AreHeard, Hearing, Listens, consulted_on, nobody_asked, others_asked}
 use Rattle.switch_laws.proofs.Listening.{heard_together}
 use Rattle.xc_core.specs.Seeing.{codes, entry_coded, place_of}
 use Rattle.xc_core.specs.States.{LimitBehind, Opening, began, rules_of}
 use Rattle.craft_session.specs.declared.end.SessionEnd.{SessionEnd}
-use Rattle.craft_session.specs.declared.end.SessionEnd.TheVariants.{End, ReadFault, WriteFault, Stopped, Spent}
+use Rattle.craft_session.specs.declared.end.SessionEnd.TheVariants.{End, ReadFault, WriteFault, Stopped, Spent, Unattended}
 use Rattle.craft_session.specs.Asks.{Language, user_after}
 use Rattle.craft_session.specs.Happenings.{Request, unit}
 use Rattle.craft_session.specs.Meanings.{language}
@@ -40,6 +44,13 @@ use Rattle.craft_server.specs.Callers.{InTurn, ServedCaller, Standing, none_yet,
 use Rattle.turnstile.specs.Laws.{HasSeen}
 use Rattle.serve_laws.specs.Written.{AreHeardIn, AreWritten, IsHeardIn, IsWritten, links_in}
 
+-- of what was seen of the users' turnstile these are the entries
+abbrev pub Sees : List Gv → List UserEntry → Type 0
+Sees seen h = (ms : List UserMark) × (seen ≡ user_codes ms) × (entries_of ms ≡ h)
+
+sees_once : (seen : List Gv) (h g : List UserEntry) → Sees seen h → Sees seen g → h ≡ g
+sees_once seen h g first then = sym first.2 ∙ ap entries_of (same_marks seen first.0 then.0 first.1 then.1) ∙ then.2
+
 -- where the sessions of a place stand: the history so far, behind what the opening counts as, and the newest session
 record Came (l : Language Request Moment) (o : Opening) (own : ℕ) (told : Type 0) (k j : LinkState) (seen : List Gv) (ss : List (Session Request Moment)) (us : UsersOpening) (users_seen : List Gv) (hs : List (Hearing Request)) : Type 0 where
   pub history : List Entry
@@ -51,7 +62,7 @@ record Came (l : Language Request Moment) (o : Opening) (own : ℕ) (told : Type
   pub hearing : Hearing Request
   pub listens : Listens l own us users_history (hearing ∷ hs)
   pub heard_in : IsHeardIn session hearing
-  pub users_saw : users_seen ≡ user_codes users_history
+  pub users_saw : Sees users_seen users_history
 
 module _ (l : Language Request Moment) (told clock_told : Type 0) (k j : LinkState) (c d : List Moment) (b : Beginning) (now : Now) (ss : List (Session Request Moment)) (lives : Lives l b.place b.opening.first.fold.table (began b.opening.due) b.before ss) (hs : List (Hearing Request)) (listens : Listens l b.place b.users b.users_before hs) where
   abbrev Gone : Type 0
@@ -80,7 +91,7 @@ module _ (l : Language Request Moment) (told clock_told : Type 0) (k j : LinkSta
         hearing = record { happenings = p.walk.happenings; user = p.walk.attending.user };
         listens = consulted_on b.users_before p.consulted.history hs p.walk.happenings p.walk.attending.user p.consulted.heard listens;
         heard_in = inl refl;
-        users_saw = p.consulted.saw.codes_are;
+        users_saw = (p.consulted.saw.marks, p.consulted.saw.codes_are, p.consulted.saw.entries_are);
       }
 
   broken : Breaks l told clock_told k j c d b now → Gone
@@ -106,7 +117,7 @@ module _ (l : Language Request Moment) (told clock_told : Type 0) (k j : LinkSta
         hearing = record { happenings = p.walk.happenings; user = p.walk.attending.user };
         listens = consulted_on b.users_before p.consulted.history hs p.walk.happenings p.walk.attending.user p.consulted.heard listens;
         heard_in = inl refl;
-        users_saw = p.consulted.saw.codes_are;
+        users_saw = (p.consulted.saw.marks, p.consulted.saw.codes_are, p.consulted.saw.entries_are);
       }
 
   halted : Halts l told clock_told k j c d b now → Gone
@@ -135,7 +146,7 @@ module _ (l : Language Request Moment) (told clock_told : Type 0) (k j : LinkSta
           hearing = record { happenings = w.happenings ++ unit p.last ∷ []; user = user_after w.attending.user (l.asks w.attending.user p.last) };
           listens = consulted_on b.users_before t.consulted.history hs (w.happenings ++ unit p.last ∷ []) (user_after w.attending.user (l.asks w.attending.user p.last)) t.consulted.heard listens;
           heard_in = inl refl;
-          users_saw = t.consulted.saw.codes_are;
+          users_saw = (t.consulted.saw.marks, t.consulted.saw.codes_are, t.consulted.saw.entries_are);
         }
         | inr t ↦ record {
           history = w.history;
@@ -147,7 +158,7 @@ module _ (l : Language Request Moment) (told clock_told : Type 0) (k j : LinkSta
           hearing = record { happenings = w.happenings; user = w.attending.user };
           listens = consulted_on b.users_before t.consulted.history hs w.happenings w.attending.user t.consulted.heard listens;
           heard_in = inr (p.last, refl);
-          users_saw = t.consulted.saw.codes_are;
+          users_saw = (t.consulted.saw.marks, t.consulted.saw.codes_are, t.consulted.saw.entries_are);
         }
       ]
 
@@ -155,11 +166,9 @@ module _ (l : Language Request Moment) (told clock_told : Type 0) (k j : LinkSta
   gone End x = whole x
   gone ReadFault x = whole x
   gone Spent x = whole x
+  gone Unattended x = whole x.served
   gone WriteFault x = broken x
   gone Stopped x = halted x
-
-same_user_codes : (h g : List UserEntry) → user_codes h ≡ user_codes g → h ≡ g
-same_user_codes h g e = map_once user_coded.code user_coded.inj h g e
 
 same_codes : (h g : List Entry) → codes h ≡ codes g → h ≡ g
 same_codes h g e = map_once entry_coded.code entry_coded.inj h g e
@@ -184,16 +193,16 @@ module _ (disk_told clock_told link_told : Type 0) {K G : Type 0} (link : K → 
     pub hearings : List (Hearing Request)
     pub listens : Listens (language s) own us users_history hearings
     pub heard_in : AreHeardIn sessions hearings
-    pub users_saw : t.place.users.seen ≡ user_codes users_history
+    pub users_saw : Sees t.place.users.seen users_history
 
   -- one caller more
   called : (t u : Standing G) (c : K) (x : Step t u c) (h : List Entry) (ss : List (Session Request Moment)) (g : List UserEntry) (hs : List (Hearing Request)) → Lives (language t.place.shelf) t.place.seat.place t.place.seat.opening.first.fold.table (began t.place.seat.opening.due) h ss
-      → codes (began t.place.seat.opening.due) ++ t.place.seat.seen ≡ codes h → Listens (language t.place.shelf) t.place.seat.place t.place.users.opening g hs → t.place.users.seen ≡ user_codes g
+      → codes (began t.place.seat.opening.due) ++ t.place.seat.seen ≡ codes h → Listens (language t.place.shelf) t.place.seat.place t.place.users.opening g hs → Sees t.place.users.seen g
       → Came (language t.place.shelf) t.place.seat.opening t.place.seat.place link_told (link c) (link x.left) u.place.seat.seen ss t.place.users.opening u.place.users.seen hs
   called t u c x h ss g hs lives saw listens users_saw =
       let v = x.session in
       let same : h ≡ v.before = same_codes h v.before (sym saw ∙ v.saw.codes_are) in
-      let users_same : g ≡ v.users_before = same_user_codes g v.users_before (sym users_saw ∙ v.users_saw.codes_are) in
+      let users_same : g ≡ v.users_before = sees_once t.place.users.seen g v.users_before users_saw (v.users_saw.marks, v.users_saw.codes_are, v.users_saw.entries_are) in
       let l = language t.place.shelf in
       let there : Lives l t.place.seat.place t.place.seat.opening.first.fold.table (began t.place.seat.opening.due) v.before ss = subst (λ (k : List Entry). Lives l t.place.seat.place t.place.seat.opening.first.fold.table (began t.place.seat.opening.due) k ss) same lives in
       let heard : Listens l t.place.seat.place t.place.users.opening v.users_before hs = subst (λ (k : List UserEntry). Listens l t.place.seat.place t.place.users.opening k hs) users_same listens in
@@ -201,10 +210,10 @@ module _ (disk_told clock_told link_told : Type 0) {K G : Type 0} (link : K → 
       (record { seen = u.place.seat.seen; users = u.place.users.seen; attending = v.attending }) ss there hs heard x.end v.session
 
   called_as : (s : Contents) (o : Opening) (own : ℕ) (us : UsersOpening) (t u : Standing G) (c : K) (x : Step t u c) (h : List Entry) (ss : List (Session Request Moment)) (g : List UserEntry) (hs : List (Hearing Request)) → IsOf s o own us t
-      → Lives (language s) own o.first.fold.table (began o.due) h ss → codes (began o.due) ++ t.place.seat.seen ≡ codes h → Listens (language s) own us g hs → t.place.users.seen ≡ user_codes g
+      → Lives (language s) own o.first.fold.table (began o.due) h ss → codes (began o.due) ++ t.place.seat.seen ≡ codes h → Listens (language s) own us g hs → Sees t.place.users.seen g
       → Came (language s) o own link_told (link c) (link x.left) u.place.seat.seen ss us u.place.users.seen hs
   called_as s o own us t u c x h ss g hs is =
-      subst (λ (y : Contents × Opening × ℕ × UsersOpening). Lives (language y.0) y.2 y.1.first.fold.table (began y.1.due) h ss → codes (began y.1.due) ++ t.place.seat.seen ≡ codes h → Listens (language y.0) y.2 y.3 g hs → t.place.users.seen ≡ user_codes g
+      subst (λ (y : Contents × Opening × ℕ × UsersOpening). Lives (language y.0) y.2 y.1.first.fold.table (began y.1.due) h ss → codes (began y.1.due) ++ t.place.seat.seen ≡ codes h → Listens (language y.0) y.2 y.3 g hs → Sees t.place.users.seen g
       → Came (language y.0) y.1 y.2 link_told (link c) (link x.left) u.place.seat.seen ss y.3 u.place.users.seen hs)
       (λ i. (is.0 i, is.1 i, is.2 i, is.3 i)) (called t u c x h ss g hs)
 
@@ -220,7 +229,7 @@ module _ (disk_told clock_told link_told : Type 0) {K G : Type 0} (link : K → 
     hearings = [];
     listens = nobody_asked;
     heard_in = tt;
-    users_saw = users_none;
+    users_saw = ([], users_none, refl);
   }
   lived s o own us _ _ _ (one_more t m u ks c turns x) is none users_none =
       let so_far = lived s o own us t m ks turns is none users_none in
@@ -255,8 +264,8 @@ module _ (disk_told clock_told link_told : Type 0) {K G : Type 0} (link : K → 
   others_asked_on l own us h [] hs x others = subst (λ (g : List UserEntry). Listens l own us g hs) (sym (append-nil h)) x
   others_asked_on l own us h (e ∷ es) hs x others = subst (λ (g : List UserEntry). Listens l own us g hs) (append_assoc h (e ∷ []) es) (others_asked_on l own us (h ++ e ∷ []) es hs (others_asked h hs e others.0 x) others.1)
 
-  pub heard_along : (s : Contents) (o : Opening) (own : ℕ) (us : UsersOpening) (first : Standing G) (came : List K) (t : Standing G) (turns : InTurn Step first came t) (history : List UserEntry) → (x : Lived s o own us first came t turns) → HasSeen user_coded.code user_place_of history own t.place.users.seen → Listens (language s) own us history x.hearings
-  heard_along s o own us first came t turns history x seen =
-      let here : x.users_history ≡ seen.begun = same_user_codes x.users_history seen.begun (sym x.users_saw ∙ seen.codes) in
-      let whole : x.users_history ++ seen.later ≡ history = ap (λ (g : List UserEntry). g ++ seen.later) here ∙ seen.whole in
-      subst (λ (g : List UserEntry). Listens (language s) own us g x.hearings) whole (others_asked_on (language s) own us x.users_history seen.later x.hearings x.listens seen.others)
+  pub heard_along : (s : Contents) (o : Opening) (own : ℕ) (us : UsersOpening) (first : Standing G) (came : List K) (t : Standing G) (turns : InTurn Step first came t) (left : List UserMark) → (x : Lived s o own us first came t turns) → HasSeen user_coded.code user_place_of left own t.place.users.seen → Listens (language s) own us (entries_of left) x.hearings
+  heard_along s o own us first came t turns left x seen =
+      let here : x.users_history ≡ entries_of seen.begun = sees_once t.place.users.seen x.users_history (entries_of seen.begun) x.users_saw (seen.begun, seen.codes, refl) in
+      let whole : x.users_history ++ entries_of seen.later ≡ entries_of left = ap (λ (g : List UserEntry). g ++ entries_of seen.later) here ∙ sym (entries_append seen.begun seen.later) ∙ ap entries_of seen.whole in
+      subst (λ (g : List UserEntry). Listens (language s) own us g x.hearings) whole (others_asked_on (language s) own us x.users_history (entries_of seen.later) x.hearings x.listens (others_entries own seen.later seen.others))

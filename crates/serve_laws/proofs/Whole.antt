@@ -1,87 +1,169 @@
 -- The headline, of its parts.
-use Rattle.std.proofs.Common.{◌≡◌, ◌<◌, ℕ, List, ◌++◌, length, map, Option, Some, Box, ◌∙◌, subst}
+use Rattle.std.specs.Prelude.{IsTrue}
+use Rattle.std.proofs.Common.{◌≡◌, ◌<◌, ◌+◌, ℕ, Bool, arith, List, [], ◌∷◌, ◌++◌, length, map, Option, Some, Box, ◌∙◌, ap, refl, subst, sym}
 use Rattle.std.specs.List.{slice_get}
 use Rattle.std.specs.declared.alloc.Global.{Global}
+use mathlib.Core.Option.{some as some_of}
+use lib.ListN.{get_elem?}
+use Rattle.atomic_table.specs.Table.{State as TableState}
+use Rattle.turnstile.specs.declared.board.View.{View}
 use Rattle.turnstile.specs.Laws.{HasSeen}
 use Rattle.turnstile.specs.Turning.{Each}
+use Rattle.dxc_outside.specs.declared.clock.Moment.{Moment}
 use Rattle.dxc_outside.specs.Jobs.{AnyJob}
+use Rattle.dxc_model.specs.declared.cause.Cause.{Cause}
+use Rattle.dxc_model.specs.declared.op.Change.{Change}
 use Rattle.dxc_model.specs.declared.entry.Entry.{Entry}
+use Rattle.dxc_model.specs.Histories.{changes_of, table_after}
+use Rattle.dxc_model.proofs.Growth.{changes_append, table_append}
+use Rattle.core_laws.specs.Laws.{StandbysAreAdopted, SyncedAreMirrored}
 use Rattle.frame_worker.specs.Laws.{AreOwnBytes}
 use Rattle.shelf_file.specs.Contents.{Contents}
-use Rattle.user_admin.specs.declared.op.UserEntry.{UserEntry}
-use Rattle.user_admin.specs.Coding.{entry_coded as user_coded, place_of as user_place_of}
+use Rattle.user_admin.specs.declared.op.UserMark.{UserMark}
+use Rattle.user_admin.specs.Coding.{mark_coded as user_coded, opening_coded as users_coded}
 use Rattle.user_admin.specs.Histories.{Opening as UsersOpening}
-use Rattle.user_admin.specs.States.{StandsFor as UsersStandFor}
+use Rattle.user_admin.specs.Marks.{entries_of, place_of as user_place_of}
+use Rattle.user_admin.specs.Shared.{SharedFor as UsersStandFor}
+use Rattle.xc_core.specs.Coding.{opening_coded}
 use Rattle.xc_core.specs.Seeing.{entry_coded, place_of}
-use Rattle.xc_core.specs.States.{Opening, StandsFor, began}
-use Rattle.craft_session.specs.Places.{ArePlaces, Turnstiles}
+use Rattle.xc_core.specs.States.{LimitBehind, Opening, Stands, StandsFor, began, opening_of}
+use Rattle.xc_core.proofs.Reckoning.{reckoned_table}
+use Rattle.craft_session.specs.Happenings.{Request}
+use Rattle.craft_session.specs.Meanings.{language}
+use Rattle.craft_session.specs.Places.{HasPlaces}
 use Rattle.craft_session.specs.Seats.{PlaceAt}
+use Rattle.switch_laws.specs.Element.{ComesTo, Turn}
+use Rattle.switch_laws.specs.Moments.{changed}
+use Rattle.switch_laws.proofs.Passing.{moment_of, table_changed}
 use Rattle.craft_jobs.specs.declared.frames_left.FramesLeft.{FramesLeft}
 use Rattle.craft_jobs.specs.Begun.{AreRan}
 use Rattle.craft_jobs.specs.Leaves.{left_by}
 use Rattle.craft_server.specs.Serving.{SiteAt}
-use Rattle.serve_laws.specs.Headline.{IsEnd, IsHitlessFabric, IsOneElement, Lying, UsersLying}
+use Rattle.serve_laws.specs.Headline.{IsEarlier, IsEnd, IsHitlessFabric, IsOneElement, IsOneOrder, IsOrder, LiesFor, Lying, Sessions, UsersLying, WasThen, behind, opened, seen_by, users_seen_by}
 use Rattle.serve_laws.specs.Jobs.{Job, Jobs, Ran, World}
+use Rattle.serve_laws.proofs.Earlier.{SeesOn, earlier}
 use Rattle.serve_laws.proofs.Leaving.{leaves_changes}
 use Rattle.serve_laws.proofs.Owning.{all_own, core_of}
-use Rattle.serve_laws.proofs.Placing.{get_map, hearings, heard_as_one, map_length, played_as_one, ran_length, served_at, sessions}
-use Rattle.serve_laws.proofs.Resting.{at_home, history, lying, numbers, opening_is, seen_at, stand}
+use Rattle.serve_laws.proofs.Placing.{get_map, heard_as_one, heard_then, hearings, map_length, played_as_one, ran_length, served_at, sessions}
+use Rattle.serve_laws.proofs.Resting.{at_home, begun, count, get_below, history, lying, numbers, opening_is, seen_at, stand}
 
-module _ (w : World) (s : Contents) (o : Opening) (p : UsersOpening) (t : Turnstiles) (jobs : List (Job w)) (lefts : List PlaceAt) (seats : List FramesLeft) (sixteen : length jobs ≡ 16) (places : ArePlaces s o p t 0 (map (λ (j : Job w). j.place) jobs)) (ran : AreRan (left_by (Ran w)) jobs lefts) (e : IsEnd w o p t lefts seats) where
-  many : length lefts ≡ 16
-  many = ran_length (left_by (Ran w)) jobs lefts ran ∙ sixteen
+module _ (w : World) (synced : SyncedAreMirrored w.disk.told w.disk.state) (adopted : StandbysAreAdopted w.disk.told w.disk.state) (s : Contents) (o : Opening) (p : UsersOpening) (jobs : List (Job w)) (lefts : List PlaceAt) (seats : List FramesLeft) (sixteen : length jobs ≡ 16) (has : HasPlaces s o p 16 (map (λ (j : Job w). j.place) jobs)) (ran : AreRan (left_by (Ran w)) jobs lefts) (e : IsEnd w o p has.turnstiles lefts seats) where
+  many : {X : Type 0} (f : PlaceAt → X) → length (map f lefts) ≡ 16
+  many f = map_length f lefts ∙ ran_length (left_by (Ran w)) jobs lefts ran ∙ sixteen
+
+  some : 0 < 16
+  some = omega arith
+
+  seen_many : length (seen_by lefts) ≡ 16
+  seen_many = many (λ (q : PlaceAt). q.seat.seen)
+
+  users_many : length (users_seen_by lefts) ≡ 16
+  users_many = many (λ (q : PlaceAt). q.users.seen)
 
   abbrev h : List Entry
-  h = history _ _ _ _ _ _ _ _ _ _ e.of_state
+  h = history _ _ _ _ _ _ _ _ _ e.of_state
 
   few : Each (λ (x : Entry). x.place < 16) h
-  few = subst (λ (n : ℕ). Each (λ (x : Entry). x.place < n) h) (map_length (λ (q : PlaceAt). q.seat.seen) lefts ∙ many) (numbers _ _ _ _ _ _ _ _ _ _ e.of_state)
+  few = numbers _ _ _ _ _ _ _ _ _ e.of_state opening_coded.inj o 16 has.state_made seen_many some
 
   seen : (k : ℕ) (q : PlaceAt) → slice_get lefts k ≡ Some q → HasSeen entry_coded.code place_of h k q.seat.seen
-  seen k q is = seen_at _ _ _ _ _ _ _ _ _ _ e.of_state k q.seat.seen (get_map (λ (x : PlaceAt). x.seat.seen) lefts k q is)
+  seen k q is = seen_at _ _ _ _ _ _ _ _ _ e.of_state k q.seat.seen (get_map (λ (x : PlaceAt). x.seat.seen) lefts k q is)
 
   abbrev lies : Lying w
-  lies = lying _ _ _ _ _ _ _ _ _ _ e.of_state
+  lies = lying _ _ _ _ _ _ _ _ _ e.of_state opening_coded.inj o 16 has.state_made seen_many some
 
   stands : StandsFor w.disk.told w.disk.state o lies.state.value (began o.due ++ h)
-  stands = subst (λ (y : Opening). StandsFor w.disk.told w.disk.state y lies.state.value (began y.due ++ h)) (opening_is _ _ _ _ _ _ _ _ _ _ e.of_state) (stand _ _ _ _ _ _ _ _ _ _ e.of_state)
+  stands = subst (λ (y : Opening). StandsFor w.disk.told w.disk.state y lies.state.value (began y.due ++ h)) (opening_is _ _ _ _ _ _ _ _ _ e.of_state opening_coded.inj o 16 has.state_made seen_many some) (stand _ _ _ _ _ _ _ _ _ e.of_state opening_coded.inj o 16 has.state_made seen_many some)
 
-  abbrev g : List UserEntry
-  g = history _ _ _ _ _ _ _ _ _ _ e.of_users
+  abbrev g : List UserMark
+  g = history _ _ _ _ _ _ _ _ _ e.of_users
 
-  users_few : Each (λ (x : UserEntry). x.place < 16) g
-  users_few = subst (λ (n : ℕ). Each (λ (x : UserEntry). x.place < n) g) (map_length (λ (q : PlaceAt). q.users.seen) lefts ∙ many) (numbers _ _ _ _ _ _ _ _ _ _ e.of_users)
+  users_few : Each (λ (x : UserMark). user_place_of x < 16) g
+  users_few = numbers _ _ _ _ _ _ _ _ _ e.of_users users_coded.inj p 16 has.users_made users_many some
 
   users_seen : (k : ℕ) (q : PlaceAt) → slice_get lefts k ≡ Some q → HasSeen user_coded.code user_place_of g k q.users.seen
-  users_seen k q is = seen_at _ _ _ _ _ _ _ _ _ _ e.of_users k q.users.seen (get_map (λ (x : PlaceAt). x.users.seen) lefts k q is)
+  users_seen k q is = seen_at _ _ _ _ _ _ _ _ _ e.of_users k q.users.seen (get_map (λ (x : PlaceAt). x.users.seen) lefts k q is)
 
   abbrev users_lie : UsersLying w
-  users_lie = lying _ _ _ _ _ _ _ _ _ _ e.of_users
+  users_lie = lying _ _ _ _ _ _ _ _ _ e.of_users users_coded.inj p 16 has.users_made users_many some
 
   users_stand : UsersStandFor w.office.disk.told w.office.disk.state p users_lie.state.value g
-  users_stand = subst (λ (y : UsersOpening). UsersStandFor w.office.disk.told w.office.disk.state y users_lie.state.value g) (opening_is _ _ _ _ _ _ _ _ _ _ e.of_users) (stand _ _ _ _ _ _ _ _ _ _ e.of_users)
+  users_stand = subst (λ (y : UsersOpening). UsersStandFor w.office.disk.told w.office.disk.state y users_lie.state.value g) (opening_is _ _ _ _ _ _ _ _ _ e.of_users users_coded.inj p 16 has.users_made users_many some) (stand _ _ _ _ _ _ _ _ _ e.of_users users_coded.inj p 16 has.users_made users_many some)
 
-  pub one_element : IsOneElement w s o p jobs lefts e.state e.users
-  one_element = record {
-    history = h;
-    lying = lies;
-    at_home = at_home _ _ _ _ _ _ _ _ _ _ e.of_state;
-    stands = stands;
-    users_history = g;
-    users_lying = users_lie;
-    users_at_home = at_home _ _ _ _ _ _ _ _ _ _ e.of_users;
-    users_stand = users_stand;
-    sessions = sessions w s o p t jobs lefts sixteen places ran;
-    hearings = hearings w s o p t jobs lefts sixteen places ran;
-    each = served_at w s o p t jobs lefts sixteen places ran;
-    played = played_as_one w s o p t jobs lefts sixteen places ran h seen stands.legal few;
-    heard = heard_as_one w s o p t jobs lefts sixteen places ran g users_seen users_stand.legal users_few;
-    crash = leaves_changes w.disk.told w.disk.state o lies.state.value (began o.due ++ h) stands;
-  }
+  made_for : opening_of w.disk.state e.key.first.value.value ≡ o
+  made_for = begun _ _ _ _ _ _ _ _ _ e.of_state opening_coded.inj o 16 has.state_made seen_many some
 
-pub headline : AreOwnBytes → (w : World) (handed : List AnyJob → Type 0) (site : SiteAt) (s : Contents) (o : Opening) (p : UsersOpening) (j : Jobs w handed site s o p) (e : IsEnd w o p j.places.turnstiles j.left.left.sessions.items j.left.left.workers.items)
-    → IsOneElement w s o p j.sessions j.left.left.sessions.items e.state e.users × IsHitlessFabric w o j.workers j.left.left.workers.items e.fabric
-headline own_bytes w handed site s o p j e = (
-  one_element w s o p j.places.turnstiles j.sessions j.left.left.sessions.items j.left.left.workers.items j.sixteen j.places.each j.left.of_sessions e,
-  record { core = core_of o.site.fabric.size e.fabric e.of_fabric; frames = all_own own_bytes w.uses.lines w.uses.gate w.office.opener.lines_for o.site.fabric site.lines e.fabric e.of_fabric 0 j.workers j.left.left.workers.items j.seats j.left.of_workers e.of_seats },
+  passes_are : e.key.passes ≡ 16
+  passes_are = count _ _ _ _ _ _ _ _ _ e.of_state opening_coded.inj o 16 has.state_made seen_many some
+
+  -- what lay in the turnstile at an earlier moment
+  module _ (z : TableState (Option (Lying w)) View) (m : IsEarlier w e.key lefts z) where
+    abbrev was : (y : Lying w) × (z.homes ≡ some_of (Some y) ∷ []) × (opening_of w.disk.state y.state.value ≡ opening_of w.disk.state e.key.first.value.value) × Stands w.disk.told w.disk.state y.state.value m.allowed.history
+    was = m.allowed.at_home m.no_turn
+
+    stood : StandsFor w.disk.told w.disk.state o was.0.state.value (began o.due ++ m.allowed.history)
+    stood = subst (λ (y : Opening). StandsFor w.disk.told w.disk.state y was.0.state.value (began y.due ++ m.allowed.history)) (was.2 ∙ made_for) was.3
+
+    lay_for : LiesFor w o m.allowed.history z
+    lay_for = record { lying = was.0; at_home = was.1; stands = stood; leaves = leaves_changes w.disk.told w.disk.state synced adopted o was.0.state.value (began o.due ++ m.allowed.history) stood }
+
+    -- each pass had seen a beginning of the history
+    sees : (n : ℕ) (v : View) → n < m.allowed.dealt → get_elem? z.views (n + 1) ≡ some_of v → SeesOn entry_coded.code h v.seen
+    sees n v lt at =
+        let few = m.allowed.few.0 in
+        let passes = passes_are in
+        let sixteen_left = ran_length (left_by (Ran w)) jobs lefts ran in
+        let q = get_below lefts n (omega (arith, lt, few, passes, sixteen_left, sixteen)) in
+        let more = m.sees_on n q.0 v q.1 at in
+        let x = seen n q.0 q.1 in
+        record { begun = x.begun; later = x.later; whole = x.whole; more = more.0; codes = sym more.1 ∙ x.codes }
+
+    before : (later : List Entry) × (m.allowed.history ++ later ≡ h)
+    before = earlier opening_coded.code entry_coded.code entry_coded.inj _ place_of _ e.key z m.allowed h sees
+
+    split : changes_of (began o.due ++ h) ≡ changes_of (began o.due) ++ (changes_of m.allowed.history ++ changes_of before.0)
+    split = changes_append (began o.due) h ∙ ap (λ (cs : List Change). changes_of (began o.due) ++ cs) (ap changes_of (sym before.1) ∙ changes_append m.allowed.history before.0)
+
+    table_was : changed (table_after o.first.fold.table (began o.due)) (changes_of m.allowed.history) ≡ was.0.state.value.table
+    table_was = sym (table_changed (table_after o.first.fold.table (began o.due)) m.allowed.history) ∙ sym (table_append o.first.fold.table (began o.due) m.allowed.history) ∙ sym (reckoned_table o.first stood.now (began o.due ++ m.allowed.history) stood.reckoned) ∙ sym stood.table
+
+    was_then : (excused : Cause → Bool) (ss : Sessions w) (ts : List (Turn Request Moment)) → IsOrder w s o excused ts (behind w s o h ss) → WasThen w s o excused ts h ss z
+    unfolding lay_for
+    was_then excused ss ts played =
+        let moment = moment_of (language s) (LimitBehind o.first) (λ q. IsTrue (excused q)) (opened w s o) ts (behind w s o h ss) (changes_of m.allowed.history) (changes_of before.0) played split in
+        record { earlier = m.allowed.history; later = before.0; whole = before.1; lies = lay_for; moment = moment; same_table = moment.table_is ∙ table_was }
+
+  one_order : (excused : Cause → Bool) (ss : Sessions w) → ComesTo (language s) (LimitBehind o.first) (λ q. IsTrue (excused q)) (opened w s o) (behind w s o h ss) → IsOneOrder w s o excused e.key lefts h ss
+  one_order excused ss c = record { turns = c.0; played = c.1; moments = λ z m. was_then z m excused ss c.0 c.1 }
+
+  pub one_element : IsOneElement w s o p jobs lefts e.key e.state e.users
+  one_element =
+      let ss = sessions w s o p has.turnstiles jobs lefts sixteen has.each ran in
+      record {
+        history = h;
+        lies = record {
+          lying = lies;
+          at_home = at_home _ _ _ _ _ _ _ _ _ e.of_state opening_coded.inj o 16 has.state_made seen_many some;
+          stands = stands;
+          leaves = leaves_changes w.disk.told w.disk.state synced adopted o lies.state.value (began o.due ++ h) stands;
+        };
+        users_history = entries_of g;
+        users_left = g;
+        users_entered = refl;
+        users_lying = users_lie;
+        users_at_home = at_home _ _ _ _ _ _ _ _ _ e.of_users users_coded.inj p 16 has.users_made users_many some;
+        users_stand = users_stand;
+        sessions = ss;
+        hearings = hearings w s o p has.turnstiles jobs lefts sixteen has.each ran;
+        each = served_at w s o p has.turnstiles jobs lefts sixteen has.each ran;
+        played = λ excused all. one_order excused ss (played_as_one w s o p has.turnstiles jobs lefts sixteen has.each ran h seen stands.legal few excused all);
+        heard = heard_as_one w s o p has.turnstiles jobs lefts sixteen has.each ran g users_seen users_stand.legal users_few;
+        heard_before = heard_then w s o p has.turnstiles jobs lefts sixteen has.each ran g users_seen users_stand.legal users_few;
+      }
+
+pub headline : AreOwnBytes → (w : World) → SyncedAreMirrored w.disk.told w.disk.state → StandbysAreAdopted w.disk.told w.disk.state → (handed : List AnyJob → Type 0) (site : SiteAt) (s : Contents) (o : Opening) (p : UsersOpening) (j : Jobs w handed site s o p) (e : IsEnd w o p j.places.turnstiles j.left.left.sessions.items j.left.left.workers.items)
+    → IsOneElement w s o p j.sessions j.left.left.sessions.items e.key e.state e.users × IsHitlessFabric w o j.workers j.left.left.workers.items e.fabric
+headline own_bytes w synced adopted handed site s o p j e = (
+  one_element w synced adopted s o p j.sessions j.left.left.sessions.items j.left.left.workers.items j.sixteen j.places j.left.of_sessions e,
+  record { core = core_of o.site.fabric.size e.fabric e.of_fabric; always = core_of o.site.fabric.size; frames = all_own own_bytes w.uses.lines w.uses.gate w.office.opener.lines_for o.site.fabric site.lines e.fabric e.of_fabric 0 j.workers j.left.left.workers.items j.seats j.left.of_workers e.of_seats },
 )

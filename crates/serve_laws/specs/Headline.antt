@@ -1,14 +1,16 @@
 -- The headline: what a server's jobs did, at the moments of its turnstiles and of its fabric.
-use Rattle.std.specs.Prelude.{◌≡◌, ◌≤◌, ◌<◌, ℕ, Bool, IsTrue, List, [], ◌∷◌, ◌++◌, map, Option, Some, Box}
+use Rattle.std.specs.Prelude.{◌≡◌, ◌≢◌, ◌+◌, ◌≤◌, ◌<◌, ℕ, Bool, IsTrue, List, [], ◌∷◌, ◌++◌, length, map, slice_get, Option, Some, Box}
 use Rattle.std.specs.List.{AllByRecursion}
 use Rattle.std.specs.declared.alloc.Global.{Global}
 use base.Stored.{Gv}
 use mathlib.Core.Option.{some}
+use lib.ListN.{get_elem?}
 use Rattle.atomic_table.specs.Table.{State as TableState}
+use Rattle.turnstile.specs.declared.board.Stage.TheVariants.{Inside}
 use Rattle.turnstile.specs.declared.board.View.{View}
 use Rattle.turnstile.specs.declared.board.Held.{Held}
 use Rattle.turnstile.specs.declared.board.Opened.{Opened}
-use Rattle.turnstile.specs.Turning.{opening_in, stands_in}
+use Rattle.turnstile.specs.Turning.{Kept, opening_in, stands_in}
 use Rattle.dxc_disk.specs.Disks.{DiskState, Leaves}
 use Rattle.dxc_outside.specs.declared.clock.Moment.{Moment}
 use Rattle.dxc_outside.specs.Jobs.{AnyJob}
@@ -20,11 +22,16 @@ use Rattle.fabric_words.specs.declared.table.View.{View as FabricView}
 use Rattle.fabric_words.specs.Laws.{IsCore}
 use Rattle.fabric_words.specs.Tied.{Tied}
 use Rattle.shelf_file.specs.Contents.{Contents}
+use Rattle.standby_link.specs.Laws.{KeepsUp}
+use Rattle.standby_link.specs.Mirrors.{Pair}
 use Rattle.user_admin.specs.declared.op.UserEntry.{UserEntry}
-use Rattle.user_admin.specs.declared.state.UserState.{UserState}
-use Rattle.user_admin.specs.Coding.{entry_coded as user_coded, opening_coded as users_coded, place_of as user_place_of}
+use Rattle.user_admin.specs.declared.op.UserMark.{UserMark}
+use Rattle.user_admin.specs.declared.shared.SharedUsers.{SharedUsers}
+use Rattle.user_admin.specs.Coding.{mark_coded as user_coded, opening_coded as users_coded}
 use Rattle.user_admin.specs.Histories.{Opening as UsersOpening, failures, users_after}
-use Rattle.user_admin.specs.States.{Stands as UsersStand, StandsFor as UsersStandFor, opening_of as users_opening}
+use Rattle.user_admin.specs.Marks.{entries_of, place_of as user_place_of}
+use Rattle.user_admin.specs.Shared.{SharedFor as UsersStandFor, SharedStands as UsersStand, opening_at as users_opening}
+use Rattle.xc_core.specs.declared.provisioner.Provisioner.{Provisioner}
 use Rattle.xc_core.specs.declared.state.Home.{Home}
 use Rattle.xc_core.specs.declared.state.Home.TheVariants.{In, Out}
 use Rattle.xc_core.specs.declared.state.State.{State}
@@ -37,8 +44,9 @@ use Rattle.craft_session.specs.Happenings.{Request}
 use Rattle.craft_session.specs.Meanings.{language}
 use Rattle.craft_session.specs.Places.{Turnstiles}
 use Rattle.craft_session.specs.Seats.{PlaceAt}
-use Rattle.switch_laws.specs.Element.{ComesTo, Session}
+use Rattle.switch_laws.specs.Element.{Element, IsPlayed, Session, Turn}
 use Rattle.switch_laws.specs.Laws.{IsExcused, element}
+use Rattle.switch_laws.specs.Moments.{AreUsersThen, IsMoment}
 use Rattle.switch_laws.specs.Users.{AreHeard, Hearing}
 use Rattle.craft_jobs.specs.declared.frames_left.FramesLeft.{FramesLeft}
 use Rattle.craft_jobs.specs.Begun.{AreRan}
@@ -47,10 +55,17 @@ use Rattle.serve_laws.specs.Frames.{AreSeatsIn, CarriedOwn}
 use Rattle.serve_laws.specs.Jobs.{Frames, IsServedAt, Job, Jobs, World}
 use Rattle.serve_laws.specs.Passes.{IsRestOf}
 
--- where the Provisioner is home, each file that a crash may leave of its journal stands for the changes of the history, or for these and the one in doubt
+-- What stands for the changes of a history, or for these and the one in doubt, where the Provisioner is home: each file that a crash may leave of its
+-- journal, and that of a standby which keeps up with the journal, where no call came behind the last sync that was answered while Joined.
+pub record StandsForChanges {D : Type 0} (told : Type 0) (state : D → DiskState) (o : Opening) (h : List Entry) (p : Provisioner D) : Type 0 where
+  pub past : Past
+  pub reckoned : ReckonsTo o.first (changes_of h) past
+  pub crash : told → Leaves (state p.journal.0) (IsOldOrDoubted past p.doubt)
+  pub copy : told → (pair : Pair) → KeepsUp pair → pair.primary.answered ≡ length pair.primary.before → pair.primary.file ≡ (state p.journal.0).reads_as → IsOldOrDoubted past p.doubt pair.standby.file
+
 abbrev pub LeavesChanges : {D : Type 0} → Type 0 → (D → DiskState) → Opening → List Entry → Home D → Type 0
-LeavesChanges told state o h (In d) = (b : Past) × ReckonsTo o.first (changes_of h) b × (told → Leaves (state d.value.p.journal.0) (IsOldOrDoubted b d.value.p.doubt))
-LeavesChanges told state o h Out = Unit {0}
+LeavesChanges told state o h (In d) = StandsForChanges told state o h d.value.p
+LeavesChanges told state o h (Out e) = Unit {0}
 
 -- what the seats of places have seen
 abbrev pub seen_by : List PlaceAt → List (List Gv)
@@ -64,45 +79,97 @@ module _ (w : World) where
   Lying = Held (Box (State w.Disk) Global) Entry
 
   abbrev pub UsersLying : Type 0
-  UsersLying = Held (Box (UserState w.office.Disk) Global) UserEntry
+  UsersLying = Held (Box (SharedUsers w.office.Disk) Global) UserMark
+
+  -- the rule of the state's turnstile
+  abbrev pub IsAllowed : Opened (Box (State w.Disk) Global) → TableState (Option Lying) View → Type 0
+  IsAllowed = Kept opening_coded.code entry_coded.code (opening_in (opening_of w.disk.state)) place_of (stands_in (Stands w.disk.told w.disk.state))
 
   -- A state that the rule of the state's turnstile allows, one that the rule of the users' allows, and one that the fabric's rule allows: the passes of the
   -- places have seen what the places have seen that jobs left, and the workers know what the seats know that jobs left.
   pub record IsEnd (o : Opening) (p : UsersOpening) (t : Turnstiles) (lefts : List PlaceAt) (seats : List FramesLeft) : Type 0 where
     pub key : Opened (Box (State w.Disk) Global)
     pub state : TableState (Option Lying) View
-    pub of_state : IsRestOf opening_coded.code entry_coded.code (opening_in (opening_of w.disk.state)) place_of (stands_in (Stands w.disk.told w.disk.state)) t.state o (seen_by lefts) key state
-    pub users_key : Opened (Box (UserState w.office.Disk) Global)
+    pub of_state : IsRestOf opening_coded.code entry_coded.code (opening_in (opening_of w.disk.state)) place_of (stands_in (Stands w.disk.told w.disk.state)) t.state (seen_by lefts) key state
+    pub users_key : Opened (Box (SharedUsers w.office.Disk) Global)
     pub users : TableState (Option UsersLying) View
-    pub of_users : IsRestOf users_coded.code user_coded.code (opening_in (users_opening w.office.disk.state)) user_place_of (stands_in (UsersStand w.office.disk.told w.office.disk.state)) t.users p (users_seen_by lefts) users_key users
+    pub of_users : IsRestOf users_coded.code user_coded.code (opening_in (users_opening w.office.disk.state)) user_place_of (stands_in (UsersStand w.office.disk.told w.office.disk.state)) t.users (users_seen_by lefts) users_key users
     pub fabric : TableState Aim FabricView
     pub of_fabric : Tied o.site.fabric.size fabric
     pub of_seats : AreSeatsIn fabric o.site.fabric.size seats
 
+  -- An earlier moment at which no pass has the turn: a state that the rule allows, in which the pass of each place had seen a beginning of what it has
+  -- seen since.
+  pub record IsEarlier (key : Opened (Box (State w.Disk) Global)) (lefts : List PlaceAt) (z : TableState (Option Lying) View) : Type 0 where
+    pub allowed : IsAllowed key z
+    pub no_turn : (j : ℕ) (v : View) → get_elem? z.views j ≡ some v → v.stage ≢ Inside
+    pub sees_on : (k : ℕ) (q : PlaceAt) (v : View) → slice_get lefts k ≡ Some q → get_elem? z.views (k + 1) ≡ some v → (more : List Gv) × (q.seat.seen ≡ v.seen ++ more)
+
+  -- what lies in the turnstile stands for this history, and so does what a crash then leaves
+  pub record LiesFor (o : Opening) (history : List Entry) (z : TableState (Option Lying) View) : Type 0 where
+    pub lying : Lying
+    pub at_home : z.homes ≡ some (Some lying) ∷ []
+    pub stands : StandsFor w.disk.told w.disk.state o lying.state.value (began o.due ++ history)
+    pub leaves : LeavesChanges w.disk.told w.disk.state o (began o.due ++ history) lying.state.value.home
+
+  abbrev pub Sessions : Type 0
+  Sessions = ℕ → List (Session Request Moment)
+
+  module _ (s : Contents) (o : Opening) where
+    -- the plain element on what was opened, behind this history, with these sessions of each place
+    abbrev pub behind : List Entry → Sessions → Element Request Moment
+    behind h sessions = element o.first.fold.table (began o.due ++ h) sessions
+
+    abbrev pub opened : Element Request Moment
+    opened = element o.first.fold.table (began o.due) (λ k. [])
+
+    abbrev pub IsOrder : (Cause → Bool) → List (Turn Request Moment) → Element Request Moment → Type 0
+    IsOrder excused = IsPlayed (language s) (LimitBehind o.first) (λ q. IsTrue (excused q)) opened
+
+    -- At that moment the history was a beginning of this one, what lay in the turnstile stood for it, and in this order of turns the plain element had the
+    -- table that lay there. Each session had done a beginning of what it did.
+    pub record WasThen (excused : Cause → Bool) (ts : List (Turn Request Moment)) (history : List Entry) (sessions : Sessions) (z : TableState (Option Lying) View) : Type 0 where
+      pub earlier : List Entry
+      pub later : List Entry
+      pub whole : earlier ++ later ≡ history
+      pub lies : LiesFor o earlier z
+      pub moment : IsMoment (language s) (LimitBehind o.first) (λ q. IsTrue (excused q)) opened ts (behind history sessions) (changes_of earlier) (changes_of later)
+      pub same_table : moment.element.table ≡ lies.lying.state.value.table
+
+    -- An order of turns by which the element comes to the history, and what it was at each earlier moment.
+    pub record IsOneOrder (excused : Cause → Bool) (key : Opened (Box (State w.Disk) Global)) (lefts : List PlaceAt) (history : List Entry) (sessions : Sessions) : Type 0 where
+      pub turns : List (Turn Request Moment)
+      pub played : IsOrder excused turns (behind history sessions)
+      pub moments : (z : TableState (Option Lying) View) → IsEarlier key lefts z → WasThen excused turns history sessions z
+
   -- One history of the table and one of the users, for which those states stand: the plain element on what was opened comes to the one, and one list of users
   -- to the other; the links that came to each place were written what the element writes its sessions.
-  pub record IsOneElement (s : Contents) (o : Opening) (p : UsersOpening) (jobs : List (Job w)) (lefts : List PlaceAt) (state : TableState (Option Lying) View) (users : TableState (Option UsersLying) View) : Type 0 where
+  pub record IsOneElement (s : Contents) (o : Opening) (p : UsersOpening) (jobs : List (Job w)) (lefts : List PlaceAt) (key : Opened (Box (State w.Disk) Global)) (state : TableState (Option Lying) View) (users : TableState (Option UsersLying) View) : Type 0 where
     pub history : List Entry
-    pub lying : Lying
-    pub at_home : state.homes ≡ some (Some lying) ∷ []
-    pub stands : StandsFor w.disk.told w.disk.state o lying.state.value (began o.due ++ history)
+    pub lies : LiesFor o history state
     pub users_history : List UserEntry
     pub users_lying : UsersLying
     pub users_at_home : users.homes ≡ some (Some users_lying) ∷ []
-    pub users_stand : UsersStandFor w.office.disk.told w.office.disk.state p users_lying.state.value users_history
+    -- the entries among what turns left with their turnstile
+    pub users_left : List UserMark
+    pub users_entered : entries_of users_left ≡ users_history
+    pub users_stand : UsersStandFor w.office.disk.told w.office.disk.state p users_lying.state.value users_left
     -- of each place the sessions on the element, and what they heard of the users, the newest first
-    pub sessions : ℕ → List (Session Request Moment)
+    pub sessions : Sessions
     pub hearings : ℕ → List (Hearing Request)
     pub each : (k : ℕ) → k < 16 → IsServedAt w jobs lefts k (sessions k) (hearings k)
-    pub played : (excused : Cause → Bool) → AllByRecursion (IsExcused (λ q. IsTrue (excused q))) (began o.due ++ history)
-        → ComesTo (language s) (LimitBehind o.first) (λ q. IsTrue (excused q)) (element o.first.fold.table (began o.due) (λ k. [])) (element o.first.fold.table (began o.due ++ history) sessions)
+    pub played : (excused : Cause → Bool) → AllByRecursion (IsExcused (λ q. IsTrue (excused q))) (began o.due ++ history) → IsOneOrder s o excused key lefts history sessions
     pub heard : (failing : Bool) → (1 ≤ failures users_history → IsTrue failing)
         → AreHeard (language s) p.shelf.sid (IsTrue failing) (record { users = p.users; sessions = λ k. [] }) (record { users = users_after p users_history; sessions = hearings })
-    pub crash : LeavesChanges w.disk.told w.disk.state o (began o.due ++ history) lying.state.value.home
+    -- so it was at each beginning of their history
+    pub heard_before : (failing : Bool) → (1 ≤ failures users_history → IsTrue failing) → (earlier later : List UserEntry) → users_history ≡ earlier ++ later
+        → AreUsersThen (language s) p (IsTrue failing) earlier hearings
 
-  -- The fabric's state is a hitless one that the core's events reach, and each frame that workers wrote was carried over its connections.
+  -- The fabric's state is a hitless one that the core's events reach, and so is each that the rule allows, at whatever moment; each frame that workers
+  -- wrote was carried over its connections.
   pub record IsHitlessFabric (o : Opening) (workers : List (Frames w)) (seats : List FramesLeft) (fabric : TableState Aim FabricView) : Type 0 where
     pub core : IsCore o.site.fabric.size fabric
+    pub always : (f : TableState Aim FabricView) → Tied o.site.fabric.size f → IsCore o.site.fabric.size f
     pub frames : AreRan (CarriedOwn w.uses.lines w.uses.gate core.core) workers seats
 
   module _ {P : Type 0} (handed : P → P → List AnyJob → Type 0) where
@@ -110,4 +177,4 @@ module _ (w : World) where
     abbrev pub IsHeadline : Type 0
     IsHeadline = (old new : P) (site : SiteAt) (s : Contents) (o : Opening) (p : UsersOpening) (j : Jobs w (handed old new) site s o p)
         → (e : IsEnd o p j.places.turnstiles j.left.left.sessions.items j.left.left.workers.items)
-        → IsOneElement s o p j.sessions j.left.left.sessions.items e.state e.users × IsHitlessFabric o j.workers j.left.left.workers.items e.fabric
+        → IsOneElement s o p j.sessions j.left.left.sessions.items e.key e.state e.users × IsHitlessFabric o j.workers j.left.left.workers.items e.fabric

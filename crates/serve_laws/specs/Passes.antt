@@ -1,5 +1,5 @@
 -- A state of a turnstile at which its passes rest.
-use Rattle.std.specs.Prelude.{◌≡◌, ℕ, ◌+◌, true, List, [], ◌∷◌, length, Option}
+use Rattle.std.specs.Prelude.{◌≡◌, ℕ, ◌+◌, true, List, [], ◌∷◌, Option}
 use mathlib.Core.Option.{some}
 use lib.ListN.{get_elem?}
 use base.Stored.{Gv}
@@ -24,10 +24,7 @@ ArePassesIn z id n [] = Unit {0}
 ArePassesIn z id n (s ∷ ss) = IsPassIn z id n s × ArePassesIn z id (n + 1) ss
 
 module _ {X E O : Type 0} (mark : O → Gv) (code : E → Gv) (opening : X → O) (number : E → ℕ) (stands : X → List E → Type 0) where
-  -- A state that the turnstile's rule allows. The turnstile was made with a state of this opening, for as many passes as these, which rest and have
-  -- seen this.
-  pub record IsRestOf (id : Ident) (o : O) (seen : List (List Gv)) (key : Opened X) (z : State (Option (Held X E)) View) : Type 0 where
+  -- a state that the turnstile's rule allows, in which these passes of it rest, and have seen this
+  pub record IsRestOf (id : Ident) (seen : List (List Gv)) (key : Opened X) (z : State (Option (Held X E)) View) : Type 0 where
     pub kept : Kept mark code opening number stands key z
-    pub begun : opening key.first.value ≡ o
-    pub count : key.passes ≡ length seen
     pub passes : ArePassesIn z id 0 seen

@@ -5,6 +5,7 @@ ghost use Rattle.craft_jobs.specs.Offices.{office};
 ghost use Rattle.serve_laws.specs.Headline.{IsHeadline};
 ghost use Rattle.serve_laws.specs.Jobs.{means, world};
 
+use core_laws::standbys_are_adopted;
 use dxc_disk::Disk;
 use dxc_leaving::LetGo;
 use dxc_outside::{Clock, Gate, Lines, Link, Listener, Opener, Spawner};
@@ -26,6 +27,7 @@ pub fn headline<O: Opener + LetGo, D: Disk, P: Spawner>()
         O.Listener.Link.Link) D.Disk (means O.Lines.Lines O.Clock.Clock O.Gate.Gate) O.gone)
         P.handed }
 {
-    // Its law, since it names no lemma.
+    // Their laws: they name no lemma.
     own_bytes();
+    standbys_are_adopted::<D>();
 }

@@ -15,6 +15,7 @@ use Rattle.dxc_model.specs.declared.op.Op.TheVariants.{Restart}
 use Rattle.user_admin.specs.declared.op.UserEntry.{UserEntry}
 use Rattle.user_admin.specs.Openings.{asked_before as users_asked_before}
 use Rattle.xc_core.specs.Seeing.{entry, refused}
+use Rattle.xc_core.specs.States.{Opening}
 use Rattle.craft_session.specs.Askings.{asked_for}
 use Rattle.craft_session.specs.Gated.{AreGated, IsGated, IsUserGated, answers, are_gated_on, at_state, at_users, by_others, changes, denies, fails_before, fails_behind, gated_on, restarts, stops_between, stops_first, stops_last, takes, users_changed, users_denied, users_kept, users_read, users_stopped}
 use Rattle.session_laws.specs.Effects.{AsksForEffects, count_own, cut_in, effect_in, ends_in}
@@ -108,19 +109,19 @@ counts_none place es others = by_counts place es [] 0 0 0 (count_others effect_i
 no_entry : (place : ℕ) (ps : List GatePlace) → ends_in ps ≡ 0 → AsksForEffects place [] ps
 no_entry place ps none = by_counts place [] ps 0 0 0 (count_others effect_in place [] tt) (count_others cut_in place [] tt) none (omega arith) (omega arith)
 
-gated_counts : (place : ℕ) (before behind : Bool) (es : List Entry) (ps : List GatePlace) → IsGated place before es ps behind → AsksForEffects place es ps
-gated_counts place _ _ _ _ (by_others out es others) = counts_none place es others
-gated_counts place _ _ _ _ (answers op) = one_entry place op Answered [] 0 ends_none (omega arith) (omega arith)
-gated_counts place _ _ _ _ (denies op q) = let none = refused_effect q in one_entry place op (refused q) [] 0 ends_none (omega (arith, none)) (omega arith)
-gated_counts place _ _ _ _ (takes op) = one_entry place op Taken [] 0 ends_none (omega arith) (omega arith)
-gated_counts place _ _ _ _ (fails_before op q) = one_entry place op (Failed q) [] 0 ends_none (omega arith) (omega arith)
-gated_counts place _ _ _ _ (fails_behind op q) = one_entry place op (Failed q) (Journal ∷ []) 0 ends_journal (omega arith) (omega arith)
-gated_counts place _ _ _ _ (changes op c writes) = one_entry place op (Done c) (Journal ∷ asked_for writes) 1 (ends_behind writes) (omega arith) (omega arith)
-gated_counts place _ _ _ _ (restarts c writes) = one_entry place Restart (Restarted c) (Journal ∷ asked_for writes) 1 (ends_behind writes) (omega arith) (omega arith)
-gated_counts place _ _ _ _ (stops_first op) = one_entry place op Cut (Journal ∷ []) 0 ends_journal (omega arith) (omega arith)
-gated_counts place _ _ _ _ (stops_between op made) = one_entry place op Cut (Journal ∷ replicate (made + 1) Register) 0 (ends_stopped (made + 1)) (omega arith) (omega arith)
-gated_counts place _ _ _ _ (stops_last op writes) = one_entry place op Cut (Journal ∷ asked_for writes) 1 (ends_behind writes) (omega arith) (omega arith)
-gated_counts place _ _ _ _ (gated_on before between behind es fs ps qs x y) = counts_join place es fs ps qs (gated_counts place before between es ps x) (gated_counts place between behind fs qs y)
+gated_counts : (o : Opening) (place : ℕ) (h : List Entry) (before behind : Bool) (es : List Entry) (ps : List GatePlace) → IsGated o place h before es ps behind → AsksForEffects place es ps
+gated_counts o place _ _ _ _ _ (by_others h out es others) = counts_none place es others
+gated_counts o place _ _ _ _ _ (answers h op) = one_entry place op Answered [] 0 ends_none (omega arith) (omega arith)
+gated_counts o place _ _ _ _ _ (denies h op q) = let none = refused_effect q in one_entry place op (refused q) [] 0 ends_none (omega (arith, none)) (omega arith)
+gated_counts o place _ _ _ _ _ (takes h op) = one_entry place op Taken [] 0 ends_none (omega arith) (omega arith)
+gated_counts o place _ _ _ _ _ (fails_before h op out) = one_entry place op (Failed DiskFault) [] 0 ends_none (omega arith) (omega arith)
+gated_counts o place _ _ _ _ _ (fails_behind h op q) = one_entry place op (Failed q) (Journal ∷ []) 0 ends_journal (omega arith) (omega arith)
+gated_counts o place _ _ _ _ _ (changes h op c writes work) = one_entry place op (Done c) (Journal ∷ asked_for writes) 1 (ends_behind writes) (omega arith) (omega arith)
+gated_counts o place _ _ _ _ _ (restarts h c writes out) = one_entry place Restart (Restarted c) (Journal ∷ asked_for writes) 1 (ends_behind writes) (omega arith) (omega arith)
+gated_counts o place _ _ _ _ _ (stops_first h op) = one_entry place op Cut (Journal ∷ []) 0 ends_journal (omega arith) (omega arith)
+gated_counts o place _ _ _ _ _ (stops_between h op made writes less work) = one_entry place op Cut (Journal ∷ replicate (made + 1) Register) 0 (ends_stopped (made + 1)) (omega arith) (omega arith)
+gated_counts o place _ _ _ _ _ (stops_last h op writes work) = one_entry place op Cut (Journal ∷ asked_for writes) 1 (ends_behind writes) (omega arith) (omega arith)
+gated_counts o place _ _ _ _ _ (gated_on h before between behind es fs ps qs x y) = counts_join place es fs ps qs (gated_counts o place h before between es ps x) (gated_counts o place (h ++ es) between behind fs qs y)
 
 users_counts : (place users_place : ℕ) (us : List UserEntry) (ps : List GatePlace) → IsUserGated users_place us ps → AsksForEffects place [] ps
 users_counts place users_place _ _ (users_kept es others) = counts_none place [] tt
@@ -129,7 +130,7 @@ users_counts place users_place _ _ (users_changed op c es others) = no_entry pla
 users_counts place users_place _ _ (users_denied op q es others) = no_entry place (users_asked_before q) (users_ends_before q)
 users_counts place users_place _ _ (users_stopped es others) = no_entry place (Journal ∷ []) ends_journal
 
-pub effects_asked : (place users_place : ℕ) (es : List Entry) (us : List UserEntry) (ps : List GatePlace) → AreGated place users_place es us ps → AsksForEffects place es ps
-effects_asked place users_place _ _ _ (at_state es ps x) = gated_counts place false false es ps x
-effects_asked place users_place _ _ _ (at_users us ps x) = users_counts place users_place us ps x
-effects_asked place users_place _ _ _ (are_gated_on es fs us vs ps qs x y) = counts_join place es fs ps qs (effects_asked place users_place es us ps x) (effects_asked place users_place fs vs qs y)
+pub effects_asked : (o : Opening) (place users_place : ℕ) (h es : List Entry) (us : List UserEntry) (ps : List GatePlace) → AreGated o place users_place h es us ps → AsksForEffects place es ps
+effects_asked o place users_place _ _ _ _ (at_state h es ps x) = gated_counts o place h false false es ps x
+effects_asked o place users_place _ _ _ _ (at_users h us ps x) = users_counts place users_place us ps x
+effects_asked o place users_place _ _ _ _ (are_gated_on h es fs us vs ps qs x y) = counts_join place es fs ps qs (effects_asked o place users_place h es us ps x) (effects_asked o place users_place (h ++ es) fs vs qs y)

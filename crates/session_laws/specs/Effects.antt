@@ -6,6 +6,7 @@ use Rattle.dxc_model.specs.declared.entry.Entry.{Entry}
 use Rattle.dxc_model.specs.declared.entry.Outcome.{Outcome}
 use Rattle.dxc_model.specs.declared.entry.Outcome.TheVariants.{Done, Restarted, Cut}
 use Rattle.user_admin.specs.declared.op.UserEntry.{UserEntry}
+use Rattle.xc_core.specs.States.{Opening}
 use Rattle.craft_session.specs.Gated.{AreGated}
 
 -- which entries took effect, and which a stop cut
@@ -34,4 +35,4 @@ abbrev pub AsksForEffects : ℕ → List Entry → List GatePlace → Type 0
 AsksForEffects place es ps = (count_own effect_in place es ≤ ends_in ps) × (ends_in ps ≤ count_own effect_in place es + count_own cut_in place es)
 
 abbrev pub EffectsAreAsked : Type 0
-EffectsAreAsked = (place users_place : ℕ) (es : List Entry) (us : List UserEntry) (ps : List GatePlace) → AreGated place users_place es us ps → AsksForEffects place es ps
+EffectsAreAsked = (o : Opening) (place users_place : ℕ) (h es : List Entry) (us : List UserEntry) (ps : List GatePlace) → AreGated o place users_place h es us ps → AsksForEffects place es ps

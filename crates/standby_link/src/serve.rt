@@ -41,6 +41,7 @@ pub fn serve_standby<K: Link, D: Disk>(link: &mut K, disk: &mut D) -> StandbyEnd
         → Counted (K.state link.old).reads (K.state link.new).reads (2 ^ 32) }
     ensures sound_link { IsSoundLink (K.state link.old)
         → (result ≢ StandbyEnd.ReadFault) × (result ≢ StandbyEnd.WriteFault) }
+    ensures hung_up { K.hung_up link.new ≡ K.hung_up link.old }
 {
     match disk.length() {
         Ok(0) => serve(link, disk),
@@ -71,6 +72,7 @@ fn serve<K: Link, D: Disk>(link: &mut K, disk: &mut D) -> StandbyEnd
     ensures not_empty { result ≡ StandbyEnd.NotEmpty → ⊥ }
     ensures sound { IsSoundLink (K.state link.old)
         → (result ≢ StandbyEnd.ReadFault) × (result ≢ StandbyEnd.WriteFault) }
+    ensures hung_up { K.hung_up link.new ≡ K.hung_up link.old }
 {
     let mut inbox = [0; 4115];
     let mut held = 0;
@@ -119,6 +121,7 @@ fn turn<K: Link, D: Disk>(
         (result ≡ Err StandbyEnd.DiskFault) }
     ensures sound { IsSoundLink (K.state link.old) → IsSoundLink (K.state link.new)
         × (result ≢ Err StandbyEnd.ReadFault) × (result ≢ Err StandbyEnd.WriteFault) }
+    ensures hung_up { K.hung_up link.new ≡ K.hung_up link.old }
 {
     let wanted = size_of_item(&inbox[..held]);
     match link.read(&mut inbox[held..wanted]) {
@@ -154,6 +157,7 @@ fn take_in<K: Link, D: Disk>(
         (result ≡ Err StandbyEnd.DiskFault) }
     ensures sound { IsSoundLink (K.state link.old)
         → IsSoundLink (K.state link.new) × (result ≢ Err StandbyEnd.WriteFault) }
+    ensures hung_up { K.hung_up link.new ≡ K.hung_up link.old }
 {
     match judge(held) {
         InHand::Unfinished => return Ok(held.len()),
@@ -177,6 +181,7 @@ fn send_have<K: Link>(link: &mut K, number: u64) -> Result<(), StandbyEnd>
         → (K.state link.new).write_faults ≡ (K.state link.old).write_faults }
     ensures sound { IsSoundLink (K.state link.old)
         → IsSoundLink (K.state link.new) × (result ≢ Err StandbyEnd.WriteFault) }
+    ensures hung_up { K.hung_up link.new ≡ K.hung_up link.old }
 {
     let mut message = [3; 9];
     BigEndian::write_u64(&mut message[1..], number);

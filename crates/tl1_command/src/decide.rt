@@ -49,6 +49,7 @@ pub fn command_of(
 
 /// The same where it is known whether the unit has a tag.
 // What is frequent is returned by itself: where cases join, their results are copied part by part.
+#[inline(always)]
 pub fn command_with(
     shape: Shape,
     sid: &Sid,

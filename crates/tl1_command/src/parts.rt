@@ -119,7 +119,8 @@ impl Pair {
     }
 
     /// The first two values of a block.
-    #[inline(never)]
+    // In line, as `command_with` is: what is known of a unit's blocks then serves at its values, 60 instructions off a retrieval of a port.
+    #[inline(always)]
     fn of(unit: &[u8], block: Span) -> Pair
         requires short { length unit.now ≤ 2047 }
         requires block { IsBlockIn unit.now block }

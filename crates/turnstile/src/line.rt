@@ -47,9 +47,25 @@ impl Line {
     /// Waits until the head of the line is free, and takes it.
     #[inline(always)]
     pub(crate) fn enter<R: Wait>(&self, rt: &R) {
-        if !self.take() {
-            self.queue(rt);
+        if !self.try_enter(rt) {
+            self.enter_unpassed(rt);
         }
+    }
+
+    /// The same as long as others may pass it; false where it hasn't got the head then.
+    #[inline(always)]
+    pub(crate) fn try_enter<R: Wait>(&self, rt: &R) -> bool {
+        self.take() || self.queue(rt)
+    }
+
+    /// The same as `enter` where nobody passes it from now on.
+    #[inline(never)]
+    pub(crate) fn enter_unpassed<R: Wait>(&self, rt: &R) {
+        self.waiting.fetch_add(1, Ordering::SeqCst);
+        self.head.fetch_add(2, Ordering::SeqCst);
+        self.wait_unpassed(rt);
+        self.head.fetch_sub(2, Ordering::SeqCst);
+        self.wake_up();
     }
 
     /// Gives the head of the line back. All steps are in one order: who sleeps by the look at the waiting ones is woken, or another one that then looks;
@@ -59,6 +75,21 @@ impl Line {
         let head = self.head.fetch_sub(1, Ordering::SeqCst);
         if self.waiting.load(Ordering::SeqCst) != 0 {
             self.ring(head > 1);
+        }
+    }
+
+    /// Gives the head of the line back, and wakes only those who may not be passed. The others look again when their sleep is over, or are woken by `call`.
+    #[inline(always)]
+    pub(crate) fn step_aside(&self) {
+        if self.head.fetch_sub(1, Ordering::SeqCst) > 1 {
+            self.ring(true);
+        }
+    }
+
+    /// Wakes one that sleeps, where somebody does and the head of the line is free: who is at the head calls later.
+    pub(crate) fn call(&self) {
+        if self.waiting.load(Ordering::SeqCst) != 0 && self.head.load(Ordering::SeqCst) % 2 == 0 {
+            self.ring(false);
         }
     }
 
@@ -91,17 +122,23 @@ impl Line {
         }
     }
 
-    // Looks whether the head becomes free, and waits where it doesn't.
+    // Looks whether the head becomes free, and waits for a while where it doesn't.
     #[inline(never)]
-    fn queue<R: Wait>(&self, rt: &R) {
+    fn queue<R: Wait>(&self, rt: &R) -> bool {
         let lookers = self.looking.fetch_add(1, Ordering::SeqCst);
         let taken = lookers < LOOKERS && self.look();
         self.looking.fetch_sub(1, Ordering::SeqCst);
         if taken {
-            return;
+            return true;
         }
         self.waiting.fetch_add(1, Ordering::SeqCst);
-        self.wait(rt);
+        let taken = self.wait(rt);
+        self.wake_up();
+        taken
+    }
+
+    // Waits no more.
+    fn wake_up(&self) {
         self.waiting.fetch_sub(1, Ordering::SeqCst);
         self.rung.store(0, Ordering::SeqCst);
     }
@@ -117,24 +154,22 @@ impl Line {
         false
     }
 
-    // Sleeps until the head is free, and takes it.
-    fn wait<R: Wait>(&self, rt: &R) {
+    // Sleeps until the head is free, and takes it, as long as others may pass it.
+    fn wait<R: Wait>(&self, rt: &R) -> bool {
         for _ in 0..PASSED {
             let heard = self.hear();
             if self.take_waiting() {
-                return;
+                return true;
             }
             self.doze(rt, heard);
             if self.look_waiting() {
-                return;
+                return true;
             }
             if self.rings.load(Ordering::SeqCst) == heard {
-                break;
+                return false;
             }
         }
-        self.head.fetch_add(2, Ordering::SeqCst);
-        self.wait_unpassed(rt);
-        self.head.fetch_sub(2, Ordering::SeqCst);
+        false
     }
 
     // The same where nobody passes it.

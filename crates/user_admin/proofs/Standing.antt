@@ -38,7 +38,9 @@ use Rattle.user_admin.specs.States.{IsFileAfter, IsFileOf, IsFileWithChange, IsF
 use Rattle.user_admin.proofs.Always.{limit_kept_always, shelf_users_named, users_named}
 use Rattle.user_admin.proofs.Granted.{none_some, same_some}
 use Rattle.user_admin.proofs.Keeping.{file_by, home_images}
+use Rattle.user_admin.specs.Marks.{ArePassing, PassesBy}
 use Rattle.user_admin.proofs.Leading.{after-append}
+use Rattle.user_admin.proofs.Marking.{no_failure_by, nothing_by}
 use Rattle.user_admin.proofs.Spelling.{always_spellable, granted_spellable}
 
 -- one entry more
@@ -53,7 +55,7 @@ legal_from : (sid : List ℕ) (m : Users) (h : List UserEntry) (e : UserEntry) �
 legal_from sid m [] e l may = (may, tt)
 legal_from sid m (x ∷ xs) e l may = (l.0, legal_from sid (after (change_in x.outcome) m) xs e l.1 (subst (λ (k : Users). MayCome sid e.op k e.outcome) (after-append (change_in x.outcome) (changes_of xs) m) may))
 
-legal_more : (o : Opening) (h : List UserEntry) (e : UserEntry) → IsLegal o h → MayCome o.shelf.sid e.op (users_after o h) e.outcome → IsLegal o (h ++ e ∷ [])
+pub legal_more : (o : Opening) (h : List UserEntry) (e : UserEntry) → IsLegal o h → MayCome o.shelf.sid e.op (users_after o h) e.outcome → IsLegal o (h ++ e ∷ [])
 legal_more o h e l may = record { opened = l.opened; entries = legal_from o.shelf.sid o.users h e l.entries may }
 
 -- what is in doubt stays so behind an entry that changes nothing
@@ -80,11 +82,11 @@ doubt_own o h n op c granted = record {
   none_done = refl;
 }
 
-failures_more : (h : List UserEntry) (e : UserEntry) → failures (h ++ e ∷ []) ≡ failures h + failure_in e.outcome
+pub failures_more : (h : List UserEntry) (e : UserEntry) → failures (h ++ e ∷ []) ≡ failures h + failure_in e.outcome
 failures_more [] e = omega arith
 failures_more (x ∷ xs) e = let more = failures_more xs e in omega (arith, more)
 
-room_more : (h : List UserEntry) (e : UserEntry) → room_in (h ++ e ∷ []) ≡ room_in h + cost e.outcome
+pub room_more : (h : List UserEntry) (e : UserEntry) → room_in (h ++ e ∷ []) ≡ room_in h + cost e.outcome
 room_more [] e = omega arith
 room_more (x ∷ xs) e = let more = room_more xs e in omega (arith, more)
 
@@ -322,3 +324,22 @@ module _ {D : Type 0} (told : Type 0) (state : D → DiskState) (o : Opening) (s
   -- no call
   pub none_left : told → IsDisk (state s.journal.0) → (op : UserOp) → LeavesOnly (state s.journal.0) (state s.journal.0) (λ file. IsFileAfter o h file ⊎ IsFileWithChange o h op file)
   none_left x disk op = none_only (state s.journal.0) (λ file. IsFileAfter o h file ⊎ IsFileWithChange o h op file) disk (λ file image. inl (st.images x file image))
+
+-- An entry that changes nothing, and several.
+module _ {D : Type 0} (told : Type 0) (state : D → DiskState) (o : Opening) (s : UserState D) (disk : told → IsDisk (state s.journal.0)) (counts : CountsOn (state s.journal.0)) where
+  idle : (h : List UserEntry) (e : UserEntry) → change_in e.outcome ≡ [] → failure_in e.outcome ≡ 0 → StandsFor told state o s h → MayCome o.shelf.sid e.op (users_after o h) e.outcome → StandsFor told state o s (h ++ e ∷ [])
+  idle h e none sound st may =
+      let same : users_after o h ≡ after (change_in e.outcome) (users_after o h) = ap (λ (cs : List UserChange). after cs (users_after o h)) (sym none) in
+      entered told state o s h e disk st.of_shelf st.book st.doubt (λ c asked. doubt_more o h e c none (st.doubted c asked))
+      (subst (λ (m : Users). IsAtHome told (state s.journal.0) s.journal.1 (shelf_users o.shelf) m st.doubt) same st.home) (st.users ∙ same) st.legal may
+      (same_faults o.faults (state s.journal.0).faults (state s.journal.0).faults h e sound st.faults (omega arith))
+      (spends_more o h e (state s.journal.0) (state s.journal.0) st.spends (spends_none (cost e.outcome) (state s.journal.0)))
+      counts (subst (λ (m : Users). AreSpellable (shelf_users o.shelf) m) same st.spellable)
+
+  pub passed_one : (h : List UserEntry) (e : UserEntry) → PassesBy e.outcome → StandsFor told state o s h → MayCome o.shelf.sid e.op (users_after o h) e.outcome → StandsFor told state o s (h ++ e ∷ [])
+  passed_one h e passes st may = idle h e (nothing_by e.outcome passes) (no_failure_by e.outcome passes) st may
+
+  pub passed : (h es : List UserEntry) → ArePassing es → StandsFor told state o s h → IsLegalFrom o.shelf.sid (users_after o h) es → StandsFor told state o s (h ++ es)
+  passed h [] passes st legal = subst (λ (g : List UserEntry). StandsFor told state o s g) (sym (append-nil h)) st
+  passed h (e ∷ es) passes st legal = subst (λ (g : List UserEntry). StandsFor told state o s g) (append_assoc h (e ∷ []) es)
+      (passed (h ++ e ∷ []) es passes.1 (passed_one h e passes.0 st legal.0) (subst (λ (m : Users). IsLegalFrom o.shelf.sid m es) (sym (users_more o h e)) legal.1))

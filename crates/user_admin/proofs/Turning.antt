@@ -1,123 +1,237 @@
 -- What a place sees in a turn, and behind it.
-use Rattle.std.proofs.Common.{◌≡◌, ◌≢◌, ◌<◌, ℕ, true, None, Some, List, [], ◌∷◌, ◌++◌, refl, sym, ◌∙◌, ap, subst}
+use Rattle.std.proofs.Common.{◌≡◌, ◌≢◌, ◌<◌, ◌≤◌, ℕ, true, Option, None, Some, List, [], ◌∷◌, ◌++◌, append-nil, append_assoc, refl, sym, ◌∙◌, ap, subst}
 use Rattle.std.proofs.lemmas.List.{map-append}
+use Rattle.std.specs.declared.snapshot.Snapshot.{Snapshot}
 use base.Stored.{Gv}
 use Rattle.turnstile.specs.Passing.{Gate, Token}
 use Rattle.turnstile.specs.Turning.{Each, Found}
 use Rattle.turnstile.proofs.Lists.{each_append, map_once}
-use Rattle.dxc_disk.specs.Disks.{CountsOn, DiskState, IsDisk}
+use Rattle.dxc_causes.specs.Causes.{Rose}
+use Rattle.dxc_disk.specs.Disks.{DiskState}
+use Rattle.user_admin.specs.declared.op.UserChange.{UserChange}
 use Rattle.user_admin.specs.declared.op.UserEntry.{UserEntry}
+use Rattle.user_admin.specs.declared.op.UserMark.{UserMark}
+use Rattle.user_admin.specs.declared.op.UserMark.TheVariants.{Entered, Took}
 use Rattle.user_admin.specs.declared.op.UserOp.{UserOp}
 use Rattle.user_admin.specs.declared.op.UserOutcome.{UserOutcome}
-use Rattle.user_admin.specs.declared.op.UserOutcome.TheVariants.{Answered}
-use Rattle.dxc_model.specs.declared.cause.Cause.{Cause}
+use Rattle.user_admin.specs.declared.shared.Planned.{Planned}
+use Rattle.user_admin.specs.declared.shared.Planned.TheVariants as planned
+use Rattle.user_admin.specs.declared.shared.SharedUsers.{SharedUsers}
 use Rattle.user_admin.specs.declared.state.UserState.{UserState}
-use Rattle.user_admin.specs.Coding.{entry_coded, place_of}
-use Rattle.user_admin.specs.Histories.{IsReading, Opening}
-use Rattle.user_admin.specs.Verdicts.{refusal}
-use Rattle.user_admin.specs.States.{Stands, StandsFor, entry, opening_in, opening_of, refused}
-use Rattle.user_admin.specs.Turns.{AreNumbered, HasPass, IsHistory, Saw, Turned, TurnedBack, codes}
-use Rattle.user_admin.proofs.Standing.{was_denied, was_read}
+use Rattle.user_admin.specs.declared.turns.UserTook.{UserTook}
+use Rattle.user_admin.specs.declared.turns.UserTook.TheVariants as took
+use Rattle.user_admin.specs.Coding.{mark_coded}
+use Rattle.user_admin.specs.Histories.{Opening, users_after}
+use Rattle.user_admin.specs.States.{entry, opening_of, refused}
+use Rattle.user_admin.specs.Marks.{entered, entries_of, entry_in, mark_for, place_of}
+use Rattle.user_admin.specs.Shared.{HasKeeper, PlannedIs, SharedFor, SharedStands, opening_at}
+use Rattle.user_admin.specs.Turns.{AreNumbered, HasPass, IsHistory, IsTaken, Saw, TakenIs, TriedIs, Turned, TurnedBack, codes}
+use Rattle.user_admin.proofs.Marking.{each_entries, entries_append, entries_one, entries_took, no_mark, others_entries, same_mark}
 
 -- a pass that comes back from a turn
 pub pass_back : {X : Type 0} (t : Gate X) (p q : Token) → HasPass t p → q.free ≡ true → q.id ≡ t.id → q.number ≡ p.number → AreNumbered t.passes q.seen → HasPass t q × (q.number ≡ p.number)
 pass_back t p q pass free id number numbered = ((free, id, subst (λ (n : ℕ). n < t.passes) (sym number) pass.2, numbered), number)
 
+pub same_marks : (seen : List Gv) (ms ns : List UserMark) → seen ≡ codes ms → seen ≡ codes ns → ms ≡ ns
+same_marks seen ms ns first then = map_once mark_coded.code mark_coded.inj ms ns (sym first ∙ then)
+
+-- nothing was seen behind it
+pub turned_none : (o : Opening) (own : ℕ) (h : List UserEntry) (seen : List Gv) → Saw o seen h → TurnedBack o own h seen
+turned_none o own h seen saw = record { later = []; others = tt; saw = subst (λ (g : List UserEntry). Saw o seen g) (sym (append-nil h)) saw }
+
+some_not_none : (m : UserMark) → Some m ≡ None → ⊥
+some_not_none m e = cc
+
 module _ {D : Type 0} (told : Type 0) (state : D → DiskState) where
-  module _ (o : Opening) (by passes : ℕ) (seen in_turn : List Gv) (x : UserState D) (f : Found entry_coded.code (opening_of state) place_of (Stands told state) by passes o seen x in_turn) where
+  module _ (o : Opening) (by passes : ℕ) (seen in_turn : List Gv) (x : SharedUsers D) (f : Found mark_coded.code (opening_at state) place_of (SharedStands told state) by passes o seen x in_turn) where
     -- what a turn finds carries the numbers of the turnstile's passes
     pub numbered_back : (then_seen : List Gv) → then_seen ≡ in_turn → AreNumbered passes then_seen
-    numbered_back then_seen is = λ h codes_are. subst (λ (l : List UserEntry). Each (λ e. e.place < passes) l) (sym (map_once entry_coded.code entry_coded.inj h (f.begun ++ f.later) (sym codes_are ∙ is ∙ f.after))) f.numbers
+    numbered_back then_seen is = λ ms codes_are. subst (λ (l : List UserMark). Each (λ m. place_of m < passes) l) (sym (map_once mark_coded.code mark_coded.inj ms (f.begun ++ f.later) (sym codes_are ∙ is ∙ f.after))) f.numbers
 
-    -- and so does the entry with which it ends
-    pub numbered_own : (own n : ℕ) (op : UserOp) (out : UserOutcome) (then_seen : List Gv) → n ≡ own → own < passes → then_seen ≡ in_turn ++ entry_coded.code (entry n op out) ∷ [] → AreNumbered passes then_seen
-    numbered_own own n op out then_seen is less saw = λ h codes_are.
-        let e = entry n op out in
+    -- and so does what the turn leaves
+    pub numbered_own : (own : ℕ) (m : UserMark) (then_seen : List Gv) → place_of m ≡ own → own < passes → then_seen ≡ in_turn ++ mark_coded.code m ∷ [] → AreNumbered passes then_seen
+    numbered_own own m then_seen is less saw = λ ms codes_are.
         let l = f.begun ++ f.later in
-        let same : h ≡ l ++ e ∷ [] = map_once entry_coded.code entry_coded.inj h (l ++ e ∷ []) (sym codes_are ∙ saw ∙ ap (λ (s : List Gv). s ++ entry_coded.code e ∷ []) f.after ∙ sym (map-append entry_coded.code l (e ∷ []))) in
-        subst (λ (g : List UserEntry). Each (λ y. y.place < passes) g) (sym same) (each_append (λ (y : UserEntry). y.place < passes) l (e ∷ []) f.numbers (subst (λ (k : ℕ). k < passes) (sym is) less, tt))
+        let same : ms ≡ l ++ m ∷ [] = map_once mark_coded.code mark_coded.inj ms (l ++ m ∷ []) (sym codes_are ∙ saw ∙ ap (λ (s : List Gv). s ++ mark_coded.code m ∷ []) f.after ∙ sym (map-append mark_coded.code l (m ∷ []))) in
+        subst (λ (g : List UserMark). Each (λ y. place_of y < passes) g) (sym same) (each_append (λ (y : UserMark). place_of y < passes) l (m ∷ []) f.numbers (subst (λ (k : ℕ). k < passes) (sym is) less, tt))
 
-  pub history_of : (o : Opening) (s : UserState D) (h : List UserEntry) → StandsFor told state o s h → IsHistory o h
-  history_of o s h st = record { legal = st.legal; paid = st.paid }
+  pub history_of : (o : Opening) (s : SharedUsers D) (ms : List UserMark) → SharedFor told state o s ms → IsHistory o (entries_of ms)
+  history_of o s ms st = record { legal = st.legal; paid = st.paid }
 
-  -- a turn of the place finds a state that stands for the history, and for others' entries behind it
-  pub record FoundAt (o : Opening) (own : ℕ) (h : List UserEntry) (x : UserState D) (in_turn : List Gv) : Type 0 where
-    pub later : List UserEntry
-    pub others : Each (λ e. e.place ≢ own) later
-    pub codes_are : in_turn ≡ codes (h ++ later)
-    pub opening_is : opening_of state x ≡ o
-    pub stands : StandsFor told state o x (h ++ later)
+  -- a turn of the place finds a state that stands for what had been left, and for what others left behind it
+  pub record FoundAt (o : Opening) (own : ℕ) (ms : List UserMark) (x : SharedUsers D) (in_turn : List Gv) : Type 0 where
+    pub later : List UserMark
+    pub others : Each (λ m. place_of m ≢ own) later
+    pub codes_are : in_turn ≡ codes (ms ++ later)
+    pub opening_is : opening_at state x ≡ o
+    pub stands : SharedFor told state o x (ms ++ later)
 
-  pub found_at : (o : Opening) (own by passes : ℕ) (h : List UserEntry) (seen in_turn : List Gv) (x : UserState D) → by ≡ own → Found entry_coded.code (opening_of state) place_of (Stands told state) by passes o seen x in_turn → seen ≡ codes h → FoundAt o own h x in_turn
-  found_at o own by passes h seen in_turn x is f saw =
-      let same : f.begun ≡ h = map_once entry_coded.code entry_coded.inj f.begun h (sym f.before ∙ saw) in
-      record {
-        later = f.later;
-        others = subst (λ (n : ℕ). Each (λ e. e.place ≢ n) f.later) is f.others;
-        codes_are = f.after ∙ ap (λ (l : List UserEntry). codes (l ++ f.later)) same;
-        opening_is = f.opening_is;
-        stands = subst (λ (l : List UserEntry). StandsFor told state o x (l ++ f.later)) same (subst (λ (y : Opening). StandsFor told state y x (f.begun ++ f.later)) f.opening_is f.stands_for);
+  module _ (o : Opening) (own : ℕ) (ms : List UserMark) (x : SharedUsers D) (in_turn : List Gv) (f : FoundAt o own ms x in_turn) where
+    -- a state of the same first one keeps the opening
+    leaves : (y : SharedUsers D) (l : List UserMark) → y.first ≡ x.first → SharedFor told state o y l → SharedStands told state y l
+    leaves y l is st = subst (λ (z : Opening). SharedFor told state z y l) (sym (ap (λ (s : Snapshot (UserState D)). opening_of state s.value) is ∙ f.opening_is)) st
+
+    -- the entries among it, behind a history that was seen
+    module _ (h : List UserEntry) (entries_are : entries_of ms ≡ h) where
+      pub entries_found : entries_of (ms ++ f.later) ≡ h ++ entries_of f.later
+      entries_found = entries_append ms f.later ∙ ap (λ (g : List UserEntry). g ++ entries_of f.later) entries_are
+
+      abbrev pub turned_at : (y : SharedUsers D) (m : UserMark) (e : UserEntry) (then_seen : List Gv) → entry_in m ≡ e ∷ [] → SharedFor told state o y ((ms ++ f.later) ++ m ∷ []) → then_seen ≡ in_turn ++ mark_coded.code m ∷ [] → Turned o own h e then_seen
+      turned_at y m e then_seen one st is =
+          let all : entries_of ((ms ++ f.later) ++ m ∷ []) ≡ (h ++ entries_of f.later) ++ e ∷ [] = entries_one (ms ++ f.later) m ∙ (λ i. entries_found i ++ one i) in
+          record {
+            later = entries_of f.later;
+            others = others_entries own f.later f.others;
+            saw = record {
+              marks = (ms ++ f.later) ++ m ∷ [];
+              codes_are = is ∙ ap (λ (l : List Gv). l ++ mark_coded.code m ∷ []) f.codes_are ∙ sym (map-append mark_coded.code (ms ++ f.later) (m ∷ []));
+              entries_are = all;
+              history = subst (λ (g : List UserEntry). IsHistory o g) all (history_of o y ((ms ++ f.later) ++ m ∷ []) st);
+            };
+          }
+
+      pub turned_back_at : (y : SharedUsers D) (then_seen : List Gv) → SharedFor told state o y (ms ++ f.later) → then_seen ≡ in_turn → TurnedBack o own h then_seen
+      turned_back_at y then_seen st is = record {
+        later = entries_of f.later;
+        others = others_entries own f.later f.others;
+        saw = record { marks = ms ++ f.later; codes_are = is ∙ f.codes_are; entries_are = entries_found; history = subst (λ (g : List UserEntry). IsHistory o g) entries_found (history_of o y (ms ++ f.later) st) };
       }
 
-  module _ (o : Opening) (own : ℕ) (h : List UserEntry) (x : UserState D) (in_turn : List Gv) (f : FoundAt o own h x in_turn) where
-    -- a state of the same origin keeps the opening
-    pub same_opening : (y : UserState D) → y.origin ≡ x.origin → opening_of state y ≡ o
-    same_opening y is = ap (opening_in state) is ∙ f.opening_is
+      taken_at : (op : UserOp) (k : UserState D) (c : UserChange) (then_seen : List Gv) → HasKeeper told state o own op ((ms ++ f.later) ++ Took own ∷ []) k c → then_seen ≡ in_turn ++ mark_coded.code (Took own) ∷ [] → IsTaken told state o own h op then_seen k c
+      taken_at op k c then_seen keeper is = record {
+        marks = (ms ++ f.later) ++ Took own ∷ [];
+        codes_are = is ∙ ap (λ (l : List Gv). l ++ mark_coded.code (Took own) ∷ []) f.codes_are ∙ sym (map-append mark_coded.code (ms ++ f.later) (Took own ∷ []));
+        later = entries_of f.later;
+        others = others_entries own f.later f.others;
+        entries_are = entries_took (ms ++ f.later) own ∙ entries_found;
+        keeper = keeper;
+      }
 
-    leaves : (y : UserState D) (l : List UserEntry) → y.origin ≡ x.origin → StandsFor told state o y l → Stands told state y l
-    leaves y l is st = subst (λ (z : Opening). StandsFor told state z y l) (sym (same_opening y is)) st
+      -- a turn in which a change was to begin, that left something
+      pub took_left : (op : UserOp) (y : SharedUsers D) (p : Planned D) (m : UserMark) (then_seen : List Gv) → mark_for own op p ≡ Some m → PlannedIs told state o own op (ms ++ f.later) y p → then_seen ≡ in_turn ++ mark_coded.code m ∷ [] → TakenIs told state o own h op then_seen p
+      took_left op y (planned.Taken k c) m then_seen marked st is = taken_at op k.value c then_seen st.1 (is ∙ ap (λ (n : UserMark). in_turn ++ mark_coded.code n ∷ []) (sym (same_mark _ _ marked)))
+      took_left op y (planned.Denied q) m then_seen marked st is = turned_at y (entered own op (refused q)) (entry own op (refused q)) then_seen refl st (is ∙ ap (λ (n : UserMark). in_turn ++ mark_coded.code n ∷ []) (sym (same_mark _ _ marked)))
+      took_left op y planned.Stopped m then_seen marked st is = absurd (no_mark m marked)
+      took_left op y planned.Waits m then_seen marked st is = absurd (no_mark m marked)
 
-    -- what a turn that ends with an entry owes
-    pub leave_stands : (y : UserState D) (n : ℕ) (op : UserOp) (out : UserOutcome) → n ≡ own → y.origin ≡ x.origin → StandsFor told state o y ((h ++ f.later) ++ entry own op out ∷ []) → (l : List UserEntry) × (in_turn ≡ codes l) × Stands told state y (l ++ entry n op out ∷ [])
-    leave_stands y n op out is origin st = (h ++ f.later, f.codes_are, subst (λ (k : ℕ). Stands told state y ((h ++ f.later) ++ entry k op out ∷ [])) (sym is) (leaves y ((h ++ f.later) ++ entry own op out ∷ []) origin st))
+      -- or nothing
+      pub took_back : (op : UserOp) (y : SharedUsers D) (p : Planned D) (then_seen : List Gv) → mark_for own op p ≡ None → PlannedIs told state o own op (ms ++ f.later) y p → then_seen ≡ in_turn → TakenIs told state o own h op then_seen p
+      took_back op y (planned.Taken k c) then_seen marked st is = absurd (some_not_none _ marked)
+      took_back op y (planned.Denied q) then_seen marked st is = absurd (some_not_none _ marked)
+      took_back op y planned.Stopped then_seen marked st is = turned_back_at y then_seen st is
+      took_back op y planned.Waits then_seen marked st is = turned_back_at y then_seen st is
 
-    -- and one that is given back
-    pub back_stands : (y : UserState D) → y.origin ≡ x.origin → StandsFor told state o y (h ++ f.later) → (l : List UserEntry) × (in_turn ≡ codes l) × Stands told state y l
-    back_stands y origin st = (h ++ f.later, f.codes_are, leaves y (h ++ f.later) origin st)
+  -- what the turn stands for then
+  pub left_by : (o : Opening) (own : ℕ) (op : UserOp) (l : List UserMark) (y : SharedUsers D) (p : Planned D) (m : UserMark) → mark_for own op p ≡ Some m → PlannedIs told state o own op l y p → SharedFor told state o y (l ++ m ∷ [])
+  left_by o own op l y (planned.Taken k c) m marked st = subst (λ (n : UserMark). SharedFor told state o y (l ++ n ∷ [])) (same_mark _ _ marked) st.0
+  left_by o own op l y (planned.Denied q) m marked st = subst (λ (n : UserMark). SharedFor told state o y (l ++ n ∷ [])) (same_mark _ _ marked) st
+  left_by o own op l y planned.Stopped m marked st = absurd (no_mark m marked)
+  left_by o own op l y planned.Waits m marked st = absurd (no_mark m marked)
 
-    pub seen_own : (n : ℕ) (op : UserOp) (out : UserOutcome) (then_seen : List Gv) → n ≡ own → then_seen ≡ in_turn ++ entry_coded.code (entry n op out) ∷ [] → then_seen ≡ in_turn ++ entry_coded.code (entry own op out) ∷ []
-    seen_own n op out then_seen is seen = subst (λ (k : ℕ). then_seen ≡ in_turn ++ entry_coded.code (entry k op out) ∷ []) is seen
+  pub given_by : (o : Opening) (own : ℕ) (op : UserOp) (l : List UserMark) (y : SharedUsers D) (p : Planned D) → mark_for own op p ≡ None → PlannedIs told state o own op l y p → SharedFor told state o y l
+  given_by o own op l y (planned.Taken k c) marked st = absurd (some_not_none _ marked)
+  given_by o own op l y (planned.Denied q) marked st = absurd (some_not_none _ marked)
+  given_by o own op l y planned.Stopped marked st = st
+  given_by o own op l y planned.Waits marked st = st
 
-    abbrev pub turned : (y : UserState D) (e : UserEntry) (then_seen : List Gv) → StandsFor told state o y ((h ++ f.later) ++ e ∷ []) → then_seen ≡ in_turn ++ entry_coded.code e ∷ [] → Turned o own h e then_seen
-    turned y e then_seen st is = record {
-      later = f.later;
-      others = f.others;
-      saw = record { codes_are = is ∙ ap (λ (l : List Gv). l ++ entry_coded.code e ∷ []) f.codes_are ∙ sym (map-append entry_coded.code (h ++ f.later) (e ∷ [])); history = history_of o y ((h ++ f.later) ++ e ∷ []) st };
-    }
+  -- a turn of a place that had seen what turns left, by what its entering tells
+  module _ (o : Opening) (own by passes : ℕ) (seen in_turn : List Gv) (x : SharedUsers D) (is : by ≡ own) (f : Found mark_coded.code (opening_at state) place_of (SharedStands told state) by passes o seen x in_turn) where
+    pub at_turn : (ms : List UserMark) → seen ≡ codes ms → FoundAt o own ms x in_turn
+    at_turn ms saw =
+        let same : f.begun ≡ ms = map_once mark_coded.code mark_coded.inj f.begun ms (sym f.before ∙ saw) in
+        record {
+          later = f.later;
+          others = subst (λ (n : ℕ). Each (λ m. place_of m ≢ n) f.later) is f.others;
+          codes_are = f.after ∙ ap (λ (l : List UserMark). codes (l ++ f.later)) same;
+          opening_is = f.opening_is;
+          stands = subst (λ (l : List UserMark). SharedFor told state o x (l ++ f.later)) same (subst (λ (y : Opening). SharedFor told state y x (f.begun ++ f.later)) f.opening_is f.stands_for);
+        }
 
-    abbrev pub turned_back : (y : UserState D) (then_seen : List Gv) → StandsFor told state o y (h ++ f.later) → then_seen ≡ in_turn → TurnedBack o own h then_seen
-    turned_back y then_seen st is = record { later = f.later; others = f.others; saw = record { codes_are = is ∙ f.codes_are; history = history_of o y (h ++ f.later) st } }
-
-  -- a turn of a place that had seen a history, by what its entering tells
-  module _ (o : Opening) (own by passes : ℕ) (seen in_turn : List Gv) (x : UserState D) (is : by ≡ own) (f : Found entry_coded.code (opening_of state) place_of (Stands told state) by passes o seen x in_turn) where
-    pub at_turn : (h : List UserEntry) → Saw o seen h → FoundAt o own h x in_turn
-    at_turn h saw = found_at o own by passes h seen in_turn x is f saw.codes_are
-
-    -- what leaving owes, where the state stands for one entry more
-    pub ends : (w : (h : List UserEntry) × Saw o seen h) (y : UserState D) (n : ℕ) (op : UserOp) (out : UserOutcome) → n ≡ own → y.origin ≡ x.origin → ((l : List UserEntry) → StandsFor told state o x l → StandsFor told state o y (l ++ entry own op out ∷ [])) → (l : List UserEntry) × (in_turn ≡ codes l) × Stands told state y (l ++ entry n op out ∷ [])
-    ends w y n op out number origin on = let t = at_turn w.0 w.1 in leave_stands o own w.0 x in_turn t y n op out number origin (on (w.0 ++ t.later) t.stands)
+    -- what leaving owes, where the state stands for one mark more
+    pub ends : (w : (ms : List UserMark) × (seen ≡ codes ms)) (y : SharedUsers D) (m : UserMark) → y.first ≡ x.first → ((l : List UserMark) → SharedFor told state o x l → SharedFor told state o y (l ++ m ∷ [])) → (l : List UserMark) × (in_turn ≡ codes l) × SharedStands told state y (l ++ m ∷ [])
+    ends w y m first on = let t = at_turn w.0 w.1 in (w.0 ++ t.later, t.codes_are, leaves o own w.0 x in_turn t y ((w.0 ++ t.later) ++ m ∷ []) first (on (w.0 ++ t.later) t.stands))
 
     -- and giving the state back, where nothing was done
-    pub gives_back : (w : (h : List UserEntry) × Saw o seen h) (y : UserState D) → y.origin ≡ x.origin → ((l : List UserEntry) → StandsFor told state o x l → StandsFor told state o y l) → (l : List UserEntry) × (in_turn ≡ codes l) × Stands told state y l
-    gives_back w y origin on = let t = at_turn w.0 w.1 in back_stands o own w.0 x in_turn t y origin (on (w.0 ++ t.later) t.stands)
+    pub gives_back : (w : (ms : List UserMark) × (seen ≡ codes ms)) (y : SharedUsers D) → y.first ≡ x.first → ((l : List UserMark) → SharedFor told state o x l → SharedFor told state o y l) → (l : List UserMark) × (in_turn ≡ codes l) × SharedStands told state y l
+    gives_back w y first on = let t = at_turn w.0 w.1 in (w.0 ++ t.later, t.codes_are, leaves o own w.0 x in_turn t y (w.0 ++ t.later) first (on (w.0 ++ t.later) t.stands))
+
+    pub ends_at : (ms : List UserMark) (saw : seen ≡ codes ms) (y : SharedUsers D) (m : UserMark) → y.first ≡ x.first → SharedFor told state o y ((ms ++ (at_turn ms saw).later) ++ m ∷ []) → (l : List UserMark) × (in_turn ≡ codes l) × SharedStands told state y (l ++ m ∷ [])
+    ends_at ms saw y m first st = let t = at_turn ms saw in (ms ++ t.later, t.codes_are, leaves o own ms x in_turn t y ((ms ++ t.later) ++ m ∷ []) first st)
 
     -- what the place knows behind its entry
-    abbrev pub ended : (h : List UserEntry) (saw : Saw o seen h) (y : UserState D) (n : ℕ) (op : UserOp) (out : UserOutcome) (then_seen : List Gv) → n ≡ own → ((l : List UserEntry) → StandsFor told state o x l → StandsFor told state o y (l ++ entry own op out ∷ [])) → then_seen ≡ in_turn ++ entry_coded.code (entry n op out) ∷ [] → Turned o own h (entry own op out) then_seen
-    ended h saw y n op out then_seen number on seen_is = turned o own h x in_turn (at_turn h saw) y (entry own op out) then_seen (on (h ++ (at_turn h saw).later) (at_turn h saw).stands) (seen_own o own h x in_turn (at_turn h saw) n op out then_seen number seen_is)
+    abbrev pub ended : (h : List UserEntry) (saw : Saw o seen h) (y : SharedUsers D) (n : ℕ) (op : Snapshot UserOp) (what : UserOp) (out : UserOutcome) (then_seen : List Gv) → n ≡ own → op.value ≡ what → ((l : List UserMark) → SharedFor told state o x l → SharedFor told state o y (l ++ Entered n op out ∷ [])) → then_seen ≡ in_turn ++ mark_coded.code (Entered n op out) ∷ [] → Turned o own h (entry own what out) then_seen
+    ended h saw y n op what out then_seen number same on seen_is =
+        turned_at o own saw.marks x in_turn (at_turn saw.marks saw.codes_are) h saw.entries_are y (Entered n op out) (entry own what out) then_seen (λ i. entry (number i) (same i) out ∷ []) (on (saw.marks ++ (at_turn saw.marks saw.codes_are).later) (at_turn saw.marks saw.codes_are).stands) seen_is
 
-    -- and where it gave the state back
-    pub given_back : (h : List UserEntry) (saw : Saw o seen h) (y : UserState D) (then_seen : List Gv) → ((l : List UserEntry) → StandsFor told state o x l → StandsFor told state o y l) → then_seen ≡ in_turn → TurnedBack o own h then_seen
-    given_back h saw y then_seen on seen_is = let t = at_turn h saw in turned_back o own h x in_turn t y then_seen (on (h ++ t.later) t.stands) seen_is
+    -- the list is that of the users whom it finds
+    pub listed_at : (h : List UserEntry) (saw : Saw o seen h) → x.list ≡ users_after o (h ++ entries_of (at_turn saw.marks saw.codes_are).later)
+    listed_at h saw = let t = at_turn saw.marks saw.codes_are in t.stands.list ∙ ap (users_after o) (entries_found o own saw.marks x in_turn t h saw.entries_are)
 
     -- the pass behind it
-    pub ends_pass : {X : Type 0} (t : Gate X) (p q : Token) (n : ℕ) (op : UserOp) (out : UserOutcome) → passes ≡ t.passes → own ≡ p.number → HasPass t p → (q.free ≡ true) × (q.id ≡ t.id) × (q.number ≡ p.number) → n ≡ own → q.seen ≡ in_turn ++ entry_coded.code (entry n op out) ∷ [] → HasPass t q × (q.number ≡ p.number)
-    ends_pass t p q n op out all place pass back number seen_is =
-        pass_back t p q pass back.0 back.1 back.2 (subst (λ (k : ℕ). AreNumbered k q.seen) all (numbered_own o by passes seen in_turn x f own n op out q.seen number (subst (λ (k : ℕ). own < k) (sym all) (subst (λ (k : ℕ). k < t.passes) (sym place) pass.2)) seen_is))
+    pub ends_pass : {X : Type 0} (t : Gate X) (p q : Token) (m : UserMark) → passes ≡ t.passes → own ≡ p.number → HasPass t p → (q.free ≡ true) × (q.id ≡ t.id) × (q.number ≡ p.number) → place_of m ≡ own → q.seen ≡ in_turn ++ mark_coded.code m ∷ [] → HasPass t q × (q.number ≡ p.number)
+    ends_pass t p q m all place pass back number seen_is =
+        pass_back t p q pass back.0 back.1 back.2 (subst (λ (k : ℕ). AreNumbered k q.seen) all (numbered_own o by passes seen in_turn x f own m q.seen number (subst (λ (k : ℕ). own < k) (sym all) (subst (λ (k : ℕ). k < t.passes) (sym place) pass.2)) seen_is))
 
--- what only reads leaves the state as it is
-module _ {D : Type 0} (told : Type 0) (state : D → DiskState) (o : Opening) (s : UserState D) (h : List UserEntry) (st : StandsFor told state o s h) (disk : told → IsDisk (state s.journal.0)) (counts : CountsOn (state s.journal.0)) (n : ℕ) (op : UserOp) where
-  pub read_stands : IsReading op → refusal op s.lists.value.users ≡ None → StandsFor told state o s (h ++ entry n op Answered ∷ [])
-  read_stands reads allowed = was_read told state o s h st s refl refl refl disk counts st.book n op reads allowed refl refl
+-- others' entries, and then a change or no change
+pub tried_behind : (o : Opening) (own : ℕ) (h : List UserEntry) (op : UserOp) (mid then_seen : List Gv) (tried : Option UserTook) → TurnedBack o own h mid → ((g : List UserEntry) → Saw o mid g → TriedIs o own g op then_seen tried) → TriedIs o own h op then_seen tried
+tried_behind o own h op mid then_seen tried b next = behind tried (next (h ++ b.later) b.saw)
+  where
+    all : (es fs : List UserEntry) → ((h ++ b.later) ++ es) ++ fs ≡ (h ++ (b.later ++ es)) ++ fs
+    all es fs = ap (λ (g : List UserEntry). g ++ fs) (append_assoc h b.later es)
 
-  pub denied_stands : (q : Cause) → refusal op s.lists.value.users ≡ Some q → StandsFor told state o s (h ++ entry n op (refused q) ∷ [])
-  denied_stands q is = was_denied told state o s h st s refl refl refl disk counts st.book n op q is refl refl
+    turned : (e : UserEntry) → Turned o own (h ++ b.later) e then_seen → Turned o own h e then_seen
+    turned e t = record {
+      later = b.later ++ t.later;
+      others = each_append (λ (x : UserEntry). x.place ≢ own) b.later t.later b.others t.others;
+      saw = subst (λ (g : List UserEntry). Saw o then_seen g) (all t.later (e ∷ [])) t.saw;
+    }
+
+    back : TurnedBack o own (h ++ b.later) then_seen → TurnedBack o own h then_seen
+    back t = record {
+      later = b.later ++ t.later;
+      others = each_append (λ (x : UserEntry). x.place ≢ own) b.later t.later b.others t.others;
+      saw = subst (λ (g : List UserEntry). Saw o then_seen g) (append_assoc h b.later t.later) t.saw;
+    }
+
+    behind : (t : Option UserTook) → TriedIs o own (h ++ b.later) op then_seen t → TriedIs o own h op then_seen t
+    behind (Some took.Done) x = (x.0, turned _ x.1)
+    behind (Some (took.Denied q)) x = turned _ x
+    behind (Some took.Stopped) x = back x
+    behind None x = back x
+
+-- the keeper was taken out in one turn, and brought home in another
+pub turned_taken : {D : Type 0} (told : Type 0) (state : D → DiskState) (o : Opening) (own : ℕ) (h : List UserEntry) (op : UserOp) (mid then_seen : List Gv) (k : UserState D) (c : UserChange) (e : UserEntry) (t : IsTaken told state o own h op mid k c) → Turned o own (entries_of t.marks) e then_seen → Turned o own h e then_seen
+turned_taken told state o own h op mid then_seen k c e t r = record {
+  later = t.later ++ r.later;
+  others = each_append (λ (x : UserEntry). x.place ≢ own) t.later r.later t.others r.others;
+  saw = subst (λ (g : List UserEntry). Saw o then_seen g) (ap (λ (g : List UserEntry). (g ++ r.later) ++ e ∷ []) t.entries_are ∙ ap (λ (g : List UserEntry). g ++ e ∷ []) (append_assoc h t.later r.later)) r.saw;
+}
+
+-- a gate that wasn't asked before
+pub rose_behind : (a b c : ℕ) → b ≡ a → Rose b c → Rose a c
+rose_behind a b c same rose = subst (λ (n : ℕ). Rose n c) same rose
+
+pub later_behind : (a b c : ℕ) → b ≡ a → b ≤ c → a ≤ c
+later_behind a b c same later = subst (λ (n : ℕ). n ≤ c) same later
+
+pub some_is : (a b : UserTook) → Some a ≡ Some b → a ≡ b
+some_is a b e = cc
+
+pub none_is : (a : UserTook) → None ≡ Some a → ⊥
+none_is a e = cc
+
+-- the entries that were seen are of the turnstile's passes
+pub numbered_seen : (o : Opening) (passes : ℕ) (seen : List Gv) (h : List UserEntry) → Saw o seen h → AreNumbered passes seen → Each (λ e. e.place < passes) h
+numbered_seen o passes seen h saw numbers = subst (λ (l : List UserEntry). Each (λ e. e.place < passes) l) saw.entries_are (each_entries (λ n. n < passes) saw.marks (numbers saw.marks saw.codes_are))
+
+no_codes : (ms : List UserMark) → codes ms ≡ [] → ms ≡ []
+no_codes [] is = refl
+no_codes (m ∷ ms) is = cc
+
+-- who has seen nothing has seen no entry
+pub nothing_seen : (o : Opening) (h : List UserEntry) → Saw o [] h → h ≡ []
+nothing_seen o h saw = sym saw.entries_are ∙ ap entries_of (no_codes saw.marks (sym saw.codes_are))
+
+-- what was seen is one history
+pub saw_once : (o p : Opening) (seen : List Gv) (h g : List UserEntry) → Saw o seen h → Saw p seen g → h ≡ g
+saw_once o p seen h g first then = sym first.entries_are ∙ ap entries_of (same_marks seen first.marks then.marks first.codes_are then.codes_are) ∙ then.entries_are

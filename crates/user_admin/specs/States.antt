@@ -1,8 +1,10 @@
 -- When a state of the users stands for their history.
-use Rattle.std.specs.Prelude.{◌≡◌, ◌⊎◌, ℕ, ◌+◌, ◌-◌, ◌≤◌, ◌<◌, min, true, List, [], ◌∷◌, ◌++◌, length, replicate, Option, Some}
+use Rattle.std.specs.Prelude.{◌≡◌, ◌⊎◌, ℕ, ◌+◌, ◌-◌, ◌≤◌, ◌<◌, min, true, List, [], ◌∷◌, ◌++◌, length, replicate, Option, Some, Result, Ok, Err}
 use Rattle.std.specs.FinMap.{len}
 use Rattle.dxc_causes.specs.Causes.{last}
 use Rattle.dxc_disk.specs.Disks.{DiskState, Leaves}
+use Rattle.dxc_disk.specs.declared.disk.Disk.{Ghosts as DiskOf}
+use Rattle.dxc_disk.specs.declared.disk.DiskFault.{DiskFault as Fault}
 use Rattle.dxc_model.specs.declared.cause.Cause.{Cause}
 use Rattle.dxc_model.specs.declared.cause.Cause.TheVariants.{DiskFault}
 use Rattle.journal_core.specs.declared.book.Book.{Book}
@@ -19,7 +21,7 @@ use Rattle.user_admin.specs.declared.state.UserState.{UserState}
 use Rattle.user_admin.specs.Users.{shelf_users}
 use Rattle.user_admin.specs.Changes.{effect, most_users}
 use Rattle.user_admin.specs.Verdicts.{Grants}
-use Rattle.user_admin.specs.Spellable.{AreDescribed, AreSpellable}
+use Rattle.user_admin.specs.Spellable.{AreDescribed, AreSpellable, NamesUid}
 use Rattle.user_admin.specs.Files.{IsFileOn}
 use Rattle.user_admin.specs.Journals.{IsAtHome}
 use Rattle.user_admin.specs.Histories.{IsInDoubt, IsLegal, Opening, failures, users_after}
@@ -128,3 +130,21 @@ module _ {D : Type 0} (told : Type 0) (state : D → DiskState) where
   ChangedIs o h n op s (done.Done c) = StandsFor o s (h ++ entry n op (Done c) ∷ [])
   ChangedIs o h n op s (done.Denied q) = StandsFor o s (h ++ entry n op (refused q) ∷ [])
   ChangedIs o h n op s done.Stopped = StandsFor o s h
+
+  -- the users may keep this change: an operation is granted it
+  pub record IsGranted (o : Opening) (h : List UserEntry) (op : UserOp) (s : UserState D) (c : UserChange) : Type 0 where
+    pub stands : StandsFor o s h
+    pub names : NamesUid op
+    pub granted : Grants s.sid op s.lists.value.users c
+
+  -- it was kept and taken, or the disk stood against it
+  abbrev pub NotedIs : Opening → List UserEntry → ℕ → UserOp → UserChange → UserState D → Result (Unit {0}) Fault → Type 0
+  NotedIs o h n op c s (Ok v) = StandsFor o s (h ++ entry n op (Done c) ∷ [])
+  NotedIs o h n op c s (Err e) = StandsFor o s (h ++ entry n op (Failed DiskFault) ∷ [])
+
+abbrev pub MayNote : {D : Type 0} → DiskOf D → UserState D → UserChange → Type 0
+MayNote g s c = (o : Opening) × (h : List UserEntry) × (op : UserOp) × IsGranted g.told g.state o h op s c
+
+-- whatever history and whatever place that is
+abbrev pub IsNoted : {D : Type 0} → DiskOf D → UserState D → UserChange → UserState D → Result (Unit {0}) Fault → Type 0
+IsNoted g s c t result = (o : Opening) (h : List UserEntry) (n : ℕ) (op : UserOp) → IsGranted g.told g.state o h op s c → NotedIs g.told g.state o h n op c t result

@@ -1,34 +1,46 @@
 -- What a place knows of the users' history, and what its turns come to.
-use Rattle.std.specs.Prelude.{◌≡◌, ◌≢◌, ◌<◌, ℕ, true, List, [], ◌∷◌, ◌++◌, map, Option}
+use Rattle.std.specs.Prelude.{◌≡◌, ◌≢◌, ◌<◌, ℕ, true, List, [], ◌∷◌, ◌++◌, map, Option, Some, None}
 use base.Stored.{Gv}
 use Rattle.turnstile.specs.Passing.{Gate, Token}
 use Rattle.turnstile.specs.Turning.{Each}
+use Rattle.dxc_disk.specs.Disks.{DiskState}
+use Rattle.dxc_disk.specs.declared.disk.Disk.{Ghosts as DiskOf}
 use Rattle.dxc_model.specs.declared.cause.Cause.{Cause}
 use Rattle.dxc_model.specs.declared.user.Class.{Class}
 use Rattle.user_admin.specs.declared.op.UserChange.{UserChange}
 use Rattle.user_admin.specs.declared.op.UserEntry.{UserEntry}
+use Rattle.user_admin.specs.declared.op.UserMark.{UserMark}
 use Rattle.user_admin.specs.declared.op.UserOp.{UserOp}
+use Rattle.user_admin.specs.declared.op.UserOutcome.{UserOutcome}
 use Rattle.user_admin.specs.declared.op.UserRow.{UserRow}
 use Rattle.user_admin.specs.declared.op.UserOp.TheVariants.{Look, Rows}
 use Rattle.user_admin.specs.declared.op.UserOutcome.TheVariants as outcome
+use Rattle.user_admin.specs.declared.shared.Planned.{Planned}
+use Rattle.user_admin.specs.declared.shared.Planned.TheVariants as planned
+use Rattle.user_admin.specs.declared.shared.SharedUsers.{SharedUsers}
+use Rattle.user_admin.specs.declared.state.UserState.{UserState}
 use Rattle.user_admin.specs.declared.turns.UserTook.{UserTook}
 use Rattle.user_admin.specs.declared.turns.UserTook.TheVariants.{Done, Denied, Stopped}
 use Rattle.user_admin.specs.Verdicts.{login, rows_in}
-use Rattle.user_admin.specs.Coding.{entry_coded}
+use Rattle.user_admin.specs.Coding.{mark_coded}
 use Rattle.user_admin.specs.Histories.{IsLegal, Opening, users_after}
 use Rattle.user_admin.specs.States.{IsPaid, entry, refused}
+use Rattle.user_admin.specs.Marks.{entries_of, place_of}
+use Rattle.user_admin.specs.Shared.{HasKeeper, HasKept, opening_at}
 
-abbrev pub codes : List UserEntry → List Gv
-codes h = map entry_coded.code h
+abbrev pub codes : List UserMark → List Gv
+codes ms = map mark_coded.code ms
 
 -- what is known of every history from this opening
 pub record IsHistory (o : Opening) (h : List UserEntry) : Type 0 where
   pub legal : IsLegal o h
   pub paid : IsPaid o h
 
--- the history that was seen is h
+-- the history that was seen is h: the entries among what turns left
 pub record Saw (o : Opening) (seen : List Gv) (h : List UserEntry) : Type 0 where
-  pub codes_are : seen ≡ codes h
+  pub marks : List UserMark
+  pub codes_are : seen ≡ codes marks
+  pub entries_are : entries_of marks ≡ h
   pub history : IsHistory o h
 
 -- behind the history stand others' entries, and then this one
@@ -43,9 +55,9 @@ pub record TurnedBack (o : Opening) (own : ℕ) (h : List UserEntry) (then_seen 
   pub others : Each (λ x. x.place ≢ own) later
   pub saw : Saw o then_seen (h ++ later)
 
--- each entry that was seen carries the number of one of so many passes
+-- all that was seen carries the number of one of so many passes
 abbrev pub AreNumbered : ℕ → List Gv → Type 0
-AreNumbered passes seen = (h : List UserEntry) → seen ≡ codes h → Each (λ e. e.place < passes) h
+AreNumbered passes seen = (ms : List UserMark) → seen ≡ codes ms → Each (λ m. place_of m < passes) ms
 
 -- the pass is one of the turnstile's, no turn of it is out, and what it has seen are entries of the turnstile's passes
 abbrev pub HasPass : {X : Type 0} → Gate X → Token → Type 0
@@ -67,3 +79,61 @@ RowsAre o own h which then_seen given = (t : Turned o own h (entry own (Rows whi
 
 abbrev pub RowsDenied : Opening → ℕ → List UserEntry → Option (List ℕ) → List Gv → Cause → Type 0
 RowsDenied o own h which then_seen q = Turned o own h (entry own (Rows which) (refused q)) then_seen
+
+-- where the history began, and whose pass it is
+pub record View : Type 0 where
+  pub opening : Opening
+  pub own : ℕ
+
+abbrev pub view : {D : Type 0} → (D → DiskState) → Gate (SharedUsers D) → Token → View
+view state t p = record { opening = opening_at state t.first; own = p.number }
+
+-- it is a history
+abbrev pub HasSeen : {D : Type 0} → DiskOf D → Gate (SharedUsers D) → Token → Type 0
+HasSeen g t p = (h : List UserEntry) × Saw (opening_at g.state t.first) p.seen h
+
+-- after each history that was seen this holds
+abbrev pub After : {D : Type 0} → DiskOf D → Gate (SharedUsers D) → Token → (View → List UserEntry → Type 0) → Type 0
+After g t p P = (h : List UserEntry) → Saw (opening_at g.state t.first) p.seen h → P (view g.state t p) h
+
+-- of what turns left
+abbrev pub OutUpon : {D : Type 0} → DiskOf D → Gate (SharedUsers D) → Token → (View → List UserMark → Type 0) → Type 0
+OutUpon g t p P = (ms : List UserMark) × (p.seen ≡ codes ms) × P (view g.state t p) ms
+
+abbrev pub OutAfter : {D : Type 0} → DiskOf D → Gate (SharedUsers D) → Token → (View → List UserMark → Type 0) → Type 0
+OutAfter g t p P = (ms : List UserMark) → p.seen ≡ codes ms → P (view g.state t p) ms
+
+module _ {D : Type 0} (told : Type 0) (state : D → DiskState) where
+  -- behind the history stand others' entries, and then the place took the keeper out
+  pub record IsTaken (o : Opening) (own : ℕ) (h : List UserEntry) (op : UserOp) (then_seen : List Gv) (k : UserState D) (c : UserChange) : Type 0 where
+    pub marks : List UserMark
+    pub codes_are : then_seen ≡ codes marks
+    pub later : List UserEntry
+    pub others : Each (λ e. e.place ≢ own) later
+    pub entries_are : entries_of marks ≡ h ++ later
+    pub keeper : HasKeeper told state o own op marks k c
+
+  -- a turn in which a change was to begin
+  abbrev pub TakenIs : Opening → ℕ → List UserEntry → UserOp → List Gv → Planned D → Type 0
+  TakenIs o own h op then_seen (planned.Taken k c) = IsTaken o own h op then_seen k.value c
+  TakenIs o own h op then_seen (planned.Denied q) = Turned o own h (entry own op (refused q)) then_seen
+  TakenIs o own h op then_seen planned.Stopped = TurnedBack o own h then_seen
+  TakenIs o own h op then_seen planned.Waits = TurnedBack o own h then_seen
+
+-- a change that was tried: none, while another place had the keeper
+abbrev pub TriedIs : Opening → ℕ → List UserEntry → UserOp → List Gv → Option UserTook → Type 0
+TriedIs o own h op then_seen (Some took) = TookIs o own h op then_seen took
+TriedIs o own h op then_seen None = TurnedBack o own h then_seen
+
+-- what a turn comes to, by what the pass has seen then
+abbrev pub Takes : {D : Type 0} → DiskOf D → UserOp → (next : Token) → Planned D → View → List UserEntry → Type 0
+Takes g op next planned v h = TakenIs g.told g.state v.opening v.own h op next.seen planned
+
+abbrev pub Tries : UserOp → (next : Token) → Option UserTook → View → List UserEntry → Type 0
+Tries op next took v h = TriedIs v.opening v.own h op next.seen took
+
+abbrev pub IsKept : {D : Type 0} → DiskOf D → UserOp → UserOutcome → UserState D → View → List UserMark → Type 0
+IsKept g op out k v ms = HasKept g.told g.state v.opening v.own op ms k out
+
+abbrev pub Brings : UserOp → UserOutcome → (next : Token) → View → List UserMark → Type 0
+Brings op out next v ms = Turned v.opening v.own (entries_of ms) (entry v.own op out) next.seen

@@ -1,5 +1,5 @@
 //! The state of the users: who they are, and their journal.
-ghost use Rattle.std.specs.Prelude.{◌≡◌, ◌≢◌, ◌≤◌, ◌<◌, ◌⊎◌, ℕ, List, [], None, false, length, option_map, slice_get, MatchResult, Some, IfErr, IfOk, IfSome};
+ghost use Rattle.std.specs.Prelude.{◌≡◌, ◌≢◌, ◌≤◌, ◌<◌, ◌⊎◌, ℕ, List, [], None, false, length, option_map, slice_get, MatchResult, Some, IfErr, IfOk, IfSome, IsErr};
 ghost use Rattle.std.specs.FinMap.{entries};
 ghost use Rattle.dxc_causes.specs.Causes.{HasCause, Rose};
 ghost use Rattle.dxc_disk.specs.Disks.{IsSound, LeavesOnly, Spends};
@@ -9,16 +9,16 @@ ghost use Rattle.user_admin.specs.Histories.{Opening};
 ghost use Rattle.user_admin.specs.Openings.{Begins, Fails, IsDiskErr, IsOpening, LeavesOpened, asked_at, disk_left, read_fault};
 ghost use Rattle.user_admin.specs.Spellable.{NamesUid};
 ghost use Rattle.user_admin.specs.Users.{shelf_users};
-ghost use Rattle.user_admin.specs.States.{ChangedIs, IsFileAfter, IsFileWithChange, StandsFor, opening_of};
-ghost use Rattle.user_admin.specs.Verdicts.{IsChanging, login, refusal, rows_in};
+ghost use Rattle.user_admin.specs.declared.op.UserOp.{UserOp as Op};
+ghost use Rattle.user_admin.specs.States.{ChangedIs, IsFileAfter, IsFileWithChange, IsNoted, MayNote, StandsFor, opening_of};
+ghost use Rattle.user_admin.specs.Verdicts.{Grants, IsChanging, login, refusal, rows_in};
 
 use crate::fault::UserOpenFault;
 use crate::fold::{FoldFault, fold};
 use crate::keep::keep;
-use crate::op::{User, UserDone, UserEntry, UserOp, UserRows};
+use crate::op::{User, UserChange, UserDone, UserOp, UserRows};
 use crate::secret::copy_as;
-use crate::table::{UserTable, row_of};
-use arrayvec::ArrayVec;
+use crate::table::UserTable;
 use dxc_causes::NoMemory;
 use dxc_disk::{Disk, DiskFault};
 use dxc_model::{Cause, Class, Uid};
@@ -28,7 +28,6 @@ use shelf_file::Shelf;
 use std::alloc::Global;
 use std::snapshot::Snapshot;
 use tl1_text::Sid;
-use turnstile::Sequential;
 
 /// The users that the shelf describes, and those that are kept.
 #[derive(Drop)]
@@ -54,27 +53,7 @@ pub struct UserState<D: Disk> {
     pub(crate) origin: UserOrigin<D>,
 }
 
-impl<D: Disk> Sequential for UserState<D> {
-    type Entry = UserEntry;
-
-    ghost use Rattle.user_admin.specs.Histories.{Opening};
-    ghost use Rattle.user_admin.specs.States.{Stands, opening_of};
-    ghost use Rattle.user_admin.specs.Coding.{entry_coded, opening_coded, place_of};
-
-    ghost Opening = { Opening };
-
-    ghost opening = { opening_of D.state };
-
-    ghost number = { place_of };
-
-    ghost stands = { Stands D.told D.state };
-
-    ghost opening_code = { opening_coded };
-
-    ghost entry_code = { entry_coded };
-}
-
-fn copy_of(sid: &Sid) -> Sid
+pub(crate) fn copy_of(sid: &Sid) -> Sid
     ensures { result ≡ sid.now }
 {
     match Sid::of(sid.bytes()) {
@@ -200,7 +179,7 @@ impl<D: Disk> UserState<D> {
         ensures sound { IsSound 4_207_216 (D.state self.old.journal.0)
             → result ≢ UserDone.Denied Cause.DiskFault }
     {
-        let lists = &mut *self.lists;
+        let lists = &*self.lists;
         let change = match lists.users.verdict(&self.sid, op) {
             Ok(change) => change,
             Err(cause) => return UserDone::Denied(cause),
@@ -209,12 +188,39 @@ impl<D: Disk> UserState<D> {
             Pass1::Stop => return UserDone::Stopped,
             Pass1::Go => {}
         }
-        match keep(&mut self.journal, &lists.described, &lists.users, &change) {
-            Ok(()) => {}
-            Err(DiskFault) => return UserDone::Denied(Cause::DiskFault),
+        match self.note(&change) {
+            Ok(()) => UserDone::Done(change),
+            Err(DiskFault) => UserDone::Denied(Cause::DiskFault),
         }
-        lists.users.take(&change);
-        UserDone::Done(change)
+    }
+
+    /// Keeps a change that the users grant in the journal, and takes it then. DiskFault is the only error, and only where the disk's count of
+    /// faults rose; the users are as before then. It takes no memory, and of the disk's room what `change` takes.
+    pub(crate) fn note(&mut self, change: &UserChange) -> Result<(), DiskFault>
+        requires may { MayNote D.Disk self.old change.now }
+        ensures noted { IsNoted D.Disk self.old change.now self.new result }
+        ensures origin { self.new.origin ≡ self.old.origin }
+        ensures equipped { self.new.journal.1.head.equipped ≡ self.old.journal.1.head.equipped }
+        // A crash at any moment leaves the users as they were, with the change in doubt or not, or with this one.
+        ensures any_moment { D.told → (o : Opening) → (h : List Entry) → (op : Op)
+            → StandsFor D.told D.state o self.old h
+            → Grants self.old.sid op self.old.lists.value.users change.now
+            → LeavesOnly (D.state self.old.journal.0) (D.state self.new.journal.0)
+            (λ file. IsFileAfter o h file ⊎ IsFileWithChange o h op file) }
+        ensures fault { HasCause (D.state self.old.journal.0).faults
+            (D.state self.new.journal.0).faults (IsErr result) }
+        ensures room { Spends 4_207_216 (D.state self.old.journal.0) (D.state self.new.journal.0) }
+        ensures short { IsReady self.old.journal.1 × (self.old.journal.1.to_mend ≡ false)
+            → Spends 69 (D.state self.old.journal.0) (D.state self.new.journal.0) }
+        ensures sound { IsSound 4_207_216 (D.state self.old.journal.0) → IsErr result → ⊥ }
+    {
+        let lists = &mut *self.lists;
+        match keep(&mut self.journal, &lists.described, &lists.users, change) {
+            Ok(()) => {}
+            Err(DiskFault) => return Err(DiskFault),
+        }
+        lists.users.take(change);
+        Ok(())
     }
 
     /// The class of the user of a name, case aside, whose kept digest is that of the salt followed by the PID; None exactly where there is none.
@@ -234,15 +240,7 @@ impl<D: Disk> UserState<D> {
             × (given.items ≡ rows_in self.now.lists.value.users which.now))
             (λ q. refusal (UserOp.Rows which.now) self.now.lists.value.users ≡ Some q) }
     {
-        let Some(uid) = which else {
-            return Ok(self.lists.users.rows());
-        };
-        let Some(user) = self.lists.users.named(*uid) else {
-            return Err(Cause::UnknownUser);
-        };
-        let mut rows = ArrayVec::new();
-        rows.push(row_of(user));
-        Ok(rows)
+        self.lists.users.listing(which)
     }
 
     /// Gives the disk back as it is.

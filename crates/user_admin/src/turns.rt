@@ -1,22 +1,24 @@
 //! The turns of a place with the users: each enters, does one thing with their state, and leaves with the place's entry.
-ghost use Rattle.std.specs.Prelude.{◌≡◌, ◌≢◌, ◌≤◌, List, MatchResult};
+ghost use Rattle.std.specs.Prelude.{◌≡◌, ◌≢◌, ◌≤◌, List, MatchResult, Some};
 ghost use Rattle.dxc_causes.specs.Causes.{Rose};
 ghost use Rattle.user_admin.specs.declared.op.UserEntry.{UserEntry as Entry};
 ghost use Rattle.user_admin.specs.Openings.{asked_at_turn};
 ghost use Rattle.user_admin.specs.Spellable.{NamesUid};
-ghost use Rattle.user_admin.specs.States.{opening_of, refused as refused_by};
-ghost use Rattle.user_admin.specs.Turns.{HasPass, LoggedIn, RowsAre, RowsDenied, Saw, TookIs};
+ghost use Rattle.user_admin.specs.Shared.{asked_by, asked_in, opening_at};
+ghost use Rattle.user_admin.specs.Turns.{After, Brings, HasPass, HasSeen, IsKept, LoggedIn, OutUpon, OutAfter, RowsAre, RowsDenied, Saw, Takes, TookIs, Tries};
 ghost use Rattle.user_admin.specs.Verdicts.{IsChanging};
 
-use crate::op::{UserDone, UserEntry, UserOp, UserOutcome, UserRows};
+use crate::op::{UserMark, UserOp, UserOutcome, UserRows};
+use crate::shared::{Planned, SharedUsers, mark_of, refused};
 use crate::state::UserState;
-use dxc_disk::Disk;
+use dxc_disk::{Disk, DiskFault};
 use dxc_model::{Cause, Class, Uid};
 use dxc_outside::Gate;
+use std::snapshot::Snapshot;
 use std::sync::Wait;
-use turnstile::{Pass, Turnstile};
+use turnstile::{Pass, Rest, Turnstile};
 
-/// What came of a turn in which the users were to be changed.
+/// What came of a change of the users.
 #[derive(Clone, Copy)]
 pub enum UserTook {
     Done,
@@ -25,20 +27,12 @@ pub enum UserTook {
     Stopped,
 }
 
-// How a denied operation is entered: what the users deny is Denied, what the disk stood against has Failed.
-fn refused(cause: Cause) -> UserOutcome
-    ensures { result ≡ refused_by cause }
-{
-    match cause {
-        Cause::DiskFault => UserOutcome::Failed(cause),
-        _ => UserOutcome::Denied(cause),
-    }
-}
-
-/// Makes the change of a changing operation.
+/// Makes the change of a changing operation. What the users deny is denied in one turn. Else the keeper is taken out in it, the change is kept in
+/// the journal outside of any turn, and the keeper is brought home in a second turn; while another place has it, it waits in the line of those who
+/// change something.
 pub fn change<D: Disk + Drop, G: Gate, R: Wait>(
     pass: &mut Pass,
-    turns: &Turnstile<UserState<D>>,
+    turns: &Turnstile<SharedUsers<D>>,
     op: UserOp,
     gate: &mut G,
     rt: &R,
@@ -46,88 +40,201 @@ pub fn change<D: Disk + Drop, G: Gate, R: Wait>(
     requires pass { HasPass turns.now pass.old }
     requires changing { IsChanging op }
     requires named { NamesUid op }
-    requires seen { (h : List Entry) × Saw (opening_of D.state turns.now.first) pass.old.seen h }
+    requires seen { (h : List Entry) × Saw (opening_at D.state turns.now.first) pass.old.seen h }
     ensures pass { HasPass turns.now pass.new × (pass.new.number ≡ pass.old.number) }
-    ensures took { (h : List Entry) → Saw (opening_of D.state turns.now.first) pass.old.seen h
-        → TookIs (opening_of D.state turns.now.first) pass.old.number h op pass.new.seen result }
+    ensures took { (h : List Entry) → Saw (opening_at D.state turns.now.first) pass.old.seen h
+        → TookIs (opening_at D.state turns.now.first) pass.old.number h op pass.new.seen result }
     ensures stopped { result ≡ UserTook.Stopped → Rose (G.stops gate.old) (G.stops gate.new) }
     ensures unstopped { result ≢ UserTook.Stopped → G.stops gate.new ≡ G.stops gate.old }
     ensures later { G.stops gate.old ≤ G.stops gate.new }
     ensures asked { G.asked gate.old gate.new (asked_at_turn result) }
 {
-    let mut turn = turns.enter(pass, rt);
-    let done = turn.state_mut().change(&op, gate);
-    let place = pass.number();
-    match done {
-        UserDone::Done(change) => {
-            let outcome = UserOutcome::Done(change);
-            turns.leave(pass, turn, UserEntry { place, op, outcome });
-            UserTook::Done
-        }
-        UserDone::Denied(cause) => {
-            let outcome = refused(cause);
-            turns.leave(pass, turn, UserEntry { place, op, outcome });
-            UserTook::Denied(cause)
-        }
-        UserDone::Stopped => {
-            turns.back(pass, turn);
-            UserTook::Stopped
+    match try_change(pass, turns, &op, gate, rt) {
+        Some(took) => took,
+        None => {
+            turns.stand_in_line(rt);
+            let took = change_in_line(pass, turns, &op, gate, rt);
+            turns.step_aside();
+            turns.call_next();
+            took
         }
     }
+}
+
+// The same, by one that stands in the line of those who change something: it tries again until it finds the keeper home.
+fn change_in_line<D: Disk + Drop, G: Gate, R: Wait>(
+    pass: &mut Pass,
+    turns: &Turnstile<SharedUsers<D>>,
+    op: &UserOp,
+    gate: &mut G,
+    rt: &R,
+) -> UserTook
+    requires pass { HasPass turns.now pass.old }
+    requires changing { IsChanging op.now }
+    requires named { NamesUid op.now }
+    requires seen { HasSeen D.Disk turns.now pass.old }
+    ensures pass { HasPass turns.now pass.new × (pass.new.number ≡ pass.old.number) }
+    ensures took { After D.Disk turns.now pass.old (Tries op.now pass.new (Some result)) }
+    ensures stopped { result ≡ UserTook.Stopped → Rose (G.stops gate.old) (G.stops gate.new) }
+    ensures unstopped { result ≢ UserTook.Stopped → G.stops gate.new ≡ G.stops gate.old }
+    ensures later { G.stops gate.old ≤ G.stops gate.new }
+    ensures asked { G.asked gate.old gate.new (asked_at_turn result) }
+{
+    let mut rest = Rest::new();
+    for _ in rt.forever() {
+        match try_change(pass, turns, op, gate, rt) {
+            Some(took) => return took,
+            None => rest.again(0, rt),
+        }
+    }
+    unreachable!()
+}
+
+// Makes the change, unless another place has the keeper; then None.
+fn try_change<D: Disk + Drop, G: Gate, R: Wait>(
+    pass: &mut Pass,
+    turns: &Turnstile<SharedUsers<D>>,
+    op: &UserOp,
+    gate: &mut G,
+    rt: &R,
+) -> Option<UserTook>
+    requires pass { HasPass turns.now pass.old }
+    requires changing { IsChanging op.now }
+    requires named { NamesUid op.now }
+    requires seen { HasSeen D.Disk turns.now pass.old }
+    ensures pass { HasPass turns.now pass.new × (pass.new.number ≡ pass.old.number) }
+    ensures took { After D.Disk turns.now pass.old (Tries op.now pass.new result) }
+    ensures stopped { result ≡ Some UserTook.Stopped
+        → Rose (G.stops gate.old) (G.stops gate.new) }
+    ensures unstopped { result ≢ Some UserTook.Stopped → G.stops gate.new ≡ G.stops gate.old }
+    ensures later { G.stops gate.old ≤ G.stops gate.new }
+    ensures asked { G.asked gate.old gate.new (asked_in result) }
+{
+    let (mut keeper, change) = match take(pass, turns, op, gate, rt) {
+        Planned::Taken(keeper, change) => (keeper, change),
+        Planned::Denied(cause) => return Some(UserTook::Denied(cause)),
+        Planned::Stopped => return Some(UserTook::Stopped),
+        Planned::Waits => return None,
+    };
+    let state = &mut *keeper;
+    match state.note(&change) {
+        Ok(()) => {
+            bring(pass, turns, op, UserOutcome::Done(change), keeper, rt);
+            Some(UserTook::Done)
+        }
+        Err(DiskFault) => {
+            let cause = Cause::DiskFault;
+            bring(pass, turns, op, UserOutcome::Failed(cause), keeper, rt);
+            Some(UserTook::Denied(cause))
+        }
+    }
+}
+
+// Begins a change in one turn.
+fn take<D: Disk + Drop, G: Gate, R: Wait>(
+    pass: &mut Pass,
+    turns: &Turnstile<SharedUsers<D>>,
+    op: &UserOp,
+    gate: &mut G,
+    rt: &R,
+) -> Planned<D>
+    requires pass { HasPass turns.now pass.old }
+    requires changing { IsChanging op.now }
+    requires seen { HasSeen D.Disk turns.now pass.old }
+    ensures pass { HasPass turns.now pass.new × (pass.new.number ≡ pass.old.number) }
+    ensures took { After D.Disk turns.now pass.old (Takes D.Disk op.now pass.new result) }
+    ensures stopped { result ≡ Planned.Stopped → Rose (G.stops gate.old) (G.stops gate.new) }
+    ensures unstopped { result ≢ Planned.Stopped → G.stops gate.new ≡ G.stops gate.old }
+    ensures later { G.stops gate.old ≤ G.stops gate.new }
+    ensures asked { G.asked gate.old gate.new (asked_by result) }
+{
+    let mut turn = turns.enter(pass, rt);
+    let planned = turn.state_mut().plan(op, gate);
+    match mark_of(pass.number(), op, &planned) {
+        Some(mark) => {
+            turns.leave(pass, turn, mark);
+            planned
+        }
+        None => {
+            turns.back(pass, turn);
+            planned
+        }
+    }
+}
+
+// Brings the keeper home in one turn, by this outcome of the operation.
+fn bring<D: Disk + Drop, R: Wait>(
+    pass: &mut Pass,
+    turns: &Turnstile<SharedUsers<D>>,
+    op: &UserOp,
+    outcome: UserOutcome,
+    keeper: Box<UserState<D>>,
+    rt: &R,
+)
+    requires pass { HasPass turns.now pass.old }
+    requires kept { OutUpon D.Disk turns.now pass.old (IsKept D.Disk op.now outcome keeper.value) }
+    ensures pass { HasPass turns.now pass.new × (pass.new.number ≡ pass.old.number) }
+    ensures brought { OutAfter D.Disk turns.now pass.old (Brings op.now outcome pass.new) }
+{
+    let mut turn = turns.enter(pass, rt);
+    turn.state_mut().bring(&outcome, keeper);
+    let place = pass.number();
+    let op = Snapshot::of(op);
+    turns.leave(pass, turn, UserMark::Entered { place, op, outcome });
 }
 
 /// The class of the user of a name, case aside, who has the PID, as the users stand.
 pub fn login<D: Disk + Drop, R: Wait>(
     pass: &mut Pass,
-    turns: &Turnstile<UserState<D>>,
+    turns: &Turnstile<SharedUsers<D>>,
     uid: Uid,
     pid: &[u8],
     rt: &R,
 ) -> Option<Class>
     requires pass { HasPass turns.now pass.old }
-    requires seen { (h : List Entry) × Saw (opening_of D.state turns.now.first) pass.old.seen h }
+    requires seen { (h : List Entry) × Saw (opening_at D.state turns.now.first) pass.old.seen h }
     ensures pass { HasPass turns.now pass.new × (pass.new.number ≡ pass.old.number) }
-    ensures logged { (h : List Entry) → Saw (opening_of D.state turns.now.first) pass.old.seen h
-        → LoggedIn (opening_of D.state turns.now.first) pass.old.number h uid pid.now pass.new.seen
+    ensures logged { (h : List Entry) → Saw (opening_at D.state turns.now.first) pass.old.seen h
+        → LoggedIn (opening_at D.state turns.now.first) pass.old.number h uid pid.now pass.new.seen
         result }
 {
     let turn = turns.enter(pass, rt);
-    let class = turn.state().login_now(uid.bytes(), pid);
+    let class = turn.state().list.login_now(uid, pid);
     let place = pass.number();
-    let op = UserOp::Look(uid);
+    let op = Snapshot::of(&UserOp::Look(uid));
     let outcome = UserOutcome::Answered;
-    turns.leave(pass, turn, UserEntry { place, op, outcome });
+    turns.leave(pass, turn, UserMark::Entered { place, op, outcome });
     class
 }
 
 /// The names of all users with their classes, in order of names, or of one; UnknownUser is the only cause against it.
 pub fn rows<D: Disk + Drop, R: Wait>(
     pass: &mut Pass,
-    turns: &Turnstile<UserState<D>>,
+    turns: &Turnstile<SharedUsers<D>>,
     which: Option<Uid>,
     rt: &R,
 ) -> Result<UserRows, Cause>
     requires pass { HasPass turns.now pass.old }
-    requires seen { (h : List Entry) × Saw (opening_of D.state turns.now.first) pass.old.seen h }
+    requires seen { (h : List Entry) × Saw (opening_at D.state turns.now.first) pass.old.seen h }
     ensures pass { HasPass turns.now pass.new × (pass.new.number ≡ pass.old.number) }
-    ensures rows { (h : List Entry) → Saw (opening_of D.state turns.now.first) pass.old.seen h
-        → MatchResult result (λ given. RowsAre (opening_of D.state turns.now.first) pass.old.number
+    ensures rows { (h : List Entry) → Saw (opening_at D.state turns.now.first) pass.old.seen h
+        → MatchResult result (λ given. RowsAre (opening_at D.state turns.now.first) pass.old.number
         h which pass.new.seen given.items)
-        (RowsDenied (opening_of D.state turns.now.first) pass.old.number h which pass.new.seen) }
+        (RowsDenied (opening_at D.state turns.now.first) pass.old.number h which pass.new.seen) }
 {
     let turn = turns.enter(pass, rt);
-    let given = turn.state().rows(&which);
+    let given = turn.state().list.listing(&which);
     let place = pass.number();
-    let op = UserOp::Rows(which);
+    let op = Snapshot::of(&UserOp::Rows(which));
     match given {
         Ok(rows) => {
             let outcome = UserOutcome::Answered;
-            turns.leave(pass, turn, UserEntry { place, op, outcome });
+            turns.leave(pass, turn, UserMark::Entered { place, op, outcome });
             Ok(rows)
         }
         Err(cause) => {
             let outcome = refused(cause);
-            turns.leave(pass, turn, UserEntry { place, op, outcome });
+            turns.leave(pass, turn, UserMark::Entered { place, op, outcome });
             Err(cause)
         }
     }

@@ -8,6 +8,7 @@ use crate::levers::Levers;
 use crate::lines::RowLines;
 use crate::link::RowLink;
 use crate::listener::RowListener;
+use crate::notes::wanted_notes;
 use crate::office::Office;
 use crate::opener::{Holding, RowOpener};
 use crate::part::Part;
@@ -83,7 +84,8 @@ fn hold_disks(
 // Listeners at which nobody calls.
 fn hold_listeners(alloc: Global, listeners: &mut Vec<RowListener>) -> Result<()> {
     for _ in 0..PLACES {
-        listeners.push(RowListener::new(Vec::new(alloc), Vec::new(alloc)))?;
+        let nobody = RowListener::new(alloc, Vec::new(alloc), Vec::new(alloc), None);
+        listeners.push(nobody)?;
     }
     Ok(())
 }
@@ -179,7 +181,7 @@ pub fn link_of(
     Ok(RowLink::new(alloc, held, most as usize, kept))
 }
 
-// The callers of a place.
+// The callers of a place, and what must be noted of them.
 fn listener_of(
     alloc: Global,
     sid: &str,
@@ -190,7 +192,12 @@ fn listener_of(
     for caller in &place.parts(alloc, &["caller"])? {
         links.push(link_of(alloc, sid, *caller, "a caller", due)?)?;
     }
-    Ok(RowListener::new(links, place.failing(alloc, "accepts")?))
+    let kept = match wanted_notes(alloc, place)? {
+        Some(wanted) => Some(due.expect(alloc, "the notes", wanted)?),
+        None => None,
+    };
+    let failing = place.failing(alloc, "accepts")?;
+    Ok(RowListener::new(alloc, links, failing, kept))
 }
 
 // The lines of a worker, which give these frames.

@@ -1,25 +1,38 @@
 ghost use Rattle.std.specs.Prelude.{[], false};
 
-use crate::link::RowLink;
+use crate::link::{Kept, RowLink};
+use crate::notes::RowNotes;
+use dxc_notes::Noted;
 use dxc_outside::{Came, Listener};
-use std::sync::Wait;
+use std::alloc::Global;
+use std::sync::{Arc, Wait};
 
 /// Gives its links, the last one first, and then says End. Accepts are numbered from 0; those of the numbers in `failing` fail, and the link that
 /// would have come is given later.
 #[derive(Drop)]
 pub struct RowListener {
+    alloc: Global,
     links: Vec<RowLink>,
     failing: Vec<u64>,
+    /// Where its notes are left, if they are compared.
+    kept: Option<Kept>,
     accepts: u64,
     ended: bool,
     faults: u64,
 }
 
 impl RowListener {
-    pub fn new(links: Vec<RowLink>, failing: Vec<u64>) -> RowListener {
+    pub fn new(
+        alloc: Global,
+        links: Vec<RowLink>,
+        failing: Vec<u64>,
+        kept: Option<Kept>,
+    ) -> RowListener {
         RowListener {
+            alloc,
             links,
             failing,
+            kept,
             accepts: 0,
             ended: false,
             faults: 0,
@@ -49,5 +62,17 @@ impl Listener for RowListener {
                 Came::End
             }
         }
+    }
+}
+
+impl Noted for RowListener {
+    type Notes = RowNotes;
+
+    fn notes(&self) -> RowNotes {
+        let kept = match &self.kept {
+            Some(kept) => Arc::try_clone(kept).ok(),
+            None => None,
+        };
+        RowNotes::new(self.alloc, kept)
     }
 }

@@ -1,20 +1,24 @@
 ghost use Rattle.std.specs.Prelude.{[], false};
 
 use crate::link::CueLink;
+use dxc_notes::{MemNotes, Noted};
 use dxc_outside::{Came, Listener};
+use std::alloc::Global;
 use std::sync::Wait;
 
 /// Where one session's caller comes in, and nobody else.
 #[derive(Drop)]
 pub struct OneCaller {
+    alloc: Global,
     caller: Option<CueLink>,
     ended: bool,
 }
 
 impl OneCaller {
     /// Nobody calls where there is no caller.
-    pub fn new(caller: Option<CueLink>) -> OneCaller {
+    pub fn new(alloc: Global, caller: Option<CueLink>) -> OneCaller {
         OneCaller {
+            alloc,
             caller,
             ended: false,
         }
@@ -36,5 +40,14 @@ impl Listener for OneCaller {
                 Came::End
             }
         }
+    }
+}
+
+impl Noted for OneCaller {
+    type Notes = MemNotes;
+
+    /// Nobody reads them.
+    fn notes(&self) -> MemNotes {
+        MemNotes::new(Vec::new(self.alloc))
     }
 }

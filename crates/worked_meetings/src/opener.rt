@@ -99,7 +99,7 @@ impl Opener for SessionsOpener {
     }
 
     fn listener(&mut self, _alloc: Global, _address: &str) -> Opened<OneCaller> {
-        Opened::Open(OneCaller::new(self.callers.pop()))
+        Opened::Open(OneCaller::new(self.alloc, self.callers.pop()))
     }
 
     fn peer(&mut self, _alloc: Global, _address: &str) -> Opened<MemLink> {

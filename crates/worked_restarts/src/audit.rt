@@ -16,7 +16,7 @@ use std::marker::Model;
 use std::sync::Wait;
 use turnstile::{Pass, Turnstile};
 use worked_frames::{Ground, is_inside, registers};
-use xc_core::{Driver, Provisioner, State, release};
+use xc_core::{Driver, Errand, Provisioner, State, release};
 
 /// One who looks at all registers in a turn.
 #[derive(Drop)]
@@ -98,7 +98,7 @@ fn end_in_turn<D: Disk + Drop, R: Wait>(
 {
     let _ = fabric;
     let mut turn = turns.enter(pass, rt);
-    let Some(driver) = turn.state_mut().take_out() else {
+    let Some(driver) = turn.state_mut().take_out(Errand::Restart) else {
         return None;
     };
     let Driver { p, rolling: _ } = Box::into_inner(driver);
@@ -132,7 +132,7 @@ fn words_of<D: Disk + Drop>(
         × (o.site.fabric ≡ fabric.now) }
     ensures { state.new ≡ state.old }
 {
-    let Some(mut driver) = state.take_out() else {
+    let Some(mut driver) = state.take_out(Errand::Restart) else {
         bail!("the Provisioner is out");
     };
     let held = &mut *driver;

@@ -1,8 +1,8 @@
 //! The opening of an element on a disk, with a place for each session of a row.
-ghost use Rattle.std.specs.Prelude.{◌≡◌, ◌<◌, ◌+◌, IfOk, IfSome, length};
+ghost use Rattle.std.specs.Prelude.{◌≡◌, ◌<◌, ◌+◌, [], IfOk, IfSome, length};
 ghost use Rattle.std.specs.Arc.{arc_value};
 ghost use Rattle.fabric_core.specs.State.{new_mover};
-ghost use Rattle.user_admin.specs.Openings.{Begins as UsersBegin};
+ghost use Rattle.user_admin.specs.Shared.{SharedStands as UsersStand};
 ghost use Rattle.xc_core.specs.Openings.{Begins};
 ghost use Rattle.xc_core.specs.States.{opening_of};
 ghost use Rattle.craft_session.specs.Places.{AreFresh, IsAtOpening};
@@ -176,7 +176,8 @@ fn places_of<D: Disk + Drop, U: Disk + Drop>(
     requires users_fresh { AreFresh (arc_value waiting.old.users.turns).id 0
         waiting.old.users.passes.items }
     requires users_within { (arc_value waiting.old.users.turns).passes ≡ count + 1 }
-    requires users_begin { UsersBegin U.told U.state (arc_value waiting.old.users.turns).first }
+    requires users_stand { UsersStand U.told U.state (arc_value waiting.old.users.turns).first
+        [] }
     ensures left { IfOk result (λ _. length waiting.new.passes.items ≡ 1) }
     ensures fresh { IfOk result
         (λ _. AreFresh (arc_value turns.now).id count waiting.new.passes.items) }
@@ -201,7 +202,8 @@ fn next_place<D: Disk + Drop, U: Disk + Drop>(
     requires users_within { number < (arc_value waiting.old.users.turns).passes }
     requires users_fresh { AreFresh (arc_value waiting.old.users.turns).id number
         waiting.old.users.passes.items }
-    requires users_begin { UsersBegin U.told U.state (arc_value waiting.old.users.turns).first }
+    requires users_stand { UsersStand U.told U.state (arc_value waiting.old.users.turns).first
+        [] }
     requires within { number < (arc_value turns.now).passes }
     requires fresh { AreFresh (arc_value turns.now).id number waiting.old.passes.items }
     requires begins { Begins D.told D.state (arc_value turns.now).first }

@@ -2,7 +2,7 @@
 ghost use Rattle.std.specs.Prelude.{◌≡◌, ◌<◌, ◌+◌, ℕ, [], IfOk, length};
 ghost use Rattle.std.specs.Arc.{arc_value};
 ghost use Rattle.turnstile.specs.Passing.{Ident};
-ghost use Rattle.user_admin.specs.Openings.{Begins as UsersBegin};
+ghost use Rattle.user_admin.specs.Shared.{SharedStands as UsersStand};
 ghost use Rattle.xc_core.specs.Openings.{Begins};
 ghost use Rattle.xc_core.specs.States.{opening_of};
 ghost use Rattle.craft_session.specs.Places.{AreFresh, IsAtOpening, fresh_pass};
@@ -15,14 +15,14 @@ use shelf_file::Shelf;
 use std::alloc::Global;
 use std::sync::Arc;
 use turnstile::{Pass, Sequential, Turnstile};
-use user_admin::UserState;
+use user_admin::SharedUsers;
 use xc_core::State;
 
 /// The turnstile of an element.
 pub type Turns<D> = Arc<Turnstile<State<D>>>;
 
 /// The turnstile of an element's users.
-pub type UsersTurns<U> = Arc<Turnstile<UserState<U>>>;
+pub type UsersTurns<U> = Arc<Turnstile<SharedUsers<U>>>;
 
 /// Takes the first of some passes.
 pub fn next_pass(passes: &mut Vec<Pass>) -> Pass
@@ -70,7 +70,7 @@ pub fn place_of<D: Disk + Drop, U: Disk + Drop>(
     requires fresh { pass ≡ fresh_pass (arc_value turns.now).id number }
     requires users_fresh { users_pass ≡ fresh_pass (arc_value users.now).id number }
     requires begins { Begins D.told D.state (arc_value turns.now).first }
-    requires users_begin { UsersBegin U.told U.state (arc_value users.now).first }
+    requires users_stand { UsersStand U.told U.state (arc_value users.now).first [] }
     requires opening { IsAtOpening (opening_of D.state (arc_value turns.now).first)
         (arc_value shelf.now) (arc_value fabric.now) }
 {

@@ -4,6 +4,7 @@
 use anyhow::Result;
 use craft_server::{Status, dxc_run};
 use dxc_leaving::LetGo;
+use dxc_notes::Noted;
 use dxc_outside::{Link, Listener, Opener, Spawner};
 use std::alloc::Global;
 use std::sync::Wait;
@@ -42,7 +43,9 @@ fn run<O: Opener + LetGo, K: Link, P: Spawner, R: Wait>(
     threads: &R,
 ) -> Status
 where
+    O::Listener: Noted,
     <O::Listener as Listener>::Link: Send + 'static,
+    <O::Listener as Noted>::Notes: Send + 'static,
 {
     dxc_run(
         alloc,

@@ -1,5 +1,5 @@
 /// The words with which a line of one session's rows may begin.
-pub const RUN_WORDS: [&str; 50] = [
+pub const RUN_WORDS: [&str; 51] = [
     "row",
     "each",
     "shelf",
@@ -28,6 +28,7 @@ pub const RUN_WORDS: [&str; 50] = [
     "lines",
     "carried",
     "place",
+    "note",
     "caller",
     "peer",
     "login",

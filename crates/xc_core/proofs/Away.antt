@@ -28,7 +28,7 @@ use Rattle.xc_core.specs.Restarts.{IsHalted}
 use Rattle.xc_core.specs.Finishes.{Finishes}
 use Rattle.xc_core.specs.States.{DoubtsUnsettled, Opening, IsHomeAfter, IsPaid, IsReadyOrHalted, IsUnsettled, SpendsOf, StandsFor, cost, fault_in, faults_in, most_room, room_in, rules_of, with_home}
 use Rattle.xc_core.specs.Seeing.{HasTaken, IsOut, entry}
-use Rattle.xc_core.proofs.Entries.{AreReads, answered_not_cut, astray_more, brought, changes_one, changes_same, doubts_cut, holder_append, lasted_reading, others_read, paid_counted, reads_changes, reads_faults, reads_room, room_more, same_faults, spends_at, turns_behind}
+use Rattle.xc_core.proofs.Entries.{AreReads, reading_not_cut, astray_more, brought, changes_one, changes_same, doubts_cut, holder_append, lasted_reading, others_read, paid_counted, reads_changes, reads_faults, reads_room, room_more, same_faults, spends_at, spends_within, turns_behind}
 use Rattle.xc_core.proofs.Halting.{halted_rolls}
 use Rattle.xc_core.proofs.Pasts.{past_marked}
 use Rattle.xc_core.proofs.Reckoning.{changes_counted, reckons_more, reckoned_table}
@@ -51,7 +51,7 @@ module _ {D : Type 0} (told : Type 0) (state : D → DiskState) where
         held = holder_append None h later ∙ ap (λ (x : Option Entry). holder x later) t.held ∙ others_since.1;
         ground = t.ground;
         faults = subst (λ (n : ℕ). min (o.faults + n) last ≤ (state p.journal.0).faults) (sym (reads_faults h later read_since)) t.faults;
-        spends = subst (λ (n : ℕ). SpendsOf o (n + most_room) (state p.journal.0)) (sym (reads_room h later read_since)) t.spends;
+        spends = spends_within o (room_in h + most_room) (room_in (h ++ later) + most_room) (state p.journal.0) (let more = reads_room h later in omega (arith, more)) t.spends;
       }
 
     -- a place that took the Provisioner for a change finds it so
@@ -61,7 +61,7 @@ module _ {D : Type 0} (told : Type 0) (state : D → DiskState) where
       change = t.change;
       within = t.within;
       rolls = t.rolls;
-      unstopped = λ stopped. t.unstopped (lasted_reading IsCut IsRestarted answered_not_cut h later (read_since t.out) stopped);
+      unstopped = λ stopped. t.unstopped (lasted_reading IsCut IsRestarted reading_not_cut h later (read_since t.out) stopped);
     }
 
   -- the engine took the work on

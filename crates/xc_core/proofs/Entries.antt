@@ -8,10 +8,11 @@ use Rattle.dxc_model.specs.declared.op.Op.{Op}
 use Rattle.dxc_model.specs.declared.op.Change.{Change}
 use Rattle.dxc_model.specs.declared.cause.Cause.{Cause}
 use Rattle.dxc_model.specs.declared.cause.Cause.TheVariants.{JournalAstray, NoMiddle, SwitchLimit}
+use Rattle.dxc_model.specs.declared.entry.Outcome.{Outcome}
 use Rattle.dxc_model.specs.declared.entry.Outcome.TheVariants.{Done, Denied, Failed, Answered, Restarted, Cut, Taken}
 use Rattle.dxc_model.specs.declared.entry.Entry.{Entry}
 use Rattle.dxc_model.specs.Steps.{IsLimit, made}
-use Rattle.dxc_model.specs.Histories.{Lasts, KeepsTurns, WaitsFor, IsCut, IsDoubtful, IsRestarted, IsSettling, changes_of, holder, holder_after}
+use Rattle.dxc_model.specs.Histories.{Lasts, KeepsTurns, OnlyReads, WaitsFor, IsCut, IsDoubtful, IsRestarted, IsSettling, changes_of, holder, holder_after, taker}
 use Rattle.dxc_model.proofs.Growth.{changes_append}
 use Rattle.dxc_model.proofs.Lists.{each_more}
 use Rattle.dxc_model.proofs.Lasting.{lasts_before, lasts_more, lasts_now}
@@ -95,19 +96,16 @@ cut_settles_not own op s = elim s [ inl x ↦ (let y : Cut ≡ Done x.0 = x.1 in
 pub taken_settles_not : (own : ℕ) (op : Op) → IsSettling (entry own op Taken) → ⊥
 taken_settles_not own op s = elim s [ inl x ↦ (let y : Taken ≡ Done x.0 = x.1 in cc) | inr x ↦ (let y = x.1 in cc) ]
 
-pub answered_settles_not : (own : ℕ) (op : Op) → IsSettling (entry own op Answered) → ⊥
-answered_settles_not own op s = elim s [ inl x ↦ (let y : Answered ≡ Done x.0 = x.1 in cc) | inr x ↦ (let y = x.1 in cc) ]
-
 pub room_more : (h : List Entry) (e : Entry) → room_in (h ++ e ∷ []) ≡ room_in h + cost e.outcome
 room_more [] e = omega arith
 room_more (x ∷ xs) e = let more = room_more xs e in omega (arith, more)
 
 -- an entry that calls nothing
-pub paid_same : (o : Opening) (h : List Entry) (e : Entry) → fault_in e.outcome ≡ 0 → cost e.outcome ≡ 0 → IsPaid o h → IsPaid o (h ++ e ∷ [])
-paid_same o h e none free was enough =
+pub paid_same : (o : Opening) (h : List Entry) (e : Entry) → fault_in e.outcome ≡ 0 → IsPaid o h → IsPaid o (h ++ e ∷ [])
+paid_same o h e none was enough =
     let room = room_more h e in
     let faults = faults_more h e in
-    let few = was (omega (arith, enough, room, free)) in
+    let few = was (omega (arith, enough, room)) in
     omega (arith, few, faults, none)
 
 -- what the disk at home has counted
@@ -128,15 +126,31 @@ spends_one o n m s t was spent enough =
 pub spends_at : (o : Opening) (n m : ℕ) (s : DiskState) → n ≡ m → SpendsOf o n s → SpendsOf o m s
 spends_at o n m s same was = subst (λ (k : ℕ). SpendsOf o k s) same was
 
+-- what is enough is so where more was taken
+pub spends_within : (o : Opening) (n m : ℕ) (s : DiskState) → n ≤ m → SpendsOf o n s → SpendsOf o m s
+spends_within o n m s more was enough =
+    let left = was (omega (arith, enough, more)) in
+    record { room = omega (arith, left.room, more); margin = left.margin }
+
+-- what only reads makes no change, meets no fault, and takes nothing out
+pub reading_makes : (out : Outcome) → OnlyReads out → made out ≡ None
+reading_makes out reads = elim reads [ inl is ↦ ap made is | inr denied ↦ ap made denied.1 ]
+
+pub reading_meets : (out : Outcome) → OnlyReads out → fault_in out ≡ 0
+reading_meets out reads = elim reads [ inl is ↦ ap fault_in is | inr denied ↦ ap fault_in denied.1 ]
+
+reading_takes : (out : Outcome) (e : Entry) → OnlyReads out → taker out e ≡ None
+reading_takes out e reads = elim reads [ inl is ↦ ap (λ (x : Outcome). taker x e) is | inr denied ↦ ap (λ (x : Outcome). taker x e) denied.1 ]
+
 -- a place that hasn't the Provisioner may read
-pub waits_reading : (own : ℕ) (op : Op) (o : Option Entry) → ((t : Entry) → o ≡ Some t → t.place ≢ own) → WaitsFor o (entry own op Answered)
-waits_reading own op None rests = tt
-waits_reading own op (Some t) rests = inl ((λ same. rests t refl (sym same)), refl)
+pub waits_reading : (own : ℕ) (op : Op) (out : Outcome) (o : Option Entry) → OnlyReads out → ((t : Entry) → o ≡ Some t → t.place ≢ own) → WaitsFor o (entry own op out)
+waits_reading own op out None reads rests = tt
+waits_reading own op out (Some t) reads rests = inl ((λ same. rests t refl (sym same)), reads)
 
 -- and who has it has it still
-pub held_still : (own : ℕ) (op : Op) (o : Option Entry) → ((t : Entry) → o ≡ Some t → t.place ≢ own) → holder_after o (entry own op Answered) ≡ o
-held_still own op None rests = refl
-held_still own op (Some t) rests = elim (eqb_tells own t.place) [ inl same ↦ absurd (rests t refl (sym same.1)) | inr other ↦ ap (λ b. cond b None (Some t)) other.0 ]
+pub held_still : (own : ℕ) (op : Op) (out : Outcome) (o : Option Entry) → OnlyReads out → ((t : Entry) → o ≡ Some t → t.place ≢ own) → holder_after o (entry own op out) ≡ o
+held_still own op out None reads rests = reading_takes out (entry own op out) reads
+held_still own op out (Some t) reads rests = elim (eqb_tells own t.place) [ inl same ↦ absurd (rests t refl (sym same.1)) | inr other ↦ ap (λ b. cond b None (Some t)) other.0 ]
 
 -- its place brings it home
 pub brought : (own : ℕ) (op : Op) (e : Entry) → e.place ≡ own → holder_after (Some (entry own op Taken)) e ≡ None
@@ -165,17 +179,15 @@ room_append (e ∷ es) g = let more = room_append es g in omega (arith, more)
 
 -- entries that only read
 abbrev pub AreReads : List Entry → Type 0
-AreReads later = Each (λ e. e.outcome ≡ Answered) later
+AreReads later = Each (λ e. OnlyReads e.outcome) later
 
-reads_none : (later : List Entry) → AreReads later → (changes_of later ≡ []) × (faults_in later ≡ 0) × (room_in later ≡ 0)
-reads_none [] reads = (refl, refl, refl)
+reads_none : (later : List Entry) → AreReads later → (changes_of later ≡ []) × (faults_in later ≡ 0)
+reads_none [] reads = (refl, refl)
 reads_none (e ∷ es) reads =
     let rest = reads_none es reads.1 in
-    let fault : fault_in e.outcome ≡ 0 = ap fault_in reads.0 in
-    let free : cost e.outcome ≡ 0 = ap cost reads.0 in
+    let fault = reading_meets e.outcome reads.0 in
     let faults = rest.1 in
-    let room = rest.2 in
-    (ap (λ (o : Option Change). option_to_list o ++ changes_of es) (ap made reads.0) ∙ rest.0, omega (arith, fault, faults), omega (arith, free, room))
+    (ap (λ (o : Option Change). option_to_list o ++ changes_of es) (reading_makes e.outcome reads.0) ∙ rest.0, omega (arith, fault, faults))
 
 pub reads_changes : (h later : List Entry) → AreReads later → changes_of (h ++ later) ≡ changes_of h
 reads_changes h later reads = changes_append h later ∙ ap (λ (cs : List Change). changes_of h ++ cs) (reads_none later reads).0 ∙ append-nil (changes_of h)
@@ -183,35 +195,41 @@ reads_changes h later reads = changes_append h later ∙ ap (λ (cs : List Chang
 pub reads_faults : (h later : List Entry) → AreReads later → faults_in (h ++ later) ≡ faults_in h
 reads_faults h later reads = let whole = faults_append h later in let none = (reads_none later reads).1 in omega (arith, whole, none)
 
-pub reads_room : (h later : List Entry) → AreReads later → room_in (h ++ later) ≡ room_in h
-reads_room h later reads = let whole = room_append h later in let none = (reads_none later reads).2 in omega (arith, whole, none)
+pub reads_room : (h later : List Entry) → room_in h ≤ room_in (h ++ later)
+reads_room h later = let whole = room_append h later in omega (arith, whole)
 
 -- what lasts, lasts on while others read, and nothing begins to last
-pub lasts_reading : (P Q : Entry → Type 0) → ((e : Entry) → e.outcome ≡ Answered → ¬ Q e) → (h later : List Entry) → AreReads later → Lasts P Q h → Lasts P Q (h ++ later)
+pub lasts_reading : (P Q : Entry → Type 0) → ((e : Entry) → OnlyReads e.outcome → ¬ Q e) → (h later : List Entry) → AreReads later → Lasts P Q h → Lasts P Q (h ++ later)
 lasts_reading P Q not h [] reads l = subst (λ (g : List Entry). Lasts P Q g) (sym (append-nil h)) l
 lasts_reading P Q not h (e ∷ es) reads l = subst (λ (g : List Entry). Lasts P Q g) (append_assoc h (e ∷ []) es) (lasts_reading P Q not (h ++ e ∷ []) es reads.1 (lasts_more P Q h e l (not e reads.0)))
 
-pub lasted_reading : (P Q : Entry → Type 0) → ((e : Entry) → e.outcome ≡ Answered → ¬ P e) → (h later : List Entry) → AreReads later → Lasts P Q (h ++ later) → Lasts P Q h
+pub lasted_reading : (P Q : Entry → Type 0) → ((e : Entry) → OnlyReads e.outcome → ¬ P e) → (h later : List Entry) → AreReads later → Lasts P Q (h ++ later) → Lasts P Q h
 lasted_reading P Q not h [] reads l = subst (λ (g : List Entry). Lasts P Q g) (append-nil h) l
 lasted_reading P Q not h (e ∷ es) reads l = lasts_before P Q h e (lasted_reading P Q not (h ++ e ∷ []) es reads.1 (subst (λ (g : List Entry). Lasts P Q g) (sym (append_assoc h (e ∷ []) es)) l)) (not e reads.0)
 
-pub answered_not_cut : (e : Entry) → e.outcome ≡ Answered → ¬ IsCut e
-answered_not_cut e answered cut = let y : Answered ≡ Cut = sym answered ∙ cut in cc
+pub reading_not_cut : (e : Entry) → OnlyReads e.outcome → ¬ IsCut e
+reading_not_cut e reads cut = elim reads [ inl is ↦ (let y : Answered ≡ Cut = sym is ∙ cut in cc) | inr denied ↦ (let y : Denied denied.0 ≡ Cut = sym denied.1 ∙ cut in cc) ]
 
-pub answered_not_restarted : (e : Entry) → e.outcome ≡ Answered → ¬ IsRestarted e
-answered_not_restarted e answered x = let y : Answered ≡ Restarted x.0 = sym answered ∙ x.1 in cc
+pub reading_not_restarted : (e : Entry) → OnlyReads e.outcome → ¬ IsRestarted e
+reading_not_restarted e reads x = elim reads [ inl is ↦ (let y : Answered ≡ Restarted x.0 = sym is ∙ x.1 in cc) | inr denied ↦ (let y : Denied denied.0 ≡ Restarted x.0 = sym denied.1 ∙ x.1 in cc) ]
 
-pub answered_not_settling : (e : Entry) → e.outcome ≡ Answered → ¬ IsSettling e
-answered_not_settling e answered s = elim s [ inl x ↦ (let y : Answered ≡ Done x.0 = sym answered ∙ x.1 in cc) | inr x ↦ answered_not_restarted e answered x ]
+reading_not_done : (e : Entry) (c : Change) → OnlyReads e.outcome → e.outcome ≡ Done c → ⊥
+reading_not_done e c reads done = elim reads [ inl is ↦ (let y : Answered ≡ Done c = sym is ∙ done in cc) | inr denied ↦ (let y : Denied denied.0 ≡ Done c = sym denied.1 ∙ done in cc) ]
+
+pub reading_not_settling : (e : Entry) → OnlyReads e.outcome → ¬ IsSettling e
+reading_not_settling e reads s = elim s [ inl x ↦ reading_not_done e x.0 reads x.1 | inr x ↦ reading_not_restarted e reads x ]
+
+pub reading_not_astray : (e : Entry) → OnlyReads e.outcome → e.outcome ≢ Failed JournalAstray
+reading_not_astray e reads x = elim reads [ inl is ↦ (let y : Answered ≡ Failed JournalAstray = sym is ∙ x in cc) | inr denied ↦ (let y : Denied denied.0 ≡ Failed JournalAstray = sym denied.1 ∙ x in cc) ]
 
 -- while a place has the Provisioner others only read
 pub others_read : (own : ℕ) (op : Op) (later : List Entry) → Each (λ e. e.place ≢ own) later → KeepsTurns (Some (entry own op Taken)) later → AreReads later × (holder (Some (entry own op Taken)) later ≡ Some (entry own op Taken))
 others_read own op [] others turns = (tt, refl)
 others_read own op (e ∷ es) others turns =
-    let answered : e.outcome ≡ Answered = elim turns.0 [ inl x ↦ x.1 | inr x ↦ absurd (others.0 x.0) ] in
+    let reads : OnlyReads e.outcome = elim turns.0 [ inl x ↦ x.1 | inr x ↦ absurd (others.0 x.0) ] in
     let still = not_brought own op e others.0 in
     let rest = others_read own op es others.1 (subst (λ (x : Option Entry). KeepsTurns x es) still turns.1) in
-    ((answered, rest.0), ap (λ (x : Option Entry). holder x es) still ∙ rest.1)
+    ((reads, rest.0), ap (λ (x : Option Entry). holder x es) still ∙ rest.1)
 
 -- none is astray
 pub limit_not_astray : (q : Cause) → IsLimit q → Failed q ≢ Failed JournalAstray

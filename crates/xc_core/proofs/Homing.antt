@@ -25,6 +25,8 @@ use Rattle.journal_core.specs.Records.{set_seal}
 use Rattle.roll_engine.specs.Rollings.{RollingAt}
 use Rattle.xc_recovery.specs.Placings.{IsPlaced}
 use Rattle.xc_core.specs.declared.provisioner.Provisioner.{Provisioner}
+use Rattle.xc_core.specs.declared.state.Errand.{Errand}
+use Rattle.xc_core.specs.declared.state.Errand.TheVariants as errand
 use Rattle.xc_core.specs.declared.state.Home.TheVariants.{In, Out}
 use Rattle.xc_core.specs.declared.state.State.{State}
 use Rattle.xc_core.specs.Begins.{MayDoubt, MayNote, Plan, Starts, plan_of}
@@ -32,9 +34,9 @@ use Rattle.xc_core.specs.Provisioners.{Boxed, IsHome, StillDoubts, ground_of, wi
 use Rattle.xc_core.specs.Reckonings.{HasWork, Past, ReckonsTo}
 use Rattle.xc_core.specs.Restarts.{IsHalted, Resumes}
 use Rattle.xc_core.specs.Seeing.{HasFailed, HasHeld, HasPlan, HasRestart, HasStopped, HasTaken, IsDueFor, IsOut, entry}
-use Rattle.xc_core.specs.States.{DoubtsUnsettled, LimitBehind, IsHomeAfter, IsReadyOrHalted, Opening, SpendsOf, StandsFor, fault_in, faults_in, most_room, room_in, rules_of, with_home}
+use Rattle.xc_core.specs.States.{DoubtsUnsettled, LimitBehind, IsHomeAfter, IsReadyOrHalted, MayBeOutFor, Opening, SpendsOf, StandsFor, fault_in, faults_in, most_room, room_in, rules_of, with_home}
 use Rattle.xc_core.proofs.Away.{comes_halted, home_now, out_since, out_table, read_since, same_table, taken_since, waits_own}
-use Rattle.xc_core.proofs.Entries.{answered_not_cut, answered_not_restarted, answered_not_settling, astray_more, changes_same, cut_settles_not, doubts_left, doubts_more, failed_settles_not, faults_more, lasted_reading, lasts_reading, paid_counted, reads_faults, reads_room, room_more, spends_at, spends_one, taken_settles_not, unsettled_more}
+use Rattle.xc_core.proofs.Entries.{reading_not_cut, reading_not_restarted, reading_not_settling, astray_more, changes_same, cut_settles_not, doubts_left, doubts_more, failed_settles_not, faults_more, lasted_reading, lasts_reading, paid_counted, reads_faults, reads_room, room_more, spends_at, spends_one, spends_within, taken_settles_not, unsettled_more}
 use Rattle.xc_core.proofs.Meeting.{meets_one}
 use Rattle.xc_core.proofs.Restarting.{due_more, due_now, of_stop, restart_since}
 use Rattle.xc_core.proofs.Standing.{IsIn, found_in, limit_met, marked_home, out_of, ready_home, stands_out, there}
@@ -46,11 +48,11 @@ module _ {D : Type 0} (told : Type 0) (state : D → DiskState) where
       let reads = read_since told state o own plan.op h later p others turns x.out in
       record {
         out = out_since told state o own plan.op h later p others turns x.out;
-        unspent = subst (λ (n : ℕ). SpendsOf o n (state p.journal.0)) (sym (reads_room h later reads)) x.unspent;
+        unspent = spends_within o (room_in h) (room_in (h ++ later)) (state p.journal.0) (reads_room h later) x.unspent;
         may = x.may;
         sealed = x.sealed;
-        doubt = λ y is. lasts_reading (λ z. IsDoubtful z × (z.op ≡ y)) IsSettling answered_not_settling h later reads (x.doubt y is);
-        unstopped = λ stopped. x.unstopped (lasted_reading IsCut IsRestarted answered_not_cut h later reads stopped);
+        doubt = λ y is. lasts_reading (λ z. IsDoubtful z × (z.op ≡ y)) IsSettling reading_not_settling h later reads (x.doubt y is);
+        unstopped = λ stopped. x.unstopped (lasted_reading IsCut IsRestarted reading_not_cut h later reads stopped);
       }
 
   pub halt_since : (o : Opening) (own : ℕ) (asked : Op) (h later : List Entry) (p : Provisioner D) → Each (λ e. e.place ≢ own) later → KeepsTurns None (h ++ later) → HasStopped told state o own asked h p → HasStopped told state o own asked (h ++ later) p
@@ -60,10 +62,10 @@ module _ {D : Type 0} (told : Type 0) (state : D → DiskState) where
         out = out_since told state o own Restart h later p others turns x.out;
         halted = x.halted;
         doubt = λ y is. let w = x.doubt y is in (
-          lasts_reading (λ z. IsDoubtful z × (z.op ≡ y)) IsSettling answered_not_settling h later reads w.0,
-          λ halted. lasts_reading IsCut IsRestarted answered_not_restarted h later reads (w.1 halted),
+          lasts_reading (λ z. IsDoubtful z × (z.op ≡ y)) IsSettling reading_not_settling h later reads w.0,
+          λ halted. lasts_reading IsCut IsRestarted reading_not_restarted h later reads (w.1 halted),
         );
-        due = elim x.due [ inl is ↦ inl is | inr due ↦ inr (lasts_reading (λ z. IsCut z ⊎ IsFailedRestart z) IsRestarted answered_not_restarted h later reads due) ];
+        due = elim x.due [ inl is ↦ inl is | inr due ↦ inr (lasts_reading (λ z. IsCut z ⊎ IsFailedRestart z) IsRestarted reading_not_restarted h later reads due) ];
       }
 
   pub failure_since : (o : Opening) (own : ℕ) (taken op : Op) (cause : Cause) (h later : List Entry) (p : Provisioner D) → Each (λ e. e.place ≢ own) later → KeepsTurns None (h ++ later) → HasFailed told state o own taken op cause h p → HasFailed told state o own taken op cause (h ++ later) p
@@ -72,20 +74,20 @@ module _ {D : Type 0} (told : Type 0) (state : D → DiskState) where
       record {
         out = out_since told state o own taken h later p others turns x.out;
         upon = elim x.upon [
-          | inl a ↦ inl (a.0, λ stopped. a.1 (lasted_reading IsCut IsRestarted answered_not_cut h later reads stopped))
-          | inr b ↦ inr (b.0, elim b.1 [ inl is ↦ inl is | inr due ↦ inr (lasts_reading (λ z. IsCut z ⊎ IsFailedRestart z) IsRestarted answered_not_restarted h later reads due) ])
+          | inl a ↦ inl (a.0, λ stopped. a.1 (lasted_reading IsCut IsRestarted reading_not_cut h later reads stopped))
+          | inr b ↦ inr (b.0, elim b.1 [ inl is ↦ inl is | inr due ↦ inr (lasts_reading (λ z. IsCut z ⊎ IsFailedRestart z) IsRestarted reading_not_restarted h later reads due) ])
         ];
         fault = x.fault;
         driven = x.driven;
         counted = λ is. subst (λ (n : ℕ). min (o.faults + (n + 1)) last ≤ (state p.journal.0).faults) (sym (reads_faults h later reads)) (x.counted is);
         astray = x.astray;
         stage = elim x.stage [
-          | inl a ↦ inl (a.0, λ stopped. a.1 (lasted_reading IsCut IsRestarted answered_not_cut h later reads stopped))
-          | inr b ↦ inr (b.0, elim b.1 [ inl is ↦ inl is | inr due ↦ inr (lasts_reading (λ z. IsCut z ⊎ IsFailedRestart z) IsRestarted answered_not_restarted h later reads due) ])
+          | inl a ↦ inl (a.0, λ stopped. a.1 (lasted_reading IsCut IsRestarted reading_not_cut h later reads stopped))
+          | inr b ↦ inr (b.0, elim b.1 [ inl is ↦ inl is | inr due ↦ inr (lasts_reading (λ z. IsCut z ⊎ IsFailedRestart z) IsRestarted reading_not_restarted h later reads due) ])
         ];
         doubt = λ y is. let w = x.doubt y is in (
-          elim w.0 [ inl mine ↦ inl mine | inr was ↦ inr (lasts_reading (λ z. IsDoubtful z × (z.op ≡ y)) IsSettling answered_not_settling h later reads was) ],
-          λ halted. lasts_reading IsCut IsRestarted answered_not_restarted h later reads (w.1 halted),
+          elim w.0 [ inl mine ↦ inl mine | inr was ↦ inr (lasts_reading (λ z. IsDoubtful z × (z.op ≡ y)) IsSettling reading_not_settling h later reads was) ],
+          λ halted. lasts_reading IsCut IsRestarted reading_not_restarted h later reads (w.1 halted),
         );
       }
 
@@ -100,20 +102,20 @@ module _ {D : Type 0} (told : Type 0) (state : D → DiskState) where
     unspent_here : SpendsOf o (room_in (h ++ e ∷ [])) (state p.journal.0)
     unspent_here = subst (λ (j : D × Book). SpendsOf o (room_in (h ++ e ∷ [])) (state j.0)) (sym journal) (spends_at o (room_in h) (room_in (h ++ e ∷ [])) (state q.journal.0) (let room = room_more h e in omega (arith, room)) was.spends)
 
-    out_now : Fits (rules_of o) h e → StandsFor told state o (with_home Out s) (h ++ e ∷ [])
-    out_now fits = stands_out told state o s h st q q was refl (omega arith) (spends_none most_room (state q.journal.0)) op own fits
+    out_now : (why : Errand) → MayBeOutFor why h → Fits (rules_of o) h e → StandsFor told state o (with_home (Out why) s) (h ++ e ∷ [])
+    out_now why may fits = stands_out told state o s h st q q was refl (omega arith) (spends_none most_room (state q.journal.0)) op own why may fits
 
   -- for a change
   pub plan_taken : (o : Opening) (s : State D) (h : List Entry) (st : StandsFor told state o s h) (d : Boxed D) → s.home ≡ In d → d.value.p.halted ≡ false → (own : ℕ) (f : Boxed D) (plan : Plan) → f.value.p.journal ≡ d.value.p.journal → ground_of f.value.p ≡ ground_of d.value.p → f.value.p.doubt ≡ d.value.p.doubt
       → ((b : Past) → IsHome told state b d.value.p → b.fold.table ≡ s.table → MayNote told state b f.value.p plan) → slice_index plan.bytes 0 ≡ set_seal
-      → StandsFor told state o (with_home Out s) (h ++ entry own plan.op Taken ∷ []) × HasPlan told state o own (h ++ entry own plan.op Taken ∷ []) f.value.p plan
+      → StandsFor told state o (with_home (Out errand.Change) s) (h ++ entry own plan.op Taken ∷ []) × HasPlan told state o own (h ++ entry own plan.op Taken ∷ []) f.value.p plan
   plan_taken o s h st d is ready own f plan journal ground doubt notes sealed =
       let was = ready_home told state o s h st d is ready in
       let may = notes st.now was.home (sym st.table) in
       let e = entry own plan.op Taken in
       let granted = there told state o s h st (λ t. Grants t plan.op may.is.change) may.is.granted in
       let work : HasWork st.now may.is.change None = record { ops = plan.rolling.work.ops.items; planned = may.is.planned; limit = may.is.limit } in (
-        out_now o s h st d.value.p f.value.p was.is_in journal ground own plan.op
+        out_now o s h st d.value.p f.value.p was.is_in journal ground own plan.op errand.Change (λ _. was.unstopped)
             (fits_by (rules_of o) h e (table_after o.first.fold.table h, (inr (may.is.change, granted), refl)) (limit_met told state o h st.now st.reckoned plan.op may.is.change None Taken granted (inl work) refl) tt),
         record {
           out = out_here o s h st d.value.p f.value.p was.is_in journal ground own plan.op;
@@ -128,11 +130,11 @@ module _ {D : Type 0} (told : Type 0) (state : D → DiskState) where
   -- for a restart
   pub held_taken : (o : Opening) (s : State D) (h : List Entry) (st : StandsFor told state o s h) (d : Boxed D) → s.home ≡ In d → (own : ℕ) (asked : Op) → IsDueFor asked h → (f : Boxed D) → f.value.p.journal ≡ d.value.p.journal → ground_of f.value.p ≡ ground_of d.value.p → f.value.p.doubt ≡ d.value.p.doubt → f.value.p.halted ≡ d.value.p.halted
       → IsReadyOrHalted told state st.now h f.value.p → f.value.p.second.expected ≡ s.table
-      → StandsFor told state o (with_home Out s) (h ++ entry own Restart Taken ∷ []) × HasHeld told state o own asked (h ++ entry own Restart Taken ∷ []) f.value.p
+      → StandsFor told state o (with_home (Out errand.Restart) s) (h ++ entry own Restart Taken ∷ []) × HasHeld told state o own asked (h ++ entry own Restart Taken ∷ []) f.value.p
   held_taken o s h st d is own asked due f journal ground doubt halted stage copied =
       let was = found_in told state o s h st d is in
       let e = entry own Restart Taken in (
-        out_now o s h st d.value.p f.value.p was journal ground own Restart (fits_by (rules_of o) h e (table_after o.first.fold.table h, (inl refl, refl)) (λ c granted. absurd granted.apt) tt),
+        out_now o s h st d.value.p f.value.p was journal ground own Restart errand.Restart (λ is. let no : errand.Restart ≡ errand.Change = is in cc) (fits_by (rules_of o) h e (table_after o.first.fold.table h, (inl refl, refl)) (λ c granted. absurd granted.apt) tt),
         record {
           out = out_here o s h st d.value.p f.value.p was journal ground own Restart;
           unspent = unspent_here o s h st d.value.p f.value.p was journal ground own Restart;

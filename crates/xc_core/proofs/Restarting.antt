@@ -1,5 +1,5 @@
 -- A state whose Provisioner waited for a restart, or was asked for one, an entry later: a lemma for each outcome of a restart.
-use Rattle.std.proofs.Common.{◌≡◌, ◌≢◌, ℕ, ◌+◌, ◌⊎◌, true, List, [], ◌∷◌, ◌++◌, Option, Some, None, refl, sym, ◌∙◌, ap, subst, inl, inr}
+use Rattle.std.proofs.Common.{◌≡◌, ◌≢◌, ℕ, ◌⊎◌, true, List, [], ◌∷◌, ◌++◌, Option, Some, None, refl, sym, ◌∙◌, ap, subst, inl, inr}
 use Rattle.dxc_disk.specs.Disks.{CountsOn, DiskState}
 use Rattle.dbchg_reports.specs.Recent.{recent_of, with_one}
 use Rattle.dbchg_reports.proofs.Keeping.{recent_more}
@@ -28,10 +28,9 @@ use Rattle.xc_core.specs.Endings.{Ends, reports_with}
 use Rattle.xc_core.specs.States.{DoubtsUnsettled, Opening, HomeIs, IsReadyOrHalted, IsUnsettled, StandsFor, rules_of, with_home}
 use Rattle.xc_core.specs.Seeing.{HasRestart, IsDueFor, IsOfStop, entry}
 use Rattle.xc_core.proofs.Away.{comes_halted, home_now, in_now, out_moved, out_since, out_table, paid_now, read_since, waits_own}
-use Rattle.xc_core.proofs.Entries.{AreReads, answered_not_restarted, answered_not_settling, astray_more, changes_one, changes_same, cut_settles_not, lasts_reading, unsettled_more}
+use Rattle.xc_core.proofs.Entries.{AreReads, reading_not_restarted, reading_not_settling, astray_more, changes_one, changes_same, cut_settles_not, lasts_reading, unsettled_more}
 use Rattle.xc_core.proofs.Halting.{resumes_halted}
 use Rattle.xc_core.proofs.Reckoning.{reckons_more}
-use Rattle.xc_core.proofs.Standing.{table_is}
 
 -- a change that a restart takes up is in doubt
 doubt_of : (t : Board) (h : List Entry) (op : Op) (c : Change) → Grants t op c → IsUnsettled h op → IsInDoubt t h c
@@ -45,7 +44,7 @@ of_stop h b p (Some c) g halted (op, here, granted, met, same) doubts = (doubts 
 -- and is so where others have only read since
 stopped_since : (lacking : Option Change) (h later : List Entry) → AreReads later → IsOfStop lacking h → IsOfStop lacking (h ++ later)
 stopped_since None h later reads was = tt
-stopped_since (Some c) h later reads was = lasts_reading IsCut IsRestarted answered_not_restarted h later reads was
+stopped_since (Some c) h later reads was = lasts_reading IsCut IsRestarted reading_not_restarted h later reads was
 
 -- a restart is due still behind an entry that isn't one
 pub due_more : (asked : Op) (h : List Entry) (e : Entry) → (IsRestarted e → ⊥) → IsDueFor asked h → IsDueFor asked (h ++ e ∷ [])
@@ -75,10 +74,10 @@ module _ {D : Type 0} (told : Type 0) (state : D → DiskState) where
         resumes = t.resumes;
         of_stop = stopped_since t.lacking h later reads t.of_stop;
         doubt = λ op here. let w = t.doubt op here in (
-          lasts_reading (λ x. IsDoubtful x × (x.op ≡ op)) IsSettling answered_not_settling h later reads w.0,
-          λ halted. lasts_reading IsCut IsRestarted answered_not_restarted h later reads (w.1 halted),
+          lasts_reading (λ x. IsDoubtful x × (x.op ≡ op)) IsSettling reading_not_settling h later reads w.0,
+          λ halted. lasts_reading IsCut IsRestarted reading_not_restarted h later reads (w.1 halted),
         );
-        due = elim t.due [ inl is ↦ inl is | inr due ↦ inr (lasts_reading (λ x. IsCut x ⊎ IsFailedRestart x) IsRestarted answered_not_restarted h later reads due) ];
+        due = elim t.due [ inl is ↦ inl is | inr due ↦ inr (lasts_reading (λ x. IsCut x ⊎ IsFailedRestart x) IsRestarted reading_not_restarted h later reads due) ];
       }
 
   -- the engine took the rest of the work on

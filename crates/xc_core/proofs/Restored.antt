@@ -12,6 +12,7 @@ use Rattle.dxc_model.specs.Steps.{IsDriven}
 use Rattle.dxc_model.specs.Tables.{Board}
 use Rattle.xc_core.specs.declared.provisioner.Provisioner.{Provisioner}
 use Rattle.xc_core.specs.declared.restarts.Held.TheVariants as held
+use Rattle.xc_core.specs.declared.state.Errand.TheVariants as errand
 use Rattle.xc_core.specs.declared.state.Home.TheVariants.{In, Out}
 use Rattle.xc_core.specs.declared.state.State.{State}
 use Rattle.xc_core.specs.Reckonings.{Past}
@@ -57,7 +58,7 @@ module _ {D : Type 0} (told : Type 0) (state : D → DiskState) (counts : (d : D
   keeps_found = elim (found_stage told state o s h st d is) [ inl a ↦ a.0.past | inr a ↦ a.0.past ]
 
   -- or it is taken out, with a copy of the table
-  pub was_taken : (own : ℕ) (asked : Op) → (p.halted ≡ true) ⊎ (asked ≡ Restart) → (e : Board) → e ≡ s.table → (f : Boxed D) → f.value.p ≡ record p { second = record p.second { expected = e } } → HeldIs told state o own h asked (with_home Out s) (held.Held f)
+  pub was_taken : (own : ℕ) (asked : Op) → (p.halted ≡ true) ⊎ (asked ≡ Restart) → (e : Board) → e ≡ s.table → (f : Boxed D) → f.value.p ≡ record p { second = record p.second { expected = e } } → HeldIs told state o own h asked (with_home (Out errand.Restart) s) (held.Held f)
   was_taken own asked why e copied f same =
       let room = room_copied st.now p keeps_found e (copied ∙ st.table) in
       held_taken told state o s h st d is own asked (due_found asked why) f (ap (λ (x : Provisioner D). x.journal) same) (ap (λ (x : Provisioner D). ground_of x) same) (ap (λ (x : Provisioner D). x.doubt) same) (ap (λ (x : Provisioner D). x.halted) same)

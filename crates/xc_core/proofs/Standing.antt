@@ -14,12 +14,13 @@ use Rattle.dxc_model.specs.declared.entry.Entry.{Entry}
 use Rattle.dxc_model.specs.Tables.{Board}
 use Rattle.dxc_model.specs.Verdicts.{Grants, Refuses}
 use Rattle.dxc_model.specs.Steps.{IsRetrieval, made}
-use Rattle.dxc_model.specs.Histories.{Fits, KeepsLimit, WaitsFor, IsCut, IsRestarted, IsFailedRestart, IsSettling, IsStopped, IsRestartDue, changes_of, holder, holder_after, table_after, taker}
-use Rattle.dxc_model.proofs.FirstCauses.{changes}
+use Rattle.dxc_model.specs.Histories.{Fits, KeepsLimit, OnlyReads, WaitsFor, IsCut, IsRestarted, IsFailedRestart, IsSettling, IsStopped, IsRestartDue, changes_of, holder, holder_after, table_after, taker}
 use Rattle.dxc_model.proofs.Growth.{fits_by, holder_more, legal_more, turns_more}
 use Rattle.dxc_model.proofs.Lasting.{lasts_before, lasts_more}
 use Rattle.dxc_model.proofs.Standings.{reading_fits}
 use Rattle.xc_core.specs.declared.provisioner.Provisioner.{Provisioner}
+use Rattle.xc_core.specs.declared.state.Errand.{Errand}
+use Rattle.xc_core.specs.declared.state.Errand.TheVariants as errand
 use Rattle.xc_core.specs.declared.state.Home.{Home}
 use Rattle.xc_core.specs.declared.state.Home.TheVariants.{In, Out}
 use Rattle.xc_core.specs.declared.state.State.{State}
@@ -29,9 +30,9 @@ use Rattle.xc_core.specs.Restarts.{IsHalted}
 use Rattle.xc_core.proofs.Halting.{halted_home}
 use Rattle.xc_core.proofs.Pasts.{past_marked}
 use Rattle.xc_core.specs.Begins.{IsOverLimit}
-use Rattle.xc_core.specs.States.{DoubtsUnsettled, Opening, IsHomeAfter, IsPaid, LimitBehind, SpendsOf, rules_of, HomeIs, StandsFor, cost, fault_in, faults_in, most_room, room_in, with_home}
+use Rattle.xc_core.specs.States.{DoubtsUnsettled, Opening, IsHomeAfter, IsPaid, LimitBehind, MayBeOutFor, SpendsOf, rules_of, HomeIs, StandsFor, cost, fault_in, faults_in, may_be_stopped, most_room, room_in, with_home}
 use Rattle.xc_core.specs.Seeing.{IsOut, Rests, entry}
-use Rattle.xc_core.proofs.Entries.{answered_settles_not, astray_more, changes_same, denied_settles_not, doubts_more, failed_settles_not, held_still, limit_no_fault, limit_not_astray, over_limit, paid_counted, paid_same, room_more, same_faults, spends_at, spends_one, waits_reading}
+use Rattle.xc_core.proofs.Entries.{astray_more, changes_same, denied_settles_not, doubts_more, failed_settles_not, held_still, limit_no_fault, limit_not_astray, over_limit, paid_counted, paid_same, reading_makes, reading_meets, reading_not_astray, reading_not_cut, reading_not_restarted, reading_not_settling, room_more, same_faults, spends_at, spends_one, spends_within, waits_reading}
 use Rattle.xc_core.proofs.Granting.{granted_once}
 use Rattle.xc_core.proofs.Reckoning.{reckoned_table}
 
@@ -103,8 +104,8 @@ module _ {D : Type 0} (told : Type 0) (state : D → DiskState) where
           home = home;
         }
 
-    home_read : (e : Entry) (x : Home D) → fault_in e.outcome ≡ 0 → cost e.outcome ≡ 0 → (IsCut e → ⊥) → (IsRestarted e → ⊥) → (IsSettling e → ⊥) → holder_after (holder None h) e ≡ holder None h → HomeIs told state o st.now h x → HomeIs told state o st.now (h ++ e ∷ []) x
-    home_read e (In d) none free not_cut not_restarted not_settled held at = (
+    home_read : (e : Entry) (x : Home D) → fault_in e.outcome ≡ 0 → (IsCut e → ⊥) → (IsRestarted e → ⊥) → (IsSettling e → ⊥) → holder_after (holder None h) e ≡ holder None h → HomeIs told state o st.now h x → HomeIs told state o st.now (h ++ e ∷ []) x
+    home_read e (In d) none not_cut not_restarted not_settled held at = (
       holder_more None h e ∙ held ∙ at.0,
       record {
         ground = at.1.ground;
@@ -114,17 +115,40 @@ module _ {D : Type 0} (told : Type 0) (state : D → DiskState) where
         ];
         doubt = doubts_more h e d.value.p not_settled at.1.doubt;
         faults = same_faults o.faults (state d.value.p.journal.0).faults (state d.value.p.journal.0).faults h e none at.1.faults (omega arith);
-        spends = spends_at o (room_in h) (room_in (h ++ e ∷ [])) (state d.value.p.journal.0) (let room = room_more h e in omega (arith, room, free)) at.1.spends;
+        spends = spends_within o (room_in h) (room_in (h ++ e ∷ [])) (state d.value.p.journal.0) (let room = room_more h e in omega (arith, room)) at.1.spends;
       },
     )
-    home_read e Out none free not_cut not_restarted not_settled held at = (at.0, holder_more None h e ∙ held ∙ at.1)
+    home_read e (Out why) none not_cut not_restarted not_settled held at = ((at.0.0, holder_more None h e ∙ held ∙ at.0.1), λ change stopped. at.1 change (lasts_before IsCut IsRestarted h e stopped not_cut))
+
+    -- what only reads, wherever the Provisioner is
+    stands_reading : (own : ℕ) (op : Op) (out : Outcome) → OnlyReads out → Fits (rules_of o) h (entry own op out) → Rests own h → StandsFor told state o s (h ++ entry own op out ∷ [])
+    stands_reading own op out reads fits rests =
+        let e = entry own op out in
+        let none = reading_meets out reads in
+        stands_on s e refl refl (reading_makes out reads) fits (waits_reading own op out (holder None h) reads rests) (paid_same o h e none st.paid) (λ t. reading_not_astray e reads)
+        (home_read e s.home none (reading_not_cut e reads) (reading_not_restarted e reads) (reading_not_settling e reads) (held_still own op out (holder None h) reads rests) st.home)
 
     -- a retrieval
     pub stands_read : (own : ℕ) (op : Op) → IsRetrieval op → Rests own h → StandsFor told state o s (h ++ entry own op Answered ∷ [])
-    stands_read own op reads rests =
-        let e = entry own op Answered in
-        stands_on s e refl refl refl (reading_fits (rules_of o) h own op reads) (waits_reading own op (holder None h) rests) (paid_same o h e refl refl st.paid) (λ t x. let y : Answered ≡ Failed JournalAstray = x in cc)
-        (home_read e s.home refl refl (λ x. let y : Answered ≡ Cut = x in cc) (λ x. let y = x.1 in cc) (answered_settles_not own op) (held_still own op (holder None h) rests) st.home)
+    stands_read own op reads rests = stands_reading own op Answered (inl refl) (reading_fits (rules_of o) h own op reads) rests
+
+    -- what the table denies
+    refused_fits : (own : ℕ) (op : Op) (c : Cause) → Refuses st.now.fold.table op c → Fits (rules_of o) h (entry own op (Denied c))
+    refused_fits own op c refuses =
+        let refused = there (λ t. Refuses t op c) refuses in
+        fits_by (rules_of o) h (entry own op (Denied c)) (table_after o.first.fold.table h, (refused, refl)) (λ d g. absurd (let x : Some (Err c) ≡ Some (Ok d) = sym refused.says ∙ g.says in cc)) tt
+
+    pub stands_refused : (own : ℕ) (op : Op) (c : Cause) → Refuses st.now.fold.table op c → Rests own h → StandsFor told state o s (h ++ entry own op (Denied c) ∷ [])
+    stands_refused own op c refuses rests = stands_reading own op (Denied c) (inr (c, refl)) (refused_fits own op c refuses) rests
+
+    -- no stop stands last, where none may
+    unstopped_by : (x : Home D) → HomeIs told state o st.now h x → may_be_stopped x ≡ false → IsStopped h → ⊥
+    unstopped_by (In d) at ready stopped = elim at.1.stage [ inl a ↦ a.1 stopped | inr b ↦ (let e : true ≡ false = sym b.0.halted ∙ ready in cc) ]
+    unstopped_by (Out errand.Change) at ready stopped = at.1 refl stopped
+    unstopped_by (Out errand.Restart) at ready stopped = absurd cc
+
+    pub unstopped : may_be_stopped s.home ≡ false → IsStopped h → ⊥
+    unstopped ready = unstopped_by s.home st.home ready
 
     -- p is what calls left of the Provisioner q, which was home, and an entry brings it home again
     module _ (q p : Provisioner D) (was : IsIn o h q) (ground : ground_of p ≡ ground_of q) (later : (state q.journal.0).faults ≤ (state p.journal.0).faults) (spent : Spends most_room (state q.journal.0) (state p.journal.0)) where
@@ -155,11 +179,11 @@ module _ {D : Type 0} (told : Type 0) (state : D → DiskState) where
             spends = spends_at o (room_in h + most_room) (room_in (h ++ e ∷ []) + most_room) (state p.journal.0) (omega (arith, room)) (spends_one o (room_in h) most_room (state q.journal.0) (state p.journal.0) was.spends spent);
           }
 
-      pub stands_out : (op : Op) (own : ℕ) → Fits (rules_of o) h (entry own op Taken) → StandsFor told state o (with_home Out s) (h ++ entry own op Taken ∷ [])
-      stands_out op own fits =
+      pub stands_out : (op : Op) (own : ℕ) (why : Errand) → MayBeOutFor why h → Fits (rules_of o) h (entry own op Taken) → StandsFor told state o (with_home (Out why) s) (h ++ entry own op Taken ∷ [])
+      stands_out op own why may fits =
           let e = entry own op Taken in
-          stands_on (with_home Out s) e refl refl refl fits (subst (λ (x : Option Entry). WaitsFor x e) (sym was.nobody) tt) (paid_same o h e refl refl st.paid) (λ t x. let y : Taken ≡ Failed JournalAstray = x in cc)
-          (e, holder_more None h e ∙ ap (λ (x : Option Entry). holder_after x e) was.nobody)
+          stands_on (with_home (Out why) s) e refl refl refl fits (subst (λ (x : Option Entry). WaitsFor x e) (sym was.nobody) tt) (paid_same o h e refl st.paid) (λ t x. let y : Taken ≡ Failed JournalAstray = x in cc)
+          ((e, holder_more None h e ∙ ap (λ (x : Option Entry). holder_after x e) was.nobody), λ change stopped. may change (lasts_before IsCut IsRestarted h e stopped (λ x. let y : Taken ≡ Cut = x in cc)))
 
     -- p is what a call left of the Provisioner q, which was home and ready
     module _ (own : ℕ) (op : Op) (q p : Provisioner D) (ready : IsReadyAfter o st.now h q) (ground : ground_of p ≡ ground_of q)
@@ -173,10 +197,7 @@ module _ {D : Type 0} (told : Type 0) (state : D → DiskState) where
         -- the table denies it
         pub stands_denied : (c : Cause) → Refuses st.now.fold.table op c → p ≡ q → (d : Boxed D) → d.value.p ≡ p → StandsFor told state o (with_home (In d) s) (h ++ entry own op (Denied c) ∷ [])
         stands_denied c refuses is =
-            let e = entry own op (Denied c) in
-            let refused = there (λ t. Refuses t op c) refuses in
-            home_same e refl refl refl
-            (fits_by (rules_of o) h e (table_after o.first.fold.table h, (refused, refl)) (λ d g. absurd (let x : Some (Err c) ≡ Some (Ok d) = sym refused.says ∙ g.says in cc)) tt)
+            home_same (entry own op (Denied c)) refl refl refl (refused_fits own op c refuses)
             (λ x. let y : Denied c ≡ Failed JournalAstray = x in cc) refl (λ x. let y : Denied c ≡ Cut = x in cc) (denied_settles_not own op c) is
 
         -- a limit stands against it

@@ -18,6 +18,7 @@ use Rattle.journal_core.specs.declared.book.Book.{Book}
 use Rattle.std.specs.Box.{with_value}
 use Rattle.xc_core.specs.declared.provisioner.Driver.{Driver}
 use Rattle.xc_core.specs.declared.provisioner.Provisioner.{Provisioner}
+use Rattle.xc_core.specs.declared.state.Errand.{Errand}
 use Rattle.xc_core.specs.declared.state.Home.{Home}
 use Rattle.xc_core.specs.declared.state.Home.TheVariants.{In, Out}
 use Rattle.xc_core.specs.declared.state.State.{State}
@@ -25,12 +26,12 @@ use Rattle.xc_core.specs.declared.turns.Took.TheVariants as took
 use Rattle.xc_core.specs.Reckonings.{Past}
 use Rattle.xc_core.specs.Provisioners.{Boxed, IsHome, ground_of}
 use Rattle.xc_core.specs.Begins.{IsCopied, IsOverLimit, IsPlanned, MayNote, plan_of}
-use Rattle.xc_core.specs.States.{HomeIs, IsLent, Opening, StandsFor, most_room, with_home}
-use Rattle.xc_core.specs.Seeing.{entry, refused}
+use Rattle.xc_core.specs.States.{HomeIs, IsLent, Opening, StandsFor, may_be_stopped, most_room, with_home}
+use Rattle.xc_core.specs.Seeing.{Rests, entry, refused}
 use Rattle.xc_core.specs.Turns.{TakenIs}
 use Rattle.xc_core.proofs.Entries.{over_limit}
 use Rattle.xc_core.proofs.Restarting.{found_stage}
-use Rattle.xc_core.proofs.Standing.{IsReadyAfter, ready_home, stands_denied, stands_failed}
+use Rattle.xc_core.proofs.Standing.{IsReadyAfter, ready_home, stands_denied, stands_failed, stands_refused, unstopped}
 
 -- what the table says is entered as denied
 denied_by : (t : Board) (op : Op) (q : Cause) → Holds t op q → refused q ≡ outcome.Denied q
@@ -76,8 +77,17 @@ module _ {D : Type 0} (told : Type 0) (state : D → DiskState) (counts : (d : D
   }
 
   -- nor may it be, where a place has the Provisioner
-  pub lent : s.home ≡ Out → StandsFor told state o (with_home Out s) h × IsLent h
-  lent is = (stands_back Out is, subst (HomeIs told state o st.now h) is st.home)
+  pub lent : (e : Errand) × (s.home ≡ Out e) → StandsFor told state o s h × IsLent h
+  lent is = let at : HomeIs told state o st.now h (Out is.0) = subst (HomeIs told state o st.now h) is.1 st.home in (st, at.0)
+
+  -- the table denies it, wherever the Provisioner is
+  pub was_refused : (own : ℕ) (op : Op) (cause : Cause) → may_be_stopped s.home ≡ false → Refuses s.table op cause → Rests own h → TakenIs told state o own h op s (took.Denied cause)
+  was_refused own op cause ready refuses rests =
+      let here : Refuses st.now.fold.table op cause = subst (λ (t : Board). Refuses t op cause) st.table refuses in (
+        subst (λ (z : Outcome). StandsFor told state o s (h ++ entry own op z ∷ [])) (sym (refused_denied st.now.fold.table op cause here)) (stands_refused told state o s h st own op cause here rests),
+        unstopped told state o s h st ready,
+        refused_no_fault st.now.fold.table op cause here,
+      )
 
   -- the box that was borrowed is the one that was home
   pub held_home : (d : Boxed D) (v : Driver D) → v ≡ d.value → s.home ≡ In d → s.home ≡ In (with_value d v)

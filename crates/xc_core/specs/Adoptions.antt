@@ -52,7 +52,7 @@ pub record IsStrange (told : Type 0) (file : List ℕ) (shelf : Contents) (seat 
 -- the seat of a Provisioner at home
 abbrev pub seat_home : {D : Type 0} → Home D → Option MoverAt
 seat_home (In d) = Some d.value.p.mover
-seat_home Out = None
+seat_home (Out e) = None
 
 -- the Provisioner is home and has this seat, so that no register was written
 abbrev pub HasSeat : {D : Type 0} → MoverAt → State D → Type 0

@@ -19,6 +19,8 @@ use Rattle.journal_core.specs.declared.book.Book.{Book}
 use Rattle.journal_core.specs.Books.{listed}
 use Rattle.xc_core.specs.declared.provisioner.Provisioner.{Provisioner}
 use Rattle.xc_core.specs.declared.origin.Origin.{Origin}
+use Rattle.xc_core.specs.declared.state.Errand.{Errand}
+use Rattle.xc_core.specs.declared.state.Errand.TheVariants as errand
 use Rattle.xc_core.specs.declared.state.Home.{Home}
 use Rattle.xc_core.specs.declared.state.Home.TheVariants.{In, Out}
 use Rattle.xc_core.specs.declared.state.State.{State}
@@ -131,6 +133,16 @@ IsPaid o h = room_in h < o.room → faults_in h ≤ o.margin
 abbrev pub IsLent : List Entry → Type 0
 IsLent h = (t : Entry) × (holder None h ≡ Some t)
 
+-- for a change, where no stop stands last
+abbrev pub MayBeOutFor : Errand → List Entry → Type 0
+MayBeOutFor e h = e ≡ errand.Change → IsStopped h → ⊥
+
+-- the Provisioner is halted, or out for a restart
+abbrev pub may_be_stopped : {D : Type 0} → Home D → Bool
+may_be_stopped (In d) = d.value.p.halted
+may_be_stopped (Out errand.Change) = false
+may_be_stopped (Out errand.Restart) = true
+
 -- no operation failed because the journal reads otherwise than it was written
 abbrev pub IsNeverAstray : List Entry → Type 0
 IsNeverAstray h = AllByRecursion (λ e. e.outcome ≢ Failed JournalAstray) h
@@ -151,7 +163,7 @@ module _ {D : Type 0} (told : Type 0) (state : D → DiskState) where
   -- the Provisioner is out where a place took it and hasn't brought it home; then nothing is said of it
   abbrev pub HomeIs : Opening → Past → List Entry → Home D → Type 0
   HomeIs o b h (In d) = (holder None h ≡ None) × IsHomeAfter o b h d.value.p
-  HomeIs o b h Out = IsLent h
+  HomeIs o b h (Out e) = IsLent h × MayBeOutFor e h
 
   -- the state is that after the history
   pub record StandsFor (o : Opening) (s : State D) (h : List Entry) : Type 0 where

@@ -66,7 +66,7 @@ held_entry_of held.Waits = None
 -- the journal of a Provisioner that is home, and of one that this turn took out
 abbrev pub journal_home : {D : Type 0} → Home D → Option (D × Book)
 journal_home (In d) = Some d.value.p.journal
-journal_home Out = None
+journal_home (Out e) = None
 
 abbrev pub journal_taken : {D : Type 0} → Home D → Took D → Option (D × Book)
 journal_taken home (Rolling d bytes) = Some d.value.p.journal

@@ -1,5 +1,5 @@
 -- What a pass has seen of a turnstile's history, and what holds after it.
-use Rattle.std.specs.Prelude.{◌≡◌, ◌⊎◌, ℕ, List, [], ◌∷◌, ◌++◌}
+use Rattle.std.specs.Prelude.{◌≡◌, ◌⊎◌, ℕ, List, [], ◌∷◌, ◌++◌, Option, Some, None}
 use Rattle.std.specs.List.{AllByRecursion}
 use Rattle.turnstile.specs.Passing.{Gate, Token}
 use Rattle.dxc_num.specs.Dimensions.{Dimensions}
@@ -23,7 +23,8 @@ use Rattle.xc_core.specs.declared.state.State.{State}
 use Rattle.xc_core.specs.declared.turns.Inventory.{Inventory}
 use Rattle.xc_core.specs.declared.turns.Looked.{Looked}
 use Rattle.xc_core.specs.declared.turns.Took.{Took}
-use Rattle.xc_core.specs.Seeing.{HasFailed, HasHeld, HasPlan, HasRestart, HasStopped, HasTaken, Rests, Saw, entry}
+use Rattle.xc_core.specs.declared.turns.Took.TheVariants as took
+use Rattle.xc_core.specs.Seeing.{HasFailed, HasHeld, HasPlan, HasRestart, HasStopped, HasTaken, Rests, Saw, TurnedBack, entry}
 use Rattle.xc_core.specs.Begins.{Plan, plan_of}
 use Rattle.xc_core.specs.States.{Opening, StandsFor, opening_of}
 use Rattle.xc_core.specs.Turns.{CutIs, DoneIs, FailedIs, HeldIs, HoldIs, InventoryIs, LookIs, MarkIs, RereadIs, RestartCutIs, RestartedIs, RowsAre, TakenIs, TookIs}
@@ -95,6 +96,11 @@ CutToRestart g asked d v h = HasStopped g.told g.state v.opening v.own asked h d
 abbrev pub Takes : {D : Type 0} → DiskOf D → Op → (next : Token) → Took D → View → List Entry → Type 0
 Takes g op next took v h = TookIs g.told g.state v.opening v.own h op next.seen took
 
+-- one in which the table alone was asked
+abbrev pub Denies : {D : Type 0} → DiskOf D → Op → (next : Token) → Option Cause → View → List Entry → Type 0
+Denies g op next (Some q) v h = Takes g op next (took.Denied q) v h
+Denies g op next None v h = TurnedBack v.opening v.own h next.seen
+
 abbrev pub Holds : {D : Type 0} → DiskOf D → Op → (next : Token) → Held D → View → List Entry → Type 0
 Holds g asked next answer v h = HoldIs g.told g.state v.opening v.own h asked next.seen answer
 
@@ -137,6 +143,11 @@ AreApt d cs = AllByRecursion (λ c. IsApt d (op_of c)) cs
 -- A turn takes the Provisioner out for a change, or for a restart; or it leaves the state as it was.
 abbrev pub TakesOut : {D : Type 0} → DiskOf D → Op → State D → State D → Took D → Type 0
 TakesOut g op s t took = (o : Opening) (own : ℕ) (h : List Entry) → StandsFor g.told g.state o s h → TakenIs g.told g.state o own h op t took
+
+-- or it asks the table alone, and leaves the state as it is
+abbrev pub DeniesIn : {D : Type 0} → DiskOf D → Op → State D → Option Cause → Type 0
+DeniesIn g op s (Some q) = (o : Opening) (own : ℕ) (h : List Entry) → StandsFor g.told g.state o s h → Rests own h → TakenIs g.told g.state o own h op s (took.Denied q)
+DeniesIn g op s None = Unit {0}
 
 abbrev pub HoldsOut : {D : Type 0} → DiskOf D → Op → State D → State D → Held D → Type 0
 HoldsOut g asked s t held = (o : Opening) (own : ℕ) (h : List Entry) → StandsFor g.told g.state o s h → HeldIs g.told g.state o own h asked t held

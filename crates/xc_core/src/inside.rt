@@ -8,11 +8,11 @@ ghost use Rattle.roll_engine.specs.Rollings.{rest_of};
 ghost use Rattle.xc_core.specs.Seeing.{HasTaken, entry, refused as refused_by};
 ghost use Rattle.xc_core.specs.States.{Opening, StandsFor};
 ghost use Rattle.xc_core.specs.Turns.{journal_home, journal_taken, outcome_of as outcome_for};
-ghost use Rattle.xc_core.specs.Views.{CutsPlanned, CutsWork, FailsHome, TakesOut};
+ghost use Rattle.xc_core.specs.Views.{CutsPlanned, CutsWork, DeniesIn, FailsHome, TakesOut};
 
 use crate::beginning::plan_copied;
 use crate::provisioner::{Driver, halt};
-use crate::state::{State, finish};
+use crate::state::{Errand, State, finish};
 use crate::turns::Took;
 use dxc_disk::Disk;
 use dxc_model::{Cause, Change, Op, Outcome};
@@ -26,7 +26,7 @@ pub fn take<D: Disk + Drop>(state: &mut State<D>, op: &Op) -> Took<D>
     ensures origin { state.new.origin ≡ state.old.origin }
     ensures still { journal_taken state.new.home result ≡ journal_home state.old.home }
 {
-    let Some(mut driver) = state.take_out() else {
+    let Some(mut driver) = state.take_out(Errand::Change) else {
         return Took::Waits;
     };
     let held = &mut *driver;
@@ -40,6 +40,21 @@ pub fn take<D: Disk + Drop>(state: &mut State<D>, op: &Op) -> Took<D>
             state.bring_home(driver);
             Took::Denied(cause)
         }
+    }
+}
+
+/// The cause that the table has against the operation, wherever the Provisioner is. None where it has none, and while a stop may stand last: a restart
+/// comes first then.
+pub fn deny<D: Disk + Drop>(state: &State<D>, op: &Op) -> Option<Cause>
+    requires apt { IsApt state.now.table.shape op.now }
+    ensures denied { DeniesIn D.Disk op.now state.now result }
+{
+    if state.may_be_stopped() {
+        return None;
+    }
+    match state.table.verdict(op) {
+        Ok(_) => None,
+        Err(cause) => Some(cause),
     }
 }
 
@@ -82,7 +97,7 @@ pub fn cut<D: Disk + Drop>(state: &mut State<D>, driver: Box<Driver<D>>)
 }
 
 /// How a denied operation is entered: what the table denies is Denied, what a limit stood against has Failed.
-fn refused(cause: Cause) -> Outcome
+pub fn refused(cause: Cause) -> Outcome
     ensures { result ≡ refused_by cause }
 {
     match cause {

@@ -31,4 +31,4 @@ pub use origin::Origin;
 pub use provisioner::{Driver, Provisioner, drive, halt, release, settle};
 pub use recovery::{Recovered, end_recovery, recover};
 pub use resuming::{Reread, read_anew};
-pub use state::{Home, State, finish};
+pub use state::{Errand, Home, State, finish};

@@ -20,7 +20,7 @@ ghost use Rattle.xc_core.specs.Views.{CutsRest, CutsUnread, HoldsOut, IsHeld, Re
 use crate::provisioner::{Driver, Provisioner, halt, settle};
 use crate::recovery::{Recovered, end_recovery, recover};
 use crate::restarts::Held;
-use crate::state::State;
+use crate::state::{Errand, State};
 use dxc_disk::{Disk, DiskFault};
 use dxc_model::{Cause, Change, Op, Outcome};
 use dxc_outside::Gate;
@@ -66,7 +66,7 @@ pub fn hold<D: Disk + Drop>(state: &mut State<D>, asked: &Op) -> Held<D>
     ensures origin { state.new.origin ≡ state.old.origin }
     ensures still { journal_held state.new.home result ≡ journal_home state.old.home }
 {
-    let Some(mut driver) = state.take_out() else {
+    let Some(mut driver) = state.take_out(Errand::Restart) else {
         return Held::Waits;
     };
     let held = &mut *driver;

@@ -23,8 +23,17 @@ use turnstile::Sequential;
 #[derive(Drop)]
 pub enum Home<D: Disk> {
     In(Box<Driver<D>>),
-    /// A session has it, and makes a change with it.
-    Out,
+    /// A session has it, for this.
+    Out(Errand),
+}
+
+/// What a session has the Provisioner for.
+#[derive(Drop)]
+pub enum Errand {
+    /// A change. No stop stands last then.
+    Change,
+    /// A restart.
+    Restart,
 }
 
 /// What stands for the history of the element's changes.
@@ -57,17 +66,34 @@ impl<D: Disk> Sequential for State<D> {
 }
 
 impl<D: Disk + Drop> State<D> {
+    ghost use Rattle.xc_core.specs.declared.state.Errand.{Errand};
     ghost use Rattle.xc_core.specs.declared.state.Home.TheVariants.{In, Out};
+    ghost use Rattle.xc_core.specs.States.{may_be_stopped};
 
-    /// Takes the Provisioner, where it is home.
-    pub fn take_out(&mut self) -> Option<Box<Driver<D>>>
-        ensures state { self.new ≡ record self.old { home = Out } }
+    /// Takes the Provisioner for this, where it is home.
+    pub fn take_out(&mut self, errand: Errand) -> Option<Box<Driver<D>>>
+        ensures state { IfSome result (λ _. self.new ≡ record self.old { home = Out errand }) }
         ensures found { IfSome result (λ d. self.old.home ≡ In d) }
-        ensures none { IfNone result (self.old.home ≡ Out) }
+        ensures same { IfNone result (self.new ≡ self.old) }
+        ensures none { IfNone result ((e : Errand) × (self.old.home ≡ Out e)) }
     {
-        match mem::replace(&mut self.home, Home::Out) {
+        match mem::replace(&mut self.home, Home::Out(errand)) {
             Home::In(driver) => Some(driver),
-            Home::Out => None,
+            Home::Out(before) => {
+                self.home = Home::Out(before);
+                None
+            }
+        }
+    }
+
+    /// Whether a stop may stand last, so that the table may lack a change which the journal holds.
+    pub fn may_be_stopped(&self) -> bool
+        ensures { result ≡ may_be_stopped self.now.home }
+    {
+        match &self.home {
+            Home::In(driver) => driver.p.halted(),
+            Home::Out(Errand::Change) => false,
+            Home::Out(Errand::Restart) => true,
         }
     }
 

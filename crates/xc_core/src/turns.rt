@@ -5,7 +5,7 @@ ghost use Rattle.dxc_model.specs.Histories.{kept};
 ghost use Rattle.dxc_model.specs.Operations.{IsApt};
 ghost use Rattle.roll_engine.specs.Rollings.{rest_of};
 ghost use Rattle.xc_core.specs.Turns.{HasPass, IsInventoryOf, SawNoneAstray};
-ghost use Rattle.xc_core.specs.Views.{After, AreApt, AreRowsOf, AtRest, Brings, CutFor, Cuts, FailedFor, Fails, HasSeen, Looks, Marks, OutFor, ShowsInventory, ShowsRows, Takes, Upon, failing, shape_in};
+ghost use Rattle.xc_core.specs.Views.{After, AreApt, AreRowsOf, AtRest, Brings, CutFor, Cuts, Denies, FailedFor, Fails, HasSeen, Looks, Marks, OutFor, ShowsInventory, ShowsRows, Takes, Upon, failing, shape_in};
 
 use crate::inside;
 use crate::provisioner::Driver;
@@ -62,6 +62,44 @@ pub fn take<D: Disk + Drop, R: Wait>(
         None => {
             turns.back(pass, turn);
             took
+        }
+    }
+}
+
+/// Asks the table alone, and enters the operation where that denies it: a denial waits for no change that another place makes. None: the table
+/// grants it, or a restart comes first.
+pub fn deny<D: Disk + Drop, R: Wait>(
+    pass: &mut Pass,
+    turns: &Turnstile<State<D>>,
+    op: &Op,
+    rt: &R,
+) -> Option<Cause>
+    requires pass { HasPass turns.now pass.old }
+    requires apt { IsApt (shape_in D.Disk turns.now) op.now }
+    requires seen { Upon D.Disk turns.now pass.old AtRest }
+    ensures pass { HasPass turns.now pass.new × (pass.new.number ≡ pass.old.number) }
+    ensures denied { After D.Disk turns.now pass.old (Denies D.Disk op.now pass.new result) }
+    ensures astray { SawNoneAstray D.told pass.new.seen }
+{
+    let turn = turns.enter(pass, rt);
+    let place = pass.number();
+    match inside::deny(turn.state(), op) {
+        Some(cause) => {
+            let outcome = inside::refused(cause);
+            turns.leave(
+                pass,
+                turn,
+                Entry {
+                    place,
+                    op: *op,
+                    outcome,
+                },
+            );
+            Some(cause)
+        }
+        None => {
+            turns.back(pass, turn);
+            None
         }
     }
 }

@@ -8,8 +8,8 @@ use Rattle.craft_element.proofs.memory.new_element.Goals as goal
 pub returns-in_default-clause-started : goal.returns-in_default-clause-started
 returns-in_default-clause-started g c = inl refl
 
-pub returns-in-Ok-start_users-clause-started : goal.returns-in-Ok-start_users-clause-started
-returns-in-Ok-start_users-clause-started g c =
+pub returns-in-Ok-start_users_on-clause-started : goal.returns-in-Ok-start_users_on-clause-started
+returns-in-Ok-start_users_on-clause-started g c =
     let st = c.in_ok-controller.ensures.started in
     record {
       disk = st.0;
@@ -17,8 +17,8 @@ returns-in-Ok-start_users-clause-started g c =
       started = st.2;
       users_disk = c.in-Ok.users_disk;
       users_fresh = c.in-Ok.ensures;
-      users_started = subst (λ (s : Contents). AreUsersStarted (Unit {0}) mem_state c.in-Ok.users_disk s c.in-Ok-start_users.users) (c.deref.ensures ∙ st.2.shelf) c.in-Ok-start_users.ensures;
+      users_started = subst (λ (s : Contents). AreUsersStarted (Unit {0}) mem_state c.in-Ok.users_disk s c.in-Ok-start_users_on.users) (c.deref.ensures ∙ st.2.shelf) c.in-Ok-start_users_on.ensures;
     }
 
 pub returns-in-Err-clause-started : goal.returns-in-Err-clause-started
-returns-in-Err-clause-started g c = users_not_loaded c.in-Ok.users_disk c.deref.result.now c.in-Err.status c.in-Ok.ensures c.in-Err.ensures _ _
+returns-in-Err-clause-started g c = inl (c.users_not_started.ensures ∙ users_not_loaded c.in-Ok.users_disk c.deref.result.now c.in-Ok.ensures c.in-Err.fault c.in-Err.ensures)

@@ -1,8 +1,7 @@
 use Rattle.std.proofs.Common.{[], ◌∷◌, Ok, Err, ◌∙◌, inl, inr, true≢false, sym, refl}
 use Rattle.std.proofs.lemmas.Result.{err_from_is_err_and}
-use Rattle.xc_core.specs.States.{opening_of}
 use Rattle.craft_element.specs.Openings.{named, sources, users_name}
-use Rattle.craft_element.proofs.Starting.{begun, with_users}
+use Rattle.craft_element.proofs.Starting.{with_users}
 use Rattle.dxc_outside.specs.Asked.{journal_named, shelf_named}
 use Rattle.dxc_outside.proofs.Asking.{all_made, asked_behind, asked_within}
 use Rattle.craft_element.proofs.opening.open.Goals as goal
@@ -14,7 +13,7 @@ returns-in-Ok-clause-opened g c =
     let before = sources (g.O.Opener.state c.args.opener.now) (g.O.Opener.journal_at c.args.opener.now) (g.G.Gate.stops c.args.gate.now) in
     let mid = sources (g.O.Opener.state c.open_controller.new.opener) (g.O.Opener.journal_at c.open_controller.new.opener) (g.G.Gate.stops c.open_controller.new.gate) in
     let after = sources (g.O.Opener.state c.open_users.new.opener) (g.O.Opener.journal_at c.open_users.new.opener) (g.G.Gate.stops c.open_controller.new.gate) in
-    (h, with_users g.O.Journal.Disk.told g.O.Journal.Disk.state g.O.Opener.told names before mid after h.0.shelf c.deref.result.now (Ok c.in-Ok.users) (c.deref.ensures ∙ h.1.shelf) c.open_controller.ensures.others c.open_controller.ensures.later c.in-Ok.ensures.users)
+    (h, with_users g.O.Journal.Disk.told g.O.Journal.Disk.state g.O.Opener.told g.O.LetGo.gone names before mid after h.0.shelf c.deref.result.now (Ok c.in-Ok.users) (c.deref.ensures ∙ h.1.shelf) c.open_controller.ensures.others c.open_controller.ensures.later c.in-Ok.ensures.users)
 
 pub returns-in-Err-clause-opened : goal.returns-in-Err-clause-opened
 returns-in-Err-clause-opened g c =
@@ -27,10 +26,9 @@ returns-in-Err-clause-opened g c =
     let state = g.O.Journal.Disk.state in
     inr (
       h.0,
-      opening_of state c.in_ok-controller.controller.state,
-      begun told state h.0.disk h.0.shelf _ c.in_ok-controller.controller h.1,
+      record { workers = c.args.workers; controller = c.in_ok-controller.controller; started = h.1; let_go = c.let_go.ensures },
       c.in_ok-controller.ensures.unstopped,
-      with_users told state g.O.Opener.told names before mid after h.0.shelf c.deref.result.now (Err c.in-Err.status) (c.deref.ensures ∙ h.1.shelf) c.open_controller.ensures.others c.open_controller.ensures.later c.in-Err.ensures.users,
+      with_users told state g.O.Opener.told g.O.LetGo.gone names before mid after h.0.shelf c.deref.result.now (Err c.in-Err.status) (c.deref.ensures ∙ h.1.shelf) c.open_controller.ensures.others c.open_controller.ensures.later c.in-Err.ensures.users,
     )
 
 pub returns-in_err-controller-clause-opened : goal.returns-in_err-controller-clause-opened

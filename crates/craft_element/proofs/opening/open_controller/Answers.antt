@@ -9,7 +9,7 @@ use Rattle.craft_element.proofs.opening.open_controller.Goals as goal
 
 pub returns-in-Open-clause-opened : goal.returns-in-Open-clause-opened
 returns-in-Open-clause-opened g c =
-    opened g.O.Journal.Disk.told g.O.Journal.Disk.state g.O.Opener.told (named c.args.names.shelf.now c.args.names.journal.now) c.args.workers
+    opened g.O.Journal.Disk.told g.O.Journal.Disk.state g.O.Opener.told g.O.LetGo.gone (named c.args.names.shelf.now c.args.names.journal.now) c.args.workers
     (sources (g.O.Opener.state c.args.opener.now) (g.O.Opener.journal_at c.args.opener.now) (g.G.Gate.stops c.args.gate.now))
     (sources (g.O.Opener.state c.journal.new.self) (g.O.Opener.journal_at c.journal.new.self) (g.G.Gate.stops c.start.new.gate)) (record {
       shelf = c.in_ok-shelf.shelf;

@@ -1,12 +1,4 @@
-use Rattle.craft_element.proofs.Starting.{users_not_started, users_started}
 use Rattle.craft_element.proofs.opening.start_users.Goals as goal
 
-pub returns-in-Ok : goal.returns-in-Ok
-returns-in-Ok g c =
-    let e = c.open.ensures in
-    users_started g.D.Disk.told g.D.Disk.state _ g.met.D.Disk.counts_on c.args.disk c.args.shelf.now c.in-Ok.users c.open.result c.in-Ok.is c.in-Ok.ensures.ok.0 c.in-Ok.ensures.ok.1 e.cause e.room
-
 pub returns-in-Err : goal.returns-in-Err
-returns-in-Err g c =
-    let e = c.open.ensures in
-    users_not_started g.D.Disk.told g.D.Disk.state c.args.disk c.args.shelf.now c.in-Err.fault c.open.result c.users_not_started.result c.in-Err.is c.users_not_started.ensures e.fails e.sound
+returns-in-Err g c = record { fault = c.in-Err.fault; is = c.users_not_started-status.ensures; fails = c.in-Err.ensures; let_go = c.let_go.ensures }

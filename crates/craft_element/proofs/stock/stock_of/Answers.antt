@@ -26,9 +26,10 @@ stock_in-requires g c =
 
 pub unreachable-requires : goal.unreachable-requires
 unreachable-requires g c =
-    let home : c.enter-turn.result.state.home ≡ Out = sym (ap (λ (s : State g.row.D.Denot). s.home) c.state_mut.ensures.value) ∙ c.in_default-take_out.ensures.none in
+    let out = c.in_default-take_out.ensures.none in
+    let home : c.enter-turn.result.state.home ≡ Out out.0 = sym (ap (λ (s : State g.row.D.Denot). s.home) c.state_mut.ensures.value) ∙ out.1 in
     let stock = subst (λ (s : State g.row.D.Denot). IsStock s c.in-Some.stock) c.state.ensures c.in-Some.ensures.stock in
-    let no : In stock.driver ≡ Out = sym stock.is_home ∙ home in
+    let no : In stock.driver ≡ Out out.0 = sym stock.is_home ∙ home in
     cc
 
 pub returns-in_default : goal.returns-in_default

@@ -26,7 +26,7 @@ returns-in-Served-clause-stands g c = (
     door = c.in-Open-listener.listener;
     opened = λ t. handed g.O.Opener.told (g.O.Opener.listener_at c.args.opener.now) (g.O.Opener.listener_at c.copy.new.self) (g.O.Opener.listener_at c.listener.new.self) c.listener.result c.in-Open-listener.listener c.args.address.now c.copy.ensures.listeners c.in-Open-listener.is c.listener.ensures.hands t;
   },
-  met_by g.O.Journal.Disk.told g.O.Listener.Listener.told g.O.Listener.Link.Link.told g.O.Journal.Disk.state g.O.Listener.Listener.state g.O.Listener.Link.Link.state g.O.Listener.Link.Link.begun _ _ _ _ _ _ c.in-Served.is c.primary_of.ensures,
+  met_by g.O.Journal.Disk.told g.O.Listener.Listener.told g.O.Listener.Link.Link.told g.O.Journal.Disk.state g.O.Listener.Listener.state g.O.Listener.Link.Link.state g.O.Listener.Link.Link.begun g.O.Listener.Link.Link.hung_up _ _ _ _ _ _ c.in-Served.is c.primary_of.ensures,
 )
 
 pub returns-in-Nobody-clause-stands : goal.returns-in-Nobody-clause-stands
@@ -37,7 +37,7 @@ returns-in-Nobody-clause-stands g c = (
     door = c.in-Open-listener.listener;
     opened = λ t. handed g.O.Opener.told (g.O.Opener.listener_at c.args.opener.now) (g.O.Opener.listener_at c.copy.new.self) (g.O.Opener.listener_at c.listener.new.self) c.listener.result c.in-Open-listener.listener c.args.address.now c.copy.ensures.listeners c.in-Open-listener.is c.listener.ensures.hands t;
   },
-  met_by g.O.Journal.Disk.told g.O.Listener.Listener.told g.O.Listener.Link.Link.told g.O.Journal.Disk.state g.O.Listener.Listener.state g.O.Listener.Link.Link.state g.O.Listener.Link.Link.begun _ _ _ _ _ _ c.in-Nobody.is c.primary_of.ensures,
+  met_by g.O.Journal.Disk.told g.O.Listener.Listener.told g.O.Listener.Link.Link.told g.O.Journal.Disk.state g.O.Listener.Listener.state g.O.Listener.Link.Link.state g.O.Listener.Link.Link.begun g.O.Listener.Link.Link.hung_up _ _ _ _ _ _ c.in-Nobody.is c.primary_of.ensures,
 )
 
 pub returns-in-NoneHeard-clause-stands : goal.returns-in-NoneHeard-clause-stands
@@ -48,7 +48,7 @@ returns-in-NoneHeard-clause-stands g c = (
     door = c.in-Open-listener.listener;
     opened = λ t. handed g.O.Opener.told (g.O.Opener.listener_at c.args.opener.now) (g.O.Opener.listener_at c.copy.new.self) (g.O.Opener.listener_at c.listener.new.self) c.listener.result c.in-Open-listener.listener c.args.address.now c.copy.ensures.listeners c.in-Open-listener.is c.listener.ensures.hands t;
   },
-  met_by g.O.Journal.Disk.told g.O.Listener.Listener.told g.O.Listener.Link.Link.told g.O.Journal.Disk.state g.O.Listener.Listener.state g.O.Listener.Link.Link.state g.O.Listener.Link.Link.begun _ _ _ _ _ _ c.in-NoneHeard.is c.primary_of.ensures,
+  met_by g.O.Journal.Disk.told g.O.Listener.Listener.told g.O.Listener.Link.Link.told g.O.Journal.Disk.state g.O.Listener.Listener.state g.O.Listener.Link.Link.state g.O.Listener.Link.Link.begun g.O.Listener.Link.Link.hung_up _ _ _ _ _ _ c.in-NoneHeard.is c.primary_of.ensures,
 )
 
 pub returns-in-Failed-clause-asked : goal.returns-in-Failed-clause-asked

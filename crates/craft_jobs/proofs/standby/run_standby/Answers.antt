@@ -11,4 +11,4 @@ returns-clause-stands_by g c = record {
 }
 
 pub returns-clause-asked : goal.returns-clause-asked
-returns-clause-asked g c = asked_by g.O.Opener.told g.O.Journal.Disk.told g.O.Listener.Listener.told g.O.Listener.Link.Link.told g.O.Journal.Disk.state g.O.Listener.Listener.state g.O.Listener.Link.Link.state g.O.Listener.Link.Link.begun (g.O.Opener.journal_at c.args.opener.now) (g.O.Opener.listener_at c.args.opener.now) _ _ c.args.journal.now c.args.address.now (g.O.Opener.asked c.args.opener.now c.meet_primary-stood.new.opener) c.status-status.result c.meet_primary-stood.result c.status-status.ensures c.meet_primary-stood.ensures.stands c.meet_primary-stood.ensures.asked
+returns-clause-asked g c = asked_by g.O.Opener.told g.O.Journal.Disk.told g.O.Listener.Listener.told g.O.Listener.Link.Link.told g.O.Journal.Disk.state g.O.Listener.Listener.state g.O.Listener.Link.Link.state g.O.Listener.Link.Link.begun g.O.Listener.Link.Link.hung_up (g.O.Opener.journal_at c.args.opener.now) (g.O.Opener.listener_at c.args.opener.now) _ _ c.args.journal.now c.args.address.now (g.O.Opener.asked c.args.opener.now c.meet_primary-stood.new.opener) c.status-status.result c.meet_primary-stood.result c.status-status.ensures c.meet_primary-stood.ensures.stands c.meet_primary-stood.ensures.asked

@@ -8,6 +8,7 @@ returns-in-Err g c = record {
     served = c.stand_by-end.new.disk;
     ran = c.stand_by-end.ensures.ran;
     prompt = c.stand_by-end.ensures.prompt;
+    unhung = c.stand_by-end.ensures.hung_up;
     measured = inr (c.length.result, c.length.ensures);
   };
   last = λ t goes empty. c.length.ensures.cause.cause (subst IsErr (sym c.in-Err.is) refl);

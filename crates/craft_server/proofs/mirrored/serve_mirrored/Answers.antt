@@ -46,7 +46,7 @@ returns-clause-mirrors g c =
     let jobs = jobs_told g.O.Journal.Disk.told g.O.Opener g.O.Lines.Lines g.O.Listener.Listener g.O.Listener.Link.Link g.O.Clock.Clock g.O.Gate.Gate g.O.LetGo.gone (g.P.Spawner.handed c.args.spawner.now c.serve_on.new.spawner) in
     let h = c.in-Ok.ensures.opened.0 in
     let Served : Contents → Opening → UsersOpening → Type 0 = λ s o u. ServedSite mirror g.row.O-Journal.Denot jobs site before after p q s o u c.serve_on.result in
-    serves g.O.Journal.Disk.told g.O.Peer.Link.told g.O.Journal.Disk.state g.O.Peer.Link.state g.O.Opener.told (named c.args.names.shelf.now c.args.names.journal.now) c.args.site.workers before after (q ≡ p) Served c.serve_on.result c.in-Ok.element c.in-Ok.ensures.opened
+    serves g.O.Journal.Disk.told g.O.Peer.Link.told g.O.Journal.Disk.state g.O.Peer.Link.state g.O.Opener.told g.O.LetGo.gone (named c.args.names.shelf.now c.args.names.journal.now) c.args.site.workers before after (q ≡ p) Served c.serve_on.result c.in-Ok.element c.in-Ok.ensures.opened
     (served_on mirror g.row.O-Journal.Denot jobs site before after _ p q h.0.shelf _ _ _ c.serve_on.result c.in-Ok.ensures.unstopped c.in-Ok.ensures.later h.1.shelf c.serve_on.ensures.serving c.serve_on.ensures.jobs)
 
 pub returns-in-Err-clause-asked : goal.returns-in-Err-clause-asked
@@ -54,7 +54,7 @@ returns-in-Err-clause-asked g c =
     let names = named c.args.names.shelf.now c.args.names.journal.now in
     let before = sources (g.O.Opener.state c.args.opener.now) (g.O.Opener.journal_at c.args.opener.now) (g.G.Gate.stops c.args.gate.now) in
     let after = sources (g.O.Opener.state c.open_mirrored.new.opener) (g.O.Opener.journal_at c.open_mirrored.new.opener) (g.G.Gate.stops c.open_mirrored.new.gate) in
-    asked_within (g.O.Opener.asked c.args.opener.now c.open_mirrored.new.opener) _ (mirror_asked names c.args.peer.now) (site_asked c.args.site.lines.now c.args.site.address.now c.args.site.workers) c.in-Err.ensures.asked (λ ends. not_mirrored_ends g.O.Journal.Disk.told g.O.Peer.Link.told g.O.Journal.Disk.state g.O.Peer.Link.state g.O.Opener.told names before after c.in-Err.status c.in-Err.ensures.opened ends)
+    asked_within (g.O.Opener.asked c.args.opener.now c.open_mirrored.new.opener) _ (mirror_asked names c.args.peer.now) (site_asked c.args.site.lines.now c.args.site.address.now c.args.site.workers) c.in-Err.ensures.asked (λ ends. not_mirrored_ends g.O.Journal.Disk.told g.O.Peer.Link.told g.O.Journal.Disk.state g.O.Peer.Link.state g.O.Opener.told g.O.LetGo.gone names before after c.in-Err.status c.in-Err.ensures.opened ends)
 
 pub returns-clause-asked : goal.returns-clause-asked
 returns-clause-asked g c =

@@ -44,9 +44,9 @@ returns-in-Script-clause-run g c = λ fit.
     let status = c.run_script.result in
     let P : Contents → g.row.O-Journal.Denot → Opening → g.row.O-Journal.Denot → UsersOpening → Type 0 = λ s d o e u. RanAndLeft g.O.Journal.Disk.told g.K.Link.told g.C.Clock.told g.K.Link.begun g.O.LetGo.gone (state d) (state e) Nobody s o u before.terminal after.terminal before.clock after.clock before.sources.stops after.sources.stops status in
     let Q : Contents → g.row.O-Journal.Denot → Opening → g.row.O-Journal.Denot → UsersOpening → Type 0 = λ s d o e u. RanScript told state before after s o u d e status in
-    let ran = opens_for told.disk state told.opener _ (named c.in-Script.shelf c.in-Script.journal) c.names_of-names.ensures before.sources after.sources ((after.terminal ≡ before.terminal) × (after.clock ≡ before.clock)) (IsUntouched before after) P Q status
+    let ran = opens_for told.disk state told.opener told.gone _ (named c.in-Script.shelf c.in-Script.journal) c.names_of-names.ensures before.sources after.sources ((after.terminal ≡ before.terminal) × (after.clock ≡ before.clock)) (IsUntouched before after) P Q status
     (λ u. record { terminal = u.0; clock = u.1; spawner = refl }) (λ s d o e u one. record { session = one; spawner = refl }) c.run_script.ensures.opens in
-    subst (λ (l : Line). IsRunOf told jobs state g.O.Peer.Link.state g.O.Listener.Listener.state g.O.Listener.Link.Link.state (g.O.Opener.listener_at c.args.opener.now) l before after status) (sym c.in-Script.is) ran
+    subst (λ (l : Line). IsRunOf told jobs state g.O.Peer.Link.state g.O.Listener.Listener.state g.O.Listener.Link.Link.state g.O.Listener.Link.Link.hung_up (g.O.Opener.listener_at c.args.opener.now) l before after status) (sym c.in-Script.is) ran
 
 pub returns-in-Check-clause-run : goal.returns-in-Check-clause-run
 returns-in-Check-clause-run g c = λ fit.
@@ -60,9 +60,9 @@ returns-in-Check-clause-run g c = λ fit.
     let status = c.run_check.result in
     let P : Contents → g.row.O-Journal.Denot → Opening → g.row.O-Journal.Denot → UsersOpening → Type 0 = λ s d o e u. (after.sources.stops ≡ before.sources.stops) × IsCheck g.K.Link.told s o before.terminal after.terminal status × WasLetGo told.disk state told.gone (opened_on d e s o) in
     let Q : Contents → g.row.O-Journal.Denot → Opening → g.row.O-Journal.Denot → UsersOpening → Type 0 = λ s d o e u. RanCheck told state before after (opened_on d e s o) status in
-    let ran = opens_for told.disk state told.opener _ (named c.in-Check.shelf c.in-Check.journal) c.names_of-names-in-Check.ensures before.sources after.sources (after.terminal ≡ before.terminal) (IsUntouched before after) P Q status
+    let ran = opens_for told.disk state told.opener told.gone _ (named c.in-Check.shelf c.in-Check.journal) c.names_of-names-in-Check.ensures before.sources after.sources (after.terminal ≡ before.terminal) (IsUntouched before after) P Q status
     (λ u. record { terminal = u; clock = refl; spawner = refl }) (λ s d o e u one. record { check = one.1; let_go = one.2; clock = refl; spawner = refl; gate = one.0 }) c.run_check.ensures.opens in
-    subst (λ (l : Line). IsRunOf told jobs state g.O.Peer.Link.state g.O.Listener.Listener.state g.O.Listener.Link.Link.state (g.O.Opener.listener_at c.args.opener.now) l before after status) (sym c.in-Check.is) ran
+    subst (λ (l : Line). IsRunOf told jobs state g.O.Peer.Link.state g.O.Listener.Listener.state g.O.Listener.Link.Link.state g.O.Listener.Link.Link.hung_up (g.O.Opener.listener_at c.args.opener.now) l before after status) (sym c.in-Check.is) ran
 
 pub returns-in-Export-clause-run : goal.returns-in-Export-clause-run
 returns-in-Export-clause-run g c = λ fit.
@@ -76,9 +76,9 @@ returns-in-Export-clause-run g c = λ fit.
     let status = c.run_export.result in
     let P : Contents → g.row.O-Journal.Denot → Opening → g.row.O-Journal.Denot → UsersOpening → Type 0 = λ s d o e u. (after.sources.stops ≡ before.sources.stops) × IsExport g.K.Link.told s o before.terminal after.terminal status × WasLetGo told.disk state told.gone (opened_on d e s o) in
     let Q : Contents → g.row.O-Journal.Denot → Opening → g.row.O-Journal.Denot → UsersOpening → Type 0 = λ s d o e u. RanExport told state before after (opened_on d e s o) status in
-    let ran = opens_for told.disk state told.opener _ (named c.in-Export.shelf c.in-Export.journal) c.names_of-names-in-Export.ensures before.sources after.sources (after.terminal ≡ before.terminal) (IsUntouched before after) P Q status
+    let ran = opens_for told.disk state told.opener told.gone _ (named c.in-Export.shelf c.in-Export.journal) c.names_of-names-in-Export.ensures before.sources after.sources (after.terminal ≡ before.terminal) (IsUntouched before after) P Q status
     (λ u. record { terminal = u; clock = refl; spawner = refl }) (λ s d o e u one. record { export = one.1; let_go = one.2; clock = refl; spawner = refl; gate = one.0 }) c.run_export.ensures.opens in
-    subst (λ (l : Line). IsRunOf told jobs state g.O.Peer.Link.state g.O.Listener.Listener.state g.O.Listener.Link.Link.state (g.O.Opener.listener_at c.args.opener.now) l before after status) (sym c.in-Export.is) ran
+    subst (λ (l : Line). IsRunOf told jobs state g.O.Peer.Link.state g.O.Listener.Listener.state g.O.Listener.Link.Link.state g.O.Listener.Link.Link.hung_up (g.O.Opener.listener_at c.args.opener.now) l before after status) (sym c.in-Export.is) ran
 
 pub returns-in-Serve-clause-run : goal.returns-in-Serve-clause-run
 returns-in-Serve-clause-run g c = λ fit.
@@ -102,12 +102,12 @@ returns-in-Serve-clause-run g c = λ fit.
     let Q : Contents → disk → Opening → disk → UsersOpening → Type 0 = λ s d o e u. RanServe disk jobs site before after s o u status in
     let M : Contents → Opening → UsersOpening → Type 0 = λ s o u. ServedSite mirror disk jobs (site_in line) before.sources after.sources before.spawner after.spawner s o u status in
     let W : Contents → Opening → UsersOpening → Type 0 = λ s o u. RanServe mirror jobs site before after s o u status in
-    subst (λ (l : Line). IsRunOf told jobs state peer_state g.O.Listener.Listener.state g.O.Listener.Link.Link.state (g.O.Opener.listener_at c.args.opener.now) l before after status) (sym c.in-Serve.is)
-    (serves_for told jobs state peer_state g.O.Listener.Listener.state g.O.Listener.Link.Link.state (g.O.Opener.listener_at c.args.opener.now) c.in-Serve.shelf c.in-Serve.journal c.in-Serve.address c.in-Serve.lines c.in-Serve.workers before after status c.in-Serve.peer
-    (λ none. opens_for told.disk state told.opener (named_in line) names (ap named_in c.in-Serve.is) before.sources after.sources (after.spawner ≡ before.spawner) (IsUntouched before after) P Q status keep
+    subst (λ (l : Line). IsRunOf told jobs state peer_state g.O.Listener.Listener.state g.O.Listener.Link.Link.state g.O.Listener.Link.Link.hung_up (g.O.Opener.listener_at c.args.opener.now) l before after status) (sym c.in-Serve.is)
+    (serves_for told jobs state peer_state g.O.Listener.Listener.state g.O.Listener.Link.Link.state g.O.Listener.Link.Link.hung_up (g.O.Opener.listener_at c.args.opener.now) c.in-Serve.shelf c.in-Serve.journal c.in-Serve.address c.in-Serve.lines c.in-Serve.workers before after status c.in-Serve.peer
+    (λ none. opens_for told.disk state told.opener told.gone (named_in line) names (ap named_in c.in-Serve.is) before.sources after.sources (after.spawner ≡ before.spawner) (IsUntouched before after) P Q status keep
     (λ s d o e u one. ran_serve disk disk jobs (site_in line) site here before after refl refl s o u status one)
     (c.serve_line.ensures.alone (subst IsServe (sym c.in-Serve.is) (subst IsInRange c.in-Serve.is fit)) (ap peer_of c.in-Serve.is ∙ none)))
-    (λ some. mirrors_for told.disk told.peer state peer_state told.opener (named_in line) names (ap named_in c.in-Serve.is) before.sources after.sources (after.spawner ≡ before.spawner) (IsUntouched before after) M W status keep
+    (λ some. mirrors_for told.disk told.peer state peer_state told.opener told.gone (named_in line) names (ap named_in c.in-Serve.is) before.sources after.sources (after.spawner ≡ before.spawner) (IsUntouched before after) M W status keep
     (λ s o u one. ran_serve mirror disk jobs (site_in line) site here before after refl refl s o u status one)
     (c.serve_line.ensures.mirrored (subst IsServe (sym c.in-Serve.is) (subst IsInRange c.in-Serve.is fit)) (subst IsSome (sym (ap peer_of c.in-Serve.is)) some))))
 
@@ -118,32 +118,33 @@ returns-in-Standby-clause-run g c = λ fit.
     let state = g.O.Journal.Disk.state in
     let listener = g.O.Listener.Listener.state in
     let link = g.O.Listener.Link.Link.state in
+    let hung_up = g.O.Listener.Link.Link.hung_up in
     let at = λ (opener : OpenerState) (disks : List ℕ → Option g.row.O-Journal.Denot). lent (sources opener disks (g.G.Gate.stops c.args.gate.now)) (g.K.Link.state c.args.terminal.now) (g.C.Clock.coming c.args.clock.now) (g.P.Spawner.state c.args.spawner.now) in
     let before = at (g.O.Opener.state c.args.opener.now) (g.O.Opener.journal_at c.args.opener.now) in
     let after = at (g.O.Opener.state c.run_standby.new.opener) (g.O.Opener.journal_at c.run_standby.new.opener) in
     let status = c.run_standby.result in
     let listeners = g.O.Opener.listener_at c.args.opener.now in
-    let by = λ (journal address : List ℕ). StandsBy told.opener told.disk told.listener told.link state listener link told.link_begun before.sources.journal_at listeners before.sources.opener.faults after.sources.opener.faults journal address told.gone told.asked status in
+    let by = λ (journal address : List ℕ). StandsBy told.opener told.disk told.listener told.link state listener link told.link_begun hung_up before.sources.journal_at listeners before.sources.opener.faults after.sources.opener.faults journal address told.gone told.asked status in
     let stands : by c.in-Standby.journal c.in-Standby.address = subst (λ (n : List ℕ). by n c.in-Standby.address) c.text.ensures (subst (λ (n : List ℕ). by c.text.result.now n) c.text-in-Standby.ensures c.run_standby.ensures.stands_by) in
-    subst (λ (l : Line). IsRunOf told jobs state g.O.Peer.Link.state listener link listeners l before after status) (sym c.in-Standby.is) (record { stands_by = stands; untouched = record { terminal = refl; clock = refl; spawner = refl }; gate = refl })
+    subst (λ (l : Line). IsRunOf told jobs state g.O.Peer.Link.state listener link hung_up listeners l before after status) (sym c.in-Standby.is) (record { stands_by = stands; untouched = record { terminal = refl; clock = refl; spawner = refl }; gate = refl })
 
 pub returns-in-Script-clause-words : goal.returns-in-Script-clause-words
 returns-in-Script-clause-words g c = λ fit bad.
     let before = sources (g.O.Opener.state c.args.opener.now) (g.O.Opener.journal_at c.args.opener.now) (g.G.Gate.stops c.args.gate.now) in
     let after = sources (g.O.Opener.state c.run_script.new.opener) (g.O.Opener.journal_at c.run_script.new.opener) (g.G.Gate.stops c.run_script.new.gate) in
-    opens_words g.O.Opener.told g.O.Journal.Disk.told g.O.Journal.Disk.state _ before after _ _ c.run_script.result (λ f o u ran no. end_words ran.ran.end (sym ran.ran.status_is ∙ no)) c.run_script.ensures.opens bad
+    opens_words g.O.Opener.told g.O.Journal.Disk.told g.O.Journal.Disk.state g.O.LetGo.gone _ before after _ _ c.run_script.result (λ f o u ran no. end_words ran.ran.end (sym ran.ran.status_is ∙ no)) c.run_script.ensures.opens bad
 
 pub returns-in-Check-clause-words : goal.returns-in-Check-clause-words
 returns-in-Check-clause-words g c = λ fit bad.
     let before = sources (g.O.Opener.state c.args.opener.now) (g.O.Opener.journal_at c.args.opener.now) (g.G.Gate.stops c.args.gate.now) in
     let after = sources (g.O.Opener.state c.run_check.new.opener) (g.O.Opener.journal_at c.run_check.new.opener) (g.G.Gate.stops c.run_check.new.gate) in
-    opens_words g.O.Opener.told g.O.Journal.Disk.told g.O.Journal.Disk.state _ before after _ _ c.run_check.result (λ f o u ran no. sent_words ran.1.sent (sym ran.1.status_is ∙ no)) c.run_check.ensures.opens bad
+    opens_words g.O.Opener.told g.O.Journal.Disk.told g.O.Journal.Disk.state g.O.LetGo.gone _ before after _ _ c.run_check.result (λ f o u ran no. sent_words ran.1.sent (sym ran.1.status_is ∙ no)) c.run_check.ensures.opens bad
 
 pub returns-in-Export-clause-words : goal.returns-in-Export-clause-words
 returns-in-Export-clause-words g c = λ fit bad.
     let before = sources (g.O.Opener.state c.args.opener.now) (g.O.Opener.journal_at c.args.opener.now) (g.G.Gate.stops c.args.gate.now) in
     let after = sources (g.O.Opener.state c.run_export.new.opener) (g.O.Opener.journal_at c.run_export.new.opener) (g.G.Gate.stops c.run_export.new.gate) in
-    opens_words g.O.Opener.told g.O.Journal.Disk.told g.O.Journal.Disk.state _ before after _ _ c.run_export.result (λ f o u ran no. sent_words ran.1.sent (sym ran.1.status_is ∙ no)) c.run_export.ensures.opens bad
+    opens_words g.O.Opener.told g.O.Journal.Disk.told g.O.Journal.Disk.state g.O.LetGo.gone _ before after _ _ c.run_export.result (λ f o u ran no. sent_words ran.1.sent (sym ran.1.status_is ∙ no)) c.run_export.ensures.opens bad
 
 pub returns-in-Serve-clause-words : goal.returns-in-Serve-clause-words
 returns-in-Serve-clause-words g c = λ fit bad.
@@ -160,11 +161,11 @@ returns-in-Serve-clause-words g c = λ fit bad.
     let M : Contents → Opening → UsersOpening → Type 0 = λ s o u. ServedSite mirror disk jobs (site_in line) before after p q s o u status in
     let other = serving_words ((site_in line).workers + 16) before.opener.faults after.opener.faults p q status in
     serve_words c.in-Serve.peer
-    (λ none. opens_words g.O.Opener.told g.O.Journal.Disk.told g.O.Journal.Disk.state (named_in line) before after (q ≡ p) (λ f o u. S f.shelf o u.opening) status (λ f o u ran. other ran.serving) (c.serve_line.ensures.alone (subst IsServe (sym c.in-Serve.is) (subst IsInRange c.in-Serve.is fit)) (ap peer_of c.in-Serve.is ∙ none)) bad)
-    (λ some. mirrors_words g.O.Journal.Disk.told g.O.Peer.Link.told g.O.Journal.Disk.state g.O.Peer.Link.state g.O.Opener.told (named_in line) before after (q ≡ p) M status (λ s o u ran. other ran.serving) (c.serve_line.ensures.mirrored (subst IsServe (sym c.in-Serve.is) (subst IsInRange c.in-Serve.is fit)) (subst IsSome (sym (ap peer_of c.in-Serve.is)) some)) bad)
+    (λ none. opens_words g.O.Opener.told g.O.Journal.Disk.told g.O.Journal.Disk.state g.O.LetGo.gone (named_in line) before after (q ≡ p) (λ f o u. S f.shelf o u.opening) status (λ f o u ran. other ran.serving) (c.serve_line.ensures.alone (subst IsServe (sym c.in-Serve.is) (subst IsInRange c.in-Serve.is fit)) (ap peer_of c.in-Serve.is ∙ none)) bad)
+    (λ some. mirrors_words g.O.Journal.Disk.told g.O.Peer.Link.told g.O.Journal.Disk.state g.O.Peer.Link.state g.O.Opener.told g.O.LetGo.gone (named_in line) before after (q ≡ p) M status (λ s o u ran. other ran.serving) (c.serve_line.ensures.mirrored (subst IsServe (sym c.in-Serve.is) (subst IsInRange c.in-Serve.is fit)) (subst IsSome (sym (ap peer_of c.in-Serve.is)) some)) bad)
 
 pub returns-in-Standby-clause-words : goal.returns-in-Standby-clause-words
-returns-in-Standby-clause-words g c = λ fit bad. stands_words _ _ _ _ _ _ _ _ _ _ _ _ _ _ _ _ _ c.run_standby.ensures.stands_by bad
+returns-in-Standby-clause-words g c = λ fit bad. stands_words _ _ _ _ _ _ _ _ _ _ _ _ _ _ _ _ _ _ c.run_standby.ensures.stands_by bad
 
 pub returns-in-Load-clause-run : goal.returns-in-Load-clause-run
 returns-in-Load-clause-run g c = λ fit.
@@ -174,7 +175,7 @@ returns-in-Load-clause-run g c = λ fit.
     let at = λ (stops : ℕ) (terminal : LinkState). lent (sources (g.O.Opener.state c.args.opener.now) (g.O.Opener.journal_at c.args.opener.now) stops) terminal (g.C.Clock.coming c.args.clock.now) (g.P.Spawner.state c.args.spawner.now) in
     let before = at (g.G.Gate.stops c.args.gate.now) (g.K.Link.state c.args.terminal.now) in
     let after = at (g.G.Gate.stops c.run_load.new.gate) (g.K.Link.state c.run_load.new.terminal) in
-    subst (λ (l : Line). IsRunOf told jobs state g.O.Peer.Link.state g.O.Listener.Listener.state g.O.Listener.Link.Link.state (g.O.Opener.listener_at c.args.opener.now) l before after c.run_load.result) (sym c.in-Load.is) (record { load = c.run_load.ensures.load; opener = refl; journal_at = refl; clock = refl; spawner = refl })
+    subst (λ (l : Line). IsRunOf told jobs state g.O.Peer.Link.state g.O.Listener.Listener.state g.O.Listener.Link.Link.state g.O.Listener.Link.Link.hung_up (g.O.Opener.listener_at c.args.opener.now) l before after c.run_load.result) (sym c.in-Load.is) (record { load = c.run_load.ensures.load; opener = refl; journal_at = refl; clock = refl; spawner = refl })
 
 pub returns-in-Load-clause-words : goal.returns-in-Load-clause-words
 returns-in-Load-clause-words g c = λ fit bad. load_words c.in-Load.number g.K.Link.told (g.K.Link.state c.args.terminal.now) (g.K.Link.state c.run_load.new.terminal) (g.G.Gate.stops c.args.gate.now) (g.G.Gate.stops c.run_load.new.gate) c.run_load.result c.run_load.ensures.load bad
@@ -211,10 +212,10 @@ returns-in-Trial-clause-run g c = λ fit.
     let at = λ (stops : ℕ) (terminal : LinkState) (moments : List Moment). lent (sources (g.O.Opener.state c.args.opener.now) (g.O.Opener.journal_at c.args.opener.now) stops) terminal moments (g.P.Spawner.state c.args.spawner.now) in
     let before = at (g.G.Gate.stops c.args.gate.now) (g.K.Link.state c.args.terminal.now) (g.C.Clock.coming c.args.clock.now) in
     let after = at (g.G.Gate.stops c.run_trial.new.gate) (g.K.Link.state c.run_trial.new.terminal) (g.C.Clock.coming c.run_trial.new.clock) in
-    subst (λ (l : Line). IsRunOf told jobs state g.O.Peer.Link.state g.O.Listener.Listener.state g.O.Listener.Link.Link.state (g.O.Opener.listener_at c.args.opener.now) l before after c.run_trial.result) (sym c.in-Trial.is) (record { trial = c.run_trial.ensures; opener = refl; journal_at = refl; spawner = refl })
+    subst (λ (l : Line). IsRunOf told jobs state g.O.Peer.Link.state g.O.Listener.Listener.state g.O.Listener.Link.Link.state g.O.Listener.Link.Link.hung_up (g.O.Opener.listener_at c.args.opener.now) l before after c.run_trial.result) (sym c.in-Trial.is) (record { trial = c.run_trial.ensures.ran; opener = refl; journal_at = refl; spawner = refl })
 
 pub returns-in-Trial-clause-words : goal.returns-in-Trial-clause-words
-returns-in-Trial-clause-words g c = λ fit bad. trial_words _ c.in-Trial.shape _ _ c.run_trial.result c.run_trial.ensures bad
+returns-in-Trial-clause-words g c = λ fit bad. trial_words _ c.in-Trial.shape _ _ c.run_trial.result c.run_trial.ensures.ran bad
 
 pub returns-in-Trial-clause-asked : goal.returns-in-Trial-clause-asked
 returns-in-Trial-clause-asked g c = λ fit.

@@ -33,8 +33,8 @@ returns-clause-opens g c =
     let k = g.K.Link.state c.args.terminal.now in
     let l = g.K.Link.state c.serve_session.new.link in
     let later = g.G.Gate.stops c.serve_session.new.gate in
-    let e = c.serve_session.ensures in
-    let ended : IsEnd k l (g.G.Gate.stops c.open.new.gate) later c.serve_session.result = record { ended = e.why.ended; read_fault = e.why.read_fault; write_fault = e.why.write_fault; stopped = e.stopped; unstopped = e.unstopped; spent = e.why.spent } in
+    let e = c.serve_session.ensures.served in
+    let ended : IsEnd k l (g.G.Gate.stops c.open.new.gate) later c.serve_session.result = record { ended = e.why.ended; read_fault = e.why.read_fault; write_fault = e.why.write_fault; stopped = e.stopped; unstopped = e.unstopped; spent = e.why.spent; attended = c.serve_session.ensures.attended } in
     inr (
       f,
       opening_of state x.state,
@@ -49,7 +49,7 @@ returns-in-Err-clause-asked g c =
     let names = named c.args.names.shelf.now c.args.names.journal.now in
     let before = sources (g.O.Opener.state c.args.opener.now) (g.O.Opener.journal_at c.args.opener.now) (g.G.Gate.stops c.args.gate.now) in
     let after = sources (g.O.Opener.state c.open.new.opener) (g.O.Opener.journal_at c.open.new.opener) (g.G.Gate.stops c.open.new.gate) in
-    asked_less (g.O.Opener.asked c.args.opener.now c.open.new.opener) _ (files_asked names) (λ ends. absurd (not_opened_ends g.O.Opener.told g.O.Journal.Disk.told g.O.Journal.Disk.state names before after c.in-Err.status c.in-Err.ensures.opened ends)) c.in-Err.ensures.asked
+    asked_less (g.O.Opener.asked c.args.opener.now c.open.new.opener) _ (files_asked names) (λ ends. absurd (not_opened_ends g.O.Opener.told g.O.Journal.Disk.told g.O.Journal.Disk.state g.O.LetGo.gone names before after c.in-Err.status c.in-Err.ensures.opened ends)) c.in-Err.ensures.asked
 
 pub returns-in_default-clause-asked : goal.returns-in_default-clause-asked
 returns-in_default-clause-asked g c = asked_less (g.O.Opener.asked c.args.opener.now c.open.new.opener) _ (files_asked (named c.args.names.shelf.now c.args.names.journal.now)) (λ ends. refl) c.in-Ok.ensures.asked

@@ -1,7 +1,7 @@
 use Rattle.std.proofs.Common.{◌≡◌, ◌∙◌, ◌++◌, ℕ, List, Option, Some, None, sym, ap, ap₂, subst}
-use Rattle.std.specs.Prelude.{IsSome}
 use Rattle.shelf_file.specs.Contents.{Contents}
 use Rattle.standby_link.specs.declared.mirror_disk.MirrorDisk.{MirrorDisk}
+use Rattle.standby_link.proofs.LineSteps.{none_some}
 use Rattle.user_admin.specs.Histories.{Opening as UsersOpening}
 use Rattle.xc_core.specs.States.{Opening}
 use Rattle.craft_element.specs.Openings.{named, sources}
@@ -29,10 +29,10 @@ returns-in-None-clause-alone g c = λ none.
     let Served : SiteAt → Contents → Opening → UsersOpening → Type 0 = λ t s o u. ServedSite g.row.O-Journal.Denot g.row.O-Journal.Denot jobs t before after p q s o u c.serve_alone.result in
     let P : Contents → g.row.O-Journal.Denot → Opening → g.row.O-Journal.Denot → UsersOpening → Type 0 = λ s d o e u. Served site s o u in
     let Q : Contents → g.row.O-Journal.Denot → Opening → g.row.O-Journal.Denot → UsersOpening → Type 0 = λ s d o e u. Served (site_in line) s o u in
-    opens_for g.O.Journal.Disk.told g.O.Journal.Disk.state g.O.Opener.told _ _ same before after (q ≡ p) (q ≡ p) P Q c.serve_alone.result (λ u. u) (λ s d o e u ran. subst (λ (t : SiteAt). Served t s o u) here ran) c.serve_alone.ensures.opens
+    opens_for g.O.Journal.Disk.told g.O.Journal.Disk.state g.O.Opener.told g.O.LetGo.gone _ _ same before after (q ≡ p) (q ≡ p) P Q c.serve_alone.result (λ u. u) (λ s d o e u ran. subst (λ (t : SiteAt). Served t s o u) here ran) c.serve_alone.ensures.opens
 
 pub returns-in-None-clause-mirrored : goal.returns-in-None-clause-mirrored
-returns-in-None-clause-mirrored g c = λ some. let no = subst IsSome (ap peer_of c.in-Serve.is ∙ c.in-None.is) some in cc
+returns-in-None-clause-mirrored g c = λ some. absurd (none_some (peer_of c.args.line.now) (ap peer_of c.in-Serve.is ∙ c.in-None.is) some)
 
 pub returns-in-Some-clause-alone : goal.returns-in-Some-clause-alone
 returns-in-Some-clause-alone g c = λ none. let no = sym (ap peer_of c.in-Serve.is ∙ c.in-Some.is) ∙ none in cc
@@ -49,7 +49,7 @@ returns-in-Some-clause-mirrored g c = λ some.
     let site = site_at c.text-3.result.now c.text-4.result.now c.in-Serve.workers in
     let here : site ≡ site_in line = (λ i. site_at (c.text-3.ensures i) (c.text-4.ensures i) c.in-Serve.workers) ∙ sym (ap site_in c.in-Serve.is) in
     let Served : SiteAt → Contents → Opening → UsersOpening → Type 0 = λ t s o u. ServedSite (MirrorDisk g.row.O-Journal.Denot g.row.O-Peer.Denot) g.row.O-Journal.Denot jobs t before after p q s o u c.serve_mirrored.result in
-    mirrors_for g.O.Journal.Disk.told g.O.Peer.Link.told g.O.Journal.Disk.state g.O.Peer.Link.state g.O.Opener.told _ _ same before after (q ≡ p) (q ≡ p) (Served site) (Served (site_in line)) c.serve_mirrored.result (λ u. u) (λ s o u ran. subst (λ (t : SiteAt). Served t s o u) here ran) c.serve_mirrored.ensures.mirrors
+    mirrors_for g.O.Journal.Disk.told g.O.Peer.Link.told g.O.Journal.Disk.state g.O.Peer.Link.state g.O.Opener.told g.O.LetGo.gone _ _ same before after (q ≡ p) (q ≡ p) (Served site) (Served (site_in line)) c.serve_mirrored.result (λ u. u) (λ s o u ran. subst (λ (t : SiteAt). Served t s o u) here ran) c.serve_mirrored.ensures.mirrors
 
 pub returns-in-None-clause-asked : goal.returns-in-None-clause-asked
 returns-in-None-clause-asked g c =

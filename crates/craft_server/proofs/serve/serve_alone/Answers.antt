@@ -57,7 +57,7 @@ returns-in-Err-clause-asked g c =
     let names = named c.args.names.shelf.now c.args.names.journal.now in
     let before = sources (g.O.Opener.state c.args.opener.now) (g.O.Opener.journal_at c.args.opener.now) (g.G.Gate.stops c.args.gate.now) in
     let after = sources (g.O.Opener.state c.open.new.opener) (g.O.Opener.journal_at c.open.new.opener) (g.G.Gate.stops c.open.new.gate) in
-    asked_within (g.O.Opener.asked c.args.opener.now c.open.new.opener) _ (files_asked names) (site_asked c.args.site.lines.now c.args.site.address.now c.args.site.workers) c.in-Err.ensures.asked (λ ends. not_opened_ends g.O.Opener.told g.O.Journal.Disk.told g.O.Journal.Disk.state names before after c.in-Err.status c.in-Err.ensures.opened ends)
+    asked_within (g.O.Opener.asked c.args.opener.now c.open.new.opener) _ (files_asked names) (site_asked c.args.site.lines.now c.args.site.address.now c.args.site.workers) c.in-Err.ensures.asked (λ ends. not_opened_ends g.O.Opener.told g.O.Journal.Disk.told g.O.Journal.Disk.state g.O.LetGo.gone names before after c.in-Err.status c.in-Err.ensures.opened ends)
 
 pub returns-clause-asked : goal.returns-clause-asked
 returns-clause-asked g c =

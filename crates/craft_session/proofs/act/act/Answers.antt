@@ -73,7 +73,7 @@ returns-in-Allows g c = record {
   acted = λ not. refl;
   stopped = λ is. absurd (some_there _ _ refl is);
   later = stayed _ _ refl;
-  entered = λ h saw. entered_at c.args.seat.now.opening c.args.seat.now.place (g.G.Gate.asked c.args.gate.now c.args.gate.now) h c.mark-newest.new.self.seen false false _ [] (answers _) (g.G.Gate.unasked c.args.gate.now) (c.mark-newest.ensures.mark h saw).0;
+  entered = λ h saw. entered_at c.args.seat.now.opening c.args.seat.now.place (g.G.Gate.asked c.args.gate.now c.args.gate.now) h c.mark-newest.new.self.seen false false _ [] (λ k. answers k _) (g.G.Gate.unasked c.args.gate.now) (c.mark-newest.ensures.mark h saw).0;
 }
 
 pub returns-in-Inhibits : goal.returns-in-Inhibits
@@ -99,7 +99,7 @@ returns-in-Lists g c = record {
   acted = λ not. refl;
   stopped = λ is. absurd (some_there _ _ refl is);
   later = stayed _ _ refl;
-  entered = λ h saw. entered_at c.args.seat.now.opening c.args.seat.now.place (g.G.Gate.asked c.args.gate.now c.args.gate.now) h c.rows.new.self.seen false false _ [] (answers _) (g.G.Gate.unasked c.args.gate.now) (c.rows.ensures.rows h saw).0;
+  entered = λ h saw. entered_at c.args.seat.now.opening c.args.seat.now.place (g.G.Gate.asked c.args.gate.now c.args.gate.now) h c.rows.new.self.seen false false _ [] (λ k. answers k _) (g.G.Gate.unasked c.args.gate.now) (c.rows.ensures.rows h saw).0;
 }
 
 pub returns-in-Shows : goal.returns-in-Shows
@@ -112,7 +112,7 @@ returns-in-Shows g c = record {
   acted = λ not. refl;
   stopped = λ is. absurd (some_there _ _ refl is);
   later = stayed _ _ refl;
-  entered = λ h saw. entered_at c.args.seat.now.opening c.args.seat.now.place (g.G.Gate.asked c.args.gate.now c.args.gate.now) h c.inventory-inventory.new.self.seen false false _ [] (answers _) (g.G.Gate.unasked c.args.gate.now) (c.inventory-inventory.ensures.inventory h saw).1.0;
+  entered = λ h saw. entered_at c.args.seat.now.opening c.args.seat.now.place (g.G.Gate.asked c.args.gate.now c.args.gate.now) h c.inventory-inventory.new.self.seen false false _ [] (λ k. answers k _) (g.G.Gate.unasked c.args.gate.now) (c.inventory-inventory.ensures.inventory h saw).1.0;
 }
 
 pub returns-in-Done : goal.returns-in-Done

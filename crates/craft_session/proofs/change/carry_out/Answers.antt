@@ -1,4 +1,4 @@
-use Rattle.std.proofs.Common.{List, ◌∙◌, length, refl, sym, subst, inl, inr}
+use Rattle.std.proofs.Common.{List, ◌∙◌, length, refl, sym, ap, subst, inl, inr}
 use Rattle.dxc_model.specs.declared.cause.Cause.TheVariants.{DiskFault}
 use Rattle.dxc_model.specs.declared.entry.Entry.{Entry}
 use Rattle.dxc_model.specs.Histories.{IsStopped}
@@ -35,6 +35,12 @@ drive_out-requires-clause-taken g c =
     let x = subst (λ (y : Driver g.row.D.Denot). HasPlan g.D.Disk.told g.D.Disk.state (opening_of g.D.Disk.state c.args.turns.now.first) c.args.pass.now.number w.0 y.p (plan_of c.args.op.now y.rolling c.args.bytes.now)) (sym c.deref_mut-held.ensures.value) w.2 in
     let y = subst (λ (r : RollingAt). HasPlan g.D.Disk.told g.D.Disk.state (opening_of g.D.Disk.state c.args.turns.now.first) c.args.pass.now.number w.0 v.p (plan_of c.args.op.now r c.args.bytes.now)) (sym c.of-rolling.ensures) x in
     (w.0, w.1, subst (λ (r : RollingAt). HasTaken g.D.Disk.told g.D.Disk.state (opening_of g.D.Disk.state c.args.turns.now.first) c.args.pass.now.number c.args.op.now w.0 c.note.new.p r) c.of-rolling.ensures (plan_noted g.D.Disk.told g.D.Disk.state (opening_of g.D.Disk.state c.args.turns.now.first) c.args.pass.now.number w.0 v.p c.note.new.p (plan_of c.args.op.now c.of-rolling.result.value c.args.bytes.now) y c.note.ensures.ground c.note.ensures.fault.later c.note.ensures.room (c.in-Rolling.ensures.noted y.out.now y.may)))
+
+pub drive_out-requires-clause-unmade : goal.drive_out-requires-clause-unmade
+drive_out-requires-clause-unmade g c =
+    let w = c.requires.planned in
+    let x = subst (λ (y : Driver g.row.D.Denot). HasPlan g.D.Disk.told g.D.Disk.state (opening_of g.D.Disk.state c.args.turns.now.first) c.args.pass.now.number w.0 y.p (plan_of c.args.op.now y.rolling c.args.bytes.now)) (sym c.deref_mut-held.ensures.value) w.2 in
+    ap (λ (r : RollingAt). r.step) x.may.unmade_is
 
 pub fail-requires-clause-failed : goal.fail-requires-clause-failed
 fail-requires-clause-failed g c =

@@ -9,7 +9,7 @@ use Rattle.craft_session.specs.Askings.{AskedToStop, asked_for}
 use Rattle.craft_session.proofs.Changing.{changed_cut, changed_done}
 use Rattle.craft_session.specs.declared.change.Changed.TheVariants.{Done, Stopped}
 use Rattle.craft_session.proofs.Ends.{apart, changed_goes}
-use Rattle.craft_session.proofs.Gated.{entered_change, entered_stop}
+use Rattle.craft_session.proofs.Gated.{entered_change, entered_stop, work_in_hand}
 use Rattle.craft_session.proofs.change.drive_out.Goals as goal
 
 pub roll-requires-clause-own : goal.roll-requires-clause-own
@@ -42,7 +42,7 @@ returns-in-Go g c = record {
   stopped = λ is. absurd (apart changed_goes Done Done Stopped refl refl refl is);
   later = c.roll.ensures.later;
   asked = inl (refl, subst (λ (x : Driver g.row.D.Denot). g.G.Gate.asked c.args.gate.now c.roll.new.gate (asked_for (length (rest_of x.rolling)))) c.deref_mut-held.ensures.value c.in-Go.ensures.asked);
-  entered = λ h saw. entered_change (opening_of g.D.Disk.state c.args.turns.now.first) c.args.pass.now.number (g.G.Gate.asked c.args.gate.now c.roll.new.gate) h c.bring.new.pass.seen c.args.op.now (length (rest_of c.deref_mut-held.result.now.rolling)) c.in-Go.ensures.asked (c.bring.ensures.done h saw);
+  entered = λ h saw. entered_change (opening_of g.D.Disk.state c.args.turns.now.first) c.args.pass.now.number (g.G.Gate.asked c.args.gate.now c.roll.new.gate) h c.bring.new.pass.seen c.args.op.now (length (rest_of c.deref_mut-held.result.now.rolling)) (λ later others. (work_in_hand (opening_of g.D.Disk.state c.args.turns.now.first) c.args.pass.now.number c.args.pass.now.seen h c.requires.taken.0 later saw c.requires.taken.1 others g.D.Disk.told g.D.Disk.state c.args.op.now c.deref_mut-held.result.now.p c.deref_mut-held.result.now.rolling (subst (λ (x : Driver g.row.D.Denot). HasTaken g.D.Disk.told g.D.Disk.state (opening_of g.D.Disk.state c.args.turns.now.first) c.args.pass.now.number c.args.op.now c.requires.taken.0 x.p x.rolling) (sym c.deref_mut-held.ensures.value) c.requires.taken.2) (ap (λ (x : Driver g.row.D.Denot). x.rolling.step) c.deref_mut-held.ensures.value ∙ c.requires.unmade))) c.in-Go.ensures.asked (c.bring.ensures.done h saw);
 }
 
 pub returns-in-Stop : goal.returns-in-Stop
@@ -54,5 +54,5 @@ returns-in-Stop g c = record {
   stopped = λ is. c.roll.ensures.stop c.in-Stop.is;
   later = c.roll.ensures.later;
   asked = inr (refl, subst (λ (x : Driver g.row.D.Denot). AskedToStop (g.G.Gate.asked c.args.gate.now c.roll.new.gate) (length (rest_of x.rolling))) c.deref_mut-held.ensures.value c.in-Stop.ensures.asked);
-  entered = λ h saw. entered_stop (opening_of g.D.Disk.state c.args.turns.now.first) c.args.pass.now.number (g.G.Gate.asked c.args.gate.now c.roll.new.gate) h c.cut.new.pass.seen c.args.op.now (length (rest_of c.deref_mut-held.result.now.rolling)) c.in-Stop.ensures.asked (c.cut.ensures.cut h saw).0;
+  entered = λ h saw. entered_stop (opening_of g.D.Disk.state c.args.turns.now.first) c.args.pass.now.number (g.G.Gate.asked c.args.gate.now c.roll.new.gate) h c.cut.new.pass.seen c.args.op.now (length (rest_of c.deref_mut-held.result.now.rolling)) (λ later others. inr (work_in_hand (opening_of g.D.Disk.state c.args.turns.now.first) c.args.pass.now.number c.args.pass.now.seen h c.requires.taken.0 later saw c.requires.taken.1 others g.D.Disk.told g.D.Disk.state c.args.op.now c.deref_mut-held.result.now.p c.deref_mut-held.result.now.rolling (subst (λ (x : Driver g.row.D.Denot). HasTaken g.D.Disk.told g.D.Disk.state (opening_of g.D.Disk.state c.args.turns.now.first) c.args.pass.now.number c.args.op.now c.requires.taken.0 x.p x.rolling) (sym c.deref_mut-held.ensures.value) c.requires.taken.2) (ap (λ (x : Driver g.row.D.Denot). x.rolling.step) c.deref_mut-held.ensures.value ∙ c.requires.unmade))) c.in-Stop.ensures.asked (c.cut.ensures.cut h saw).0;
 }

@@ -1,4 +1,4 @@
-use Rattle.std.proofs.Common.{List, ◌∙◌, length, refl, sym, ap, subst, inl}
+use Rattle.std.proofs.Common.{List, ◌∙◌, length, refl, sym, ap, subst, inl, inr}
 use Rattle.dxc_model.specs.declared.entry.Entry.{Entry}
 use Rattle.dxc_model.specs.declared.op.Op.TheVariants.{Restart}
 use Rattle.roll_engine.specs.Rollings.{rest_of}
@@ -10,8 +10,8 @@ use Rattle.xc_core.proofs.Turning.{saw_once}
 use Rattle.craft_session.specs.declared.mend.Mended.TheVariants.{Denied, Stopped}
 use Rattle.craft_session.proofs.Changing.{mended_cut, mended_fault}
 use Rattle.craft_session.proofs.Ends.{apart, later_behind, mended_goes, reread_goes, rose_behind}
-use Rattle.craft_session.proofs.Gated.{entered_fault, entered_noted, entered_unnoted}
-use Rattle.craft_session.proofs.Gating.{failed_asked, mended_by}
+use Rattle.craft_session.proofs.Gated.{entered_fault, entered_noted, entered_unnoted, still_out}
+use Rattle.craft_session.proofs.Gating.{failed_asked, failed_first, mended_by}
 use Rattle.craft_session.proofs.mend.go_on.Goals as goal
 
 pub read_anew-requires-clause-own : goal.read_anew-requires-clause-own
@@ -77,7 +77,7 @@ returns-in-Failed g c =
           let same = saw_once (opening_of g.D.Disk.state c.args.turns.now.first) c.args.pass.now.seen w.0 h w.1 saw in
           mended_fault (opening_of g.D.Disk.state c.args.turns.now.first) c.args.pass.now.number h g.D.Disk.told g.D.Disk.state c.args.asked.now c.fail.new.pass.seen c.in-Failed.cause c.read_anew.new.p (subst (λ (l : List Entry). HasFailed g.D.Disk.told g.D.Disk.state (opening_of g.D.Disk.state c.args.turns.now.first) c.args.pass.now.number Restart c.args.asked.now c.in-Failed.cause l c.read_anew.new.p) same (c.in-Failed.ensures.reread (opening_of g.D.Disk.state c.args.turns.now.first) c.args.pass.now.number w.0 x)) (c.fail.ensures.failed h saw);
       asked = failed_asked (g.G.Gate.asked c.args.gate.now c.read_anew.new.gate) c.in-Failed.cause c.in-Failed.ensures.asked;
-      entered = λ h saw. entered_fault (opening_of g.D.Disk.state c.args.turns.now.first) c.args.pass.now.number (g.G.Gate.asked c.args.gate.now c.read_anew.new.gate) h c.fail.new.pass.seen c.args.asked.now c.in-Failed.cause (failed_asked (g.G.Gate.asked c.args.gate.now c.read_anew.new.gate) c.in-Failed.cause c.in-Failed.ensures.asked) (c.fail.ensures.failed h saw).0;
+      entered = λ h saw. entered_fault (opening_of g.D.Disk.state c.args.turns.now.first) c.args.pass.now.number (g.G.Gate.asked c.args.gate.now c.read_anew.new.gate) h c.fail.new.pass.seen c.args.asked.now c.in-Failed.cause (elim (failed_first (g.G.Gate.asked c.args.gate.now c.read_anew.new.gate) c.in-Failed.cause c.in-Failed.ensures.asked) [ inl none ↦ inl (none.0, none.1, λ later others. still_out (opening_of g.D.Disk.state c.args.turns.now.first) c.args.pass.now.number c.args.pass.now.seen h c.requires.held.0 later saw c.requires.held.1 others Restart c.requires.held.2.out.held) | inr one ↦ inr one ]) (c.fail.ensures.failed h saw).0;
     }
 
 pub returns-in-Stopped : goal.returns-in-Stopped

@@ -10,7 +10,7 @@ use Rattle.roll_engine.specs.Rollings.{rest_of}
 use Rattle.craft_session.specs.Askings.{AskedToStop, asked_for}
 use Rattle.craft_session.specs.declared.mend.Mended.TheVariants.{Ready, Stopped}
 use Rattle.craft_session.proofs.Ends.{apart, mended_goes}
-use Rattle.craft_session.proofs.Gated.{entered_restart, entered_stop}
+use Rattle.craft_session.proofs.Gated.{entered_restart, entered_stop, still_out}
 use Rattle.craft_session.proofs.mend.resume.Goals as goal
 
 pub roll-requires-clause-own : goal.roll-requires-clause-own
@@ -43,7 +43,7 @@ returns-in-Go g c = record {
   stopped = λ is. absurd (apart mended_goes Ready Ready Stopped refl refl refl is);
   later = c.roll.ensures.later;
   asked = inl (refl, subst (λ (x : Driver g.row.D.Denot). g.G.Gate.asked c.args.gate.now c.roll.new.gate (asked_for (length (rest_of x.rolling)))) c.deref_mut-held.ensures.value c.in-Go.ensures.asked);
-  entered = λ h saw. entered_restart (opening_of g.D.Disk.state c.args.turns.now.first) c.args.pass.now.number (g.G.Gate.asked c.args.gate.now c.roll.new.gate) h c.end_restart.new.pass.seen c.args.asked.now (length (rest_of c.deref_mut-held.result.now.rolling)) c.in-Go.ensures.asked (c.end_restart.ensures.restarted h saw);
+  entered = λ h saw. entered_restart (opening_of g.D.Disk.state c.args.turns.now.first) c.args.pass.now.number (g.G.Gate.asked c.args.gate.now c.roll.new.gate) h c.end_restart.new.pass.seen c.args.asked.now (length (rest_of c.deref_mut-held.result.now.rolling)) (λ later others. still_out (opening_of g.D.Disk.state c.args.turns.now.first) c.args.pass.now.number c.args.pass.now.seen h c.requires.restart.0 later saw c.requires.restart.1 others Restart c.requires.restart.2.out.held) c.in-Go.ensures.asked (c.end_restart.ensures.restarted h saw);
 }
 
 pub returns-in-Stop : goal.returns-in-Stop
@@ -55,5 +55,5 @@ returns-in-Stop g c = record {
   stopped = λ is. c.roll.ensures.stop c.in-Stop.is;
   later = c.roll.ensures.later;
   asked = inr (refl, subst (λ (x : Driver g.row.D.Denot). AskedToStop (g.G.Gate.asked c.args.gate.now c.roll.new.gate) (length (rest_of x.rolling))) c.deref_mut-held.ensures.value c.in-Stop.ensures.asked);
-  entered = λ h saw. entered_stop (opening_of g.D.Disk.state c.args.turns.now.first) c.args.pass.now.number (g.G.Gate.asked c.args.gate.now c.roll.new.gate) h c.cut_restart.new.pass.seen Restart (length (rest_of c.deref_mut-held.result.now.rolling)) c.in-Stop.ensures.asked (c.cut_restart.ensures.cut h saw).0;
+  entered = λ h saw. entered_stop (opening_of g.D.Disk.state c.args.turns.now.first) c.args.pass.now.number (g.G.Gate.asked c.args.gate.now c.roll.new.gate) h c.cut_restart.new.pass.seen Restart (length (rest_of c.deref_mut-held.result.now.rolling)) (λ later others. inl (refl, still_out (opening_of g.D.Disk.state c.args.turns.now.first) c.args.pass.now.number c.args.pass.now.seen h c.requires.restart.0 later saw c.requires.restart.1 others Restart c.requires.restart.2.out.held)) c.in-Stop.ensures.asked (c.cut_restart.ensures.cut h saw).0;
 }

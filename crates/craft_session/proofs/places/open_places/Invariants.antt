@@ -1,7 +1,7 @@
 use Rattle.std.proofs.Common.{◌≡◌, ◌+◌, length}
 use Rattle.std.specs.Prelude.{vec_capacity}
 use Rattle.std.specs.Arc.{arc_value}
-use Rattle.user_admin.specs.States.{opening_of as users_opening}
+use Rattle.user_admin.specs.Shared.{opening_at as users_opening}
 use Rattle.xc_core.specs.States.{opening_of}
 use Rattle.craft_session.specs.Places.{AreFresh, ArePlaces, turnstiles_of}
 use Rattle.craft_session.proofs.places.open_places.Given as goal

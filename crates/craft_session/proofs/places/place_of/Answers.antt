@@ -11,5 +11,5 @@ new-requires-clause-seated g c =
 pub new-requires-clause-users_seated : goal.new-requires-clause-users_seated
 new-requires-clause-users_seated g c =
     let r = c.requires in
-    let at = users_seated g.U.Disk.told g.U.Disk.state c.args.users_pass (arc_value c.args.users.now) c.args.number r.users_fresh r.users_within r.users_begin in
+    let at = users_seated g.U.Disk.told g.U.Disk.state c.args.users_pass (arc_value c.args.users.now) c.args.number r.users_fresh r.users_within r.users_stand in
     rw c.in-Ok-Ok-Ok-Ok.ensures''' at

@@ -25,6 +25,7 @@ returns g c =
       users = said.users;
       reader = said.reader;
       link = record { out = said.told.wrote.part; wrote = said.told.wrote.wrote };
+      hung_up = said.hung_up;
       goes = λ user k c1 b r ahead at s.
           let seat = c.args.desk.now.seat in
           let look = subst (λ (w : Opening × ℕ). (h : List Entry) → Saw w.0 seat.seen h → LookIs w.0 w.1 h c.args.cursor c.look-looked.new.self.seen c.look-looked.result c.look-looked.new.into.items) (λ i. (at.0 i, at.1 i)) c.look-looked.ensures.look in
@@ -38,5 +39,5 @@ returns g c =
       unstopped = sent_goes _ _ c.of.ensures;
       entered = λ h saw.
           let seat = c.args.desk.now.seat in
-          subst (λ (seen : List Gv). Entered seat.opening seat.place NothingAsked false false h seen) (sym (ap (λ (s : SeatAt). s.seen) said.seat)) (entered_at seat.opening seat.place NothingAsked h c.look-looked.new.self.seen false false _ [] (answers _) refl (looked.look h saw).0);
+          subst (λ (seen : List Gv). Entered seat.opening seat.place NothingAsked false false h seen) (sym (ap (λ (s : SeatAt). s.seen) said.seat)) (entered_at seat.opening seat.place NothingAsked h c.look-looked.new.self.seen false false _ [] (λ k. answers k _) refl (looked.look h saw).0);
     }

@@ -19,7 +19,7 @@ use Rattle.craft_session.proofs.Timely.{stamped_more}
 use Rattle.craft_session.proofs.reports.tell_changes.Goals as goal
 
 pub loop-at-init : goal.loop-at-init
-loop-at-init g c = record { shelf = refl; seat = refl; users = refl; attending = refl; reader = refl; changes = refl; stamped = inl (refl, refl); told = told_none (language (arc_value c.args.desk.now.shelf)) g.K.Link.told g.C.Timestamps.told (g.K.Link.state c.args.link.now) (g.C.Timestamps.coming c.args.clock.now) }
+loop-at-init g c = record { hung_up = refl; shelf = refl; seat = refl; users = refl; attending = refl; reader = refl; changes = refl; stamped = inl (refl, refl); told = told_none (language (arc_value c.args.desk.now.shelf)) g.K.Link.told g.C.Timestamps.told (g.K.Link.state c.args.link.now) (g.C.Timestamps.coming c.args.clock.now) }
 
 pub tell_change-requires-clause-of_shape : goal.tell_change-requires-clause-of_shape
 tell_change-requires-clause-of_shape g c = subst (λ (w : SeatAt × List Change). AllByRecursion (IsChangeOf w.0.opening.first.fold.table.shape) w.1) (λ i. (sym c.loop-at.invariant.seat i, (sym c.loop-at.invariant.changes i).items)) c.requires.of_shape
@@ -36,6 +36,7 @@ loop-at-preserved g c =
       users = c.tell_change.ensures.users ∙ c.loop-at.invariant.users;
       attending = c.tell_change.ensures.attending ∙ c.loop-at.invariant.attending;
       reader = c.tell_change.ensures.reader ∙ c.loop-at.invariant.reader;
+      hung_up = c.tell_change.ensures.hung_up ∙ c.loop-at.invariant.hung_up;
       changes = c.tell_change.ensures.changes ∙ c.loop-at.invariant.changes;
       stamped = stamped_more g.C.Timestamps.stamped (stamp_at (g.C.Timestamps.coming c.args.clock.now) (g.K.Link.state c.args.link.now) c.args.desk.now.seat c.args.desk.now.users.seat) c.loop-at.desk.seat c.loop-at.desk.users.seat (g.K.Link.state c.loop-at.link) (g.K.Link.state c.tell_change.new.link) (g.C.Timestamps.coming c.loop-at.clock) (g.C.Timestamps.coming c.tell_change.new.clock) c.loop-at.invariant.seat (ap (λ (u : UserDesk g.row.U.Denot). u.seat) c.loop-at.invariant.users) c.loop-at.invariant.stamped (inr c.tell_change.ensures.stamped);
       told = subst (λ (ns : List Notice). AreTold (language (arc_value c.args.desk.now.shelf)) g.K.Link.told g.C.Timestamps.told (g.K.Link.state c.args.link.now) (g.K.Link.state c.tell_change.new.link) (g.C.Timestamps.coming c.args.clock.now) (g.C.Timestamps.coming c.tell_change.new.clock) Whole ns) (sym (numbered_more c.args.before c.args.desk.now.changes.items c.loop-at.at (EnterModule 0) within))
@@ -53,6 +54,7 @@ returns-in-Cut g c =
       attending = t.attending ∙ k.attending;
       reader = t.reader ∙ k.reader;
       stamped = stamped_more g.C.Timestamps.stamped (stamp_at (g.C.Timestamps.coming c.args.clock.now) (g.K.Link.state c.args.link.now) c.args.desk.now.seat c.args.desk.now.users.seat) c.loop-at.desk.seat c.loop-at.desk.users.seat (g.K.Link.state c.loop-at.link) (g.K.Link.state c.tell_change.new.link) (g.C.Timestamps.coming c.loop-at.clock) (g.C.Timestamps.coming c.tell_change.new.clock) c.loop-at.invariant.seat (ap (λ (u : UserDesk g.row.U.Denot). u.seat) c.loop-at.invariant.users) c.loop-at.invariant.stamped (inr c.tell_change.ensures.stamped);
+      hung_up = t.hung_up ∙ k.hung_up;
       told =
           let raw = subst (λ (w : Contents × List Change). IsReported g.K.Link.told g.C.Timestamps.told (g.K.Link.state c.loop-at.link) (g.K.Link.state c.tell_change.new.link) (g.C.Timestamps.coming c.loop-at.clock) (g.C.Timestamps.coming c.tell_change.new.clock) c.tell_change.result (λ m. (language w.0).report m (change (c.args.before + c.loop-at.at + 1) (slice_index_or w.1 c.loop-at.at (EnterModule 0)))))
           (λ i. (arc_value (c.loop-at.invariant.shelf i), (c.loop-at.invariant.changes i).items)) (c.tell_change.ensures.told (EnterModule 0)) in

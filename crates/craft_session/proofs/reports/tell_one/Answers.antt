@@ -12,6 +12,7 @@ returns g c = record {
   users = refl;
   attending = refl;
   reader = refl;
+  hung_up = c.write_all.ensures.hung_up;
   changes = refl;
   told = record {
     moment = c.stamp-moment.result;

@@ -1,5 +1,5 @@
 use Rattle.std.specs.Prelude.{is_some}
-use Rattle.std.proofs.Common.{rules, ◌≡◌, false, [], refl, sym, ◌∙◌, ap, subst, arith, inl, inr}
+use Rattle.std.proofs.Common.{rules, ◌≡◌, ℕ, false, [], refl, sym, ◌∙◌, ap, subst, arith, inl, inr}
 use Rattle.std.proofs.lemmas.Grind.{common_steps}
 use Rattle.std.specs.Arc.{arc_value}
 use Rattle.craft_session.specs.Desks.{now}
@@ -9,13 +9,16 @@ use Rattle.tl1_text.specs.declared.reader.UnitKind.TheVariants.{More}
 use Rattle.tl1_text.specs.Reading.{Reader}
 use Rattle.craft_session.specs.declared.end.Progress.TheVariants.{Cut}
 use Rattle.craft_session.specs.Sessions.{Beginning, Stands}
-use Rattle.craft_session.proofs.Ends.{bytes_came, counted_none, cut_goes, end_came, end_no, few_more, later_behind, on_goes, quiet_came, read_no, rose_behind, rose_later, stayed, stop_no, unheld, write_no}
+use Rattle.craft_session.proofs.Ends.{bytes_came, counted_none, cut_goes, end_came, end_no, few_here, few_more, later_behind, on_goes, quiet_came, read_no, rose_behind, rose_later, spent_no, stayed, stop_no, unattended_no, unheld, write_no}
 use Rattle.craft_session.proofs.Gated.{are_entered_beside, are_entered_none, are_entered_on}
 use Rattle.craft_session.proofs.Prompt.{prompt_more, prompt_none}
 use Rattle.craft_session.proofs.SessionSteps.{stands_none, stands_piece, stands_quiet, goes_on_is, goes_cut_is, goes_stopped_is, counted_more, served_nothing, served_here}
 use Rattle.craft_session.specs.Timely.{in_hand, starting, telling}
 use Rattle.craft_session.proofs.Answering.{moved_goes}
 use Rattle.craft_session.proofs.Timely.{timely_moved, timely_none, timely_read}
+use Rattle.craft_session.specs.declared.patience.Patience.TheVariants.{Limited}
+use Rattle.craft_session.specs.Waiting.{waited_after}
+use Rattle.craft_session.proofs.Waiting.{both_no, let_go_behind, let_go_here, some_made, unattended_at, waits_more, waits_none}
 use Rattle.craft_session.proofs.session.serve.Goals as goal
 use Rattle.craft_session.proofs.session.serve.Goals.{in-Bytes+in-On, in-Quiet+in-On-report}
 
@@ -31,8 +34,10 @@ loop-init g c = record {
   counted = counted_none _;
   faults = refl;
   not_ended = λ lt. absurd (omega (arith, lt));
+  hung_up = refl;
   room = c.requires.room;
   asked = are_entered_none c.args.desk.now.seat c.args.desk.now.users.seat (g.G.Gate.asked c.args.gate.now c.args.gate.now) (g.G.Gate.unasked c.args.gate.now);
+  waits = waits_none (c.args.patience ≡ Limited) (language_for c.args.desk.now.attending.user (arc_value c.args.desk.now.shelf)) g.K.Link.begun g.K.Link.told g.C.Timestamps.told (g.K.Link.state c.args.link.now) (g.C.Timestamps.coming c.args.clock.now) c.args.desk.now.seat c.args.desk.now.users.seat;
 }
 
 pub returns-in-Cut : goal.returns-in-Cut
@@ -41,18 +46,19 @@ returns-in-Cut g c =
     let p = c.seen-2.ensures.history in
     let seat = c.args.desk.now.seat in
     let b : Beginning = record { opening = seat.opening; users = c.args.desk.now.users.seat.opening; place = seat.place; before = h.0; users_before = p.0 } in
-    let s = c.serve_piece.ensures in
-    let going : (g.K.Link.state c.serve_piece.new.link).ended ≡ false = s.link.wrote.ended ∙ c.in-Bytes.ensures.read.ended in
-    let breaks = goes_cut_is _ _ _ _ _ _ _ _ _ _ _ _ _ c.in-Cut.is (moved_goes arc_value c.args.desk.now.attending.user g.K.Link.told g.C.Timestamps.told _ (g.K.Link.state c.serve_piece.new.link) (g.C.Timestamps.coming c.loop.clock) (g.C.Timestamps.coming c.serve_piece.new.clock) (now c.loop.desk) (now c.serve_piece.new.desk) false c.loop.desk.reader c.serve_piece.new.desk.reader c.serve_piece.result c.args.desk.now.shelf c.loop.desk.shelf c.args.desk.now.seat c.loop.desk.seat c.args.desk.now.users.seat c.loop.desk.users.seat _ [] c.loop.invariant.shelf c.loop.invariant.seat c.loop.invariant.users (c.serve_piece.ensures.goes c.args.desk.now.attending.user) _ _ b (refl, refl, refl, c.args.desk.now.same_place) (stands_piece _ _ _ _ _ _ _ _ _ _ _ _ _ _ (c.loop.invariant.stands b (refl, refl, refl, c.args.desk.now.same_place) h.1 p.1) c.in-Bytes.ensures.read (grind (arith, common_steps)))) in
+    let s = c.serve_piece-progress.ensures in
+    let going : (g.K.Link.state c.serve_piece-progress.new.link).ended ≡ false = s.link.wrote.ended ∙ c.in-Bytes.ensures.read.ended in
+    let breaks = goes_cut_is _ _ _ _ _ _ _ _ _ _ _ _ _ c.in-Cut.is (moved_goes arc_value c.args.desk.now.attending.user g.K.Link.told g.C.Timestamps.told _ (g.K.Link.state c.serve_piece-progress.new.link) (g.C.Timestamps.coming c.loop.clock) (g.C.Timestamps.coming c.serve_piece-progress.new.clock) (now c.loop.desk) (now c.serve_piece-progress.new.desk) false c.loop.desk.reader c.serve_piece-progress.new.desk.reader c.serve_piece-progress.result c.args.desk.now.shelf c.loop.desk.shelf c.args.desk.now.seat c.loop.desk.seat c.args.desk.now.users.seat c.loop.desk.users.seat _ [] c.loop.invariant.shelf c.loop.invariant.seat c.loop.invariant.users (c.serve_piece-progress.ensures.goes c.args.desk.now.attending.user) _ _ b (refl, refl, refl, c.args.desk.now.same_place) (stands_piece _ _ _ _ _ _ _ _ _ _ _ _ _ _ (c.loop.invariant.stands b (refl, refl, refl, c.args.desk.now.same_place) h.1 p.1) c.in-Bytes.ensures.read (grind (arith, common_steps)))) in
     record {
       shelf = s.shelf ∙ c.loop.invariant.shelf;
       seat = (s.seat.0 ∙ c.loop.invariant.seat.0, s.seat.1 ∙ c.loop.invariant.seat.1, s.seat.2 ∙ c.loop.invariant.seat.2, s.seat.3 ∙ c.loop.invariant.seat.3);
       users = (s.users.0 ∙ c.loop.invariant.users.0, s.users.1 ∙ c.loop.invariant.users.1, s.users.2 ∙ c.loop.invariant.users.2, s.users.3 ∙ c.loop.invariant.users.3);
+      hung_up = s.hung_up ∙ c.in-Bytes.ensures.hung_up ∙ c.loop.invariant.hung_up;
       session = record { before = h.0; users_before = p.0; saw = h.1; users_saw = p.1; attending = _; session = breaks };
-      prompt = prompt_more (language_for c.args.desk.now.attending.user (arc_value c.args.desk.now.shelf)) g.K.Link.begun g.K.Link.told g.C.Timestamps.told (g.K.Link.state c.args.link.now) (g.C.Timestamps.coming c.args.clock.now) c.args.desk.now.seat c.args.desk.now.users.seat (g.K.Link.state c.loop.link) (g.K.Link.state c.serve_piece.new.link) _ (g.C.Timestamps.coming c.loop.clock) (now c.loop.desk) c.loop.desk.reader c.loop.invariant.prompt c.in-Bytes.ensures.begun c.loop.invariant.stands c.in-Bytes.ensures.read.reads s.link.wrote.reads;
+      prompt = prompt_more (language_for c.args.desk.now.attending.user (arc_value c.args.desk.now.shelf)) g.K.Link.begun g.K.Link.told g.C.Timestamps.told (g.K.Link.state c.args.link.now) (g.C.Timestamps.coming c.args.clock.now) c.args.desk.now.seat c.args.desk.now.users.seat (g.K.Link.state c.loop.link) (g.K.Link.state c.serve_piece-progress.new.link) _ (g.C.Timestamps.coming c.loop.clock) (now c.loop.desk) c.loop.desk.reader c.loop.invariant.prompt c.in-Bytes.ensures.begun c.loop.invariant.stands c.in-Bytes.ensures.read.reads s.link.wrote.reads;
       timely = λ b at saw users.
-          timely_read (language_for c.args.desk.now.attending.user (arc_value c.args.desk.now.shelf)) (telling g.K.Link.told g.C.Timestamps.told g.C.Timestamps.stamped) (starting (g.K.Link.state c.args.link.now) (g.C.Timestamps.coming c.args.clock.now) b) (g.K.Link.state c.args.link.now) (g.K.Link.state c.loop.link) _ (g.K.Link.state c.serve_piece.new.link) _ _ (c.loop.invariant.timely b at saw users) c.in-Bytes.ensures.read
-          (timely_moved arc_value (telling g.K.Link.told g.C.Timestamps.told g.C.Timestamps.stamped) (g.C.Timestamps.coming c.loop.clock) _ (g.K.Link.state c.serve_piece.new.link) (in_hand c.loop.desk.attending false More c.loop.desk.reader _) c.args.desk.now.shelf c.loop.desk.shelf c.args.desk.now.seat c.loop.desk.seat c.args.desk.now.users.seat c.loop.desk.users.seat c.loop.invariant.shelf c.loop.invariant.seat c.loop.invariant.users c.serve_piece.ensures.timely c.args.desk.now.attending.user _ _ b at
+          timely_read (language_for c.args.desk.now.attending.user (arc_value c.args.desk.now.shelf)) (telling g.K.Link.told g.C.Timestamps.told g.C.Timestamps.stamped) (starting (g.K.Link.state c.args.link.now) (g.C.Timestamps.coming c.args.clock.now) b) (g.K.Link.state c.args.link.now) (g.K.Link.state c.loop.link) _ (g.K.Link.state c.serve_piece-progress.new.link) _ _ (c.loop.invariant.timely b at saw users) c.in-Bytes.ensures.read
+          (timely_moved arc_value (telling g.K.Link.told g.C.Timestamps.told g.C.Timestamps.stamped) (g.C.Timestamps.coming c.loop.clock) _ (g.K.Link.state c.serve_piece-progress.new.link) (in_hand c.loop.desk.attending false More c.loop.desk.reader _) c.args.desk.now.shelf c.loop.desk.shelf c.args.desk.now.seat c.loop.desk.seat c.args.desk.now.users.seat c.loop.desk.users.seat c.loop.invariant.shelf c.loop.invariant.seat c.loop.invariant.users c.serve_piece-progress.ensures.timely c.args.desk.now.attending.user _ _ b at
           (stands_piece _ _ _ _ _ _ _ _ _ _ _ _ _ _ (c.loop.invariant.stands b at saw users) c.in-Bytes.ensures.read (grind (arith, common_steps))));
       end = ((λ is. write_no _ is refl), (λ ended. unheld _ going ended));
       all_read = λ t is. write_no _ is refl;
@@ -64,7 +70,10 @@ returns-in-Cut g c =
       later = later_behind _ _ _ c.loop.invariant.gate s.later;
       spent = λ is. write_no _ is refl;
       few = few_more _ _ _ _ _ _ c.loop.invariant.counted c.in-Bytes.ensures.read.reads s.link.wrote.reads c.loop-test.true;
-      asked = are_entered_on g.G.Gate.asked g.G.Gate.asked_on c.args.desk.now.seat c.loop.desk.seat c.args.desk.now.users.seat c.loop.desk.users.seat c.args.gate.now c.loop.gate c.serve_piece.new.gate _ _ c.loop.invariant.asked c.loop.invariant.seat c.loop.invariant.users s.asked;
+      asked = are_entered_on g.G.Gate.asked g.G.Gate.asked_on c.args.desk.now.seat c.loop.desk.seat c.args.desk.now.users.seat c.loop.desk.users.seat c.args.gate.now c.loop.gate c.serve_piece-progress.new.gate _ _ c.loop.invariant.asked c.loop.invariant.seat c.loop.invariant.users s.asked;
+      unattended = λ is. write_no _ is refl;
+      attended = λ endless is. write_no _ is refl;
+      let_go = λ limits. let_go_behind (c.args.patience ≡ Limited) (language_for c.args.desk.now.attending.user (arc_value c.args.desk.now.shelf)) g.K.Link.begun g.K.Link.told g.C.Timestamps.told (g.K.Link.state c.args.link.now) (g.C.Timestamps.coming c.args.clock.now) c.args.desk.now.seat c.args.desk.now.users.seat (g.K.Link.state c.loop.link) (g.K.Link.state c.serve_piece-progress.new.link) _ (g.C.Timestamps.coming c.loop.clock) (now c.loop.desk) c.loop.desk.reader c.in-Bytes.ensures.begun c.loop.invariant.stands c.in-Bytes.ensures.read.reads c.serve_piece-progress.ensures.link.wrote.reads c.loop.counter c.loop.waited (c.is_over.ensures.lasts c.if-is_over.false) c.loop.invariant.waits limits;
     }
 
 pub returns-in-Stopped : goal.returns-in-Stopped
@@ -73,18 +82,19 @@ returns-in-Stopped g c =
     let p = c.seen-2.ensures.history in
     let seat = c.args.desk.now.seat in
     let b : Beginning = record { opening = seat.opening; users = c.args.desk.now.users.seat.opening; place = seat.place; before = h.0; users_before = p.0 } in
-    let s = c.serve_piece.ensures in
-    let going : (g.K.Link.state c.serve_piece.new.link).ended ≡ false = s.link.wrote.ended ∙ c.in-Bytes.ensures.read.ended in
+    let s = c.serve_piece-progress.ensures in
+    let going : (g.K.Link.state c.serve_piece-progress.new.link).ended ≡ false = s.link.wrote.ended ∙ c.in-Bytes.ensures.read.ended in
     record {
       shelf = s.shelf ∙ c.loop.invariant.shelf;
       seat = (s.seat.0 ∙ c.loop.invariant.seat.0, s.seat.1 ∙ c.loop.invariant.seat.1, s.seat.2 ∙ c.loop.invariant.seat.2, s.seat.3 ∙ c.loop.invariant.seat.3);
       users = (s.users.0 ∙ c.loop.invariant.users.0, s.users.1 ∙ c.loop.invariant.users.1, s.users.2 ∙ c.loop.invariant.users.2, s.users.3 ∙ c.loop.invariant.users.3);
-      session = record { before = h.0; users_before = p.0; saw = h.1; users_saw = p.1; attending = _; session = goes_stopped_is _ _ _ _ _ _ _ _ _ _ _ _ _ c.in-Stopped.is (moved_goes arc_value c.args.desk.now.attending.user g.K.Link.told g.C.Timestamps.told _ (g.K.Link.state c.serve_piece.new.link) (g.C.Timestamps.coming c.loop.clock) (g.C.Timestamps.coming c.serve_piece.new.clock) (now c.loop.desk) (now c.serve_piece.new.desk) false c.loop.desk.reader c.serve_piece.new.desk.reader c.serve_piece.result c.args.desk.now.shelf c.loop.desk.shelf c.args.desk.now.seat c.loop.desk.seat c.args.desk.now.users.seat c.loop.desk.users.seat _ [] c.loop.invariant.shelf c.loop.invariant.seat c.loop.invariant.users (c.serve_piece.ensures.goes c.args.desk.now.attending.user) _ _ b (refl, refl, refl, c.args.desk.now.same_place) (stands_piece _ _ _ _ _ _ _ _ _ _ _ _ _ _ (c.loop.invariant.stands b (refl, refl, refl, c.args.desk.now.same_place) h.1 p.1) c.in-Bytes.ensures.read (grind (arith, common_steps)))) };
-      prompt = prompt_more (language_for c.args.desk.now.attending.user (arc_value c.args.desk.now.shelf)) g.K.Link.begun g.K.Link.told g.C.Timestamps.told (g.K.Link.state c.args.link.now) (g.C.Timestamps.coming c.args.clock.now) c.args.desk.now.seat c.args.desk.now.users.seat (g.K.Link.state c.loop.link) (g.K.Link.state c.serve_piece.new.link) _ (g.C.Timestamps.coming c.loop.clock) (now c.loop.desk) c.loop.desk.reader c.loop.invariant.prompt c.in-Bytes.ensures.begun c.loop.invariant.stands c.in-Bytes.ensures.read.reads s.link.wrote.reads;
+      session = record { before = h.0; users_before = p.0; saw = h.1; users_saw = p.1; attending = _; session = goes_stopped_is _ _ _ _ _ _ _ _ _ _ _ _ _ c.in-Stopped.is (moved_goes arc_value c.args.desk.now.attending.user g.K.Link.told g.C.Timestamps.told _ (g.K.Link.state c.serve_piece-progress.new.link) (g.C.Timestamps.coming c.loop.clock) (g.C.Timestamps.coming c.serve_piece-progress.new.clock) (now c.loop.desk) (now c.serve_piece-progress.new.desk) false c.loop.desk.reader c.serve_piece-progress.new.desk.reader c.serve_piece-progress.result c.args.desk.now.shelf c.loop.desk.shelf c.args.desk.now.seat c.loop.desk.seat c.args.desk.now.users.seat c.loop.desk.users.seat _ [] c.loop.invariant.shelf c.loop.invariant.seat c.loop.invariant.users (c.serve_piece-progress.ensures.goes c.args.desk.now.attending.user) _ _ b (refl, refl, refl, c.args.desk.now.same_place) (stands_piece _ _ _ _ _ _ _ _ _ _ _ _ _ _ (c.loop.invariant.stands b (refl, refl, refl, c.args.desk.now.same_place) h.1 p.1) c.in-Bytes.ensures.read (grind (arith, common_steps)))) };
+      prompt = prompt_more (language_for c.args.desk.now.attending.user (arc_value c.args.desk.now.shelf)) g.K.Link.begun g.K.Link.told g.C.Timestamps.told (g.K.Link.state c.args.link.now) (g.C.Timestamps.coming c.args.clock.now) c.args.desk.now.seat c.args.desk.now.users.seat (g.K.Link.state c.loop.link) (g.K.Link.state c.serve_piece-progress.new.link) _ (g.C.Timestamps.coming c.loop.clock) (now c.loop.desk) c.loop.desk.reader c.loop.invariant.prompt c.in-Bytes.ensures.begun c.loop.invariant.stands c.in-Bytes.ensures.read.reads s.link.wrote.reads;
       timely = λ b at saw users.
-          timely_read (language_for c.args.desk.now.attending.user (arc_value c.args.desk.now.shelf)) (telling g.K.Link.told g.C.Timestamps.told g.C.Timestamps.stamped) (starting (g.K.Link.state c.args.link.now) (g.C.Timestamps.coming c.args.clock.now) b) (g.K.Link.state c.args.link.now) (g.K.Link.state c.loop.link) _ (g.K.Link.state c.serve_piece.new.link) _ _ (c.loop.invariant.timely b at saw users) c.in-Bytes.ensures.read
-          (timely_moved arc_value (telling g.K.Link.told g.C.Timestamps.told g.C.Timestamps.stamped) (g.C.Timestamps.coming c.loop.clock) _ (g.K.Link.state c.serve_piece.new.link) (in_hand c.loop.desk.attending false More c.loop.desk.reader _) c.args.desk.now.shelf c.loop.desk.shelf c.args.desk.now.seat c.loop.desk.seat c.args.desk.now.users.seat c.loop.desk.users.seat c.loop.invariant.shelf c.loop.invariant.seat c.loop.invariant.users c.serve_piece.ensures.timely c.args.desk.now.attending.user _ _ b at
+          timely_read (language_for c.args.desk.now.attending.user (arc_value c.args.desk.now.shelf)) (telling g.K.Link.told g.C.Timestamps.told g.C.Timestamps.stamped) (starting (g.K.Link.state c.args.link.now) (g.C.Timestamps.coming c.args.clock.now) b) (g.K.Link.state c.args.link.now) (g.K.Link.state c.loop.link) _ (g.K.Link.state c.serve_piece-progress.new.link) _ _ (c.loop.invariant.timely b at saw users) c.in-Bytes.ensures.read
+          (timely_moved arc_value (telling g.K.Link.told g.C.Timestamps.told g.C.Timestamps.stamped) (g.C.Timestamps.coming c.loop.clock) _ (g.K.Link.state c.serve_piece-progress.new.link) (in_hand c.loop.desk.attending false More c.loop.desk.reader _) c.args.desk.now.shelf c.loop.desk.shelf c.args.desk.now.seat c.loop.desk.seat c.args.desk.now.users.seat c.loop.desk.users.seat c.loop.invariant.shelf c.loop.invariant.seat c.loop.invariant.users c.serve_piece-progress.ensures.timely c.args.desk.now.attending.user _ _ b at
           (stands_piece _ _ _ _ _ _ _ _ _ _ _ _ _ _ (c.loop.invariant.stands b at saw users) c.in-Bytes.ensures.read (grind (arith, common_steps))));
+      hung_up = s.hung_up ∙ c.in-Bytes.ensures.hung_up ∙ c.loop.invariant.hung_up;
       end = ((λ is. stop_no _ is refl), (λ ended. unheld _ going ended));
       all_read = λ t is. stop_no _ is refl;
       read_fault = λ is. stop_no _ is refl;
@@ -95,7 +105,10 @@ returns-in-Stopped g c =
       later = later_behind _ _ _ c.loop.invariant.gate s.later;
       spent = λ is. stop_no _ is refl;
       few = few_more _ _ _ _ _ _ c.loop.invariant.counted c.in-Bytes.ensures.read.reads s.link.wrote.reads c.loop-test.true;
-      asked = are_entered_on g.G.Gate.asked g.G.Gate.asked_on c.args.desk.now.seat c.loop.desk.seat c.args.desk.now.users.seat c.loop.desk.users.seat c.args.gate.now c.loop.gate c.serve_piece.new.gate _ _ c.loop.invariant.asked c.loop.invariant.seat c.loop.invariant.users s.asked;
+      asked = are_entered_on g.G.Gate.asked g.G.Gate.asked_on c.args.desk.now.seat c.loop.desk.seat c.args.desk.now.users.seat c.loop.desk.users.seat c.args.gate.now c.loop.gate c.serve_piece-progress.new.gate _ _ c.loop.invariant.asked c.loop.invariant.seat c.loop.invariant.users s.asked;
+      unattended = λ is. stop_no _ is refl;
+      attended = λ endless is. stop_no _ is refl;
+      let_go = λ limits. let_go_behind (c.args.patience ≡ Limited) (language_for c.args.desk.now.attending.user (arc_value c.args.desk.now.shelf)) g.K.Link.begun g.K.Link.told g.C.Timestamps.told (g.K.Link.state c.args.link.now) (g.C.Timestamps.coming c.args.clock.now) c.args.desk.now.seat c.args.desk.now.users.seat (g.K.Link.state c.loop.link) (g.K.Link.state c.serve_piece-progress.new.link) _ (g.C.Timestamps.coming c.loop.clock) (now c.loop.desk) c.loop.desk.reader c.in-Bytes.ensures.begun c.loop.invariant.stands c.in-Bytes.ensures.read.reads c.serve_piece-progress.ensures.link.wrote.reads c.loop.counter c.loop.waited (c.is_over.ensures.lasts c.if-is_over.false) c.loop.invariant.waits limits;
     }
 
 pub returns-in-End : goal.returns-in-End
@@ -107,6 +120,7 @@ returns-in-End g c =
     let stands = c.loop.invariant.stands b (refl, refl, refl, c.args.desk.now.same_place) h.1 p.1 in
     record {
       shelf = c.loop.invariant.shelf;
+      hung_up = c.in-End.ensures.hung_up ∙ c.loop.invariant.hung_up;
       seat = c.loop.invariant.seat;
       users = c.loop.invariant.users;
       session = record { before = h.0; users_before = p.0; saw = h.1; users_saw = p.1; attending = _; session = served_nothing _ _ _ _ _ _ _ _ _ _ _ _ _ stands c.in-End.ensures.read refl };
@@ -123,6 +137,9 @@ returns-in-End g c =
       spent = λ is. end_no _ is refl;
       few = few_more _ _ _ _ _ _ c.loop.invariant.counted c.in-End.ensures.read.reads refl c.loop-test.true;
       asked = c.loop.invariant.asked;
+      unattended = λ is. end_no _ is refl;
+      attended = λ endless is. end_no _ is refl;
+      let_go = λ limits. let_go_behind (c.args.patience ≡ Limited) (language_for c.args.desk.now.attending.user (arc_value c.args.desk.now.shelf)) g.K.Link.begun g.K.Link.told g.C.Timestamps.told (g.K.Link.state c.args.link.now) (g.C.Timestamps.coming c.args.clock.now) c.args.desk.now.seat c.args.desk.now.users.seat (g.K.Link.state c.loop.link) (g.K.Link.state c.read.new.self) _ (g.C.Timestamps.coming c.loop.clock) (now c.loop.desk) c.loop.desk.reader c.in-End.ensures.begun c.loop.invariant.stands c.in-End.ensures.read.reads refl c.loop.counter c.loop.waited (c.is_over.ensures.lasts c.if-is_over.false) c.loop.invariant.waits limits;
     }
 
 pub returns-in-Failed : goal.returns-in-Failed
@@ -134,6 +151,7 @@ returns-in-Failed g c =
     let stands = c.loop.invariant.stands b (refl, refl, refl, c.args.desk.now.same_place) h.1 p.1 in
     record {
       shelf = c.loop.invariant.shelf;
+      hung_up = c.in-Failed.ensures.hung_up ∙ c.loop.invariant.hung_up;
       seat = c.loop.invariant.seat;
       users = c.loop.invariant.users;
       session = record { before = h.0; users_before = p.0; saw = h.1; users_saw = p.1; attending = _; session = served_nothing _ _ _ _ _ _ _ _ _ _ _ _ _ stands c.in-Failed.ensures.read refl };
@@ -150,6 +168,9 @@ returns-in-Failed g c =
       spent = λ is. read_no _ is refl;
       few = few_more _ _ _ _ _ _ c.loop.invariant.counted c.in-Failed.ensures.read.reads refl c.loop-test.true;
       asked = c.loop.invariant.asked;
+      unattended = λ is. read_no _ is refl;
+      attended = λ endless is. read_no _ is refl;
+      let_go = λ limits. let_go_behind (c.args.patience ≡ Limited) (language_for c.args.desk.now.attending.user (arc_value c.args.desk.now.shelf)) g.K.Link.begun g.K.Link.told g.C.Timestamps.told (g.K.Link.state c.args.link.now) (g.C.Timestamps.coming c.args.clock.now) c.args.desk.now.seat c.args.desk.now.users.seat (g.K.Link.state c.loop.link) (g.K.Link.state c.read.new.self) _ (g.C.Timestamps.coming c.loop.clock) (now c.loop.desk) c.loop.desk.reader c.in-Failed.ensures.begun c.loop.invariant.stands c.in-Failed.ensures.read.reads refl c.loop.counter c.loop.waited (c.is_over.ensures.lasts c.if-is_over.false) c.loop.invariant.waits limits;
     }
 
 pub returns-clause-session : goal.returns-clause-session
@@ -164,21 +185,23 @@ pub loop-preserved : goal.loop-preserved
 loop-preserved g c =
     elim c.match-read.branch [
       | in-Bytes+in-On w ↦ rw (w.desk-is, w.link-is, w.clock-is, w.gate-is) (record {
-        shelf = w.serve_piece.ensures.shelf ∙ c.loop.invariant.shelf;
-        seat = (w.serve_piece.ensures.seat.0 ∙ c.loop.invariant.seat.0, w.serve_piece.ensures.seat.1 ∙ c.loop.invariant.seat.1, w.serve_piece.ensures.seat.2 ∙ c.loop.invariant.seat.2, w.serve_piece.ensures.seat.3 ∙ c.loop.invariant.seat.3);
-        users = (w.serve_piece.ensures.users.0 ∙ c.loop.invariant.users.0, w.serve_piece.ensures.users.1 ∙ c.loop.invariant.users.1, w.serve_piece.ensures.users.2 ∙ c.loop.invariant.users.2, w.serve_piece.ensures.users.3 ∙ c.loop.invariant.users.3);
-        stands = λ b at saw users. goes_on_is _ _ _ _ _ _ _ _ _ _ _ _ w.in-On.is (moved_goes arc_value c.args.desk.now.attending.user g.K.Link.told g.C.Timestamps.told _ (g.K.Link.state w.serve_piece.new.link) (g.C.Timestamps.coming c.loop.clock) (g.C.Timestamps.coming w.serve_piece.new.clock) (now c.loop.desk) (now w.serve_piece.new.desk) false c.loop.desk.reader w.serve_piece.new.desk.reader w.serve_piece.result c.args.desk.now.shelf c.loop.desk.shelf c.args.desk.now.seat c.loop.desk.seat c.args.desk.now.users.seat c.loop.desk.users.seat _ [] c.loop.invariant.shelf c.loop.invariant.seat c.loop.invariant.users (w.serve_piece.ensures.goes c.args.desk.now.attending.user) _ _ b at (stands_piece _ _ _ _ _ _ _ _ _ _ _ _ _ _ (c.loop.invariant.stands b at saw users) w.in-Bytes.ensures.read (grind (arith, common_steps))));
-        prompt = prompt_more (language_for c.args.desk.now.attending.user (arc_value c.args.desk.now.shelf)) g.K.Link.begun g.K.Link.told g.C.Timestamps.told (g.K.Link.state c.args.link.now) (g.C.Timestamps.coming c.args.clock.now) c.args.desk.now.seat c.args.desk.now.users.seat (g.K.Link.state c.loop.link) (g.K.Link.state w.serve_piece.new.link) _ (g.C.Timestamps.coming c.loop.clock) (now c.loop.desk) c.loop.desk.reader c.loop.invariant.prompt w.in-Bytes.ensures.begun c.loop.invariant.stands w.in-Bytes.ensures.read.reads w.serve_piece.ensures.link.wrote.reads;
+        shelf = w.serve_piece-progress.ensures.shelf ∙ c.loop.invariant.shelf;
+        seat = (w.serve_piece-progress.ensures.seat.0 ∙ c.loop.invariant.seat.0, w.serve_piece-progress.ensures.seat.1 ∙ c.loop.invariant.seat.1, w.serve_piece-progress.ensures.seat.2 ∙ c.loop.invariant.seat.2, w.serve_piece-progress.ensures.seat.3 ∙ c.loop.invariant.seat.3);
+        users = (w.serve_piece-progress.ensures.users.0 ∙ c.loop.invariant.users.0, w.serve_piece-progress.ensures.users.1 ∙ c.loop.invariant.users.1, w.serve_piece-progress.ensures.users.2 ∙ c.loop.invariant.users.2, w.serve_piece-progress.ensures.users.3 ∙ c.loop.invariant.users.3);
+        stands = λ b at saw users. goes_on_is _ _ _ _ _ _ _ _ _ _ _ _ w.in-On.is (moved_goes arc_value c.args.desk.now.attending.user g.K.Link.told g.C.Timestamps.told _ (g.K.Link.state w.serve_piece-progress.new.link) (g.C.Timestamps.coming c.loop.clock) (g.C.Timestamps.coming w.serve_piece-progress.new.clock) (now c.loop.desk) (now w.serve_piece-progress.new.desk) false c.loop.desk.reader w.serve_piece-progress.new.desk.reader w.serve_piece-progress.result c.args.desk.now.shelf c.loop.desk.shelf c.args.desk.now.seat c.loop.desk.seat c.args.desk.now.users.seat c.loop.desk.users.seat _ [] c.loop.invariant.shelf c.loop.invariant.seat c.loop.invariant.users (w.serve_piece-progress.ensures.goes c.args.desk.now.attending.user) _ _ b at (stands_piece _ _ _ _ _ _ _ _ _ _ _ _ _ _ (c.loop.invariant.stands b at saw users) w.in-Bytes.ensures.read (grind (arith, common_steps))));
+        prompt = prompt_more (language_for c.args.desk.now.attending.user (arc_value c.args.desk.now.shelf)) g.K.Link.begun g.K.Link.told g.C.Timestamps.told (g.K.Link.state c.args.link.now) (g.C.Timestamps.coming c.args.clock.now) c.args.desk.now.seat c.args.desk.now.users.seat (g.K.Link.state c.loop.link) (g.K.Link.state w.serve_piece-progress.new.link) _ (g.C.Timestamps.coming c.loop.clock) (now c.loop.desk) c.loop.desk.reader c.loop.invariant.prompt w.in-Bytes.ensures.begun c.loop.invariant.stands w.in-Bytes.ensures.read.reads w.serve_piece-progress.ensures.link.wrote.reads;
         timely = λ b at saw users.
-            timely_read (language_for c.args.desk.now.attending.user (arc_value c.args.desk.now.shelf)) (telling g.K.Link.told g.C.Timestamps.told g.C.Timestamps.stamped) (starting (g.K.Link.state c.args.link.now) (g.C.Timestamps.coming c.args.clock.now) b) (g.K.Link.state c.args.link.now) (g.K.Link.state c.loop.link) _ (g.K.Link.state w.serve_piece.new.link) _ _ (c.loop.invariant.timely b at saw users) w.in-Bytes.ensures.read
-            (timely_moved arc_value (telling g.K.Link.told g.C.Timestamps.told g.C.Timestamps.stamped) (g.C.Timestamps.coming c.loop.clock) _ (g.K.Link.state w.serve_piece.new.link) (in_hand c.loop.desk.attending false More c.loop.desk.reader _) c.args.desk.now.shelf c.loop.desk.shelf c.args.desk.now.seat c.loop.desk.seat c.args.desk.now.users.seat c.loop.desk.users.seat c.loop.invariant.shelf c.loop.invariant.seat c.loop.invariant.users w.serve_piece.ensures.timely c.args.desk.now.attending.user _ _ b at
+            timely_read (language_for c.args.desk.now.attending.user (arc_value c.args.desk.now.shelf)) (telling g.K.Link.told g.C.Timestamps.told g.C.Timestamps.stamped) (starting (g.K.Link.state c.args.link.now) (g.C.Timestamps.coming c.args.clock.now) b) (g.K.Link.state c.args.link.now) (g.K.Link.state c.loop.link) _ (g.K.Link.state w.serve_piece-progress.new.link) _ _ (c.loop.invariant.timely b at saw users) w.in-Bytes.ensures.read
+            (timely_moved arc_value (telling g.K.Link.told g.C.Timestamps.told g.C.Timestamps.stamped) (g.C.Timestamps.coming c.loop.clock) _ (g.K.Link.state w.serve_piece-progress.new.link) (in_hand c.loop.desk.attending false More c.loop.desk.reader _) c.args.desk.now.shelf c.loop.desk.shelf c.args.desk.now.seat c.loop.desk.seat c.args.desk.now.users.seat c.loop.desk.users.seat c.loop.invariant.shelf c.loop.invariant.seat c.loop.invariant.users w.serve_piece-progress.ensures.timely c.args.desk.now.attending.user _ _ b at
             (stands_piece _ _ _ _ _ _ _ _ _ _ _ _ _ _ (c.loop.invariant.stands b at saw users) w.in-Bytes.ensures.read (grind (arith, common_steps))));
-        gate = w.serve_piece.ensures.unstopped (on_goes _ w.in-On.is) ∙ c.loop.invariant.gate;
-        counted = rw w.serve_piece.ensures.link.wrote.reads (counted_more _ _ _ _ c.loop.invariant.counted w.in-Bytes.ensures.read.reads);
-        faults = w.serve_piece.ensures.link.wrote.read_faults ∙ w.in-Bytes.ensures.read.no_fault (bytes_came _) ∙ c.loop.invariant.faults;
-        not_ended = λ _. w.serve_piece.ensures.link.wrote.ended ∙ w.in-Bytes.ensures.read.ended;
+        gate = w.serve_piece-progress.ensures.unstopped (on_goes _ w.in-On.is) ∙ c.loop.invariant.gate;
+        counted = rw w.serve_piece-progress.ensures.link.wrote.reads (counted_more _ _ _ _ c.loop.invariant.counted w.in-Bytes.ensures.read.reads);
+        faults = w.serve_piece-progress.ensures.link.wrote.read_faults ∙ w.in-Bytes.ensures.read.no_fault (bytes_came _) ∙ c.loop.invariant.faults;
+        not_ended = λ _. w.serve_piece-progress.ensures.link.wrote.ended ∙ w.in-Bytes.ensures.read.ended;
+        hung_up = w.serve_piece-progress.ensures.hung_up ∙ w.in-Bytes.ensures.hung_up ∙ c.loop.invariant.hung_up;
         room = search rules;
-        asked = are_entered_on g.G.Gate.asked g.G.Gate.asked_on c.args.desk.now.seat c.loop.desk.seat c.args.desk.now.users.seat c.loop.desk.users.seat c.args.gate.now c.loop.gate w.serve_piece.new.gate _ _ c.loop.invariant.asked c.loop.invariant.seat c.loop.invariant.users w.serve_piece.ensures.asked;
+        asked = are_entered_on g.G.Gate.asked g.G.Gate.asked_on c.args.desk.now.seat c.loop.desk.seat c.args.desk.now.users.seat c.loop.desk.users.seat c.args.gate.now c.loop.gate w.serve_piece-progress.new.gate _ _ c.loop.invariant.asked c.loop.invariant.seat c.loop.invariant.users w.serve_piece-progress.ensures.asked;
+        waits = waits_more (c.args.patience ≡ Limited) (language_for c.args.desk.now.attending.user (arc_value c.args.desk.now.shelf)) g.K.Link.begun g.K.Link.told g.C.Timestamps.told (g.K.Link.state c.args.link.now) (g.C.Timestamps.coming c.args.clock.now) c.args.desk.now.seat c.args.desk.now.users.seat (g.K.Link.state c.loop.link) (g.K.Link.state w.serve_piece-progress.new.link) _ (g.C.Timestamps.coming c.loop.clock) (now c.loop.desk) c.loop.desk.reader w.in-Bytes.ensures.begun c.loop.invariant.stands w.in-Bytes.ensures.read.reads w.serve_piece-progress.ensures.link.wrote.reads c.loop.counter c.loop.waited 1 c.waited_after-waited.result (c.waited_after-waited.ensures ∙ ap (λ (n : ℕ). waited_after c.loop.desk.attending.user c.loop.waited n) w.read-is) (c.is_over.ensures.lasts c.if-is_over.false) (omega arith) (omega arith) c.loop.invariant.waits;
       })
       | in-Quiet+in-On-report w ↦ rw (w.desk-is, w.link-is, w.clock-is, w.gate-is) (record {
         shelf = w.report.ensures.shelf ∙ c.loop.invariant.shelf;
@@ -195,8 +218,10 @@ loop-preserved g c =
         counted = rw w.report.ensures.link.wrote.reads (counted_more _ _ _ _ c.loop.invariant.counted w.in-Quiet.ensures.read.reads);
         faults = w.report.ensures.link.wrote.read_faults ∙ w.in-Quiet.ensures.read.no_fault quiet_came ∙ c.loop.invariant.faults;
         not_ended = λ _. w.report.ensures.link.wrote.ended ∙ w.in-Quiet.ensures.read.ended;
+        hung_up = w.report.ensures.hung_up ∙ w.in-Quiet.ensures.hung_up ∙ c.loop.invariant.hung_up;
         room = search rules;
         asked = are_entered_beside g.G.Gate.asked g.G.Gate.asked_on g.G.Gate.unasked c.args.desk.now.seat c.loop.desk.seat c.args.desk.now.users.seat c.args.gate.now c.loop.gate _ _ _ _ c.loop.invariant.asked refl c.loop.invariant.seat (ap (λ (u : UserDesk g.row.U.Denot). u.seat.seen) w.report.ensures.users) w.report.ensures.entered;
+        waits = waits_more (c.args.patience ≡ Limited) (language_for c.args.desk.now.attending.user (arc_value c.args.desk.now.shelf)) g.K.Link.begun g.K.Link.told g.C.Timestamps.told (g.K.Link.state c.args.link.now) (g.C.Timestamps.coming c.args.clock.now) c.args.desk.now.seat c.args.desk.now.users.seat (g.K.Link.state c.loop.link) (g.K.Link.state w.report.new.link) _ (g.C.Timestamps.coming c.loop.clock) (now c.loop.desk) c.loop.desk.reader w.in-Quiet.ensures.begun c.loop.invariant.stands w.in-Quiet.ensures.read.reads w.report.ensures.link.wrote.reads c.loop.counter c.loop.waited 16 c.waited_after-waited.result (c.waited_after-waited.ensures ∙ ap (λ (n : ℕ). waited_after c.loop.desk.attending.user c.loop.waited n) w.read-is) (c.is_over.ensures.lasts c.if-is_over.false) (omega arith) (omega arith) c.loop.invariant.waits;
       })
     ]
 
@@ -213,6 +238,7 @@ returns-in-Cut-report g c =
       shelf = c.report.ensures.shelf ∙ c.loop.invariant.shelf;
       seat = (c.report.ensures.seat.0 ∙ c.loop.invariant.seat.0, c.report.ensures.seat.1 ∙ c.loop.invariant.seat.1, c.report.ensures.seat.2 ∙ c.loop.invariant.seat.2, c.report.ensures.seat.3 ∙ c.loop.invariant.seat.3);
       users = (ap (λ (u : UserDesk g.row.U.Denot). u.seat.opening) c.report.ensures.users ∙ c.loop.invariant.users.0, ap (λ (u : UserDesk g.row.U.Denot). u.seat.place) c.report.ensures.users ∙ c.loop.invariant.users.1, ap (λ (u : UserDesk g.row.U.Denot). u.seat.places) c.report.ensures.users ∙ c.loop.invariant.users.2, ap (λ (u : UserDesk g.row.U.Denot). u.seat.turnstile) c.report.ensures.users ∙ c.loop.invariant.users.3);
+      hung_up = c.report.ensures.hung_up ∙ c.in-Quiet.ensures.hung_up ∙ c.loop.invariant.hung_up;
       session = record { before = h.0; users_before = p.0; saw = h.1; users_saw = p.1; attending = _; session = breaks };
       prompt = prompt_more (language_for c.args.desk.now.attending.user (arc_value c.args.desk.now.shelf)) g.K.Link.begun g.K.Link.told g.C.Timestamps.told (g.K.Link.state c.args.link.now) (g.C.Timestamps.coming c.args.clock.now) c.args.desk.now.seat c.args.desk.now.users.seat (g.K.Link.state c.loop.link) (g.K.Link.state c.report.new.link) _ (g.C.Timestamps.coming c.loop.clock) (now c.loop.desk) c.loop.desk.reader c.loop.invariant.prompt c.in-Quiet.ensures.begun c.loop.invariant.stands c.in-Quiet.ensures.read.reads c.report.ensures.link.wrote.reads;
       timely = λ b at saw users.
@@ -230,6 +256,9 @@ returns-in-Cut-report g c =
       spent = λ is. write_no _ is refl;
       few = few_more _ _ _ _ _ _ c.loop.invariant.counted c.in-Quiet.ensures.read.reads c.report.ensures.link.wrote.reads c.loop-test.true;
       asked = are_entered_beside g.G.Gate.asked g.G.Gate.asked_on g.G.Gate.unasked c.args.desk.now.seat c.loop.desk.seat c.args.desk.now.users.seat c.args.gate.now c.loop.gate _ _ _ _ c.loop.invariant.asked refl c.loop.invariant.seat (ap (λ (u : UserDesk g.row.U.Denot). u.seat.seen) c.report.ensures.users) c.report.ensures.entered;
+      unattended = λ is. write_no _ is refl;
+      attended = λ endless is. write_no _ is refl;
+      let_go = λ limits. let_go_behind (c.args.patience ≡ Limited) (language_for c.args.desk.now.attending.user (arc_value c.args.desk.now.shelf)) g.K.Link.begun g.K.Link.told g.C.Timestamps.told (g.K.Link.state c.args.link.now) (g.C.Timestamps.coming c.args.clock.now) c.args.desk.now.seat c.args.desk.now.users.seat (g.K.Link.state c.loop.link) (g.K.Link.state c.report.new.link) _ (g.C.Timestamps.coming c.loop.clock) (now c.loop.desk) c.loop.desk.reader c.in-Quiet.ensures.begun c.loop.invariant.stands c.in-Quiet.ensures.read.reads c.report.ensures.link.wrote.reads c.loop.counter c.loop.waited (c.is_over.ensures.lasts c.if-is_over.false) c.loop.invariant.waits limits;
     }
 
 pub returns-clause-asked : goal.returns-clause-asked
@@ -243,3 +272,44 @@ returns-clause-prompt g c = c.loop.invariant.prompt
 
 pub returns-clause-timely : goal.returns-clause-timely
 returns-clause-timely g c = c.loop.invariant.timely
+
+pub returns-then-is_over : goal.returns-then-is_over
+returns-then-is_over g c =
+    let h = c.seen.ensures.history in
+    let p = c.seen-2.ensures.history in
+    let seat = c.args.desk.now.seat in
+    let b : Beginning = record { opening = seat.opening; users = c.args.desk.now.users.seat.opening; place = seat.place; before = h.0; users_before = p.0 } in
+    let i = c.loop.invariant in
+    let over = c.is_over.ensures.over c.if-is_over.true in
+    record {
+      shelf = i.shelf;
+      hung_up = i.hung_up;
+      seat = i.seat;
+      users = i.users;
+      session = record { before = h.0; users_before = p.0; saw = h.1; users_saw = p.1; attending = c.loop.desk.attending; session = record { served = served_here _ _ _ _ _ _ _ _ _ _ (i.stands b (refl, refl, refl, c.args.desk.now.same_place) h.1 p.1); nobody = over.1 } };
+      prompt = i.prompt;
+      timely = i.timely;
+      end = ((λ is. unattended_no _ is refl), (λ ended. unheld _ (i.not_ended (some_made c.loop.counter c.loop.waited over.2 i.waits.few)) ended));
+      all_read = λ t is. unattended_no _ is refl;
+      read_fault = λ is. unattended_no _ is refl;
+      no_read_fault = λ is. i.faults;
+      write_fault = λ is. unattended_no _ is refl;
+      stopped = λ is. unattended_no _ is refl;
+      unstopped = λ is. i.gate;
+      later = stayed _ _ i.gate;
+      spent = λ is. unattended_no _ is refl;
+      few = few_here _ _ _ _ i.counted c.loop-test.true;
+      asked = i.asked;
+      unattended = λ is. unattended_at (c.args.patience ≡ Limited) (language_for c.args.desk.now.attending.user (arc_value c.args.desk.now.shelf)) g.K.Link.begun g.K.Link.told g.C.Timestamps.told (g.K.Link.state c.args.link.now) (g.C.Timestamps.coming c.args.clock.now) c.args.desk.now.seat c.args.desk.now.users.seat (g.K.Link.state c.loop.link) c.loop.counter c.loop.waited i.counted over.2 i.waits;
+      attended = λ endless is. both_no (sym over.0 ∙ endless);
+      let_go = λ limits. let_go_here (c.args.patience ≡ Limited) (language_for c.args.desk.now.attending.user (arc_value c.args.desk.now.shelf)) g.K.Link.begun g.K.Link.told g.C.Timestamps.told (g.K.Link.state c.args.link.now) (g.C.Timestamps.coming c.args.clock.now) c.args.desk.now.seat c.args.desk.now.users.seat (g.K.Link.state c.loop.link) c.loop.counter c.loop.waited i.waits limits;
+    }
+
+pub returns-clause-unattended : goal.returns-clause-unattended
+returns-clause-unattended g c = λ is. spent_no _ is refl
+
+pub returns-clause-attended : goal.returns-clause-attended
+returns-clause-attended g c = λ endless is. spent_no _ is refl
+
+pub returns-clause-let_go : goal.returns-clause-let_go
+returns-clause-let_go g c = λ limits. let_go_here (c.args.patience ≡ Limited) (language_for c.args.desk.now.attending.user (arc_value c.args.desk.now.shelf)) g.K.Link.begun g.K.Link.told g.C.Timestamps.told (g.K.Link.state c.args.link.now) (g.C.Timestamps.coming c.args.clock.now) c.args.desk.now.seat c.args.desk.now.users.seat (g.K.Link.state c.loop.link) c.loop.counter c.loop.waited c.loop.invariant.waits limits

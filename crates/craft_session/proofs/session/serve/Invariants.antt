@@ -11,6 +11,8 @@ use Rattle.craft_session.specs.Seats.{IsSameSeat, IsSameUserSeat}
 use Rattle.craft_session.specs.Sessions.{Beginning, IsAt, IsPrompt, Stands}
 use Rattle.craft_session.specs.Stamps.{stamp_at}
 use Rattle.craft_session.specs.Timely.{WasTimely, telling}
+use Rattle.craft_session.specs.declared.patience.Patience.TheVariants.{Limited}
+use Rattle.craft_session.proofs.Waiting.{Waits}
 use Rattle.craft_session.proofs.session.serve.Given as goal
 
 abbrev pub invariant-loop : goal.invariant-loop
@@ -28,6 +30,8 @@ invariant-loop g l =
       counted : Counted (state l.fn.link).reads (state l.link).reads l.counter;
       faults : (state l.link).read_faults ≡ (state l.fn.link).read_faults;
       not_ended : 0 < l.counter → (state l.link).ended ≡ false;
+      hung_up : g.K.Link.hung_up l.link ≡ g.K.Link.hung_up l.fn.link;
       room : 0 < length l.piece;
       asked : AreEntered l.fn.desk.seat l.fn.desk.users.seat (g.G.Gate.asked l.fn.gate l.gate) l.desk.seat.seen l.desk.users.seat.seen;
+      waits : Waits (l.fn.patience ≡ Limited) (language_for l.fn.desk.attending.user (arc_value l.fn.desk.shelf)) g.K.Link.begun g.K.Link.told g.C.Timestamps.told (state l.fn.link) (coming l.fn.clock) l.fn.desk.seat l.fn.desk.users.seat (state l.link) l.counter l.waited;
     }

@@ -16,7 +16,7 @@ use Rattle.craft_session.proofs.Timely.{timely_more, timely_moved, timely_none}
 use Rattle.craft_session.proofs.session.serve_piece.Goals as goal
 
 pub loop-at-init : goal.loop-at-init
-loop-at-init g c = record { shelf = refl; seat = (refl, refl, refl, refl); users = (refl, refl, refl, refl); link = writes_none _ _; gate = refl; within = omega arith; asked = are_entered_none c.args.desk.now.seat c.args.desk.now.users.seat (g.G.Gate.asked c.args.gate.now c.args.gate.now) (g.G.Gate.unasked c.args.gate.now); stands = λ user k c1 b at s. s; timely = λ user k c1 b at s. timely_none (language_for user (arc_value c.args.desk.now.shelf)) (telling g.K.Link.told g.C.Timestamps.told g.C.Timestamps.stamped) (starting k c1 b) (g.K.Link.state c.args.link.now) (g.K.Link.state c.args.link.now) refl }
+loop-at-init g c = record { hung_up = refl; shelf = refl; seat = (refl, refl, refl, refl); users = (refl, refl, refl, refl); link = writes_none _ _; gate = refl; within = omega arith; asked = are_entered_none c.args.desk.now.seat c.args.desk.now.users.seat (g.G.Gate.asked c.args.gate.now c.args.gate.now) (g.G.Gate.unasked c.args.gate.now); stands = λ user k c1 b at s. s; timely = λ user k c1 b at s. timely_none (language_for user (arc_value c.args.desk.now.shelf)) (telling g.K.Link.told g.C.Timestamps.told g.C.Timestamps.stamped) (starting k c1 b) (g.K.Link.state c.args.link.now) (g.K.Link.state c.args.link.now) refl }
 
 pub loop-at-preserved : goal.loop-at-preserved
 loop-at-preserved g c =
@@ -29,6 +29,7 @@ loop-at-preserved g c =
       seat = (c.serve_unit.ensures.seat.0 ∙ c.loop-at.invariant.seat.0, c.serve_unit.ensures.seat.1 ∙ c.loop-at.invariant.seat.1, c.serve_unit.ensures.seat.2 ∙ c.loop-at.invariant.seat.2, c.serve_unit.ensures.seat.3 ∙ c.loop-at.invariant.seat.3);
       users = (c.serve_unit.ensures.users.0 ∙ c.loop-at.invariant.users.0, c.serve_unit.ensures.users.1 ∙ c.loop-at.invariant.users.1, c.serve_unit.ensures.users.2 ∙ c.loop-at.invariant.users.2, c.serve_unit.ensures.users.3 ∙ c.loop-at.invariant.users.3);
       link = writes_more _ _ _ _ c.loop-at.invariant.link c.serve_unit.ensures.link;
+      hung_up = c.serve_unit.ensures.hung_up ∙ c.loop-at.invariant.hung_up;
       gate = c.serve_unit.ensures.unstopped (on_goes _ c.in-On.is) ∙ c.loop-at.invariant.gate;
       within = omega (arith, c.feed-fed.ensures.within, ap length offer, length-drop c.loop-at.at piece, c.loop-at.invariant.within);
       asked = are_entered_on g.G.Gate.asked g.G.Gate.asked_on c.args.desk.now.seat c.loop-at.desk.seat c.args.desk.now.users.seat c.loop-at.desk.users.seat c.args.gate.now c.loop-at.gate c.serve_unit.new.gate _ _ c.loop-at.invariant.asked c.loop-at.invariant.seat c.loop-at.invariant.users c.serve_unit.ensures.asked;
@@ -49,6 +50,7 @@ returns-in_default g c =
       seat = (u.seat.0 ∙ k.seat.0, u.seat.1 ∙ k.seat.1, u.seat.2 ∙ k.seat.2, u.seat.3 ∙ k.seat.3);
       users = (u.users.0 ∙ k.users.0, u.users.1 ∙ k.users.1, u.users.2 ∙ k.users.2, u.users.3 ∙ k.users.3);
       link = writes_more _ _ _ _ k.link u.link;
+      hung_up = u.hung_up ∙ k.hung_up;
       stopped = λ is. rose_behind _ _ _ k.gate (u.stopped is);
       unstopped = λ not. u.unstopped not ∙ k.gate;
       later = later_behind _ _ _ k.gate u.later;

@@ -23,6 +23,7 @@ invariant-loop-at g l =
       seat : IsSameSeat l.fn.desk.seat l.desk.seat;
       users : IsSameUserSeat l.fn.desk.users.seat l.desk.users.seat;
       link : Writes g.K.Link.told (state l.fn.link) (state l.link);
+      hung_up : g.K.Link.hung_up l.link ≡ g.K.Link.hung_up l.fn.link;
       gate : g.G.Gate.stops l.gate ≡ g.G.Gate.stops l.fn.gate;
       within : l.at ≤ length l.piece;
       asked : AreEntered l.fn.desk.seat l.fn.desk.users.seat (g.G.Gate.asked l.fn.gate l.gate) l.desk.seat.seen l.desk.users.seat.seen;

@@ -9,8 +9,8 @@ use Rattle.craft_session.specs.Responses.{Fills, shown_lines}
 use Rattle.craft_session.proofs.FillSteps.{filled_is, fills_more}
 use Rattle.craft_session.proofs.shown.add_inventory.Goals as goal
 
-pub returns-in-Whole : goal.returns-in-Whole
-returns-in-Whole g c =
+pub returns-in-Whole-clause-filled : goal.returns-in-Whole-clause-filled
+returns-in-Whole-clause-filled g c =
     let i = c.args.inventory in
     let modules = map module_text (modules_in c.args.shape i.equipped) in
     let middle = map middle_text (option_to_list i.out) in
@@ -18,4 +18,4 @@ returns-in-Whole g c =
     ap (λ (n : ℕ). map module_text (filter (has_bit i.equipped) (range_with_len 0 n)) ++ middle) (sym c.requires.of_shape.0)
     ∙ ap (λ (what : Subject). shown_lines what (equipped_in i) i.out) (sym c.in-System.is) in
     subst (λ (ls : List (List ℕ)). Fills g.K.Link.told (g.K.Link.state c.args.link.now) (g.K.Link.state c.add_middle-in-Whole.new.link) c.add_middle-in-Whole.result c.args.answer.now c.add_middle-in-Whole.new.answer ls) lines
-    (fills_more g.K.Link.told (g.K.Link.state c.args.link.now) (g.K.Link.state c.add_modules.new.link) (g.K.Link.state c.add_middle-in-Whole.new.link) c.args.answer.now c.add_modules.new.answer c.add_middle-in-Whole.new.answer modules middle (filled_is _ _ _ _ _ _ _ c.in-Whole.is c.add_modules.ensures) c.add_middle-in-Whole.result c.add_middle-in-Whole.ensures)
+    (fills_more g.K.Link.told (g.K.Link.state c.args.link.now) (g.K.Link.state c.add_modules.new.link) (g.K.Link.state c.add_middle-in-Whole.new.link) c.args.answer.now c.add_modules.new.answer c.add_middle-in-Whole.new.answer modules middle (filled_is _ _ _ _ _ _ _ c.in-Whole.is c.add_modules.ensures.filled) c.add_middle-in-Whole.result c.add_middle-in-Whole.ensures.filled)

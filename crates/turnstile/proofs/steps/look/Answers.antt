@@ -1,7 +1,7 @@
 use Rattle.std.proofs.Common.{◌≡◌, [], ◌∷◌, Some, sym, ap, ◌∙◌, refl}
 use Rattle.atomic_table.specs.Table.{rest}
 use Rattle.turnstile.specs.Turning.{opening_in, stands_in}
-use Rattle.turnstile.proofs.Keeps.{looks, found_some, turned}
+use Rattle.turnstile.proofs.Keeps.{looks, found_some}
 use Rattle.turnstile.proofs.steps.look.Goals as goal
 
 pub load-serving-requires : goal.load-serving-requires

@@ -1,63 +1,37 @@
-use Rattle.std.proofs.Common.{[], ◌∷◌, ◌++◌, refl, sym, ◌∙◌, ap, subst}
-use Rattle.user_admin.specs.declared.op.UserOutcome.{UserOutcome}
-use Rattle.user_admin.specs.declared.op.UserOutcome.TheVariants.{Done}
-use Rattle.user_admin.specs.declared.state.UserState.{UserState}
-use Rattle.user_admin.specs.States.{StandsFor, entry, opening_of}
-use Rattle.user_admin.specs.Turns.{Turned}
-use Rattle.user_admin.proofs.Turning.{at_turn, ended, ends, ends_pass, given_back, gives_back, numbered_back, pass_back}
+use Rattle.std.proofs.Common.{ℕ, Some, [], ◌++◌, ◌∙◌, ap, subst}
+use Rattle.user_admin.specs.declared.turns.UserTook.{UserTook}
+use Rattle.user_admin.specs.Shared.{opening_at}
+use Rattle.user_admin.specs.Turns.{TriedIs}
+use Rattle.user_admin.proofs.Turning.{later_behind, none_is, rose_behind, some_is, tried_behind}
 use Rattle.user_admin.proofs.turns.change.Goals as goal
 
-pub change-done-requires-clause-stands : goal.change-done-requires-clause-stands
-change-done-requires-clause-stands g c =
-    let o = opening_of g.D.Disk.state c.args.turns.now.first in
-    let w = c.requires.seen in
-    let t = at_turn g.D.Disk.told g.D.Disk.state (opening_of g.D.Disk.state c.args.turns.now.first) c.args.pass.now.number c.enter-turn.result.own c.args.turns.now.passes c.args.pass.now.seen c.enter-turn.result.seen c.enter-turn.result.state c.enter-turn.ensures.turn.1 c.enter-turn.ensures.found w.0 w.1 in
-    (o, w.0 ++ t.later, subst (λ (s : UserState g.row.D.Denot). StandsFor g.D.Disk.told g.D.Disk.state o s (w.0 ++ t.later)) (sym c.state_mut.ensures.value) t.stands)
+pub returns-in-Some-clause-took : goal.returns-in-Some-clause-took
+returns-in-Some-clause-took g c = c.in-Some.ensures.took
 
-pub leave-requires-clause-stands : goal.leave-requires-clause-stands
-leave-requires-clause-stands g c =
-    ends g.D.Disk.told g.D.Disk.state (opening_of g.D.Disk.state c.args.turns.now.first) c.args.pass.now.number c.enter-turn.result.own c.args.turns.now.passes c.args.pass.now.seen c.enter-turn.result.seen c.enter-turn.result.state c.enter-turn.ensures.turn.1 c.enter-turn.ensures.found
-    c.requires.seen c.change-done.new.self c.number-place.result c.args.op (Done c.in-Done.change) (c.number-place.ensures ∙ c.enter-turn.ensures.out.0) (c.change-done.ensures.origin ∙ ap (λ (s : UserState g.row.D.Denot). s.origin) c.state_mut.ensures.value) (λ l st. c.in-Done.ensures.changed (opening_of g.D.Disk.state c.args.turns.now.first) l c.args.pass.now.number (subst (λ (s : UserState g.row.D.Denot). StandsFor g.D.Disk.told g.D.Disk.state (opening_of g.D.Disk.state c.args.turns.now.first) s l) (sym c.state_mut.ensures.value) st))
+pub returns-in-Some-clause-stopped : goal.returns-in-Some-clause-stopped
+returns-in-Some-clause-stopped g c = λ is. c.in-Some.ensures.stopped (ap (λ (x : UserTook). Some x) is)
 
-pub returns-in-Done-clause-took : goal.returns-in-Done-clause-took
-returns-in-Done-clause-took g c = λ h saw. (
-  c.in-Done.change,
-  ended g.D.Disk.told g.D.Disk.state (opening_of g.D.Disk.state c.args.turns.now.first) c.args.pass.now.number c.enter-turn.result.own c.args.turns.now.passes c.args.pass.now.seen c.enter-turn.result.seen c.enter-turn.result.state c.enter-turn.ensures.turn.1 c.enter-turn.ensures.found
-      h saw c.change-done.new.self c.number-place.result c.args.op (Done c.in-Done.change) c.leave.new.pass.seen (c.number-place.ensures ∙ c.enter-turn.ensures.out.0) (λ l st. c.in-Done.ensures.changed (opening_of g.D.Disk.state c.args.turns.now.first) l c.args.pass.now.number (subst (λ (s : UserState g.row.D.Denot). StandsFor g.D.Disk.told g.D.Disk.state (opening_of g.D.Disk.state c.args.turns.now.first) s l) (sym c.state_mut.ensures.value) st)) c.leave.ensures.seen,
-)
+pub returns-in-Some-clause-unstopped : goal.returns-in-Some-clause-unstopped
+returns-in-Some-clause-unstopped g c = λ other. c.in-Some.ensures.unstopped (λ is. other (some_is _ _ is))
 
-pub returns-in-Done-clause-pass : goal.returns-in-Done-clause-pass
-returns-in-Done-clause-pass g c =
-    ends_pass g.D.Disk.told g.D.Disk.state (opening_of g.D.Disk.state c.args.turns.now.first) c.args.pass.now.number c.enter-turn.result.own c.args.turns.now.passes c.args.pass.now.seen c.enter-turn.result.seen c.enter-turn.result.state c.enter-turn.ensures.turn.1 c.enter-turn.ensures.found
-    c.args.turns.now c.args.pass.now c.leave.new.pass c.number-place.result c.args.op (Done c.in-Done.change) refl refl c.requires.pass (c.leave.ensures.pass.0, c.leave.ensures.pass.1, c.leave.ensures.pass.2 ∙ c.enter-turn.ensures.out.0) (c.number-place.ensures ∙ c.enter-turn.ensures.out.0) c.leave.ensures.seen
+pub change_in_line-took-requires-clause-seen : goal.change_in_line-took-requires-clause-seen
+change_in_line-took-requires-clause-seen g c = let w = c.requires.seen in let b = c.in-None.ensures.took w.0 w.1 in (w.0 ++ b.later, b.saw)
 
-pub leave-requires-in-Denied-clause-stands : goal.leave-requires-in-Denied-clause-stands
-leave-requires-in-Denied-clause-stands g c =
-    ends g.D.Disk.told g.D.Disk.state (opening_of g.D.Disk.state c.args.turns.now.first) c.args.pass.now.number c.enter-turn.result.own c.args.turns.now.passes c.args.pass.now.seen c.enter-turn.result.seen c.enter-turn.result.state c.enter-turn.ensures.turn.1 c.enter-turn.ensures.found
-    c.requires.seen c.change-done.new.self c.number-place.result c.args.op c.refused-outcome.result (c.number-place.ensures ∙ c.enter-turn.ensures.out.0) (c.change-done.ensures.origin ∙ ap (λ (s : UserState g.row.D.Denot). s.origin) c.state_mut.ensures.value) (λ l st. subst (λ (u : UserOutcome). StandsFor g.D.Disk.told g.D.Disk.state (opening_of g.D.Disk.state c.args.turns.now.first) c.change-done.new.self (l ++ entry c.args.pass.now.number c.args.op u ∷ [])) (sym c.refused-outcome.ensures) (c.in-Denied.ensures.changed (opening_of g.D.Disk.state c.args.turns.now.first) l c.args.pass.now.number (subst (λ (s : UserState g.row.D.Denot). StandsFor g.D.Disk.told g.D.Disk.state (opening_of g.D.Disk.state c.args.turns.now.first) s l) (sym c.state_mut.ensures.value) st)))
+pub returns-in-None-clause-pass : goal.returns-in-None-clause-pass
+returns-in-None-clause-pass g c = (c.change_in_line-took.ensures.pass.0, c.change_in_line-took.ensures.pass.1 ∙ c.try_change.ensures.pass.1)
 
-pub returns-in-Denied-clause-took : goal.returns-in-Denied-clause-took
-returns-in-Denied-clause-took g c = λ h saw. subst (λ (u : UserOutcome). Turned (opening_of g.D.Disk.state c.args.turns.now.first) c.args.pass.now.number h (entry c.args.pass.now.number c.args.op u) c.leave-in-Denied.new.pass.seen) c.refused-outcome.ensures
-    (ended g.D.Disk.told g.D.Disk.state (opening_of g.D.Disk.state c.args.turns.now.first) c.args.pass.now.number c.enter-turn.result.own c.args.turns.now.passes c.args.pass.now.seen c.enter-turn.result.seen c.enter-turn.result.state c.enter-turn.ensures.turn.1 c.enter-turn.ensures.found
-    h saw c.change-done.new.self c.number-place.result c.args.op c.refused-outcome.result c.leave-in-Denied.new.pass.seen (c.number-place.ensures ∙ c.enter-turn.ensures.out.0) (λ l st. subst (λ (u : UserOutcome). StandsFor g.D.Disk.told g.D.Disk.state (opening_of g.D.Disk.state c.args.turns.now.first) c.change-done.new.self (l ++ entry c.args.pass.now.number c.args.op u ∷ [])) (sym c.refused-outcome.ensures) (c.in-Denied.ensures.changed (opening_of g.D.Disk.state c.args.turns.now.first) l c.args.pass.now.number (subst (λ (s : UserState g.row.D.Denot). StandsFor g.D.Disk.told g.D.Disk.state (opening_of g.D.Disk.state c.args.turns.now.first) s l) (sym c.state_mut.ensures.value) st))) c.leave-in-Denied.ensures.seen)
+pub returns-in-None-clause-took : goal.returns-in-None-clause-took
+returns-in-None-clause-took g c = λ h saw. tried_behind (opening_at g.D.Disk.state c.args.turns.now.first) c.args.pass.now.number h c.args.op c.try_change.new.pass.seen c.change_in_line-took.new.pass.seen (Some c.change_in_line-took.result) (c.in-None.ensures.took h saw)
+    (λ k next. subst (λ (n : ℕ). TriedIs (opening_at g.D.Disk.state c.args.turns.now.first) n k c.args.op c.change_in_line-took.new.pass.seen (Some c.change_in_line-took.result)) c.try_change.ensures.pass.1 (c.change_in_line-took.ensures.took k next))
 
-pub returns-in-Denied-clause-pass : goal.returns-in-Denied-clause-pass
-returns-in-Denied-clause-pass g c =
-    ends_pass g.D.Disk.told g.D.Disk.state (opening_of g.D.Disk.state c.args.turns.now.first) c.args.pass.now.number c.enter-turn.result.own c.args.turns.now.passes c.args.pass.now.seen c.enter-turn.result.seen c.enter-turn.result.state c.enter-turn.ensures.turn.1 c.enter-turn.ensures.found
-    c.args.turns.now c.args.pass.now c.leave-in-Denied.new.pass c.number-place.result c.args.op c.refused-outcome.result refl refl c.requires.pass (c.leave-in-Denied.ensures.pass.0, c.leave-in-Denied.ensures.pass.1, c.leave-in-Denied.ensures.pass.2 ∙ c.enter-turn.ensures.out.0) (c.number-place.ensures ∙ c.enter-turn.ensures.out.0) c.leave-in-Denied.ensures.seen
+pub returns-in-None-clause-stopped : goal.returns-in-None-clause-stopped
+returns-in-None-clause-stopped g c = λ is. rose_behind _ _ _ (c.in-None.ensures.unstopped (λ e. none_is _ e)) (c.change_in_line-took.ensures.stopped is)
 
-pub back-requires-clause-stands : goal.back-requires-clause-stands
-back-requires-clause-stands g c =
-    gives_back g.D.Disk.told g.D.Disk.state (opening_of g.D.Disk.state c.args.turns.now.first) c.args.pass.now.number c.enter-turn.result.own c.args.turns.now.passes c.args.pass.now.seen c.enter-turn.result.seen c.enter-turn.result.state c.enter-turn.ensures.turn.1 c.enter-turn.ensures.found
-    c.requires.seen c.change-done.new.self (c.change-done.ensures.origin ∙ ap (λ (s : UserState g.row.D.Denot). s.origin) c.state_mut.ensures.value) (λ l st. c.in-Stopped.ensures.changed (opening_of g.D.Disk.state c.args.turns.now.first) l c.args.pass.now.number (subst (λ (s : UserState g.row.D.Denot). StandsFor g.D.Disk.told g.D.Disk.state (opening_of g.D.Disk.state c.args.turns.now.first) s l) (sym c.state_mut.ensures.value) st))
+pub returns-in-None-clause-unstopped : goal.returns-in-None-clause-unstopped
+returns-in-None-clause-unstopped g c = λ other. c.change_in_line-took.ensures.unstopped other ∙ c.in-None.ensures.unstopped (λ e. none_is _ e)
 
-pub returns-in-Stopped-clause-took : goal.returns-in-Stopped-clause-took
-returns-in-Stopped-clause-took g c = λ h saw.
-    given_back g.D.Disk.told g.D.Disk.state (opening_of g.D.Disk.state c.args.turns.now.first) c.args.pass.now.number c.enter-turn.result.own c.args.turns.now.passes c.args.pass.now.seen c.enter-turn.result.seen c.enter-turn.result.state c.enter-turn.ensures.turn.1 c.enter-turn.ensures.found
-    h saw c.change-done.new.self c.back.new.pass.seen (λ l st. c.in-Stopped.ensures.changed (opening_of g.D.Disk.state c.args.turns.now.first) l c.args.pass.now.number (subst (λ (s : UserState g.row.D.Denot). StandsFor g.D.Disk.told g.D.Disk.state (opening_of g.D.Disk.state c.args.turns.now.first) s l) (sym c.state_mut.ensures.value) st)) c.back.ensures.seen
+pub returns-in-None-clause-later : goal.returns-in-None-clause-later
+returns-in-None-clause-later g c = later_behind _ _ _ (c.in-None.ensures.unstopped (λ e. none_is _ e)) c.change_in_line-took.ensures.later
 
-pub returns-in-Stopped-clause-pass : goal.returns-in-Stopped-clause-pass
-returns-in-Stopped-clause-pass g c =
-    let t = c.enter-turn in
-    pass_back c.args.turns.now c.args.pass.now c.back.new.pass c.requires.pass c.back.ensures.pass.0 c.back.ensures.pass.1 (c.back.ensures.pass.2 ∙ t.ensures.out.0)
-    (numbered_back g.D.Disk.told g.D.Disk.state (opening_of g.D.Disk.state c.args.turns.now.first) t.result.own c.args.turns.now.passes c.args.pass.now.seen t.result.seen t.result.state t.ensures.found c.back.new.pass.seen c.back.ensures.seen)
+pub returns-in-None-clause-asked : goal.returns-in-None-clause-asked
+returns-in-None-clause-asked g c = g.G.Gate.asked_on c.args.gate.now c.try_change.new.gate c.change_in_line-took.new.gate [] _ c.in-None.ensures.asked c.change_in_line-took.ensures.asked

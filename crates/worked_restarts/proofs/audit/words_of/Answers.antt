@@ -22,5 +22,5 @@ returns g c =
     c.bring_home.ensures
     ∙ ap (λ (p : Provisioner g.row.D.Denot). with_home (In (with_value driver (record { p = p; rolling = v.rolling }))) c.take_out.new.self) c.load_all-words.ensures
     ∙ ap (λ (x : Driver g.row.D.Denot). with_home (In (with_value driver x)) c.take_out.new.self) c.deref_mut-held.ensures.value
-    ∙ ap (λ (x : State g.row.D.Denot). with_home (In driver) x) c.take_out.ensures.state
+    ∙ ap (λ (x : State g.row.D.Denot). with_home (In driver) x) c.in-Some.ensures.state
     ∙ ap (λ (x : Home g.row.D.Denot). with_home x c.args.state.now) (sym c.in-Some.ensures.found)

@@ -7,7 +7,7 @@ use Rattle.xc_core.specs.States.{StandsFor, opening_of}
 use Rattle.xc_core.specs.Turns.{FailedIs}
 use Rattle.dxc_model.specs.Histories.{IsCut, IsRestarted}
 use Rattle.xc_core.proofs.Away.{read_since}
-use Rattle.xc_core.proofs.Entries.{answered_not_cut, lasted_reading}
+use Rattle.xc_core.proofs.Entries.{reading_not_cut, lasted_reading}
 use Rattle.xc_core.proofs.Homing.{failure_since}
 use Rattle.xc_core.proofs.Turning.{astray_own, found_at, leave_stands, numbered_own, pass_back, saw_once, seen_own, turned}
 use Rattle.xc_core.proofs.turns.fail.Goals as goal
@@ -32,7 +32,7 @@ returns-clause-failed g c = λ h saw.
       turned g.D.Disk.told g.D.Disk.state (opening_of g.D.Disk.state c.args.turns.now.first) c.args.pass.now.number w.0 c.enter-turn.result.state c.enter-turn.result.seen f c.fail.new.state e c.leave.new.pass.seen (c.fail.ensures.failed (opening_of g.D.Disk.state c.args.turns.now.first) c.args.pass.now.number (w.0 ++ f.later) w.2.0 c.args.op.now c.args.cause st t)
           (seen_own g.D.Disk.told g.D.Disk.state (opening_of g.D.Disk.state c.args.turns.now.first) c.args.pass.now.number w.0 c.enter-turn.result.state c.enter-turn.result.seen f c.number-place.result c.args.op.now (Failed c.args.cause) c.leave.new.pass.seen (c.number-place.ensures ∙ c.enter-turn.ensures.out.0) c.leave.ensures.seen),
       λ taken x. failure_since g.D.Disk.told g.D.Disk.state (opening_of g.D.Disk.state c.args.turns.now.first) c.args.pass.now.number taken c.args.op.now c.args.cause w.0 f.later c.args.driver.value.p f.others f.stands.turns x,
-      λ stopped. lasted_reading IsCut IsRestarted answered_not_cut w.0 f.later (read_since g.D.Disk.told g.D.Disk.state (opening_of g.D.Disk.state c.args.turns.now.first) c.args.pass.now.number w.2.0 w.0 f.later c.args.driver.value.p f.others f.stands.turns w.2.1.out) stopped,
+      λ stopped. lasted_reading IsCut IsRestarted reading_not_cut w.0 f.later (read_since g.D.Disk.told g.D.Disk.state (opening_of g.D.Disk.state c.args.turns.now.first) c.args.pass.now.number w.2.0 w.0 f.later c.args.driver.value.p f.others f.stands.turns w.2.1.out) stopped,
     )
 
 pub returns-clause-pass : goal.returns-clause-pass

@@ -12,7 +12,7 @@ use Rattle.dbchg_reports.specs.Recent.{Recent}
 use Rattle.xc_core.specs.declared.state.State.{State}
 use Rattle.xc_core.specs.Seeing.{entry}
 use Rattle.xc_core.specs.States.{opening_of}
-use Rattle.xc_core.specs.Turns.{InventoryIs, IsInventoryOf}
+use Rattle.xc_core.specs.Turns.{InventoryIs}
 use Rattle.xc_core.proofs.Standing.{table_is}
 use Rattle.xc_core.proofs.Turning.{astray_own, found_at, leave_stands, numbered_own, pass_back, saw_once, seen_own, state_shape, turned, turned_read}
 use Rattle.xc_core.proofs.turns.read_inventory.Goals as goal

@@ -17,16 +17,16 @@ invariant_of-self g c =
     let p = c.self.inside.pass in
     let w = c.self.invariant.2 in
     let o = opening_of g.D.Disk.state c.deref-turns.result.now.first in
-    let turn = c.change-changed.ensures.changed w.0 (saw_there g.D.Disk.told g.D.Disk.state p t c.deref-turns.result.now w.0 c.deref-turns.ensures w.1) in
-    seated_on g.D.Disk.told g.D.Disk.state p c.change-changed.new.pass t c.deref-turns.result.now (arc_value c.self.inside.fabric) c.deref-turns.ensures c.self.invariant c.change-changed.ensures.pass.0 c.change-changed.ensures.pass.1
-    (changed_ended o p.number w.0 c.args.op.now c.change-changed.new.pass.seen c.change-changed.result turn) c.change-changed.ensures.astray
+    let turn = c.change_in_line.ensures.changed w.0 (saw_there g.D.Disk.told g.D.Disk.state p t c.deref-turns.result.now w.0 c.deref-turns.ensures w.1) in
+    seated_on g.D.Disk.told g.D.Disk.state p c.change_in_line.new.pass t c.deref-turns.result.now (arc_value c.self.inside.fabric) c.deref-turns.ensures c.self.invariant c.change_in_line.ensures.pass.0 c.change_in_line.ensures.pass.1
+    (changed_ended o p.number w.0 c.args.op.now c.change_in_line.new.pass.seen c.change_in_line.result turn) c.change_in_line.ensures.astray
 
 pub returns-clause-changed : goal.returns-clause-changed
 returns-clause-changed g c =
     let eq = ap (λ (t : Gate (State g.row.D.Denot)). seat_at g.D.Disk.state c.self.inside.pass t) c.deref-turns.ensures ∙ c.self.view_is in
-    subst (λ (s : SeatAt). (h : List Entry) → Saw s.opening s.seen h → ChangedIs s.opening s.place h c.args.op.now c.change-changed.new.pass.seen c.change-changed.result) eq c.change-changed.ensures.changed
+    subst (λ (s : SeatAt). (h : List Entry) → Saw s.opening s.seen h → ChangedIs s.opening s.place h c.args.op.now c.change_in_line.new.pass.seen c.change_in_line.result) eq c.change_in_line.ensures.changed
 
 pub returns-clause-entered : goal.returns-clause-entered
 returns-clause-entered g c =
     let eq = ap (λ (t : Gate (State g.row.D.Denot)). seat_at g.D.Disk.state c.self.inside.pass t) c.deref-turns.ensures ∙ c.self.view_is in
-    subst (λ (s : SeatAt). (h : List Entry) → Saw s.opening s.seen h → Entered s.opening s.place (g.G.Gate.asked c.args.gate.now c.change-changed.new.gate) false false h c.change-changed.new.pass.seen) eq c.change-changed.ensures.entered
+    subst (λ (s : SeatAt). (h : List Entry) → Saw s.opening s.seen h → Entered s.opening s.place (g.G.Gate.asked c.args.gate.now c.change_in_line.new.gate) false false h c.change_in_line.new.pass.seen) eq c.change_in_line.ensures.entered

@@ -2,8 +2,8 @@ use Rattle.std.proofs.Common.{List, ◌∙◌, ap, subst}
 use Rattle.std.specs.Arc.{arc_value}
 use Rattle.turnstile.specs.Passing.{Gate}
 use Rattle.user_admin.specs.declared.op.UserEntry.{UserEntry}
-use Rattle.user_admin.specs.declared.state.UserState.{UserState}
-use Rattle.user_admin.specs.States.{opening_of}
+use Rattle.user_admin.specs.declared.shared.SharedUsers.{SharedUsers}
+use Rattle.user_admin.specs.Shared.{opening_at}
 use Rattle.user_admin.specs.Turns.{Saw, TookIs}
 use Rattle.craft_session.specs.Seats.{UserSeatAt, user_seat_at}
 use Rattle.craft_session.proofs.Seating.{took_seen, user_seated_on, users_saw_there}
@@ -14,11 +14,11 @@ invariant_of-self g c =
     let t = arc_value c.self.inside.turns in
     let p = c.self.inside.pass in
     let w = c.self.invariant.1 in
-    let o = opening_of g.U.Disk.state c.deref.result.now.first in
+    let o = opening_at g.U.Disk.state c.deref.result.now.first in
     let turn = c.change.ensures.took w.0 (users_saw_there g.U.Disk.state p t c.deref.result.now w.0 c.deref.ensures w.1) in
     user_seated_on g.U.Disk.state c.change.new.pass t c.deref.result.now c.deref.ensures c.change.ensures.pass.0 (took_seen o p.number w.0 c.args.op c.change.new.pass.seen c.change.result turn)
 
 pub returns-clause-took : goal.returns-clause-took
 returns-clause-took g c =
-    let eq = ap (λ (t : Gate (UserState g.row.U.Denot)). user_seat_at g.U.Disk.state c.self.inside.pass t) c.deref.ensures ∙ c.self.view_is in
+    let eq = ap (λ (t : Gate (SharedUsers g.row.U.Denot)). user_seat_at g.U.Disk.state c.self.inside.pass t) c.deref.ensures ∙ c.self.view_is in
     subst (λ (s : UserSeatAt). (h : List UserEntry) → Saw s.opening s.seen h → TookIs s.opening s.place h c.args.op c.change.new.pass.seen c.change.result) eq c.change.ensures.took

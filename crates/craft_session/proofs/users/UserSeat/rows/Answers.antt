@@ -3,8 +3,8 @@ use Rattle.std.specs.Prelude.{MatchResult}
 use Rattle.std.specs.Arc.{arc_value}
 use Rattle.turnstile.specs.Passing.{Gate}
 use Rattle.user_admin.specs.declared.op.UserEntry.{UserEntry}
-use Rattle.user_admin.specs.declared.state.UserState.{UserState}
-use Rattle.user_admin.specs.States.{opening_of}
+use Rattle.user_admin.specs.declared.shared.SharedUsers.{SharedUsers}
+use Rattle.user_admin.specs.Shared.{opening_at}
 use Rattle.user_admin.specs.Turns.{RowsAre, RowsDenied, Saw}
 use Rattle.craft_session.specs.Seats.{UserSeatAt, user_seat_at}
 use Rattle.craft_session.proofs.Seating.{rows_seen, user_seated_on, users_saw_there}
@@ -15,11 +15,11 @@ invariant_of-self g c =
     let t = arc_value c.self.inside.turns in
     let p = c.self.inside.pass in
     let w = c.self.invariant.1 in
-    let o = opening_of g.U.Disk.state c.deref.result.now.first in
+    let o = opening_at g.U.Disk.state c.deref.result.now.first in
     let turn = c.rows.ensures.rows w.0 (users_saw_there g.U.Disk.state p t c.deref.result.now w.0 c.deref.ensures w.1) in
     user_seated_on g.U.Disk.state c.rows.new.pass t c.deref.result.now c.deref.ensures c.rows.ensures.pass.0 (rows_seen o p.number w.0 c.args.which c.rows.new.pass.seen (λ x. x.items) c.rows.result turn)
 
 pub returns-clause-rows : goal.returns-clause-rows
 returns-clause-rows g c =
-    let eq = ap (λ (t : Gate (UserState g.row.U.Denot)). user_seat_at g.U.Disk.state c.self.inside.pass t) c.deref.ensures ∙ c.self.view_is in
+    let eq = ap (λ (t : Gate (SharedUsers g.row.U.Denot)). user_seat_at g.U.Disk.state c.self.inside.pass t) c.deref.ensures ∙ c.self.view_is in
     subst (λ (s : UserSeatAt). (h : List UserEntry) → Saw s.opening s.seen h → MatchResult c.rows.result (λ given. RowsAre s.opening s.place h c.args.which c.rows.new.pass.seen given.items) (RowsDenied s.opening s.place h c.args.which c.rows.new.pass.seen)) eq c.rows.ensures.rows

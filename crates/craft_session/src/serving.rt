@@ -1,0 +1,106 @@
+//! The sessions of a place: over a link, for a user that is logged in from the beginning, and for a caller.
+ghost use Rattle.std.specs.Prelude.{◌≡◌, ◌≢◌};
+ghost use Rattle.craft_session.specs.Served.{Served, ServedFor};
+ghost use Rattle.craft_session.specs.Waiting.{IsLetGo};
+
+use crate::end::SessionEnd;
+use crate::lent::Lent;
+use crate::patience::Patience;
+use crate::place::Place;
+use crate::session::serve;
+use crate::timestamps::Timestamps;
+use dxc_disk::Disk;
+use dxc_model::SessionUser;
+use dxc_outside::{Gate, Link};
+use std::sync::Wait;
+
+/// Serves the link, until it ends or fails, the gate stops, or 2^32 reads were made. It waits for its turn at the state, for the Provisioner, and for
+/// frames that stand in the way of a circuit's move. It takes no memory. Nobody is logged in where it begins.
+pub fn serve_session<K: Link, C: Timestamps, G: Gate, D: Disk + Drop, U: Disk + Drop, R: Wait>(
+    place: &mut Place<D, U>,
+    link: &mut K,
+    clock: &mut C,
+    gate: &mut G,
+    rt: &R,
+) -> SessionEnd
+    ensures served { Served ⟦<(K, C, G, D) as Lent>⟧ (place.old, link.old, clock.old, gate.old)
+        (place.new, link.new, clock.new, gate.new) result }
+    ensures attended { result ≢ SessionEnd.Unattended }
+{
+    serve_session_of(place, SessionUser::Nobody, link, clock, gate, rt)
+}
+
+/// Serves the link as `serve_session` does, in a session that begins with this user logged in.
+pub fn serve_session_of<K: Link, C: Timestamps, G: Gate, D: Disk + Drop, U: Disk + Drop, R: Wait>(
+    place: &mut Place<D, U>,
+    first: SessionUser,
+    link: &mut K,
+    clock: &mut C,
+    gate: &mut G,
+    rt: &R,
+) -> SessionEnd
+    ensures served { ServedFor ⟦<(K, C, G, D) as Lent>⟧ first
+        (place.old, link.old, clock.old, gate.old)
+        (place.new, link.new, clock.new, gate.new) result }
+    ensures attended { result ≢ SessionEnd.Unattended }
+{
+    serve_at(place, first, Patience::Endless, link, clock, gate, rt)
+}
+
+/// Serves the link as `serve_session` does, and lets it go once nobody has been logged in for a minute of silence: behind 300 reads in which nothing
+/// came, or more where some brought bytes, of which 16 count as one of these.
+pub fn serve_caller<K: Link, C: Timestamps, G: Gate, D: Disk + Drop, U: Disk + Drop, R: Wait>(
+    place: &mut Place<D, U>,
+    link: &mut K,
+    clock: &mut C,
+    gate: &mut G,
+    rt: &R,
+) -> SessionEnd
+    ensures served { Served ⟦<(K, C, G, D) as Lent>⟧ (place.old, link.old, clock.old, gate.old)
+        (place.new, link.new, clock.new, gate.new) result }
+    ensures let_go { IsLetGo ⟦<(K, C, G, D) as Lent>⟧ SessionUser.Nobody
+        (place.old, link.old, clock.old, gate.old) (K.state link.new) }
+{
+    serve_at(
+        place,
+        SessionUser::Nobody,
+        Patience::Limited,
+        link,
+        clock,
+        gate,
+        rt,
+    )
+}
+
+// Serves the link in a session of the place that begins with this user, and is as patient.
+fn serve_at<K: Link, C: Timestamps, G: Gate, D: Disk + Drop, U: Disk + Drop, R: Wait>(
+    place: &mut Place<D, U>,
+    first: SessionUser,
+    patience: Patience,
+    link: &mut K,
+    clock: &mut C,
+    gate: &mut G,
+    rt: &R,
+) -> SessionEnd
+    ensures served { ServedFor ⟦<(K, C, G, D) as Lent>⟧ first
+        (place.old, link.old, clock.old, gate.old)
+        (place.new, link.new, clock.new, gate.new) result }
+    ensures attended { patience ≡ Patience.Endless → result ≢ SessionEnd.Unattended }
+    ensures let_go { patience ≡ Patience.Limited → IsLetGo ⟦<(K, C, G, D) as Lent>⟧ first
+        (place.old, link.old, clock.old, gate.old) (K.state link.new) }
+{
+    place.desk.begin(first);
+    let end = serve(
+        &mut place.desk,
+        &mut place.piece,
+        patience,
+        link,
+        clock,
+        gate,
+        rt,
+    );
+    // Their clauses tell whose entries the seats have seen.
+    place.desk.seat.seen();
+    place.desk.users.seat.seen();
+    end
+}

@@ -1,0 +1,11 @@
+//! What the program notes of its callers while it serves, and where that goes, as a trait with a fake in memory; `dxc_host` has its adapter
+//! over standard error.
+#![tactic(auto)]
+
+mod mem_notes;
+mod note;
+mod notes;
+
+pub use mem_notes::MemNotes;
+pub use note::{Ending, Note};
+pub use notes::{Noted, Notes};

@@ -1,0 +1,50 @@
+use std::fmt::{self, Display, Formatter, Write};
+
+/// Why a caller's session ended.
+#[derive(Clone, Copy)]
+pub enum Ending {
+    /// The caller hung up.
+    HungUp,
+    /// A read of its link failed.
+    ReadFault,
+    /// A write to its link failed.
+    WriteFault,
+    /// The controller was stopped.
+    Stopped,
+    /// It made all the reads that a session may.
+    Spent,
+    /// The caller didn't log in for a minute.
+    Unattended,
+}
+
+/// What happens at a place where callers come in.
+#[derive(Clone, Copy)]
+pub enum Note {
+    /// A caller's session ended.
+    Gone(Ending),
+    /// Nobody is let in any more, since accepts went on failing.
+    Closed,
+}
+
+impl Ending {
+    fn text(self) -> &'static str {
+        match self {
+            Ending::HungUp => "it hung up",
+            Ending::ReadFault => "nothing could be read from it",
+            Ending::WriteFault => "an answer couldn't be sent to it",
+            Ending::Stopped => "the controller was stopped",
+            Ending::Spent => "its session made all the reads that it may",
+            Ending::Unattended => "nobody was logged in for a minute",
+        }
+    }
+}
+
+/// As lines on standard error have it.
+impl Display for Note {
+    fn fmt<W: Write>(&self, f: &mut Formatter<W>) -> fmt::Result {
+        match self {
+            Note::Gone(ending) => write!(f, "caller gone, {}", ending.text()),
+            Note::Closed => write!(f, "closed, accepts went on failing"),
+        }
+    }
+}

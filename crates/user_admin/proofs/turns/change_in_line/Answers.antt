@@ -1,0 +1,34 @@
+use Rattle.std.proofs.Common.{ℕ, Some, None, [], ◌++◌, refl, ◌∙◌, ap, subst}
+use Rattle.user_admin.specs.declared.turns.UserTook.{UserTook}
+use Rattle.user_admin.specs.Shared.{opening_at}
+use Rattle.user_admin.specs.Turns.{TriedIs}
+use Rattle.user_admin.proofs.Turning.{later_behind, none_is, rose_behind, some_is, tried_behind, turned_none}
+use Rattle.user_admin.proofs.turns.change_in_line.Goals as goal
+
+pub try_change-requires-clause-seen : goal.try_change-requires-clause-seen
+try_change-requires-clause-seen g c = let w = c.requires.seen in let b = c.loop.invariant.passed w.0 w.1 in (w.0 ++ b.later, b.saw)
+
+pub loop-init : goal.loop-init
+loop-init g c = record { goes = (tt, tt); pass = c.requires.pass; number = refl; passed = λ h saw. turned_none (opening_at g.D.Disk.state c.args.turns.now.first) c.args.pass.now.number h c.args.pass.now.seen saw; gate = refl; asked = g.G.Gate.unasked c.args.gate.now }
+
+pub returns-in-Some-try_change : goal.returns-in-Some-try_change
+returns-in-Some-try_change g c =
+    let t = c.in-Some-try_change.ensures in
+    record {
+      pass = (c.try_change.ensures.pass.0, c.try_change.ensures.pass.1 ∙ c.loop.invariant.number);
+      took = λ h saw. tried_behind (opening_at g.D.Disk.state c.args.turns.now.first) c.args.pass.now.number h c.args.op.now c.loop.pass.seen c.try_change.new.pass.seen (Some c.in-Some-try_change.took) (c.loop.invariant.passed h saw) (λ k next. subst (λ (n : ℕ). TriedIs (opening_at g.D.Disk.state c.args.turns.now.first) n k c.args.op.now c.try_change.new.pass.seen (Some c.in-Some-try_change.took)) c.loop.invariant.number (c.in-Some-try_change.ensures.took k next));
+      stopped = λ is. rose_behind _ _ _ c.loop.invariant.gate (t.stopped (ap (λ (x : UserTook). Some x) is));
+      unstopped = λ other. t.unstopped (λ is. other (some_is _ _ is)) ∙ c.loop.invariant.gate;
+      later = later_behind _ _ _ c.loop.invariant.gate c.try_change.ensures.later;
+      asked = g.G.Gate.asked_on c.args.gate.now c.loop.gate c.try_change.new.gate [] _ c.loop.invariant.asked t.asked;
+    }
+
+pub loop-preserved : goal.loop-preserved
+loop-preserved g c = record {
+  goes = (tt, tt);
+  pass = c.try_change.ensures.pass.0;
+  number = c.try_change.ensures.pass.1 ∙ c.loop.invariant.number;
+  passed = λ h saw. tried_behind (opening_at g.D.Disk.state c.args.turns.now.first) c.args.pass.now.number h c.args.op.now c.loop.pass.seen c.try_change.new.pass.seen None (c.loop.invariant.passed h saw) (λ k next. subst (λ (n : ℕ). TriedIs (opening_at g.D.Disk.state c.args.turns.now.first) n k c.args.op.now c.try_change.new.pass.seen None) c.loop.invariant.number (c.in-None-try_change.ensures.took k next));
+  gate = c.in-None-try_change.ensures.unstopped (λ is. none_is _ is) ∙ c.loop.invariant.gate;
+  asked = g.G.Gate.asked_on c.args.gate.now c.loop.gate c.try_change.new.gate [] [] c.loop.invariant.asked c.in-None-try_change.ensures.asked;
+}

@@ -1,0 +1,22 @@
+use Rattle.std.proofs.Common.{◌∙◌, [], ap, sym, true≢false}
+use Rattle.craft_words.specs.declared.status.JournalBad.{JournalBad}
+use Rattle.craft_words.specs.declared.status.Status.TheVariants.{BadJournal}
+use Rattle.dxc_outside.proofs.Asking.{asked_part}
+use Rattle.users_at_odds.specs.Odds.{held, odds_asked}
+use Rattle.users_at_odds.proofs.Naming.{at_odds}
+use Rattle.users_at_odds.proofs.user_at_odds.Goals as goal
+
+pub returns-clause-named : goal.returns-clause-named
+returns-clause-named g c =
+    at_odds (held g.O.Opener.told g.O.Journal.Disk.told g.O.Journal.Disk.state (g.O.Opener.state c.args.opener.now) (g.O.Opener.journal_at c.args.opener.now)) c.args.words.now c.args.status c.in-UsersRecord.number c.text.result.now c.text-2.result.now c.shelf-item.result c.journal-item.result c.user_in.result
+    (c.in-BadJournal.is ∙ ap (λ (j : JournalBad). BadJournal j) c.in-UsersRecord.is) c.in-len3-up.len_at_least (sym (c.text.ensures ∙ c.shelf-item.is)) (sym (c.text-2.ensures ∙ c.journal-item.is)) c.user_in.ensures.named
+
+pub returns-in_default : goal.returns-in_default
+returns-in_default g c =
+    let none = g.O.Opener.unasked c.args.opener.now in
+    record { named = tt; asked = asked_part (g.O.Opener.asked c.args.opener.now c.args.opener.now) _ [] (odds_asked c.args.words.now) none (λ ok. true≢false (sym ok)); unasked = λ other. none }
+
+pub returns-in_default-bad : goal.returns-in_default-bad
+returns-in_default-bad g c =
+    let none = g.O.Opener.unasked c.args.opener.now in
+    record { named = tt; asked = asked_part (g.O.Opener.asked c.args.opener.now c.args.opener.now) _ [] (odds_asked c.args.words.now) none (λ ok. true≢false (sym ok)); unasked = λ other. none }
