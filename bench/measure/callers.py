@@ -4,7 +4,8 @@ usage: bench/run measure callers [UNITS [FOLDER]]
 
 Retrievals, denials and changes with the journal in memory, and changes with it on a disk, too. UNITS: of all callers together, 160000 where nothing is
 said; changes are a tenth of them, and a hundredth on a disk. FOLDER: where the journal on a disk lies, the place of temporary files where nothing is
-said. The callers are bench/c/callers.c, which needs a C compiler; calls of the system are counted where strace is there.
+said. The callers are bench/c/callers.c, which needs a C compiler. Calls of futex are counted by perf and all calls of the system by strace, where these
+are there: perf slows nothing down, but strace makes each call so slow that who waits for it sleeps more often.
 """
 import os
 import re
@@ -23,6 +24,8 @@ MEMORY = "/dev/shm"
 CALLERS = (1, 4, 16)
 # A row of strace's table: its fourth number is how many calls there were.
 CALLS = re.compile(r"^\s*[\d.]+\s+[\d.]+\s+\d+\s+(\d+)\s.*?(\w+)$", re.MULTILINE)
+# A row of perf's.
+COUNT = re.compile(r"^(\d+),", re.MULTILINE)
 
 
 def even(count):
@@ -30,16 +33,31 @@ def even(count):
     return max(2, count // 2 * 2)
 
 
-def traced(server, called, answers, room):
-    """The calls of futex, and all calls of the system, an answer, while the callers call again."""
+def beside(counter, server, called, room):
+    """What a counter of the server's calls writes while the callers call again."""
     table = os.path.join(room, "calls")
-    with subprocess.Popen(["strace", "-qq", "-c", "-f", "-p", str(server.process.pid), "-o", table]) as tracer:
+    with subprocess.Popen([*counter, "-p", str(server.process.pid), "-o", table], stderr=subprocess.DEVNULL) as counting:
         time.sleep(0.5)
         subprocess.run(called, stdout=subprocess.DEVNULL, check=True)
-        tracer.send_signal(signal.SIGINT)
+        counting.send_signal(signal.SIGINT)
     with open(table, encoding="ascii") as file:
-        counts = {name: int(count) for count, name in CALLS.findall(file.read())}
-    return counts.get("futex", 0) / answers, counts["total"] / answers
+        return file.read()
+
+
+def counted(server, called, answers, room):
+    """The calls of futex an answer as perf counts them; nothing where it isn't there or may not."""
+    if not shutil.which("perf"):
+        return ""
+    found = COUNT.search(beside(["perf", "stat", "-x", ",", "-e", "syscalls:sys_enter_futex"], server, called, room))
+    return f"; {int(found[1]) / answers:.3f} futex calls an answer" if found else ""
+
+
+def traced(server, called, answers, room):
+    """The calls of futex, and all calls of the system, an answer, as strace counts them; nothing where it isn't there."""
+    if not shutil.which("strace"):
+        return ""
+    counts = {name: int(count) for count, name in CALLS.findall(beside(["strace", "-qq", "-c", "-f"], server, called, room))}
+    return f"; slowed by strace {counts.get('futex', 0) / answers:.2f}, and {counts['total'] / answers:.2f} calls of the system an answer"
 
 
 def measure(callers, place, room, kind, count, units, batch):
@@ -51,10 +69,8 @@ def measure(callers, place, room, kind, count, units, batch):
             words = lambda each: [callers, *map(str, (server.port, count, each, batch, kind))]
             each = even(units // count)
             line = subprocess.run(words(each), stdout=subprocess.PIPE, text=True, check=True).stdout.strip()
-            if shutil.which("strace"):
-                few = even(each // 10)
-                futex, every = traced(server, words(few), count * few, room)
-                line += f"; {futex:.2f} futex calls and {every:.2f} calls of the system an answer"
+            few = even(each // 10)
+            line += counted(server, words(each), count * each, room) + traced(server, words(few), count * few, room)
             print(f"{kind}, {count} callers, {batch} at a time: {line}", flush=True)
 
 

@@ -1,13 +1,16 @@
-"""Frames at a line's own pace, from a pipe, while sixteen callers change circuits: how late each comes, and that no circuit loses a byte.
+"""Frames at a line's own pace, from a pipe, beside a copier, while sixteen callers change circuits: how late each comes, what held it up, and that no circuit loses a byte.
 
 usage: bench/run measure paced [SECONDS [MODULES SLOTS]]     (10 seconds of 64 modules of 96 slots, where nothing is given)
 
 Half of the ports have circuits that stand throughout; sixteen callers enter and delete others between the rest, as fast as they are
-answered. Frames come every 125 microseconds (8,000 a second) by bench/c/paced.c, which needs a C compiler, and one worker carries them. It
-runs a second time, as long, with a copier in the controller's place and no callers, which shows the machine's own pauses.
+answered. Every 125 microseconds (8,000 times a second) bench/c/paced.c, which needs a C compiler, gives one worker a frame, and half a period
+later one to a copier on the same processor: a plain C loop that reads and writes, and shows what the machine itself does in that moment.
 
-Where there are three processors or more, the worker (or the copier) has one to itself and the pacer another, both under SCHED_FIFO where the
-system grants that, and the callers and their sessions have the rest.
+Where there are three processors or more, worker and copier have one and the pacer another, all under SCHED_FIFO where the system grants that,
+and callers with their sessions have the rest. The copier goes before the worker, so that a worker that takes long doesn't make it late.
+
+A frame that comes later than its period has one of four causes (bench/measure/lateness.py), by what the pacer saw of itself and of the copier,
+and by the system's account of the worker's thread: how long it had a processor, without the time that the machine took from it.
 
 Where no shape is given, one worker then carries frames of full tables from a file, as fast as it can: how many ports one processor serves at
 the line's pace.
@@ -20,6 +23,7 @@ import tempfile
 import threading
 import time
 
+from bench.measure.lateness import Lateness, table, told
 from bench.measure.streams import deletion, entry, full
 from bench.shared.compiled import executable
 from bench.shared.office import write_shelf
@@ -32,28 +36,59 @@ PATIENCE = 60
 SHAPES, CARRIED = ((8, 24), (32, 32), (64, 96)), 200_000_000
 # So many processors and more are parted: one for who carries frames, one for the pacer, the rest for all others.
 PARTED = 3
+# Ranks under SCHED_FIFO: the copier goes before the worker.
+WORKER, COPIER = 1, 2
 READ = "0"
+# Of a row of /proc/stat: the time that the machine gave to others, in hundredths of a second.
+STOLEN = 8
+
+
+def interruptions():
+    """How many times devices have interrupted each processor."""
+    with open("/proc/interrupts", encoding="ascii") as file:
+        heading, *rows = (line.split() for line in file)
+    counts = dict.fromkeys((int(name[3:]) for name in heading), 0)
+    for row in rows:
+        if row[0].rstrip(":").isdigit():
+            for processor, count in zip(counts, row[1:]):
+                counts[processor] += int(count)
+    return counts
+
+
+def stolen():
+    """How many hundredths of a second the machine has taken from each processor."""
+    with open("/proc/stat", encoding="ascii") as file:
+        rows = [line.split() for line in file if line.startswith("cpu")]
+    return {int(row[0][3:]): int(row[STOLEN]) for row in rows[1:]}
 
 
 class Places:
-    """Which processors are whose; all are everybody's where there are too few."""
+    """Which processors are whose; all are everybody's where there are too few. Devices interrupt the carrier's least, then the pacer's."""
 
     def __init__(self):
-        free = sorted(os.sched_getaffinity(0))
+        counts = interruptions()
+        free = sorted(os.sched_getaffinity(0), key=lambda processor: counts.get(processor, 0))
         self.are_parted = len(free) >= PARTED
-        self.carrier, self.pacer, self.others = ({free[-1]}, {free[-2]}, set(free[:-2])) if self.are_parted else (set(free),) * 3
+        self.carrier, self.pacer, self.others = ({free[0]}, {free[1]}, set(free[2:])) if self.are_parted else (set(free),) * 3
+        self.before = stolen()
 
-    def told(self):
+    def told(self, goes_first):
         if not self.are_parted:
             return "too few processors to part: all share them"
-        return f"the carrier on processor {min(self.carrier)}, the pacer on {min(self.pacer)}, all others on {len(self.others)}"
+        under = ", all under SCHED_FIFO" if goes_first else ""
+        return f"worker and copier on processor {min(self.carrier)}, the pacer on {min(self.pacer)}{under}; all others on {len(self.others)}"
 
-    def go_first(self, thread, processors):
+    def stolen(self):
+        now = stolen()
+        taken = [10 * sum(now[processor] - self.before[processor] for processor in of) for of in (self.carrier, self.pacer, self.others)]
+        return "the machine took {} milliseconds from the carrier's processor, {} from the pacer's, {} from the others".format(*taken)
+
+    def go_first(self, thread, processors, rank=WORKER):
         """Gives the thread these processors, and where they are its own lets it go before all that isn't the system's; false where it may not."""
         os.sched_setaffinity(thread, processors)
         try:
             if self.are_parted:
-                os.sched_setscheduler(thread, os.SCHED_FIFO, os.sched_param(1))
+                os.sched_setscheduler(thread, os.SCHED_FIFO, os.sched_param(rank))
         except PermissionError:
             return False
         return self.are_parted
@@ -119,53 +154,43 @@ def served(modules, slots):
 
 
 class Pacer:
-    """Feeds frames of so many ports for so long, and watches what comes of them."""
+    """Feeds frames of so many ports for so long to a server and to a copier, and notes what comes of them."""
 
     def __init__(self, room, places, ports, seconds):
         self.program, self.room, self.places, self.ports = executable("paced", room, "-O3"), room, places, ports
         self.frames, self.patience = seconds * 1_000_000 // MICROSECONDS, seconds + PATIENCE
 
-    def run(self, lines, output, sides):
-        """Its status and the lines that it wrote, of circuits with these sides."""
-        named = os.path.join(self.room, "sides")
-        with open(named, "w", encoding="ascii") as file:
+    def path(self, name):
+        return os.path.join(self.room, name)
+
+    def run(self, lines, output, sides, thread):
+        """Its status; what it noted of frames stands in the room. The circuits have these sides, and the thread is the worker's folder in /proc."""
+        with open(self.path("sides"), "w", encoding="ascii") as file:
             file.writelines(f"{a} {b}\n" for a, b in sides)
-        words = [self.program, lines, output, *map(str, (self.ports, self.frames, MICROSECONDS)), named]
-        own = lambda: self.places.go_first(0, self.places.pacer)
-        ran = subprocess.run(words, check=False, timeout=self.patience, preexec_fn=own, stdout=subprocess.PIPE, text=True)
-        return ran.returncode, ran.stdout.splitlines()
-
-    def run_copied(self):
-        """The same with a copier in the controller's place."""
-        lines, output = (os.path.join(self.room, name) for name in ("pipe", "out"))
-        os.mkfifo(lines)
-        copier = subprocess.Popen([self.program, "--copy", lines, output, str(self.ports), str(self.frames)])
-        self.places.go_first(copier.pid, self.places.carrier)
-        ran = self.run(lines, output, [(port, port) for port in range(self.ports)])
-        copier.kill()
-        copier.wait()
-        return ran
+        os.mkfifo(self.path("pipe"))
+        copier = subprocess.Popen([self.program, "--copy", self.path("pipe"), self.path("out"), str(self.ports), str(self.frames)])
+        try:
+            self.places.go_first(copier.pid, self.places.carrier, COPIER)
+            words = [self.program, *map(str, (self.ports, self.frames, MICROSECONDS)), self.path("sides"), self.path("notes"), thread]
+            words += [lines, output, self.path("pipe"), self.path("out")]
+            own = lambda: self.places.go_first(0, self.places.pacer)
+            return subprocess.run(words, check=False, timeout=self.patience, preexec_fn=own).returncode
+        finally:
+            copier.kill()
+            copier.wait()
 
 
-def carried(pacer, server, standing, free, slots):
-    """What the pacer saw of the server while callers changed circuits, and how many changes they made."""
+def carried(pacer, server, worker, standing, free, slots):
+    """The pacer's status while callers changed circuits, and how many changes they made."""
     stop, counts = threading.Event(), [0] * PLACES
     callers = [threading.Thread(target=change, args=(server, n, free, slots, stop, counts), daemon=True) for n in range(PLACES)]
     for caller in callers:
         caller.start()
-    ran = pacer.run(server.path("lines.in"), server.path("lines.0.out"), standing)
+    ran = pacer.run(server.path("lines.in"), server.path("lines.0.out"), standing, f"/proc/{server.process.pid}/task/{worker}")
     stop.set()
     for caller in callers:
         caller.join()
     return ran, sum(counts)
-
-
-def print_beside(program, copier):
-    """The lines of both, each number of frames beside the other."""
-    print(f"the program: {program[0]}\na copier in its place: {copier[0]}\n{'late, in microseconds':24}{'the program':>12}{'a copier':>12}")
-    for ours, other in zip(program[1:], copier[1:]):
-        what, count = ours.split(": ")
-        print(f"{what:24}{count:>12}{other.split(': ')[1]:>12}")
 
 
 def main(words):
@@ -178,11 +203,13 @@ def main(words):
     with tempfile.TemporaryDirectory(dir="/dev/shm") as room:
         pacer = Pacer(room, places, ports, seconds)
         with paced(modules, slots, "".join(entry(a, b, slots, 1) for a, b in standing), places) as server:
-            goes_first = places.go_first(worker_of(server), places.carrier)
-            print(f"{places.told()}{', both under SCHED_FIFO' if goes_first else ''}", flush=True)
-            (status, ours), changes = carried(pacer, server, standing, free, slots)
+            worker = worker_of(server)
+            print(places.told(places.go_first(worker, places.carrier)), flush=True)
+            status, changes = carried(pacer, server, worker, standing, free, slots)
         print(f"{changes} changes by {PLACES} callers meanwhile, {changes / seconds:.0f} a second", flush=True)
-        print_beside(ours, pacer.run_copied()[1])
+        if status == 0:
+            run = Lateness(pacer.path("notes"), MICROSECONDS * 1000)
+            print("\n".join((*table(run), places.stolen(), *told(run))), flush=True)
     for shape in SHAPES if len(words) < 2 else ():
         served(*shape)
     return status

@@ -57,20 +57,20 @@ class Faults:
 class Caller(server.Caller):
     def __init__(self, port, element):
         super().__init__(port)
-        self.rest, self.session, self.told = b"", plain.Session(element), None
+        self.rest, self.session, self.told, self.taken = b"", plain.Session(element), None, 0
 
     def message(self):
         """The next message: kind, tag or number, code, text lines, and how its block ends."""
         while True:
-            found = MESSAGE.match(self.read)
+            found = MESSAGE.match(self.read, self.taken)
             if found:
-                self.read = self.read[found.end() :]
+                self.taken = found.end()
                 lines = [line[3:] for line in found[5].decode().split("\r\n")[:-1]]
                 return found[2].decode(), found[3].decode(), found[4].decode(), lines, found[6].decode()
             more = self.link.recv(65536)
             if not more:
-                raise Different(f"the server closed a session; unread {self.read!r}")
-            self.read += more
+                raise Different(f"the server closed a session; unread {self.read[self.taken :]!r}")
+            self.read, self.taken = self.read[self.taken :] + more, 0
 
     def report(self, number, code, lines):
         """A report that was written: the next change's, or that some were lost."""

@@ -3,11 +3,11 @@ MODULES, SLOTS = 3, 4
 PORTS = [f"DS0-{module}-{slot}" for module in range(1, MODULES + 1) for slot in range(1, SLOTS + 1)]
 
 
-def commands(rng, table, count):
-    """Changes that a plain table grants, each with the table after it: entries, and deletions in two of five cases."""
+def commands(rng, table, count, ports=PORTS):
+    """Changes of these ports that a plain table grants, each with the table after it: entries, and deletions in two of five cases."""
     for _ in range(count):
         used = {port for ends in table for port in (("from", ends[0]), ("to", ends[1]))}
-        free = [(a, b) for a in PORTS for b in PORTS if a != b and ("from", a) not in used and ("to", b) not in used]
+        free = [(a, b) for a in ports for b in ports if a != b and ("from", a) not in used and ("to", b) not in used]
         if table and (not free or rng.random() < 0.4):
             ends = rng.choice(sorted(table))
             table = table - {ends}

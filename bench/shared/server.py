@@ -23,27 +23,40 @@ def free_port():
         return some.getsockname()[1]
 
 
-def ends_at(port):
-    """The system's end of each connection at this port of this host: the other port, the state, and how many bytes wait to be sent."""
-    with open("/proc/net/tcp", encoding="ascii") as table:
+def ends_at(port, process="self"):
+    """The system's end of each connection at this port of the network that a process is in: the other port, the state, and how many bytes wait
+    to be sent."""
+    with open(f"/proc/{process}/net/tcp", encoding="ascii") as table:
         rows = [line.split()[1:5] for line in table.readlines()[1:]]
     for local, remote, state, queues in rows:
         if int(local.split(":")[1], 16) == port:
             yield int(remote.split(":")[1], 16), state, int(queues.split(":")[0], 16)
 
 
-def is_listening(port):
-    """Whether some process listens at the port. To call there would take a place, or a standby's one link."""
-    return any(state == LISTENS for _, state, _ in ends_at(port))
+def is_listening(port, process="self"):
+    """Whether some process listens at the port of this one's network. To call there would take a place, or a standby's one link."""
+    with contextlib.suppress(OSError):
+        return any(state == LISTENS for _, state, _ in ends_at(port, process))
+    return False
 
 
 def await_listening(port, process):
-    """Waits until somebody listens at the port; false where the process ends or the time is over first."""
+    """Waits until somebody listens at the port of the process's network; false where the process ends or the time is over first."""
     end = time.monotonic() + PATIENCE
-    while not is_listening(port):
+    while not is_listening(port, process.pid):
         if process.poll() is not None or time.monotonic() > end:
             return False
         time.sleep(0.002)
+    return True
+
+
+def until(fact, seconds):
+    """Whether the fact holds within so many seconds."""
+    end = time.monotonic() + seconds
+    while not fact():
+        if time.monotonic() > end:
+            return False
+        time.sleep(0.05)
     return True
 
 

@@ -5,9 +5,11 @@ usage: bench/run stress outside_world [POINT..]     (all of them where none is n
 peer         a PEER that doesn't answer a call holds a start up for seconds, not minutes
 check        `check` changes no byte of any file and runs beside a server; nothing but a journal or its beginning becomes one
 sync         a disk whose sync failed refuses every change until the program is started anew, and then has all that was answered
-waiting      while a change waits for a disk's sync, nobody else does who only reads
+waiting      while a change waits for a disk's sync, nobody else does who only reads, or whom the table denies
 guesses      after three denied log-ins in a row each further one takes a second, also of who hangs up and calls again, and nobody else's does
 dead         callers whose machines are gone are let go within two minutes, silent ones and ones with answers on their way
+unattended   sixteen callers that are silent, or send what is refused, hold no place for more than a minute or so where nobody logs in; who is
+             logged in and silent stays, and so does a script that waits for its first unit
 full         the seventeenth caller is told so and let go, and comes in once a place is free
 slow         a caller that takes nothing is given up after ten seconds
 descriptors  a shortage of descriptors ends no place: after it sixteen callers are served again
@@ -16,7 +18,7 @@ users        a shelf file and a users' journal that disagree are told by the use
 lines        a FIFO without a writer, or whose writer comes again, stops nothing; one program at a time has an output, and keeps its bytes
              where it can't start
 
-Each point prints a line, and ends by itself: `dead` after two minutes, each other one within half of one. The program is the checkout's, or
+Each point prints a line, and ends by itself: `dead` and `unattended` within two minutes, each other one within half of one. The program is the checkout's, or
 the one that DXC_PROGRAM names. Nothing leaves the loopback.
 """
 import contextlib
@@ -35,11 +37,13 @@ from bench import Wrong
 from bench.shared import office
 from bench.shared.compiled import library
 from bench.shared.program import PROGRAM, expect
-from bench.shared.server import PLACES, Server, ends_at, free_port
+from bench.shared.server import PLACES, Server, ends_at, free_port, until
 
 MODULES, SLOTS = 4, 8
 # Who only reads waits for no disk: a few milliseconds, and what a busy machine adds.
 PROMPT = 1
+# Seconds in which who doesn't log in is let go: a minute where nothing comes, longer where units come, and what a busy machine adds.
+SOONEST, LONGEST = 55, 110
 LOG_IN = office.LOG_IN.encode()
 ENTRY = b"ENT-CRS-T0::DS0-1-1,DS0-2-1:2;"
 DELETION = b"DLT-CRS-T0::DS0-1-1,DS0-2-1:3;"
@@ -64,16 +68,6 @@ def run(folder, words, commands=b"", **more):
     """The status, what came to standard output, and the lines of standard error."""
     ended = subprocess.run([PROGRAM, *words], cwd=folder, input=commands, capture_output=True, timeout=30, check=False, **more)
     return ended.returncode, ended.stdout.decode(), ended.stderr.decode().splitlines()
-
-
-def until(fact, seconds):
-    """Whether the fact holds within so many seconds."""
-    end = time.monotonic() + seconds
-    while not fact():
-        if time.monotonic() > end:
-            return False
-        time.sleep(0.05)
-    return True
 
 
 class Element(Server):
@@ -210,6 +204,7 @@ def waiting(folder):
         "a unit that is no command": b"ENT CRS;",
         "a command of no such port": b"ENT-CRS-T0::DS0-99-1,DS0-2-1:5;",
         "a look": b"ALW-MSG-ALL:::6;",
+        "a denial": b"DLT-CRS-T0::DS0-1-2,DS0-2-2:7;",
     }
     with Element(folder, env=world) as server, server.call() as changer, server.call() as reader, server.call() as late:
         expect(is_served(changer) and is_served(reader), "no log-in")
@@ -231,8 +226,32 @@ def waiting(folder):
         expect("COMPLD" in answer(changer, b"") or "COMPLD" in changer.recv(65536).decode(), "the change wasn't made")
         waited = time.monotonic() - started
         expect(waited > 1, f"the disk was not slow: {waited:.2f} s")
+        longest = max(longest, took, waits_for_users(server, changer, reader))
         os.remove(slow)
-    return f"a reader waited {1000 * max(longest, took):.0f} ms at most, a change {waited:.1f} s"
+    return f"a reader waited {1000 * longest:.0f} ms at most, a change {waited:.1f} s"
+
+
+def waits_for_users(server, changer, reader):
+    """How long at most a log-in, a listing of users and a denied change of them take beside a change of users whose syncs are slow."""
+    changer.sendall(b"ENT-USER-SECU::BERT:8::pw-nine,R;")
+    time.sleep(0.3)
+    longest = 0.0
+    for what, unit in (("a listing of users", b"RTRV-USER-SECU::ALL:9;"), ("a denied change of users", b"DLT-USER-SECU::NOBODY:10;")):
+        started = time.monotonic()
+        answer(reader, unit)
+        took = time.monotonic() - started
+        expect(took < PROMPT, f"{what} took {took:.2f} s")
+        longest = max(longest, took)
+    started = time.monotonic()
+    with server.call() as late:
+        expect(is_served(late), "no log-in beside a change of users")
+    took = time.monotonic() - started
+    expect(took < PROMPT, f"a log-in beside a change of users took {took:.2f} s")
+    started = time.monotonic()
+    said = changer.recv(65536).decode()
+    waited = time.monotonic() - started
+    expect("COMPLD" in said and waited > 1, f"a change of users was answered {said!r} in {waited:.2f} s")
+    return max(longest, took)
 
 
 def guesses(folder):
@@ -280,6 +299,45 @@ def dead(folder):
         gone = until(lambda: not any(map(server.is_joined, ports)), 120)
         expect(gone, f"{sum(map(server.is_joined, ports))} of three callers whose machines are gone are there after two minutes")
     return f"gone after {time.monotonic() - started:.0f} s"
+
+
+def knock(callers):
+    """Sends a unit that is refused, since nobody is logged in, and takes what the server says; which of them it has let go."""
+    gone = set()
+    for caller in callers:
+        try:
+            caller.sendall(ENTRY)
+            if not caller.recv(65536):
+                gone.add(caller)
+        except (BrokenPipeError, ConnectionResetError):
+            gone.add(caller)
+    return gone
+
+
+def unattended(folder):
+    with Element(folder) as server, contextlib.ExitStack() as held:
+        callers = [held.enter_context(server.call()) for _ in range(PLACES)]
+        attended, busy, silent = callers[0], callers[1:6], callers[6:]
+        expect(is_served(attended), "no log-in")
+        script = held.enter_context(subprocess.Popen([PROGRAM, "script", "shelf.toml", "other"], cwd=folder, stdin=subprocess.PIPE, stdout=subprocess.PIPE))
+        started, left, knocked = time.monotonic(), set(callers[1:]), time.monotonic()
+        ended = {}
+        while left and time.monotonic() - started < LONGEST:
+            gone = {caller for caller in select.select([caller for caller in silent if caller in left], [], [], 0.2)[0] if not caller.recv(1)}
+            if time.monotonic() - knocked > 1:
+                gone |= knock([caller for caller in busy if caller in left])
+                knocked = time.monotonic()
+            ended |= {caller: time.monotonic() - started for caller in gone}
+            left -= gone
+        expect(not left, f"{len(left)} callers who didn't log in are there after {LONGEST} s")
+        soonest, longest = min(ended.values()), max(ended.values())
+        expect(soonest > SOONEST, f"one was let go after {soonest:.0f} s")
+        expect("DENY" not in answer(attended, ENTRY), "who is logged in isn't served")
+        for _ in range(PLACES - 1):
+            expect(is_served(held.enter_context(server.call())), "no place became free")
+        said = script.communicate(LOG_IN, timeout=10)[0].decode()
+        expect("COMPLD" in said and script.returncode == 0, f"a script that waited ended with {script.returncode} and {said!r}")
+    return f"let go after {soonest:.0f} to {longest:.0f} s"
 
 
 def full(folder):
@@ -438,7 +496,7 @@ def users(folder):
     return f"{len(edits)} edits told by name, the way back taken"
 
 
-POINTS = (peer, check, sync, waiting, guesses, dead, full, slow, descriptors, told, users, lines)
+POINTS = (peer, check, sync, waiting, guesses, dead, unattended, full, slow, descriptors, told, users, lines)
 
 
 def tried(point):

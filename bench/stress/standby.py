@@ -255,7 +255,7 @@ def entered_once(folder):
 
 
 def refuses(words, sent, status, text):
-    """The program ends with this status, and what it says begins with this text; where something is sent, behind a call at its address that sends it."""
+    """The program ends with this status, and says this text; where something is sent, behind a call at its address that sends it."""
     program = start(*words)
     if sent is not None:
         port = int(words[2].rsplit(":", 1)[1])
@@ -264,7 +264,7 @@ def refuses(words, sent, status, text):
         with socket.create_connection(("127.0.0.1", port), timeout=WAIT) as caller:
             caller.sendall(sent)
             program.wait(WAIT)
-    if program.wait(WAIT) != status or not (told := program.stderr.read()).startswith(text):
+    if program.wait(WAIT) != status or text not in (told := program.stderr.read()):
         sys.exit(f"{words} ended with status {program.returncode}: {told!r}")
 
 

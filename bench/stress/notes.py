@@ -1,0 +1,208 @@
+"""Looks at what a server notes on standard error while it serves, and at what it answers where nobody takes its notes.
+
+usage: bench/run stress notes [POINT..]     (all of them where none is named)
+
+callers   where it listens, who came to which place, and why each went: who hung up, and one whose connection was reset
+worker    the frames of a worker that ended, at the input's end and within a frame
+silent    standard error is a pipe that nobody reads: hundreds of callers are served as ever, and once it is read the count of lost lines is told
+taken     standard error is closed, a full disk, or a pipe whose reader is gone: the server goes on, and its answers are the same
+private   no PID, salt or digest is noted, whatever a caller sends
+
+Each point prints a line, and ends by itself within half a minute.
+"""
+import os
+import re
+import select
+import socket
+import struct
+import subprocess
+import sys
+import tempfile
+import time
+
+from bench import Wrong
+from bench.shared import office
+from bench.shared.program import PROGRAM, expect
+from bench.shared.server import Server, free_port
+
+MODULES, SLOTS = 4, 8
+PORTS = MODULES * SLOTS
+UNITS = office.LOG_IN.encode() + b"ENT-CRS-T0::DS0-1-1,DS0-2-1:2;RTRV-CRS-T0::ALL:3;"
+DELETION = b"DLT-CRS-T0::DS0-1-1,DS0-2-1:4;"
+LINE = re.compile(r"dxc: \d{4}-\d\d-\d\d \d\d:\d\d:\d\d UTC: (.*)")
+# Callers whose lines no pipe of 64 KiB holds.
+CROWD = 700
+# What a caller waits for an answer at most, on a busy machine too.
+PROMPT = 5
+
+
+class Noted(Server):
+    """A server whose standard error is this file."""
+
+    def __init__(self, folder, errors, **more):
+        self.folder, self.port, self.workers = folder, free_port(), 1
+        self.process = subprocess.Popen([PROGRAM, *self.words()], cwd=folder, stderr=errors, **more)
+        self.wait_until_open()
+
+    def call(self):
+        return socket.create_connection(("127.0.0.1", self.port), PROMPT)
+
+    def answered(self, units):
+        """What a caller is answered who then hangs up."""
+        with self.call() as caller:
+            caller.sendall(units)
+            got = b""
+            while got.count(b"\n;") < units.count(b";"):
+                piece = caller.recv(65536)
+                expect(piece, f"the connection ended after {got!r}")
+                got += piece
+        return re.sub(rb"\d\d-\d\d-\d\d \d\d:\d\d:\d\d", b"MOMENT", got)
+
+
+def reset(caller):
+    """Ends the connection so that what is read of it fails."""
+    caller.setsockopt(socket.SOL_SOCKET, socket.SO_LINGER, struct.pack("ii", 1, 0))
+    caller.close()
+
+
+def noted(path, count, seconds=10):
+    """What stands behind the moments, once there are so many lines."""
+    end = time.monotonic() + seconds
+    while True:
+        with open(path, encoding="utf-8") as file:
+            lines = file.read().splitlines()
+        if len(lines) >= count or time.monotonic() > end:
+            break
+        time.sleep(0.05)
+    found = [LINE.fullmatch(line) for line in lines]
+    expect(all(found), f"a line has no moment: {lines}")
+    return [line[1] for line in found]
+
+
+def callers(folder):
+    path = os.path.join(folder, "notes")
+    with open(path, "wb") as errors, Noted(folder, errors) as server:
+        at = []
+        with server.call() as caller:
+            at.append(caller.getsockname()[1])
+            noted(path, 3)
+        noted(path, 4)
+        caller = server.call()
+        at.append(caller.getsockname()[1])
+        noted(path, 5)
+        reset(caller)
+        told = noted(path, 6)
+        listening = f"listening at 127.0.0.1:{server.port}"
+    # The worker's input is empty, and its frames end at once.
+    expect(sorted(told[:2]) == sorted([listening, "worker 0: no more frames, its input ended"]), f"it noted {told[:2]}")
+    wanted = [f"place N: caller from 127.0.0.1:{at[0]}", "place N: caller gone, it hung up", f"place N: caller from 127.0.0.1:{at[1]}", "place N: caller gone, nothing could be read from it"]
+    expect([re.sub(r"place \d+:", "place N:", line) for line in told[2:]] == wanted, f"it noted {told[2:]}")
+    places = [line.split(":")[0] for line in told[2:]]
+    expect(places[0] == places[1] and places[2] == places[3], f"a caller went from another place than it came to: {places}")
+    return "each came and went"
+
+
+def worker(folder):
+    for more, why in ((0, "its input ended"), (5, "its input ended within a frame")):
+        path = os.path.join(folder, f"notes{more}")
+        with open(os.path.join(folder, "lines.in"), "wb") as file:
+            file.write(bytes(3 * PORTS + more))
+        with open(path, "wb") as errors, Noted(folder, errors):
+            expect(f"worker 0: no more frames, {why}" in noted(path, 2), f"it noted {noted(path, 2)}")
+    return "told at the end and within a frame"
+
+
+def waiting_in(reader):
+    """What comes out of a pipe until nothing does for half a second."""
+    text = b""
+    while select.select([reader], [], [], 0.5)[0] and (piece := reader.read(65536)):
+        text += piece
+    return text
+
+
+def silent(folder):
+    ours, theirs = os.pipe()
+    with open(ours, "rb", buffering=0) as reader, Noted(folder, theirs) as server:
+        os.close(theirs)
+        first = server.answered(UNITS + DELETION)
+        longest = 0.0
+        for _ in range(CROWD):
+            started = time.monotonic()
+            server.call().close()
+            longest = max(longest, time.monotonic() - started)
+        started = time.monotonic()
+        expect(server.answered(UNITS + DELETION) == first, "the answers are others")
+        longest = max(longest, time.monotonic() - started)
+        expect(longest < PROMPT, f"a caller waited {longest:.1f} s")
+        time.sleep(1)
+        text = waiting_in(reader)
+        expect(b"lost" not in text, "a line was told as lost before there was room")
+        expect(server.answered(UNITS + DELETION) == first, "the answers are others once it is read")
+        more = waiting_in(reader).decode().splitlines()
+        count = [int(found[1]) for line in more if (found := re.search(r": (\d+) lines before this one were lost$", line))]
+    lines = text.decode().splitlines()
+    expect(all(map(LINE.fullmatch, lines + more)), "a line was cut")
+    expect(count, f"how many were lost isn't told: {more}")
+    # The two ends of each caller, and the server's own first lines; who found all places taken left none.
+    told, all_lines = len(lines) + len(more) - len(count) + sum(count), 2 * (CROWD + 3) + 2
+    expect(all_lines - CROWD // 10 <= told <= all_lines, f"of {all_lines} lines {told} were told or lost")
+    return f"{sum(count)} lines lost, a caller waited {1000 * longest:.0f} ms at most"
+
+
+def answers_where(folder, errors, **more):
+    office.begin_anew(os.path.join(folder, "j"))
+    with Noted(folder, errors, **more) as server:
+        got = [server.answered(UNITS), server.answered(office.LOG_IN.encode() + DELETION)]
+        expect(server.process.poll() is None, "the server ended")
+    return got
+
+
+def taken(folder):
+    wanted = answers_where(folder, subprocess.DEVNULL)
+    expect(answers_where(folder, None, preexec_fn=lambda: os.close(2)) == wanted, "closed: the answers are others")
+    with open("/dev/full", "wb") as full:
+        expect(answers_where(folder, full) == wanted, "a full disk: the answers are others")
+    ours, theirs = os.pipe()
+    os.close(ours)
+    with open(theirs, "wb") as broken:
+        expect(answers_where(folder, broken) == wanted, "a reader that is gone: the answers are others")
+    return "answers are the same"
+
+
+def private(folder):
+    path = os.path.join(folder, "notes")
+    with open(path, "wb") as errors, Noted(folder, errors) as server:
+        server.answered(office.LOG_IN.encode() + b"ACT-USER::ANNA:2::secretpid;ENT-USER-SECU::BEN:3::otherpid,R;")
+        time.sleep(0.5)
+        text = "\n".join(noted(path, 4))
+    expect(not re.search(f"secretpid|otherpid|::bc|{office.DIGEST[:12]}", text), f"it noted {text}")
+    return "nothing of the kind"
+
+
+POINTS = (callers, worker, silent, taken, private)
+
+
+def tried(point):
+    with tempfile.TemporaryDirectory() as folder:
+        office.write_shelf(folder, MODULES, SLOTS)
+        with open(os.path.join(folder, "lines.in"), "wb"):
+            pass
+        try:
+            print(f"{point.__name__} passed: {point(folder)}", flush=True)
+            return True
+        except (Wrong, OSError, subprocess.TimeoutExpired) as why:
+            print(f"{point.__name__} failed: {why}", flush=True)
+            return False
+
+
+def main():
+    named = sys.argv[1:] or [point.__name__ for point in POINTS]
+    if set(named) - {point.__name__ for point in POINTS}:
+        sys.exit(__doc__)
+    passed = [tried(point) for point in POINTS if point.__name__ in named]
+    print(f"{sum(passed)} passed, {len(passed) - sum(passed)} failed")
+    sys.exit(not all(passed))
+
+
+if __name__ == "__main__":
+    main()
