@@ -1,15 +1,17 @@
 -- Commands and parameters by their texts in the unit.
-use Rattle.std.specs.Prelude.{ℕ, List}
+use Rattle.std.specs.Prelude.{ℕ, List, []}
 use Rattle.dxc_num.specs.declared.port.Port.{Port}
 use Rattle.dxc_num.specs.Dimensions.{Dimensions}
 use Rattle.dxc_model.specs.declared.op.Op.{Op}
 use Rattle.dxc_model.specs.declared.op.Op.TheVariants as op
-use Rattle.dxc_model.specs.Operations.{IsApt}
+use Rattle.dxc_model.specs.Operations.{IsApt, ArePorts}
 use Rattle.tl1_text.specs.Spans.{IsIn, text_at}
 use Rattle.tl1_command.specs.declared.parts.Named.{Named as NamedSpans}
 use Rattle.tl1_command.specs.declared.command.Command.{Command}
+use Rattle.tl1_command.specs.declared.frequent.Frequent.{Frequent}
+use Rattle.tl1_command.specs.declared.frequent.Frequent.TheVariants as often
 use Rattle.tl1_command.specs.declared.command.Command.TheVariants.{ActUser, CancUser, Header, Allow, Inhibit, Show, Table}
-use Rattle.tl1_command.specs.Meanings.{Asked, acts, cancels, header, allows, inhibits, shows, asks_table, Named, Ends}
+use Rattle.tl1_command.specs.Meanings.{Asked, acts, cancels, header, allows, inhibits, shows, asks_table, Named, Ends, enters, deletes}
 
 abbrev pub ends_by : Port × Port → Ends
 ends_by e = record { from = e.0; to = e.1 }
@@ -50,3 +52,17 @@ IsAptCommand d unit Allow = Unit {0}
 IsAptCommand d unit Inhibit = Unit {0}
 IsAptCommand d unit (Show which) = Unit {0}
 IsAptCommand d unit (Table op) = IsAptOp d op
+
+-- what a frequent unit asks for
+abbrev pub asked_often : Frequent → Asked
+asked_often often.Header = header
+asked_often (often.Rows which) = asks_table (op.Rows which)
+asked_often (often.Enter x y w) = asks_table (enters (record { from = x; to = y }) w [])
+asked_often (often.Delete x y w) = asks_table (deletes (record { from = x; to = y }) w [])
+
+-- its ports are of the shape
+abbrev pub IsAptOften : Dimensions → Frequent → Type 0
+IsAptOften d often.Header = Unit {0}
+IsAptOften d (often.Rows which) = Unit {0}
+IsAptOften d (often.Enter x y w) = ArePorts d x y
+IsAptOften d (often.Delete x y w) = ArePorts d x y

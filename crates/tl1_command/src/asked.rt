@@ -27,7 +27,7 @@ pub fn cct_of(value: &[u8]) -> Result<Option<Cct>, Cause>
 
 /// The CCT of a value that is empty, or a CCT in capitals.
 #[inline(always)]
-fn frequent_cct(value: &[u8]) -> Option<Option<Cct>>
+pub fn frequent_cct(value: &[u8]) -> Option<Option<Cct>>
     ensures { IfSome result (λ c. cct_named value.now ≡ Ok c) }
 {
     if value.is_empty() {

@@ -24,7 +24,7 @@ pub fn code_of(text: &[u8]) -> Option<CommandCode>
 /// The command of a code that is frequent and written in capitals.
 #[inline(always)]
 #[tactic(auto, unfolding(crate::specs::Codes::code_named))]
-fn frequent(text: &[u8]) -> Option<CommandCode>
+pub fn frequent(text: &[u8]) -> Option<CommandCode>
     ensures { IfSome result (λ c. code_named text.now ≡ Some c) }
 {
     if is_exactly(text, b"RTRV-HDR") {

@@ -40,8 +40,9 @@ pub fn first_of(unit: &[u8], block: Span) -> Param
     }
 }
 
+/// Whether a text begins with a quote.
 #[inline(always)]
-fn is_quoted(text: &[u8]) -> bool
+pub fn is_quoted(text: &[u8]) -> bool
     ensures { result ≡ begins_quoted text.now }
 {
     match text {

@@ -9,8 +9,10 @@ mod comma;
 mod command;
 mod decide;
 mod form;
+mod frequent;
 pub mod laws;
 pub mod parts;
 
 pub use command::{Command, Subject};
 pub use decide::{code_in, command_of, command_with};
+pub use frequent::{Frequent, frequent_of};

@@ -81,7 +81,7 @@ fn is_there_in(unit: &[u8], block: Option<Span>) -> bool
 /// Whether a block is a CCT in capitals, so that it is its one value.
 #[inline(always)]
 #[tactic(auto, unfolding(tl1_text::specs::Walk::values_of))]
-fn is_way(text: &[u8]) -> bool
+pub fn is_way(text: &[u8]) -> bool
     ensures { result ≡ true → values_of text.now ≡ text.now ∷ [] }
 {
     is_exactly(text, b"2WAY") || is_exactly(text, b"1WAY")
@@ -138,7 +138,8 @@ impl Pair {
         }
     }
 
-    fn one(first: Span) -> Pair
+    /// One value alone.
+    pub fn one(first: Span) -> Pair
         ensures { result ≡ record
             { first = first; second = record { start = 0; end = 0 }; others = None } }
     {
