@@ -3,5 +3,6 @@ pub mod Serving
 pub mod Placing
 pub mod Owning
 pub mod Leaving
+pub mod Homes
 pub mod Earlier
 pub mod Whole

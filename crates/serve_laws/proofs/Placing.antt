@@ -1,5 +1,5 @@
 -- All places: the jobs that were handed out, the sessions of each, and the one element.
-use Rattle.std.proofs.Common.{◌≡◌, ◌⊎◌, ◌<◌, ◌≤◌, ◌+◌, ℕ, zero, suc, Bool, true, false, arith, List, [], ◌∷◌, ◌++◌, length, map, Some, option_map, IsTrue, refl, sym, ◌∙◌, ap, subst, inl, inr}
+use Rattle.std.proofs.Common.{◌≡◌, ◌⊎◌, ◌<◌, ◌≤◌, ◌+◌, ℕ, zero, suc, Bool, true, false, arith, List, [], ◌∷◌, ◌++◌, length, map, None, Some, option_map, IsTrue, refl, sym, ◌∙◌, ap, subst, inl, inr}
 use Rattle.std.specs.List.{AllByRecursion, slice_get}
 use Rattle.std.proofs.lemmas.Option.{slice_get-map}
 use base.Stored.{Gv}
@@ -8,7 +8,7 @@ use Rattle.turnstile.specs.Turning.{Each}
 use Rattle.dxc_outside.specs.declared.clock.Moment.{Moment}
 use Rattle.dxc_model.specs.declared.cause.Cause.{Cause}
 use Rattle.dxc_model.specs.declared.entry.Entry.{Entry}
-use Rattle.dxc_model.specs.Histories.{IsLegal}
+use Rattle.dxc_model.specs.Histories.{IsLegal, holder}
 use Rattle.shelf_file.specs.Contents.{Contents}
 use Rattle.user_admin.specs.declared.op.UserEntry.{UserEntry}
 use Rattle.user_admin.specs.declared.op.UserMark.{UserMark}
@@ -16,7 +16,7 @@ use Rattle.user_admin.specs.Coding.{mark_coded as user_coded}
 use Rattle.user_admin.specs.Marks.{entries_of, place_of as user_place_of}
 use Rattle.user_admin.proofs.Marking.{each_entries}
 use Rattle.user_admin.specs.Histories.{IsLegal as AreLegal, Opening as UsersOpening, failures, users_after}
-use Rattle.xc_core.specs.Seeing.{entry_coded, place_of}
+use Rattle.xc_core.specs.Seeing.{Rests, entry_coded, place_of}
 use Rattle.xc_core.specs.States.{LimitBehind, Opening, began, rules_of}
 use Rattle.craft_session.specs.Happenings.{Request}
 use Rattle.craft_session.specs.Meanings.{language}
@@ -33,7 +33,8 @@ use Rattle.craft_jobs.specs.Begun.{AreRan}
 use Rattle.craft_jobs.specs.Leaves.{left_by}
 use Rattle.craft_server.specs.Callers.{Standing, standing}
 use Rattle.serve_laws.specs.Jobs.{Done, IsServedAt, Job, Ran, World}
-use Rattle.serve_laws.proofs.Serving.{Lived, all_along, heard_along, lived}
+use Rattle.serve_laws.proofs.Homes.{nobody_holds, fresh_rests, rested_all, rests_along}
+use Rattle.serve_laws.proofs.Serving.{Lived, Step, all_along, heard_along, lived}
 
 -- what a list has at a place, its image has there
 pub get_map : {A B : Type 0} (f : A → B) (xs : List A) (k : ℕ) (x : A) → slice_get xs k ≡ Some x → slice_get (map f xs) k ≡ Some (f x)
@@ -59,6 +60,9 @@ each_user n (e ∷ es) a = (a.0, each_user n es a.1)
 
 within : (n : ℕ) (due : Bool) (h : List Entry) → 0 < n → Each (λ e. e.place < n) h → AllByRecursion (λ e. e.place < n) (began due ++ h)
 within n due h pos a = elim due as (λ b. AllByRecursion (λ e. e.place < n) (began b ++ h)) [ false ↦ each_all n h a | true ↦ (pos, each_all n h a) ]
+
+within_each : (n : ℕ) (due : Bool) (h : List Entry) → 0 < n → Each (λ e. e.place < n) h → Each (λ e. e.place < n) (began due ++ h)
+within_each n due h pos a = elim due as (λ b. Each (λ e. e.place < n) (began b ++ h)) [ false ↦ a | true ↦ (pos, a) ]
 
 module _ (w : World) (s : Contents) (o : Opening) (p : UsersOpening) (t : Turnstiles) where
   -- the job of this number has run at the place of that number
@@ -135,6 +139,21 @@ module _ (w : World) (s : Contents) (o : Opening) (p : UsersOpening) (t : Turnst
         | inl below ↦ (let x = ran_at k below in all_along w.disk.told w.uses.clock.told w.office.link.told w.office.link.state w.office.link.begun w.uses.gate.stops w.uses.gate.asked s o k p (first_at k below) x.ran.served.callers (last_at k below) x.ran.served.served history (place_lived k below) (seen k x.left x.left_is))
         | inr ge ↦ absurd (omega (arith, lt, ge))
       ]
+
+      -- each place rests, so nobody has the Provisioner
+      rests_each : (k : ℕ) → k < 16 → Rests k (began o.due ++ history)
+      rests_each k lt =
+          let x = ran_at k lt in
+          let is = (place_lived k lt).is in
+          let seat = λ (t : Standing w.office.Gate). t.place.seat in
+          let fresh = fresh_rests x.job.place.seat (ap (λ (q : PlaceAt). q.seat.seen) x.there) in
+          let rested = rested_all (Step w.disk.told w.uses.clock.told w.office.link.told w.office.link.state w.office.link.begun w.uses.gate.stops w.uses.gate.asked) seat
+          (λ t u c y. let v = y.session in let b = y.gated v.before v.users_before v.saw v.users_saw in record { same = y.seat; before = v.before; saw = v.saw.codes_are; entries = b.entries; then_saw = b.saw.codes_are; users_place = t.place.users.place; users_entries = b.users_entries; places = b.places; gated = b.gated })
+          (first_at k lt) (last_at k lt) x.ran.served.callers x.ran.served.served fresh in
+          rests_along o k x.left.seat is.1 is.2 rested history (seen k x.left x.left_is)
+
+      pub nobody_has : Each (λ e. e.place < 16) history → holder None (began o.due ++ history) ≡ None
+      nobody_has numbers = nobody_holds 16 (began o.due ++ history) (within_each 16 o.due history (omega arith) numbers) rests_each
 
       pub played_as_one : IsLegal (rules_of o) (began o.due ++ history) → Each (λ e. e.place < 16) history → (excused : Cause → Bool) → AllByRecursion (IsExcused (λ q. IsTrue (excused q))) (began o.due ++ history)
           → ComesTo (language s) (LimitBehind o.first) (λ q. IsTrue (excused q)) (element o.first.fold.table (began o.due) (λ k. [])) (element o.first.fold.table (began o.due ++ history) sessions)

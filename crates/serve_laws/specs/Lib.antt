@@ -2,4 +2,5 @@ pub mod Written
 pub mod Passes
 pub mod Frames
 pub mod Jobs
+pub mod Copies
 pub mod Headline
