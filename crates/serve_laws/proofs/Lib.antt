@@ -4,5 +4,6 @@ pub mod Placing
 pub mod Owning
 pub mod Leaving
 pub mod Homes
+pub mod Keepers
 pub mod Earlier
 pub mod Whole

@@ -13,7 +13,9 @@ use Rattle.shelf_file.specs.Contents.{Contents}
 use Rattle.user_admin.specs.declared.op.UserEntry.{UserEntry}
 use Rattle.user_admin.specs.declared.op.UserMark.{UserMark}
 use Rattle.user_admin.specs.Coding.{mark_coded as user_coded}
-use Rattle.user_admin.specs.Marks.{entries_of, place_of as user_place_of}
+use Rattle.user_admin.specs.Marks.{entries_of, holder as users_holder, place_of as user_place_of}
+use Rattle.user_admin.specs.Resting.{Rests as UsersRest, SawRest}
+use Rattle.user_admin.proofs.Resting.{nothing_rests}
 use Rattle.user_admin.proofs.Marking.{each_entries}
 use Rattle.user_admin.specs.Histories.{IsLegal as AreLegal, Opening as UsersOpening, failures, users_after}
 use Rattle.xc_core.specs.Seeing.{Rests, entry_coded, place_of}
@@ -34,6 +36,7 @@ use Rattle.craft_jobs.specs.Leaves.{left_by}
 use Rattle.craft_server.specs.Callers.{Standing, standing}
 use Rattle.serve_laws.specs.Jobs.{Done, IsServedAt, Job, Ran, World}
 use Rattle.serve_laws.proofs.Homes.{nobody_holds, fresh_rests, rested_all, rests_along}
+use Rattle.serve_laws.proofs.Keepers.{nobody_keeps, rested_users, same_place, users_rest_along}
 use Rattle.serve_laws.proofs.Serving.{Lived, Step, all_along, heard_along, lived}
 
 -- what a list has at a place, its image has there
@@ -173,6 +176,20 @@ module _ (w : World) (s : Contents) (o : Opening) (p : UsersOpening) (t : Turnst
 
       numbered : Each (λ m. user_place_of m < 16) left → AllByRecursion (λ e. e.place < 16) history
       numbered numbers = each_user 16 history (each_entries (λ n. n < 16) left numbers)
+
+      -- each place rests at the users, so nobody has the keeper
+      users_rest_each : (k : ℕ) → k < 16 → UsersRest k left
+      users_rest_each k lt =
+          let x = ran_at k lt in
+          let seat = λ (t : Standing w.office.Gate). t.place.users in
+          let step = Step w.disk.told w.uses.clock.told w.office.link.told w.office.link.state w.office.link.begun w.uses.gate.stops w.uses.gate.asked in
+          let fresh = subst (λ (g : List Gv). SawRest x.job.place.users.place g) (sym (ap (λ (q : PlaceAt). q.users.seen) x.there)) (nothing_rests x.job.place.users.place) in
+          let rests = rested_users step seat (λ t u c y. y.users_rest) (first_at k lt) (last_at k lt) x.ran.served.callers x.ran.served.served fresh in
+          let there = same_place step seat (λ t u c y. y.users.1) (first_at k lt) (last_at k lt) x.ran.served.callers x.ran.served.served ∙ ap (λ (q : PlaceAt). q.users.place) x.there in
+          users_rest_along k x.left.users there rests left (seen k x.left x.left_is)
+
+      pub nobody_keeps_it : Each (λ m. user_place_of m < 16) left → users_holder None left ≡ None
+      nobody_keeps_it numbers = nobody_keeps 16 left numbers users_rest_each
 
       pub heard_as_one : AreLegal p history → Each (λ m. user_place_of m < 16) left → (failing : Bool) → (1 ≤ failures history → IsTrue failing)
           → AreHeard (language s) p.shelf.sid (IsTrue failing) (record { users = p.users; sessions = λ k. [] }) (record { users = users_after p history; sessions = hearings })

@@ -43,9 +43,10 @@ use Rattle.craft_server.specs.Serving.{SiteAt}
 use Rattle.serve_laws.specs.Headline.{IsEarlier, IsEnd, IsHitlessFabric, IsOneElement, IsOneOrder, IsOrder, LiesFor, Lying, Sessions, UsersLying, WasThen, behind, opened, seen_by, users_seen_by}
 use Rattle.serve_laws.specs.Jobs.{Job, Jobs, Ran, World}
 use Rattle.serve_laws.proofs.Earlier.{SeesOn, earlier}
+use Rattle.serve_laws.proofs.Keepers.{keeper_home}
 use Rattle.serve_laws.proofs.Leaving.{brought_home, leaves_changes}
 use Rattle.serve_laws.proofs.Owning.{all_own, core_of}
-use Rattle.serve_laws.proofs.Placing.{get_map, heard_as_one, heard_then, hearings, map_length, nobody_has, played_as_one, ran_length, served_at, sessions}
+use Rattle.serve_laws.proofs.Placing.{get_map, heard_as_one, heard_then, hearings, map_length, nobody_has, nobody_keeps_it, played_as_one, ran_length, served_at, sessions}
 use Rattle.serve_laws.proofs.Resting.{at_home, begun, count, get_below, history, lying, numbers, opening_is, seen_at, stand}
 
 module _ (w : World) (synced : SyncedAreMirrored w.disk.told w.disk.state) (adopted : StandbysAreAdopted w.disk.told w.disk.state) (since : StandbysStandSince w.disk.told w.disk.state) (s : Contents) (o : Opening) (p : UsersOpening) (jobs : List (Job w)) (lefts : List PlaceAt) (seats : List FramesLeft) (sixteen : length jobs ≡ 16) (has : HasPlaces s o p 16 (map (λ (j : Job w). j.place) jobs)) (ran : AreRan (left_by (Ran w)) jobs lefts) (e : IsEnd w o p has.turnstiles lefts seats) where
@@ -155,6 +156,7 @@ module _ (w : World) (synced : SyncedAreMirrored w.disk.told w.disk.state) (adop
         users_lying = users_lie;
         users_at_home = at_home _ _ _ _ _ _ _ _ _ e.of_users users_coded.inj p 16 has.users_made users_many some;
         users_stand = users_stand;
+        users_home = keeper_home w.office.disk.told w.office.disk.state p g (nobody_keeps_it w s o p has.turnstiles jobs lefts sixteen has.each ran g users_seen users_few) users_lie.state.value users_stand;
         sessions = ss;
         hearings = hearings w s o p has.turnstiles jobs lefts sixteen has.each ran;
         each = served_at w s o p has.turnstiles jobs lefts sixteen has.each ran;

@@ -45,6 +45,7 @@ use Rattle.craft_jobs.specs.Begun.{AreRan}
 use Rattle.craft_server.specs.Serving.{SiteAt}
 use Rattle.serve_laws.specs.Copies.{IsBroughtHome, LeavesChanges}
 use Rattle.serve_laws.specs.Frames.{AreSeatsIn, CarriedOwn}
+use Rattle.serve_laws.specs.Keepers.{IsKeeperHome}
 use Rattle.serve_laws.specs.Jobs.{Frames, IsServedAt, Job, Jobs, World}
 use Rattle.serve_laws.specs.Passes.{IsRestOf}
 
@@ -137,6 +138,7 @@ module _ (w : World) where
     pub users_left : List UserMark
     pub users_entered : entries_of users_left ≡ users_history
     pub users_stand : UsersStandFor w.office.disk.told w.office.disk.state p users_lying.state.value users_left
+    pub users_home : IsKeeperHome w.office.disk.told w.office.disk.state p users_left users_lying.state.value.keeper
     -- of each place the sessions on the element, and what they heard of the users, the newest first
     pub sessions : Sessions
     pub hearings : ℕ → List (Hearing Request)
