@@ -1,5 +1,5 @@
 -- A place that hasn't got the keeper out gets it by no turn but the one in which it takes it.
-use Rattle.std.proofs.Common.{◌≡◌, ◌≢◌, ℕ, Option, None, Some, List, [], ◌∷◌, ◌++◌, refl, sym, ◌∙◌, ap, subst}
+use Rattle.std.proofs.Common.{◌≡◌, ◌≢◌, ℕ, Option, None, Some, List, [], ◌∷◌, ◌++◌, sym, ◌∙◌, ap, subst}
 use Rattle.std.proofs.lemmas.List.{map-append}
 use base.Stored.{Gv}
 use Rattle.turnstile.specs.Passing.{Token}
