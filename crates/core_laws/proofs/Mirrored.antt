@@ -1,5 +1,5 @@
 -- What a file stands for that a primary's disk read at a moment of its commands.
-use Rattle.std.proofs.Common.{Bool, ◌≡◌, ◌⊎◌, inl, inr, ⊎_elim, ℕ, zero, suc, ◌-◌, ◌≤◌, ◌<◌, true, false, List, [], ◌∷◌, ◌++◌, length, take, Option, Some, None, IfSome, nat_eq, if◌then◌else◌, slice_get, refl, sym, ◌∙◌, ap, subst, arith, length-append}
+use Rattle.std.proofs.Common.{Bool, ◌≡◌, ◌⊎◌, inl, inr, ⊎_elim, ℕ, zero, suc, ◌+◌, ◌-◌, ◌≤◌, ◌<◌, true, false, List, [], ◌∷◌, ◌++◌, length, take, Option, Some, None, IfSome, nat_eq, if◌then◌else◌, slice_get, refl, sym, ◌∙◌, ap, subst, arith, length-append}
 use Rattle.std.proofs.lemmas.Bool.{cases_lt}
 use Rattle.std.proofs.Math.Dec.{eqb-suc-zero}
 use Rattle.dxc_disk.specs.Disks.{DiskState, IsDisk, LeavesOnly}
@@ -16,7 +16,8 @@ use Rattle.journal_core.proofs.OpenSteps.{new_or_not}
 use Rattle.roll_engine.specs.Rollings.{RollingAt}
 use Rattle.shelf_file.specs.Contents.{Contents}
 use Rattle.standby_link.specs.Calls.{last_of, read_in}
-use Rattle.standby_link.specs.Mirrors.{moments}
+use Rattle.standby_link.specs.Laws.{KeepsUp}
+use Rattle.standby_link.specs.Mirrors.{Pair, moments}
 use Rattle.standby_link.proofs.ActSteps.{get_front, get_more}
 use Rattle.standby_link.proofs.CallSteps.{moment_left, read_on}
 use Rattle.xc_recovery.specs.Replays.{ComesTo}
@@ -26,7 +27,7 @@ use Rattle.xc_core.specs.declared.state.Home.{Home}
 use Rattle.xc_core.specs.declared.state.Home.TheVariants.{In, Out}
 use Rattle.xc_core.specs.declared.state.State.{State}
 use Rattle.xc_core.specs.Journals.{IsOld, IsOldOrDoubted, IsSoFar}
-use Rattle.core_laws.specs.Mirrorings.{AreCommands, Command, CopiesStand, HasStarted, IsBetween, IsCommand, MayBe, Says, StandbysStand, StandsForFirst, StartsAreCommands, Task, change, made_in, read_by, restart, start}
+use Rattle.core_laws.specs.Mirrorings.{AreCommands, Command, CopiesStand, HasStarted, IsBetween, IsCommand, IsMirroredSince, MayBe, Says, StandbysStand, StandbysStandSince, StandsForFirst, StartsAreCommands, Task, change, made_in, read_by, restart, start}
 use Rattle.xc_core.specs.Openings.{Begins, disk_home}
 use Rattle.xc_core.specs.Provisioners.{Rolls, with_halt}
 use Rattle.xc_core.specs.Reckonings.{Past, ReckonsTo, changed}
@@ -172,6 +173,22 @@ pub standbys_stand : {D : Type 0} (told : Type 0) (state : D → DiskState) → 
 standbys_stand told state disk t d b cs p are pair unseen keeps is = find told state t (λ x. disk x t) d b cs p are pair.primary.answered keeps.moment pair.standby.file keeps.not_before
     (ap (λ (l : List (List ℕ)). slice_get l keeps.moment) (sym is) ∙ get_more (moments pair.primary) unseen keeps.moment pair.standby.file keeps.read)
 
+-- what stands behind the older ones
+behind_older : {A : Type 0} (xs ys : List A) (k : ℕ) → slice_get (xs ++ ys) (length xs + k) ≡ slice_get ys k
+behind_older [] ys k = ap (slice_get ys) (let none : 0 + k ≡ k = omega arith in none)
+behind_older (x ∷ xs) ys k = ap (slice_get (x ∷ (xs ++ ys))) (let one : suc (length xs) + k ≡ suc (length xs + k) = omega arith in one) ∙ behind_older xs ys k
+
+module _ {D : Type 0} (told : Type 0) (state : D → DiskState) (disk : (d : D) → told → IsDisk (state d)) (t : told) (d : D) (b : Past) (cs : List (Command D)) (p : Provisioner D) (are : AreCommands told state d b cs p) (pair : Pair) (m : IsMirroredSince state d cs pair.primary) where
+  -- the moment whose file the standby has is no older one
+  since : KeepsUp pair → StandsForFirst state b cs p.doubt m.by pair.standby.file
+  since keeps =
+      let not_before = keeps.not_before in
+      let answered = m.answered in
+      let n : ℕ = keeps.moment - length m.older in
+      let there : keeps.moment ≡ length m.older + n = omega (arith, not_before, answered) in
+      find told state t (λ x. disk x t) d b cs p are m.by n pair.standby.file (omega (arith, not_before, answered))
+      (sym (behind_older m.older ((state d).reads_as ∷ read_by state cs) n) ∙ ap (slice_get (m.older ++ (state d).reads_as ∷ read_by state cs)) (sym there) ∙ ap (λ (l : List (List ℕ)). slice_get l keeps.moment) (sym m.are) ∙ get_more (moments pair.primary) m.unseen keeps.moment pair.standby.file keeps.read)
+
 stands_by : {A : Type 0} (P : A → Type 0) (x : A) (n : ℕ) → (0 < n → P x) → IfSome (if nat_eq n 0 then None else Some x) P
 stands_by P x zero holds = tt
 stands_by P x (suc n) holds = subst (λ (b : Bool). IfSome (if b then None else Some x) P) (sym (eqb-suc-zero n)) (holds (omega arith))
@@ -179,6 +196,10 @@ stands_by P x (suc n) holds = subst (λ (b : Bool). IfSome (if b then None else 
 pub copies_stand : {D : Type 0} (told : Type 0) (state : D → DiskState) → ((d : D) → told → IsDisk (state d)) → CopiesStand told state
 copies_stand told state disk t d b cs p are pair unseen keeps is =
     stands_by (StandsForFirst state b cs p.doubt pair.primary.answered) pair.standby.file pair.standby.synced (λ some. standbys_stand told state disk t d b cs p are pair unseen (keeps some) is)
+
+pub standbys_stand_since : {D : Type 0} (told : Type 0) (state : D → DiskState) → ((d : D) → told → IsDisk (state d)) → StandbysStandSince told state
+standbys_stand_since told state disk t d b cs p are pair keeps m =
+    stands_by (StandsForFirst state b cs p.doubt m.by) pair.standby.file pair.standby.synced (λ some. since told state disk t d b cs p are pair m (keeps some))
 
 -- what a start says of its state
 module _ {D : Type 0} (told : Type 0) (state : D → DiskState) (s : State D) (begins : Begins told state s) where

@@ -1,5 +1,5 @@
 -- What a primary's commands do to its journal's disk, call by call, and what a file stands for that this disk read at one of the moments.
-use Rattle.std.specs.Prelude.{◌≡◌, ◌⊎◌, ℕ, ◌≤◌, ◌<◌, Bool, List, [], ◌∷◌, ◌++◌, length, take, slice_get, Option, Some, None, IfSome}
+use Rattle.std.specs.Prelude.{◌≡◌, ◌⊎◌, ℕ, ◌+◌, ◌≤◌, ◌<◌, Bool, List, [], ◌∷◌, ◌++◌, length, take, slice_get, Option, Some, None, IfSome}
 use Rattle.dxc_disk.specs.Disks.{DiskState, IsSettled, LeavesOnly}
 use Rattle.dxc_model.specs.declared.op.Op.{Op}
 use Rattle.dxc_model.specs.declared.op.Change.{Change}
@@ -11,7 +11,7 @@ use Rattle.roll_engine.specs.Rollings.{RollingAt}
 use Rattle.shelf_file.specs.Contents.{Contents}
 use Rattle.standby_link.specs.Calls.{AreCalls, Call, last_of, read_in}
 use Rattle.standby_link.specs.Laws.{KeepsUp, named}
-use Rattle.standby_link.specs.Mirrors.{Pair, moments}
+use Rattle.standby_link.specs.Mirrors.{Pair, Primary, moments}
 use Rattle.xc_core.specs.declared.provisioner.Provisioner.{Provisioner}
 use Rattle.xc_core.specs.declared.state.State.{State}
 use Rattle.xc_core.specs.Journals.{IsOld, IsOldOrDoubted, IsOldOrOneMore}
@@ -109,6 +109,21 @@ abbrev pub StandbysStand : {D : Type 0} → Type 0 → (D → DiskState) → Typ
 StandbysStand {D} told state = told → (d : D) (b : Past) (cs : List (Command D)) (p : Provisioner D) → AreCommands told state d b cs p
     → (pair : Pair) (unseen : List (List ℕ)) → KeepsUp pair → moments pair.primary ++ unseen ≡ (state d).reads_as ∷ read_by state cs
     → StandsForFirst state b cs p.doubt pair.primary.answered pair.standby.file
+
+-- Since the disk was this one it read what the primary's moments say, and those that the primary didn't see any more. The last sync that it answered while
+-- Joined is no older moment: so many came in between.
+pub record IsMirroredSince {D : Type 0} (state : D → DiskState) (d : D) (cs : List (Command D)) (primary : Primary) : Type 0 where
+  pub older : List (List ℕ)
+  pub unseen : List (List ℕ)
+  pub by : ℕ
+  pub answered : primary.answered ≡ length older + by
+  pub are : moments primary ++ unseen ≡ older ++ (state d).reads_as ∷ read_by state cs
+
+-- The same of the commands from any moment on at which the Provisioner was between two of them, and by its name.
+abbrev pub StandbysStandSince : {D : Type 0} → Type 0 → (D → DiskState) → Type 0
+StandbysStandSince {D} told state = told → (d : D) (b : Past) (cs : List (Command D)) (p : Provisioner D) → AreCommands told state d b cs p
+    → (pair : Pair) → (0 < pair.standby.synced → KeepsUp pair) → (m : IsMirroredSince state d cs pair.primary)
+    → IfSome (named pair.standby) (StandsForFirst state b cs p.doubt m.by)
 
 -- By its name, whatever messages came, again, never or in any order, a copy is no file, or one that stands for those changes.
 abbrev pub CopiesStand : {D : Type 0} → Type 0 → (D → DiskState) → Type 0

@@ -9,6 +9,7 @@ use Rattle.xc_core.specs.declared.state.State.{State}
 use Rattle.xc_core.specs.States.{Opening, began, opening_of}
 use Rattle.xc_core.proofs.Began.{began_rests, saw_nothing}
 use Rattle.xc_core.specs.Turns.{AreNumbered, SawNoneAstray}
+use Rattle.user_admin.proofs.Resting.{nothing_rests}
 use Rattle.user_admin.specs.declared.shared.SharedUsers.{SharedUsers}
 use Rattle.user_admin.specs.Histories.{Opening as UsersOpening}
 use Rattle.user_admin.specs.Shared.{SharedStands as UsersStand, opening_at as users_opening}
@@ -79,4 +80,4 @@ users_numbered passes (e ∷ h) is = cc
 pub users_seated : {U : Type 0} (told : Type 0) (state : U → DiskState) (p : Token) (t : Gate (SharedUsers U)) (n : ℕ) → p ≡ fresh t.id n → n < t.passes → UsersStand told state t.first [] → IsUserSeated state p t
 users_seated {U} told state p t n is within b =
     let saw : SawUsers (users_opening state t.first) [] [] = record { marks = []; codes_are = refl; entries_are = refl; history = record { legal = b.legal; paid = b.paid } } in
-    subst (λ (q : Token). IsUserSeated state q t) (sym is) ((refl, refl, within, users_numbered t.passes), ([], saw))
+    subst (λ (q : Token). IsUserSeated state q t) (sym is) ((refl, refl, within, users_numbered t.passes), ([], saw), nothing_rests n)

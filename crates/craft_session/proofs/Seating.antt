@@ -29,6 +29,7 @@ use Rattle.user_admin.specs.declared.shared.SharedUsers.{SharedUsers}
 use Rattle.user_admin.specs.declared.turns.UserTook.{UserTook}
 use Rattle.user_admin.specs.declared.turns.UserTook.TheVariants as took
 use Rattle.user_admin.specs.Histories.{Opening as UsersOpening}
+use Rattle.user_admin.specs.Resting.{IsAtRest}
 use Rattle.user_admin.specs.Shared.{opening_at as users_opening}
 use Rattle.user_admin.specs.States.{entry as user_entry, refused as user_refused}
 use Rattle.user_admin.specs.Turns.{HasPass as HasUsersPass, RowsAre, RowsDenied, Saw as SawUsers, TookIs, Turned as UsersTurned}
@@ -86,8 +87,8 @@ module _ {U : Type 0} (state : U → DiskState) where
   users_saw_there p t u h is saw = subst (λ (x : Gate (SharedUsers U)). SawUsers (users_opening state x.first) p.seen h) (sym is) saw
 
   -- what was seen then is a history
-  pub user_seated_on : (q : Token) (t u : Gate (SharedUsers U)) → u ≡ t → HasUsersPass u q → ((h : List UserEntry) × SawUsers (users_opening state u.first) q.seen h) → IsUserSeated state q t
-  user_seated_on q t u is pass saw = subst (λ (x : Gate (SharedUsers U)). IsUserSeated state q x) is (pass, saw)
+  pub user_seated_on : (q : Token) (t u : Gate (SharedUsers U)) → u ≡ t → HasUsersPass u q → ((h : List UserEntry) × SawUsers (users_opening state u.first) q.seen h) → IsAtRest q → IsUserSeated state q t
+  user_seated_on q t u is pass saw rests = subst (λ (x : Gate (SharedUsers U)). IsUserSeated state q x) is (pass, saw, rests)
 
 pub turn_seen : (o : UsersOpening) (own : ℕ) (h : List UserEntry) (e : UserEntry) (seen : List Gv) → UsersTurned o own h e seen → (g : List UserEntry) × SawUsers o seen g
 turn_seen o own h e seen t = ((h ++ t.later) ++ e ∷ [], t.saw)

@@ -12,6 +12,7 @@ use Rattle.user_admin.specs.declared.op.UserEntry.{UserEntry}
 use Rattle.user_admin.specs.declared.shared.SharedUsers.{SharedUsers}
 use Rattle.user_admin.specs.Coding.{opening_coded as users_coded}
 use Rattle.user_admin.specs.Histories.{Opening as UsersOpening}
+use Rattle.user_admin.specs.Resting.{IsAtRest}
 use Rattle.user_admin.specs.Shared.{opening_at as users_opening}
 use Rattle.user_admin.specs.Turns.{HasPass as HasUsersPass, Saw as SawUsers}
 use Rattle.xc_core.specs.declared.state.State.{State}
@@ -60,9 +61,9 @@ user_seat_at state p t = record { opening = users_opening state t.first; turnsti
 abbrev pub IsSameUserSeat : UserSeatAt → UserSeatAt → Type 0
 IsSameUserSeat old new = (new.opening ≡ old.opening) × (new.place ≡ old.place) × (new.places ≡ old.places) × (new.turnstile ≡ old.turnstile)
 
--- the pass is the turnstile's, no turn of it is out, and it has seen a history
+-- the pass is the turnstile's, no turn of it is out, and what it has seen is a history in which the place hasn't got the users' keeper out
 abbrev pub IsUserSeated : {U : Type 0} → (U → DiskState) → Token → Gate (SharedUsers U) → Type 0
-IsUserSeated state p t = HasUsersPass t p × ((h : List UserEntry) × SawUsers (users_opening state t.first) p.seen h)
+IsUserSeated state p t = HasUsersPass t p × ((h : List UserEntry) × SawUsers (users_opening state t.first) p.seen h) × IsAtRest p
 
 -- a shelf, and the seats of one place
 pub record PlaceAt : Type 0 where

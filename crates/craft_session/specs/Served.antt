@@ -2,6 +2,7 @@
 use Rattle.std.specs.Prelude.{◌≡◌, ◌≢◌, ◌≤◌, ◌+◌, ◌^◌, ◌↔◌, [], IsTrue}
 use Rattle.dxc_causes.specs.Causes.{Rose, Counted}
 use Rattle.dxc_outside.specs.Links.{LinkState}
+use Rattle.user_admin.specs.Resting.{SawRest}
 use Rattle.user_admin.specs.Turns.{AreNumbered as AreUsersNumbered}
 use Rattle.xc_core.specs.Turns.{AreNumbered, SawNoneAstray}
 use Rattle.dxc_model.specs.declared.user.SessionUser.{SessionUser}
@@ -25,6 +26,8 @@ pub record StaysPlace (disk_told : Type 0) (old new : PlaceAt) : Type 0 where
   pub users : IsSameUserSeat old.users new.users
   pub numbers : AreNumbered new.seat.places new.seat.seen
   pub users_numbers : AreUsersNumbered new.users.places new.users.seen
+  -- it has brought the users' keeper home
+  pub users_rest : SawRest new.users.place new.users.seen
   pub astray : SawNoneAstray disk_told new.seat.seen
 
 -- why a session over a link ended, by the link before and after it, whose content is told or not

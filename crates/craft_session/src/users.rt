@@ -4,6 +4,7 @@ ghost use Rattle.std.specs.Arc.{arc_value};
 ghost use Rattle.dxc_causes.specs.Causes.{Rose};
 ghost use Rattle.user_admin.specs.declared.op.UserEntry.{UserEntry as Entry};
 ghost use Rattle.user_admin.specs.Openings.{asked_at_turn};
+ghost use Rattle.user_admin.specs.Resting.{SawRest};
 ghost use Rattle.user_admin.specs.Spellable.{NamesUid};
 ghost use Rattle.user_admin.specs.Turns.{AreNumbered, LoggedIn, RowsAre, RowsDenied, Saw, TookIs};
 ghost use Rattle.user_admin.specs.Verdicts.{IsChanging};
@@ -50,10 +51,11 @@ impl<U: Disk + Drop> UserSeat<U> {
         UserSeat { pass, turns }
     }
 
-    /// What it has seen is a history of the places' entries.
+    /// What it has seen is a history of the places' entries, in which the place hasn't got the users' keeper out.
     pub fn seen(&self)
         ensures history { (h : List Entry) × Saw self.now.opening self.now.seen h }
         ensures numbers { AreNumbered self.now.places self.now.seen }
+        ensures rests { SawRest self.now.place self.now.seen }
     {
         // What the pass has seen is told by the type.
         let _ = &self.pass;

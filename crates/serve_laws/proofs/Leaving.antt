@@ -1,9 +1,10 @@
 -- What stands for a history where the Provisioner is home.
-use Rattle.std.proofs.Common.{◌≡◌, ◌⊎◌, List, inl, inr, sym}
+use Rattle.std.proofs.Common.{◌≡◌, ◌⊎◌, ◌∙◌, List, Option, Some, None, inl, inr, refl, sym}
 use Rattle.dxc_disk.specs.Disks.{DiskState, Leaves}
 use Rattle.dxc_model.specs.declared.entry.Entry.{Entry}
-use Rattle.dxc_model.specs.Histories.{changes_of}
+use Rattle.dxc_model.specs.Histories.{changes_of, holder}
 use Rattle.core_laws.specs.Laws.{StandbysAreAdopted, SyncedAreMirrored}
+use Rattle.core_laws.specs.Mirrorings.{StandbysStandSince}
 use Rattle.xc_core.specs.declared.provisioner.Provisioner.{Provisioner}
 use Rattle.xc_core.specs.declared.state.Home.{Home}
 use Rattle.xc_core.specs.declared.state.Home.TheVariants.{In, Out}
@@ -15,9 +16,9 @@ use Rattle.xc_core.specs.Restarts.{IsHalted}
 use Rattle.xc_core.specs.States.{HomeIs, IsReadyOrHalted, Opening, StandsFor}
 use Rattle.xc_core.proofs.Journalling.{home_images}
 use Rattle.xc_core.proofs.Rereading.{halted_images}
-use Rattle.serve_laws.specs.Headline.{LeavesChanges, StandsForChanges}
+use Rattle.serve_laws.specs.Copies.{IsBroughtHome, LeavesChanges, StandsForChanges}
 
-module _ {D : Type 0} (told : Type 0) (state : D → DiskState) (synced : SyncedAreMirrored told state) (adopted : StandbysAreAdopted told state) where
+module _ {D : Type 0} (told : Type 0) (state : D → DiskState) (synced : SyncedAreMirrored told state) (adopted : StandbysAreAdopted told state) (since : StandbysStandSince told state) where
   images_by : (b : Past) (h : List Entry) (p : Provisioner D) → IsReadyOrHalted told state b h p → told → Leaves (state p.journal.0) (IsOldOrDoubted b p.doubt)
   images_by b h p stage t = elim stage [
     | inl ready ↦ home_images told (state p.journal.0) p.journal.1 b p.doubt (sym ready.0.past.shape) ready.0.journal t ready.0.past.book
@@ -36,8 +37,18 @@ module _ {D : Type 0} (told : Type 0) (state : D → DiskState) (synced : Synced
         reckoned = reckoned;
         crash = images_by b h p stage;
         copy = λ t pair keeps answered file. (adopted t b p (stage_is b h p stage) pair keeps (synced t b p (stage_is b h p stage) pair.primary answered file)).0;
+        adopted = λ t pair keeps answered file. (adopted t b p (stage_is b h p stage) pair keeps (synced t b p (stage_is b h p stage) pair.primary answered file)).1;
+        standby = λ t cs q are. since t p.journal.0 b cs q are;
       }
   leaves_by o b h reckoned (Out e) home = tt
 
   pub leaves_changes : (o : Opening) (s : State D) (h : List Entry) → StandsFor told state o s h → LeavesChanges told state o h s.home
   leaves_changes o s h x = leaves_by o x.now h x.reckoned s.home x.home
+
+  -- where nobody has it, it is home
+  brought_by : (o : Opening) (b : Past) (h : List Entry) (x : Home D) → HomeIs told state o b h x → holder None h ≡ None → LeavesChanges told state o h x → IsBroughtHome told state o h x
+  brought_by o b h (In d) home nobody leaves = record { driver = d; is = refl; stands = leaves }
+  brought_by o b h (Out e) home nobody leaves = absurd (let no : None ≡ Some home.0.0 = sym nobody ∙ home.0.1 in cc)
+
+  pub brought_home : (o : Opening) (s : State D) (h : List Entry) → StandsFor told state o s h → holder None h ≡ None → IsBroughtHome told state o h s.home
+  brought_home o s h x nobody = brought_by o x.now h s.home x.home nobody (leaves_changes o s h x)

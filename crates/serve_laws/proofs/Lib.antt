@@ -3,5 +3,7 @@ pub mod Serving
 pub mod Placing
 pub mod Owning
 pub mod Leaving
+pub mod Homes
+pub mod Keepers
 pub mod Earlier
 pub mod Whole

@@ -1,5 +1,5 @@
 -- All places: the jobs that were handed out, the sessions of each, and the one element.
-use Rattle.std.proofs.Common.{◌≡◌, ◌⊎◌, ◌<◌, ◌≤◌, ◌+◌, ℕ, zero, suc, Bool, true, false, arith, List, [], ◌∷◌, ◌++◌, length, map, Some, option_map, IsTrue, refl, sym, ◌∙◌, ap, subst, inl, inr}
+use Rattle.std.proofs.Common.{◌≡◌, ◌⊎◌, ◌<◌, ◌≤◌, ◌+◌, ℕ, zero, suc, Bool, true, false, arith, List, [], ◌∷◌, ◌++◌, length, map, None, Some, option_map, IsTrue, refl, sym, ◌∙◌, ap, subst, inl, inr}
 use Rattle.std.specs.List.{AllByRecursion, slice_get}
 use Rattle.std.proofs.lemmas.Option.{slice_get-map}
 use base.Stored.{Gv}
@@ -8,15 +8,17 @@ use Rattle.turnstile.specs.Turning.{Each}
 use Rattle.dxc_outside.specs.declared.clock.Moment.{Moment}
 use Rattle.dxc_model.specs.declared.cause.Cause.{Cause}
 use Rattle.dxc_model.specs.declared.entry.Entry.{Entry}
-use Rattle.dxc_model.specs.Histories.{IsLegal}
+use Rattle.dxc_model.specs.Histories.{IsLegal, holder}
 use Rattle.shelf_file.specs.Contents.{Contents}
 use Rattle.user_admin.specs.declared.op.UserEntry.{UserEntry}
 use Rattle.user_admin.specs.declared.op.UserMark.{UserMark}
 use Rattle.user_admin.specs.Coding.{mark_coded as user_coded}
-use Rattle.user_admin.specs.Marks.{entries_of, place_of as user_place_of}
+use Rattle.user_admin.specs.Marks.{entries_of, holder as users_holder, place_of as user_place_of}
+use Rattle.user_admin.specs.Resting.{Rests as UsersRest, SawRest}
+use Rattle.user_admin.proofs.Resting.{nothing_rests}
 use Rattle.user_admin.proofs.Marking.{each_entries}
 use Rattle.user_admin.specs.Histories.{IsLegal as AreLegal, Opening as UsersOpening, failures, users_after}
-use Rattle.xc_core.specs.Seeing.{entry_coded, place_of}
+use Rattle.xc_core.specs.Seeing.{Rests, entry_coded, place_of}
 use Rattle.xc_core.specs.States.{LimitBehind, Opening, began, rules_of}
 use Rattle.craft_session.specs.Happenings.{Request}
 use Rattle.craft_session.specs.Meanings.{language}
@@ -33,7 +35,9 @@ use Rattle.craft_jobs.specs.Begun.{AreRan}
 use Rattle.craft_jobs.specs.Leaves.{left_by}
 use Rattle.craft_server.specs.Callers.{Standing, standing}
 use Rattle.serve_laws.specs.Jobs.{Done, IsServedAt, Job, Ran, World}
-use Rattle.serve_laws.proofs.Serving.{Lived, all_along, heard_along, lived}
+use Rattle.serve_laws.proofs.Homes.{nobody_holds, fresh_rests, rested_all, rests_along}
+use Rattle.serve_laws.proofs.Keepers.{nobody_keeps, rested_users, same_place, users_rest_along}
+use Rattle.serve_laws.proofs.Serving.{Lived, Step, all_along, heard_along, lived}
 
 -- what a list has at a place, its image has there
 pub get_map : {A B : Type 0} (f : A → B) (xs : List A) (k : ℕ) (x : A) → slice_get xs k ≡ Some x → slice_get (map f xs) k ≡ Some (f x)
@@ -59,6 +63,9 @@ each_user n (e ∷ es) a = (a.0, each_user n es a.1)
 
 within : (n : ℕ) (due : Bool) (h : List Entry) → 0 < n → Each (λ e. e.place < n) h → AllByRecursion (λ e. e.place < n) (began due ++ h)
 within n due h pos a = elim due as (λ b. AllByRecursion (λ e. e.place < n) (began b ++ h)) [ false ↦ each_all n h a | true ↦ (pos, each_all n h a) ]
+
+within_each : (n : ℕ) (due : Bool) (h : List Entry) → 0 < n → Each (λ e. e.place < n) h → Each (λ e. e.place < n) (began due ++ h)
+within_each n due h pos a = elim due as (λ b. Each (λ e. e.place < n) (began b ++ h)) [ false ↦ a | true ↦ (pos, a) ]
 
 module _ (w : World) (s : Contents) (o : Opening) (p : UsersOpening) (t : Turnstiles) where
   -- the job of this number has run at the place of that number
@@ -136,6 +143,21 @@ module _ (w : World) (s : Contents) (o : Opening) (p : UsersOpening) (t : Turnst
         | inr ge ↦ absurd (omega (arith, lt, ge))
       ]
 
+      -- each place rests, so nobody has the Provisioner
+      rests_each : (k : ℕ) → k < 16 → Rests k (began o.due ++ history)
+      rests_each k lt =
+          let x = ran_at k lt in
+          let is = (place_lived k lt).is in
+          let seat = λ (t : Standing w.office.Gate). t.place.seat in
+          let fresh = fresh_rests x.job.place.seat (ap (λ (q : PlaceAt). q.seat.seen) x.there) in
+          let rested = rested_all (Step w.disk.told w.uses.clock.told w.office.link.told w.office.link.state w.office.link.begun w.uses.gate.stops w.uses.gate.asked) seat
+          (λ t u c y. let v = y.session in let b = y.gated v.before v.users_before v.saw v.users_saw in record { same = y.seat; before = v.before; saw = v.saw.codes_are; entries = b.entries; then_saw = b.saw.codes_are; users_place = t.place.users.place; users_entries = b.users_entries; places = b.places; gated = b.gated })
+          (first_at k lt) (last_at k lt) x.ran.served.callers x.ran.served.served fresh in
+          rests_along o k x.left.seat is.1 is.2 rested history (seen k x.left x.left_is)
+
+      pub nobody_has : Each (λ e. e.place < 16) history → holder None (began o.due ++ history) ≡ None
+      nobody_has numbers = nobody_holds 16 (began o.due ++ history) (within_each 16 o.due history (omega arith) numbers) rests_each
+
       pub played_as_one : IsLegal (rules_of o) (began o.due ++ history) → Each (λ e. e.place < 16) history → (excused : Cause → Bool) → AllByRecursion (IsExcused (λ q. IsTrue (excused q))) (began o.due ++ history)
           → ComesTo (language s) (LimitBehind o.first) (λ q. IsTrue (excused q)) (element o.first.fold.table (began o.due) (λ k. [])) (element o.first.fold.table (began o.due ++ history) sessions)
       played_as_one legal numbers excused all =
@@ -154,6 +176,20 @@ module _ (w : World) (s : Contents) (o : Opening) (p : UsersOpening) (t : Turnst
 
       numbered : Each (λ m. user_place_of m < 16) left → AllByRecursion (λ e. e.place < 16) history
       numbered numbers = each_user 16 history (each_entries (λ n. n < 16) left numbers)
+
+      -- each place rests at the users, so nobody has the keeper
+      users_rest_each : (k : ℕ) → k < 16 → UsersRest k left
+      users_rest_each k lt =
+          let x = ran_at k lt in
+          let seat = λ (t : Standing w.office.Gate). t.place.users in
+          let step = Step w.disk.told w.uses.clock.told w.office.link.told w.office.link.state w.office.link.begun w.uses.gate.stops w.uses.gate.asked in
+          let fresh = subst (λ (g : List Gv). SawRest x.job.place.users.place g) (sym (ap (λ (q : PlaceAt). q.users.seen) x.there)) (nothing_rests x.job.place.users.place) in
+          let rests = rested_users step seat (λ t u c y. y.users_rest) (first_at k lt) (last_at k lt) x.ran.served.callers x.ran.served.served fresh in
+          let there = same_place step seat (λ t u c y. y.users.1) (first_at k lt) (last_at k lt) x.ran.served.callers x.ran.served.served ∙ ap (λ (q : PlaceAt). q.users.place) x.there in
+          users_rest_along k x.left.users there rests left (seen k x.left x.left_is)
+
+      pub nobody_keeps_it : Each (λ m. user_place_of m < 16) left → users_holder None left ≡ None
+      nobody_keeps_it numbers = nobody_keeps 16 left numbers users_rest_each
 
       pub heard_as_one : AreLegal p history → Each (λ m. user_place_of m < 16) left → (failing : Bool) → (1 ≤ failures history → IsTrue failing)
           → AreHeard (language s) p.shelf.sid (IsTrue failing) (record { users = p.users; sessions = λ k. [] }) (record { users = users_after p history; sessions = hearings })

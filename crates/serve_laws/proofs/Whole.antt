@@ -17,6 +17,7 @@ use Rattle.dxc_model.specs.declared.entry.Entry.{Entry}
 use Rattle.dxc_model.specs.Histories.{changes_of, table_after}
 use Rattle.dxc_model.proofs.Growth.{changes_append, table_append}
 use Rattle.core_laws.specs.Laws.{StandbysAreAdopted, SyncedAreMirrored}
+use Rattle.core_laws.specs.Mirrorings.{StandbysStandSince}
 use Rattle.frame_worker.specs.Laws.{AreOwnBytes}
 use Rattle.shelf_file.specs.Contents.{Contents}
 use Rattle.user_admin.specs.declared.op.UserMark.{UserMark}
@@ -42,12 +43,13 @@ use Rattle.craft_server.specs.Serving.{SiteAt}
 use Rattle.serve_laws.specs.Headline.{IsEarlier, IsEnd, IsHitlessFabric, IsOneElement, IsOneOrder, IsOrder, LiesFor, Lying, Sessions, UsersLying, WasThen, behind, opened, seen_by, users_seen_by}
 use Rattle.serve_laws.specs.Jobs.{Job, Jobs, Ran, World}
 use Rattle.serve_laws.proofs.Earlier.{SeesOn, earlier}
-use Rattle.serve_laws.proofs.Leaving.{leaves_changes}
+use Rattle.serve_laws.proofs.Keepers.{keeper_home}
+use Rattle.serve_laws.proofs.Leaving.{brought_home, leaves_changes}
 use Rattle.serve_laws.proofs.Owning.{all_own, core_of}
-use Rattle.serve_laws.proofs.Placing.{get_map, heard_as_one, heard_then, hearings, map_length, played_as_one, ran_length, served_at, sessions}
+use Rattle.serve_laws.proofs.Placing.{get_map, heard_as_one, heard_then, hearings, map_length, nobody_has, nobody_keeps_it, played_as_one, ran_length, served_at, sessions}
 use Rattle.serve_laws.proofs.Resting.{at_home, begun, count, get_below, history, lying, numbers, opening_is, seen_at, stand}
 
-module _ (w : World) (synced : SyncedAreMirrored w.disk.told w.disk.state) (adopted : StandbysAreAdopted w.disk.told w.disk.state) (s : Contents) (o : Opening) (p : UsersOpening) (jobs : List (Job w)) (lefts : List PlaceAt) (seats : List FramesLeft) (sixteen : length jobs ≡ 16) (has : HasPlaces s o p 16 (map (λ (j : Job w). j.place) jobs)) (ran : AreRan (left_by (Ran w)) jobs lefts) (e : IsEnd w o p has.turnstiles lefts seats) where
+module _ (w : World) (synced : SyncedAreMirrored w.disk.told w.disk.state) (adopted : StandbysAreAdopted w.disk.told w.disk.state) (since : StandbysStandSince w.disk.told w.disk.state) (s : Contents) (o : Opening) (p : UsersOpening) (jobs : List (Job w)) (lefts : List PlaceAt) (seats : List FramesLeft) (sixteen : length jobs ≡ 16) (has : HasPlaces s o p 16 (map (λ (j : Job w). j.place) jobs)) (ran : AreRan (left_by (Ran w)) jobs lefts) (e : IsEnd w o p has.turnstiles lefts seats) where
   many : {X : Type 0} (f : PlaceAt → X) → length (map f lefts) ≡ 16
   many f = map_length f lefts ∙ ran_length (left_by (Ran w)) jobs lefts ran ∙ sixteen
 
@@ -105,7 +107,7 @@ module _ (w : World) (synced : SyncedAreMirrored w.disk.told w.disk.state) (adop
     stood = subst (λ (y : Opening). StandsFor w.disk.told w.disk.state y was.0.state.value (began y.due ++ m.allowed.history)) (was.2 ∙ made_for) was.3
 
     lay_for : LiesFor w o m.allowed.history z
-    lay_for = record { lying = was.0; at_home = was.1; stands = stood; leaves = leaves_changes w.disk.told w.disk.state synced adopted o was.0.state.value (began o.due ++ m.allowed.history) stood }
+    lay_for = record { lying = was.0; at_home = was.1; stands = stood; leaves = leaves_changes w.disk.told w.disk.state synced adopted since o was.0.state.value (began o.due ++ m.allowed.history) stood }
 
     -- each pass had seen a beginning of the history
     sees : (n : ℕ) (v : View) → n < m.allowed.dealt → get_elem? z.views (n + 1) ≡ some_of v → SeesOn entry_coded.code h v.seen
@@ -145,14 +147,16 @@ module _ (w : World) (synced : SyncedAreMirrored w.disk.told w.disk.state) (adop
           lying = lies;
           at_home = at_home _ _ _ _ _ _ _ _ _ e.of_state opening_coded.inj o 16 has.state_made seen_many some;
           stands = stands;
-          leaves = leaves_changes w.disk.told w.disk.state synced adopted o lies.state.value (began o.due ++ h) stands;
+          leaves = leaves_changes w.disk.told w.disk.state synced adopted since o lies.state.value (began o.due ++ h) stands;
         };
+        home = brought_home w.disk.told w.disk.state synced adopted since o lies.state.value (began o.due ++ h) stands (nobody_has w s o p has.turnstiles jobs lefts sixteen has.each ran h seen few);
         users_history = entries_of g;
         users_left = g;
         users_entered = refl;
         users_lying = users_lie;
         users_at_home = at_home _ _ _ _ _ _ _ _ _ e.of_users users_coded.inj p 16 has.users_made users_many some;
         users_stand = users_stand;
+        users_home = keeper_home w.office.disk.told w.office.disk.state p g (nobody_keeps_it w s o p has.turnstiles jobs lefts sixteen has.each ran g users_seen users_few) users_lie.state.value users_stand;
         sessions = ss;
         hearings = hearings w s o p has.turnstiles jobs lefts sixteen has.each ran;
         each = served_at w s o p has.turnstiles jobs lefts sixteen has.each ran;
@@ -161,9 +165,9 @@ module _ (w : World) (synced : SyncedAreMirrored w.disk.told w.disk.state) (adop
         heard_before = heard_then w s o p has.turnstiles jobs lefts sixteen has.each ran g users_seen users_stand.legal users_few;
       }
 
-pub headline : AreOwnBytes → (w : World) → SyncedAreMirrored w.disk.told w.disk.state → StandbysAreAdopted w.disk.told w.disk.state → (handed : List AnyJob → Type 0) (site : SiteAt) (s : Contents) (o : Opening) (p : UsersOpening) (j : Jobs w handed site s o p) (e : IsEnd w o p j.places.turnstiles j.left.left.sessions.items j.left.left.workers.items)
+pub headline : AreOwnBytes → (w : World) → SyncedAreMirrored w.disk.told w.disk.state → StandbysAreAdopted w.disk.told w.disk.state → StandbysStandSince w.disk.told w.disk.state → (handed : List AnyJob → Type 0) (site : SiteAt) (s : Contents) (o : Opening) (p : UsersOpening) (j : Jobs w handed site s o p) (e : IsEnd w o p j.places.turnstiles j.left.left.sessions.items j.left.left.workers.items)
     → IsOneElement w s o p j.sessions j.left.left.sessions.items e.key e.state e.users × IsHitlessFabric w o j.workers j.left.left.workers.items e.fabric
-headline own_bytes w synced adopted handed site s o p j e = (
-  one_element w synced adopted s o p j.sessions j.left.left.sessions.items j.left.left.workers.items j.sixteen j.places j.left.of_sessions e,
+headline own_bytes w synced adopted since handed site s o p j e = (
+  one_element w synced adopted since s o p j.sessions j.left.left.sessions.items j.left.left.workers.items j.sixteen j.places j.left.of_sessions e,
   record { core = core_of o.site.fabric.size e.fabric e.of_fabric; always = core_of o.site.fabric.size; frames = all_own own_bytes w.uses.lines w.uses.gate w.office.opener.lines_for o.site.fabric site.lines e.fabric e.of_fabric 0 j.workers j.left.left.workers.items j.seats j.left.of_workers e.of_seats },
 )

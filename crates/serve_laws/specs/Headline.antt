@@ -11,7 +11,6 @@ use Rattle.turnstile.specs.declared.board.View.{View}
 use Rattle.turnstile.specs.declared.board.Held.{Held}
 use Rattle.turnstile.specs.declared.board.Opened.{Opened}
 use Rattle.turnstile.specs.Turning.{Kept, opening_in, stands_in}
-use Rattle.dxc_disk.specs.Disks.{DiskState, Leaves}
 use Rattle.dxc_outside.specs.declared.clock.Moment.{Moment}
 use Rattle.dxc_outside.specs.Jobs.{AnyJob}
 use Rattle.dxc_model.specs.declared.cause.Cause.{Cause}
@@ -22,8 +21,6 @@ use Rattle.fabric_words.specs.declared.table.View.{View as FabricView}
 use Rattle.fabric_words.specs.Laws.{IsCore}
 use Rattle.fabric_words.specs.Tied.{Tied}
 use Rattle.shelf_file.specs.Contents.{Contents}
-use Rattle.standby_link.specs.Laws.{KeepsUp}
-use Rattle.standby_link.specs.Mirrors.{Pair}
 use Rattle.user_admin.specs.declared.op.UserEntry.{UserEntry}
 use Rattle.user_admin.specs.declared.op.UserMark.{UserMark}
 use Rattle.user_admin.specs.declared.shared.SharedUsers.{SharedUsers}
@@ -31,13 +28,8 @@ use Rattle.user_admin.specs.Coding.{mark_coded as user_coded, opening_coded as u
 use Rattle.user_admin.specs.Histories.{Opening as UsersOpening, failures, users_after}
 use Rattle.user_admin.specs.Marks.{entries_of, place_of as user_place_of}
 use Rattle.user_admin.specs.Shared.{SharedFor as UsersStandFor, SharedStands as UsersStand, opening_at as users_opening}
-use Rattle.xc_core.specs.declared.provisioner.Provisioner.{Provisioner}
-use Rattle.xc_core.specs.declared.state.Home.{Home}
-use Rattle.xc_core.specs.declared.state.Home.TheVariants.{In, Out}
 use Rattle.xc_core.specs.declared.state.State.{State}
 use Rattle.xc_core.specs.Coding.{opening_coded}
-use Rattle.xc_core.specs.Journals.{IsOldOrDoubted}
-use Rattle.xc_core.specs.Reckonings.{Past, ReckonsTo}
 use Rattle.xc_core.specs.Seeing.{entry_coded, place_of}
 use Rattle.xc_core.specs.States.{LimitBehind, Opening, Stands, StandsFor, began, opening_of}
 use Rattle.craft_session.specs.Happenings.{Request}
@@ -51,21 +43,11 @@ use Rattle.switch_laws.specs.Users.{AreHeard, Hearing}
 use Rattle.craft_jobs.specs.declared.frames_left.FramesLeft.{FramesLeft}
 use Rattle.craft_jobs.specs.Begun.{AreRan}
 use Rattle.craft_server.specs.Serving.{SiteAt}
+use Rattle.serve_laws.specs.Copies.{IsBroughtHome, LeavesChanges}
 use Rattle.serve_laws.specs.Frames.{AreSeatsIn, CarriedOwn}
+use Rattle.serve_laws.specs.Keepers.{IsKeeperHome}
 use Rattle.serve_laws.specs.Jobs.{Frames, IsServedAt, Job, Jobs, World}
 use Rattle.serve_laws.specs.Passes.{IsRestOf}
-
--- What stands for the changes of a history, or for these and the one in doubt, where the Provisioner is home: each file that a crash may leave of its
--- journal, and that of a standby which keeps up with the journal, where no call came behind the last sync that was answered while Joined.
-pub record StandsForChanges {D : Type 0} (told : Type 0) (state : D → DiskState) (o : Opening) (h : List Entry) (p : Provisioner D) : Type 0 where
-  pub past : Past
-  pub reckoned : ReckonsTo o.first (changes_of h) past
-  pub crash : told → Leaves (state p.journal.0) (IsOldOrDoubted past p.doubt)
-  pub copy : told → (pair : Pair) → KeepsUp pair → pair.primary.answered ≡ length pair.primary.before → pair.primary.file ≡ (state p.journal.0).reads_as → IsOldOrDoubted past p.doubt pair.standby.file
-
-abbrev pub LeavesChanges : {D : Type 0} → Type 0 → (D → DiskState) → Opening → List Entry → Home D → Type 0
-LeavesChanges told state o h (In d) = StandsForChanges told state o h d.value.p
-LeavesChanges told state o h (Out e) = Unit {0}
 
 -- what the seats of places have seen
 abbrev pub seen_by : List PlaceAt → List (List Gv)
@@ -147,6 +129,8 @@ module _ (w : World) where
   pub record IsOneElement (s : Contents) (o : Opening) (p : UsersOpening) (jobs : List (Job w)) (lefts : List PlaceAt) (key : Opened (Box (State w.Disk) Global)) (state : TableState (Option Lying) View) (users : TableState (Option UsersLying) View) : Type 0 where
     pub history : List Entry
     pub lies : LiesFor o history state
+    -- all have brought home what they took out
+    pub home : IsBroughtHome w.disk.told w.disk.state o (began o.due ++ history) lies.lying.state.value.home
     pub users_history : List UserEntry
     pub users_lying : UsersLying
     pub users_at_home : users.homes ≡ some (Some users_lying) ∷ []
@@ -154,6 +138,7 @@ module _ (w : World) where
     pub users_left : List UserMark
     pub users_entered : entries_of users_left ≡ users_history
     pub users_stand : UsersStandFor w.office.disk.told w.office.disk.state p users_lying.state.value users_left
+    pub users_home : IsKeeperHome w.office.disk.told w.office.disk.state p users_left users_lying.state.value.keeper
     -- of each place the sessions on the element, and what they heard of the users, the newest first
     pub sessions : Sessions
     pub hearings : ℕ → List (Hearing Request)

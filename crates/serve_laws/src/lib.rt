@@ -5,7 +5,7 @@ ghost use Rattle.craft_jobs.specs.Offices.{office};
 ghost use Rattle.serve_laws.specs.Headline.{IsHeadline};
 ghost use Rattle.serve_laws.specs.Jobs.{means, world};
 
-use core_laws::standbys_are_adopted;
+use core_laws::{standbys_are_adopted, standbys_stand_for_commands};
 use dxc_disk::Disk;
 use dxc_leaving::LetGo;
 use dxc_outside::{Clock, Gate, Lines, Link, Listener, Opener, Spawner};
@@ -30,4 +30,5 @@ pub fn headline<O: Opener + LetGo, D: Disk, P: Spawner>()
     // Their laws: they name no lemma.
     own_bytes();
     standbys_are_adopted::<D>();
+    standbys_stand_for_commands::<D>();
 }

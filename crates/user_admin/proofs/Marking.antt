@@ -47,7 +47,7 @@ turns_behind who (m ∷ ms) ns turns = turns_behind (holder_after who m) ms ns t
 some_none : (n : ℕ) → Some n ≡ None → ⊥
 some_none n e = cc
 
-same_number : (a b : ℕ) → Some a ≡ Some b → a ≡ b
+pub same_number : (a b : ℕ) → Some a ≡ Some b → a ≡ b
 same_number a b e = cc
 
 -- while a place has the keeper, others change nothing, and it has it still

@@ -4,6 +4,7 @@ ghost use Rattle.dxc_causes.specs.Causes.{Rose};
 ghost use Rattle.user_admin.specs.declared.op.UserEntry.{UserEntry as Entry};
 ghost use Rattle.user_admin.specs.Openings.{asked_at_turn};
 ghost use Rattle.user_admin.specs.Spellable.{NamesUid};
+ghost use Rattle.user_admin.specs.Resting.{IsAtRest, RestsUnlessTaken};
 ghost use Rattle.user_admin.specs.Shared.{asked_by, asked_in, opening_at};
 ghost use Rattle.user_admin.specs.Turns.{After, Brings, HasPass, HasSeen, IsKept, LoggedIn, OutUpon, OutAfter, RowsAre, RowsDenied, Saw, Takes, TookIs, Tries};
 ghost use Rattle.user_admin.specs.Verdicts.{IsChanging};
@@ -42,6 +43,7 @@ pub fn change<D: Disk + Drop, G: Gate, R: Wait>(
     requires named { NamesUid op }
     requires seen { (h : List Entry) × Saw (opening_at D.state turns.now.first) pass.old.seen h }
     ensures pass { HasPass turns.now pass.new × (pass.new.number ≡ pass.old.number) }
+    ensures rests { IsAtRest pass.old → IsAtRest pass.new }
     ensures took { (h : List Entry) → Saw (opening_at D.state turns.now.first) pass.old.seen h
         → TookIs (opening_at D.state turns.now.first) pass.old.number h op pass.new.seen result }
     ensures stopped { result ≡ UserTook.Stopped → Rose (G.stops gate.old) (G.stops gate.new) }
@@ -74,6 +76,7 @@ fn change_in_line<D: Disk + Drop, G: Gate, R: Wait>(
     requires named { NamesUid op.now }
     requires seen { HasSeen D.Disk turns.now pass.old }
     ensures pass { HasPass turns.now pass.new × (pass.new.number ≡ pass.old.number) }
+    ensures rests { IsAtRest pass.old → IsAtRest pass.new }
     ensures took { After D.Disk turns.now pass.old (Tries op.now pass.new (Some result)) }
     ensures stopped { result ≡ UserTook.Stopped → Rose (G.stops gate.old) (G.stops gate.new) }
     ensures unstopped { result ≢ UserTook.Stopped → G.stops gate.new ≡ G.stops gate.old }
@@ -103,6 +106,7 @@ fn try_change<D: Disk + Drop, G: Gate, R: Wait>(
     requires named { NamesUid op.now }
     requires seen { HasSeen D.Disk turns.now pass.old }
     ensures pass { HasPass turns.now pass.new × (pass.new.number ≡ pass.old.number) }
+    ensures rests { IsAtRest pass.old → IsAtRest pass.new }
     ensures took { After D.Disk turns.now pass.old (Tries op.now pass.new result) }
     ensures stopped { result ≡ Some UserTook.Stopped
         → Rose (G.stops gate.old) (G.stops gate.new) }
@@ -142,6 +146,7 @@ fn take<D: Disk + Drop, G: Gate, R: Wait>(
     requires changing { IsChanging op.now }
     requires seen { HasSeen D.Disk turns.now pass.old }
     ensures pass { HasPass turns.now pass.new × (pass.new.number ≡ pass.old.number) }
+    ensures rests { IsAtRest pass.old → RestsUnlessTaken result pass.new }
     ensures took { After D.Disk turns.now pass.old (Takes D.Disk op.now pass.new result) }
     ensures stopped { result ≡ Planned.Stopped → Rose (G.stops gate.old) (G.stops gate.new) }
     ensures unstopped { result ≢ Planned.Stopped → G.stops gate.new ≡ G.stops gate.old }
@@ -174,6 +179,7 @@ fn bring<D: Disk + Drop, R: Wait>(
     requires pass { HasPass turns.now pass.old }
     requires kept { OutUpon D.Disk turns.now pass.old (IsKept D.Disk op.now outcome keeper.value) }
     ensures pass { HasPass turns.now pass.new × (pass.new.number ≡ pass.old.number) }
+    ensures rests { IsAtRest pass.new }
     ensures brought { OutAfter D.Disk turns.now pass.old (Brings op.now outcome pass.new) }
 {
     let mut turn = turns.enter(pass, rt);
@@ -194,6 +200,7 @@ pub fn login<D: Disk + Drop, R: Wait>(
     requires pass { HasPass turns.now pass.old }
     requires seen { (h : List Entry) × Saw (opening_at D.state turns.now.first) pass.old.seen h }
     ensures pass { HasPass turns.now pass.new × (pass.new.number ≡ pass.old.number) }
+    ensures rests { IsAtRest pass.old → IsAtRest pass.new }
     ensures logged { (h : List Entry) → Saw (opening_at D.state turns.now.first) pass.old.seen h
         → LoggedIn (opening_at D.state turns.now.first) pass.old.number h uid pid.now pass.new.seen
         result }
@@ -217,6 +224,7 @@ pub fn rows<D: Disk + Drop, R: Wait>(
     requires pass { HasPass turns.now pass.old }
     requires seen { (h : List Entry) × Saw (opening_at D.state turns.now.first) pass.old.seen h }
     ensures pass { HasPass turns.now pass.new × (pass.new.number ≡ pass.old.number) }
+    ensures rests { IsAtRest pass.old → IsAtRest pass.new }
     ensures rows { (h : List Entry) → Saw (opening_at D.state turns.now.first) pass.old.seen h
         → MatchResult result (λ given. RowsAre (opening_at D.state turns.now.first) pass.old.number
         h which pass.new.seen given.items)

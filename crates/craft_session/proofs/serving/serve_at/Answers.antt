@@ -24,7 +24,7 @@ returns g c =
     let user_is : c.begin.new.self.attending.user ≡ c.args.first = ap (λ (a : Attending). a.user) c.begin.ensures.attending in
     record {
       served = record {
-        place = record { shelf = search rules; seat = search rules; users = search rules; numbers = search rules; users_numbers = search rules; astray = search rules };
+        place = record { shelf = search rules; seat = search rules; users = search rules; numbers = search rules; users_numbers = search rules; users_rest = search rules; astray = search rules };
         session = subst (λ (w : (Contents × SessionUser) × (SeatAt × UserSeatAt)). IsServed (language_for w.0.1 w.0.0) g.K.Link.told g.C.Timestamps.told (g.K.Link.state c.args.link.now) (g.K.Link.state c.serve-end.new.link) (g.C.Timestamps.coming c.args.clock.now) (g.C.Timestamps.coming c.serve-end.new.clock) w.1.0 c.serve-end.new.desk.seat w.1.1 c.serve-end.new.desk.users.seat c.serve-end.result) (λ i. ((shelf_is i, user_is i), (seat_is i, users_is i)))
             c.serve-end.ensures.session;
         prompt = subst (λ (w : (Contents × SessionUser) × (SeatAt × UserSeatAt)). IsPrompt (language_for w.0.1 w.0.0) g.K.Link.begun g.K.Link.told g.C.Timestamps.told (g.K.Link.state c.args.link.now) (g.K.Link.state c.serve-end.new.link) (g.C.Timestamps.coming c.args.clock.now) w.1.0 w.1.1) (λ i. ((shelf_is i, user_is i), (seat_is i, users_is i)))

@@ -9,6 +9,7 @@ use Rattle.user_admin.specs.States.{entry}
 use Rattle.user_admin.specs.Turns.{Turned}
 use Rattle.user_admin.proofs.Sharing.{kept_later}
 use Rattle.user_admin.proofs.Turning.{at_turn, ends_at, ends_pass, same_marks, turned_at}
+use Rattle.user_admin.proofs.Resting.{home_rests}
 use Rattle.user_admin.proofs.turns.bring.Goals as goal
 
 pub bring-requires : goal.bring-requires
@@ -35,3 +36,8 @@ pub returns-clause-pass : goal.returns-clause-pass
 returns-clause-pass g c =
     ends_pass g.D.Disk.told g.D.Disk.state (opening_at g.D.Disk.state c.args.turns.now.first) c.args.pass.now.number c.enter-turn.result.own c.args.turns.now.passes c.args.pass.now.seen c.enter-turn.result.seen c.enter-turn.result.state c.enter-turn.ensures.turn.1 c.enter-turn.ensures.found
     c.args.turns.now c.args.pass.now c.leave.new.pass (Entered c.number-place.result c.of-op.result c.args.outcome) refl refl c.requires.pass (c.leave.ensures.pass.0, c.leave.ensures.pass.1, c.leave.ensures.pass.2 ∙ c.enter-turn.ensures.out.0) (c.number-place.ensures ∙ c.enter-turn.ensures.out.0) c.leave.ensures.seen
+
+pub returns-clause-rests : goal.returns-clause-rests
+returns-clause-rests g c =
+    home_rests g.D.Disk.told g.D.Disk.state (opening_at g.D.Disk.state c.args.turns.now.first) c.enter-turn.result.own c.args.turns.now.passes c.args.pass.now c.leave.new.pass c.enter-turn.result.seen c.enter-turn.result.state c.enter-turn.ensures.turn.1 (c.leave.ensures.pass.2 ∙ c.enter-turn.ensures.out.0) c.enter-turn.ensures.found
+    (Entered c.number-place.result c.of-op.result c.args.outcome) c.leave.ensures.seen c.requires.kept.2.homing

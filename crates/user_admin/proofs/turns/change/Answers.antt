@@ -35,3 +35,6 @@ returns-in-None-clause-later g c = later_behind _ _ _ (c.in-None.ensures.unstopp
 
 pub returns-in-None-clause-asked : goal.returns-in-None-clause-asked
 returns-in-None-clause-asked g c = g.G.Gate.asked_on c.args.gate.now c.try_change.new.gate c.change_in_line-took.new.gate [] _ c.in-None.ensures.asked c.change_in_line-took.ensures.asked
+
+pub returns-in-None-clause-rests : goal.returns-in-None-clause-rests
+returns-in-None-clause-rests g c = λ rests. c.change_in_line-took.ensures.rests (c.try_change.ensures.rests rests)

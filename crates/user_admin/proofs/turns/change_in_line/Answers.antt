@@ -9,13 +9,14 @@ pub try_change-requires-clause-seen : goal.try_change-requires-clause-seen
 try_change-requires-clause-seen g c = let w = c.requires.seen in let b = c.loop.invariant.passed w.0 w.1 in (w.0 ++ b.later, b.saw)
 
 pub loop-init : goal.loop-init
-loop-init g c = record { goes = (tt, tt); pass = c.requires.pass; number = refl; passed = λ h saw. turned_none (opening_at g.D.Disk.state c.args.turns.now.first) c.args.pass.now.number h c.args.pass.now.seen saw; gate = refl; asked = g.G.Gate.unasked c.args.gate.now }
+loop-init g c = record { goes = (tt, tt); pass = c.requires.pass; number = refl; rests = λ rests. rests; passed = λ h saw. turned_none (opening_at g.D.Disk.state c.args.turns.now.first) c.args.pass.now.number h c.args.pass.now.seen saw; gate = refl; asked = g.G.Gate.unasked c.args.gate.now }
 
 pub returns-in-Some-try_change : goal.returns-in-Some-try_change
 returns-in-Some-try_change g c =
     let t = c.in-Some-try_change.ensures in
     record {
       pass = (c.try_change.ensures.pass.0, c.try_change.ensures.pass.1 ∙ c.loop.invariant.number);
+      rests = λ rests. c.try_change.ensures.rests (c.loop.invariant.rests rests);
       took = λ h saw. tried_behind (opening_at g.D.Disk.state c.args.turns.now.first) c.args.pass.now.number h c.args.op.now c.loop.pass.seen c.try_change.new.pass.seen (Some c.in-Some-try_change.took) (c.loop.invariant.passed h saw) (λ k next. subst (λ (n : ℕ). TriedIs (opening_at g.D.Disk.state c.args.turns.now.first) n k c.args.op.now c.try_change.new.pass.seen (Some c.in-Some-try_change.took)) c.loop.invariant.number (c.in-Some-try_change.ensures.took k next));
       stopped = λ is. rose_behind _ _ _ c.loop.invariant.gate (t.stopped (ap (λ (x : UserTook). Some x) is));
       unstopped = λ other. t.unstopped (λ is. other (some_is _ _ is)) ∙ c.loop.invariant.gate;
@@ -28,6 +29,7 @@ loop-preserved g c = record {
   goes = (tt, tt);
   pass = c.try_change.ensures.pass.0;
   number = c.try_change.ensures.pass.1 ∙ c.loop.invariant.number;
+  rests = λ rests. c.try_change.ensures.rests (c.loop.invariant.rests rests);
   passed = λ h saw. tried_behind (opening_at g.D.Disk.state c.args.turns.now.first) c.args.pass.now.number h c.args.op.now c.loop.pass.seen c.try_change.new.pass.seen None (c.loop.invariant.passed h saw) (λ k next. subst (λ (n : ℕ). TriedIs (opening_at g.D.Disk.state c.args.turns.now.first) n k c.args.op.now c.try_change.new.pass.seen None) c.loop.invariant.number (c.in-None-try_change.ensures.took k next));
   gate = c.in-None-try_change.ensures.unstopped (λ is. none_is _ is) ∙ c.loop.invariant.gate;
   asked = g.G.Gate.asked_on c.args.gate.now c.loop.gate c.try_change.new.gate [] [] c.loop.invariant.asked c.in-None-try_change.ensures.asked;

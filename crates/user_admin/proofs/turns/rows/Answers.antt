@@ -13,6 +13,7 @@ use Rattle.user_admin.specs.Users.{Users}
 use Rattle.user_admin.specs.Verdicts.{Refuses, refusal, rows_in}
 use Rattle.user_admin.proofs.Sharing.{shared_denied, shared_read}
 use Rattle.user_admin.proofs.Turning.{ended, ends, ends_pass, listed_at}
+use Rattle.user_admin.proofs.Resting.{by_out, left_rests}
 use Rattle.user_admin.proofs.turns.rows.Goals as goal
 
 pub leave-requires-clause-stands : goal.leave-requires-clause-stands
@@ -46,3 +47,13 @@ pub returns-in-Err-clause-rows : goal.returns-in-Err-clause-rows
 returns-in-Err-clause-rows g c = λ h saw. subst (λ (u : UserOutcome). Turned (opening_at g.D.Disk.state c.args.turns.now.first) c.args.pass.now.number h (entry c.args.pass.now.number (Rows c.args.which) u) c.leave-in-Err.new.pass.seen) c.refused-outcome.ensures
     (ended g.D.Disk.told g.D.Disk.state (opening_at g.D.Disk.state c.args.turns.now.first) c.args.pass.now.number c.enter-turn.result.own c.args.turns.now.passes c.args.pass.now.seen c.enter-turn.result.seen c.enter-turn.result.state c.enter-turn.ensures.turn.1 c.enter-turn.ensures.found
     h saw c.enter-turn.result.state c.number-place.result c.of-op.result (Rows c.args.which) c.refused-outcome.result c.leave-in-Err.new.pass.seen (c.number-place.ensures ∙ c.enter-turn.ensures.out.0) c.of-op.ensures (λ l st. subst (λ (u : UserOutcome). SharedFor g.D.Disk.told g.D.Disk.state (opening_at g.D.Disk.state c.args.turns.now.first) c.enter-turn.result.state (l ++ Entered c.number-place.result c.of-op.result u ∷ [])) (sym c.refused-outcome.ensures) (shared_denied g.D.Disk.told g.D.Disk.state (λ d told. g.met.D.Disk.is_disk d told) (λ d. g.met.D.Disk.counts_on d) (opening_at g.D.Disk.state c.args.turns.now.first) l c.enter-turn.result.state c.number-place.result c.of-op.result c.in-Err.cause (subst (λ (x : UserOp). Refuses x c.enter-turn.result.state.list c.in-Err.cause) (sym c.of-op.ensures) (subst (λ (m : Users). Refuses (Rows c.args.which) m c.in-Err.cause) (ap (λ (s : SharedUsers g.row.D.Denot). s.list) c.state.ensures) c.in-Err.ensures)) st)) c.leave-in-Err.ensures.seen)
+
+pub returns-in-Ok-clause-rests : goal.returns-in-Ok-clause-rests
+returns-in-Ok-clause-rests g c =
+    left_rests g.D.Disk.told g.D.Disk.state (opening_at g.D.Disk.state c.args.turns.now.first) c.enter-turn.result.own c.args.turns.now.passes c.args.pass.now c.leave.new.pass c.enter-turn.result.seen c.enter-turn.result.state c.enter-turn.ensures.turn.1 (c.leave.ensures.pass.2 ∙ c.enter-turn.ensures.out.0) c.enter-turn.ensures.found
+    (Entered c.number-place.result c.of-op.result Answered) c.leave.ensures.seen (λ who not. by_out c.args.pass.now.number who Answered not)
+
+pub returns-in-Err-clause-rests : goal.returns-in-Err-clause-rests
+returns-in-Err-clause-rests g c =
+    left_rests g.D.Disk.told g.D.Disk.state (opening_at g.D.Disk.state c.args.turns.now.first) c.enter-turn.result.own c.args.turns.now.passes c.args.pass.now c.leave-in-Err.new.pass c.enter-turn.result.seen c.enter-turn.result.state c.enter-turn.ensures.turn.1 (c.leave-in-Err.ensures.pass.2 ∙ c.enter-turn.ensures.out.0) c.enter-turn.ensures.found
+    (Entered c.number-place.result c.of-op.result c.refused-outcome.result) c.leave-in-Err.ensures.seen (λ who not. by_out c.args.pass.now.number who c.refused-outcome.result not)

@@ -4,6 +4,7 @@ use Rattle.user_admin.specs.Marks.{mark_for}
 use Rattle.user_admin.specs.Shared.{SharedFor, opening_at}
 use Rattle.user_admin.proofs.Marking.{marked_place}
 use Rattle.user_admin.proofs.Turning.{at_turn, ends, ends_pass, given_by, gives_back, left_by, numbered_back, pass_back, took_back, took_left}
+use Rattle.user_admin.proofs.Resting.{gave_rests, took_rests}
 use Rattle.user_admin.proofs.turns.take.Goals as goal
 
 pub leave-requires-clause-number : goal.leave-requires-clause-number
@@ -38,3 +39,13 @@ pub returns-in-None-clause-pass : goal.returns-in-None-clause-pass
 returns-in-None-clause-pass g c =
     pass_back c.args.turns.now c.args.pass.now c.back.new.pass c.requires.pass c.back.ensures.pass.0 c.back.ensures.pass.1 (c.back.ensures.pass.2 ∙ c.enter-turn.ensures.out.0)
     (numbered_back g.D.Disk.told g.D.Disk.state (opening_at g.D.Disk.state c.args.turns.now.first) c.enter-turn.result.own c.args.turns.now.passes c.args.pass.now.seen c.enter-turn.result.seen c.enter-turn.result.state c.enter-turn.ensures.found c.back.new.pass.seen c.back.ensures.seen)
+
+pub returns-in-Some-clause-rests : goal.returns-in-Some-clause-rests
+returns-in-Some-clause-rests g c =
+    took_rests g.D.Disk.told g.D.Disk.state (opening_at g.D.Disk.state c.args.turns.now.first) c.enter-turn.result.own c.args.turns.now.passes c.args.pass.now c.leave.new.pass c.enter-turn.result.seen c.enter-turn.result.state c.enter-turn.ensures.turn.1 (c.leave.ensures.pass.2 ∙ c.enter-turn.ensures.out.0) c.enter-turn.ensures.found
+    c.in-Some.mark c.leave.ensures.seen c.args.op.now c.plan-planned.result (ap (λ (n : ℕ). mark_for n c.args.op.now c.plan-planned.result) (sym (c.number.ensures ∙ c.enter-turn.ensures.out.0)) ∙ sym c.mark_of.ensures ∙ c.in-Some.is)
+
+pub returns-in-None-clause-rests : goal.returns-in-None-clause-rests
+returns-in-None-clause-rests g c =
+    gave_rests g.D.Disk.told g.D.Disk.state (opening_at g.D.Disk.state c.args.turns.now.first) c.enter-turn.result.own c.args.turns.now.passes c.args.pass.now c.back.new.pass c.enter-turn.result.seen c.enter-turn.result.state c.enter-turn.ensures.turn.1 (c.back.ensures.pass.2 ∙ c.enter-turn.ensures.out.0) c.enter-turn.ensures.found
+    c.args.op.now c.plan-planned.result (ap (λ (n : ℕ). mark_for n c.args.op.now c.plan-planned.result) (sym (c.number.ensures ∙ c.enter-turn.ensures.out.0)) ∙ sym c.mark_of.ensures ∙ c.in-None.is) c.back.ensures.seen

@@ -43,3 +43,9 @@ returns-in-Ok-clause-pass g c = (c.bring.ensures.pass.0, c.bring.ensures.pass.1 
 
 pub returns-in-Err-clause-pass : goal.returns-in-Err-clause-pass
 returns-in-Err-clause-pass g c = (c.bring-in-Err.ensures.pass.0, c.bring-in-Err.ensures.pass.1 ∙ c.take.ensures.pass.1)
+
+pub returns-in-Ok-clause-rests : goal.returns-in-Ok-clause-rests
+returns-in-Ok-clause-rests g c = λ rests. c.bring.ensures.rests
+
+pub returns-in-Err-clause-rests : goal.returns-in-Err-clause-rests
+returns-in-Err-clause-rests g c = λ rests. c.bring-in-Err.ensures.rests

@@ -16,7 +16,7 @@ invariant_of-self g c =
     let w = c.self.invariant.1 in
     let o = opening_at g.U.Disk.state c.deref.result.now.first in
     let turn = c.change.ensures.took w.0 (users_saw_there g.U.Disk.state p t c.deref.result.now w.0 c.deref.ensures w.1) in
-    user_seated_on g.U.Disk.state c.change.new.pass t c.deref.result.now c.deref.ensures c.change.ensures.pass.0 (took_seen o p.number w.0 c.args.op c.change.new.pass.seen c.change.result turn)
+    user_seated_on g.U.Disk.state c.change.new.pass t c.deref.result.now c.deref.ensures c.change.ensures.pass.0 (took_seen o p.number w.0 c.args.op c.change.new.pass.seen c.change.result turn) (c.change.ensures.rests c.self.invariant.2)
 
 pub returns-clause-took : goal.returns-clause-took
 returns-clause-took g c =

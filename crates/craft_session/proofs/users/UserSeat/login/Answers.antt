@@ -19,7 +19,7 @@ invariant_of-self g c =
     let w = c.self.invariant.1 in
     let o = opening_at g.U.Disk.state c.deref.result.now.first in
     let turn = c.login.ensures.logged w.0 (users_saw_there g.U.Disk.state p t c.deref.result.now w.0 c.deref.ensures w.1) in
-    user_seated_on g.U.Disk.state c.login.new.pass t c.deref.result.now c.deref.ensures c.login.ensures.pass.0 (turn_seen o p.number w.0 (entry p.number (Look c.args.uid) Answered) c.login.new.pass.seen turn.0)
+    user_seated_on g.U.Disk.state c.login.new.pass t c.deref.result.now c.deref.ensures c.login.ensures.pass.0 (turn_seen o p.number w.0 (entry p.number (Look c.args.uid) Answered) c.login.new.pass.seen turn.0) (c.login.ensures.rests c.self.invariant.2)
 
 pub returns-clause-logged : goal.returns-clause-logged
 returns-clause-logged g c =

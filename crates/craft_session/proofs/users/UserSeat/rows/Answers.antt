@@ -17,7 +17,7 @@ invariant_of-self g c =
     let w = c.self.invariant.1 in
     let o = opening_at g.U.Disk.state c.deref.result.now.first in
     let turn = c.rows.ensures.rows w.0 (users_saw_there g.U.Disk.state p t c.deref.result.now w.0 c.deref.ensures w.1) in
-    user_seated_on g.U.Disk.state c.rows.new.pass t c.deref.result.now c.deref.ensures c.rows.ensures.pass.0 (rows_seen o p.number w.0 c.args.which c.rows.new.pass.seen (λ x. x.items) c.rows.result turn)
+    user_seated_on g.U.Disk.state c.rows.new.pass t c.deref.result.now c.deref.ensures c.rows.ensures.pass.0 (rows_seen o p.number w.0 c.args.which c.rows.new.pass.seen (λ x. x.items) c.rows.result turn) (c.rows.ensures.rests c.self.invariant.2)
 
 pub returns-clause-rows : goal.returns-clause-rows
 returns-clause-rows g c =
