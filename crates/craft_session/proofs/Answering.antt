@@ -1,6 +1,6 @@
 -- A unit was answered in the shelf's language.
 use Rattle.std.specs.Prelude.{is_some}
-use Rattle.std.proofs.Common.{◌≡◌, ◌≢◌, ℕ, Bool, false, List, [], Option, inl, inr, refl, sym, ◌∙◌, subst}
+use Rattle.std.proofs.Common.{◌≡◌, ◌≢◌, ℕ, Bool, false, List, [], Option, ap, inl, inr, refl, sym, ◌∙◌, subst}
 use base.Stored.{Gv}
 use Rattle.dxc_outside.specs.declared.clock.Moment.{Moment}
 use Rattle.dxc_outside.specs.declared.gate.GatePlace.{GatePlace}
@@ -33,7 +33,7 @@ use Rattle.craft_session.specs.Meanings.{asks, tag_of, language_for, wants}
 use Rattle.craft_session.specs.Seats.{IsSameSeat, IsSameUserSeat, SeatAt, UserSeatAt}
 use Rattle.craft_session.specs.Sessions.{Now, Beginning, Halts, IsAt, IsSaid, Stands, Goes}
 use Rattle.craft_session.specs.Stamps.{Stamp, stamp_at}
-use Rattle.craft_session.specs.Timely.{IsTimely, starting, telling}
+use Rattle.craft_session.specs.Timely.{IsTimely, reached, starting, telling}
 use Rattle.craft_session.proofs.Ends.{cut_goes, on_goes}
 use Rattle.craft_session.proofs.SessionSteps.{answered_in_time, goes_on, goes_cut, goes_stopped, goes_unheard, whole_ended, long_ended}
 use Rattle.craft_session.proofs.Timely.{timely_none}
@@ -76,10 +76,10 @@ module _ (s : Contents) (first : SessionUser) (told clock_told : Type 0) (k j : 
     answered Stopped x = answered_by_stop x
 
     pub answered_timely : (stamped : Stamp → Type 0) (seat2 : SeatAt) (users2 : UserSeatAt) → IsAt b seat2 users2 → seat2.seen ≡ after.seen → users2.seen ≡ after.users → (how : Progress) → IsAnswered s told clock_told j j2 d d2 u seat users now after how
-        → (how ≢ Stopped → stamped (stamp_at d j seat2 users2)) → IsTimely (language_for first s) (telling told clock_told stamped) (starting k c b) j j2
+        → (how ≢ Stopped → stamped (stamp_at d j seat2 users2)) → IsTimely (language_for first s) (telling told clock_told stamped) (starting k c b) j (reached j2.written seat2.seen users2.seen)
     answered_timely stamped seat2 users2 at2 seen2 users_seen2 On x was = answered_in_time (language_for first s) told clock_told k c b j d now r kind ahead stands (record { input = u; heard = x.heard }) j2 d2 ended.0 x.reply after (hears (wants s now.attending.user u) x.heard x.behind) (acts (asks s now.attending.user x.heard u) x.reply x.acts) stamped seat2 users2 Whole (said_on Whole x) at2 seen2 users_seen2 (was (on_goes On refl))
     answered_timely stamped seat2 users2 at2 seen2 users_seen2 Cut x was = answered_in_time (language_for first s) told clock_told k c b j d now r kind ahead stands (record { input = u; heard = x.heard }) j2 d2 ended.0 x.reply after (hears (wants s now.attending.user u) x.heard x.behind) (acts (asks s now.attending.user x.heard u) x.reply x.acts) stamped seat2 users2 Sent_cut (said_on Sent_cut x) at2 seen2 users_seen2 (was (cut_goes Cut refl))
-    answered_timely stamped seat2 users2 at2 seen2 users_seen2 Stopped x was = timely_none (language_for first s) (telling told clock_told stamped) (starting k c b) j j2 x.link
+    answered_timely stamped seat2 users2 at2 seen2 users_seen2 Stopped x was = timely_none (language_for first s) (telling told clock_told stamped) (starting k c b) j (reached j2.written seat2.seen users2.seen) (ap (λ (y : LinkState). y.written) x.link)
 
 -- a unit that ended, whole or too long
 pub input_ended : (l : Language Request Moment) (told clock_told : Type 0) (k j : LinkState) (c d : List Moment) (b : Beginning) (now : Now) (r : Reader) (ahead : List ℕ) (kind : UnitKind) (s : Stands l told clock_told k j c d b now false kind r ahead) → kind ≢ More → IsUnit s.rest (input_of kind r) × (hand r ≡ [])

@@ -48,12 +48,12 @@ use Rattle.craft_session.specs.Runs.{Run, Walk, begins, waits, looks, beginning,
 use Rattle.craft_session.specs.Sessions.{AreTold, Beginning, Breaks, Consulted, CutPast, Goes, Halts, IsAt, IsSaid, Now, Past, Served, Stands, StopPast, Writes}
 use Rattle.craft_session.specs.Seats.{SeatAt, UserSeatAt}
 use Rattle.craft_session.specs.Stamps.{AreStamped, Stamp, stamp_at}
-use Rattle.craft_session.specs.Timely.{IsTimely, starting, telling}
+use Rattle.craft_session.specs.Timely.{IsTimely, reached, starting, telling}
 use Rattle.craft_session.specs.Walks.{begun_by}
 use Rattle.craft_session.proofs.Changing.{others_unused}
 use Rattle.craft_session.proofs.Consulted.{consulted_back, consulted_on, consulted_quiet}
 use Rattle.craft_session.proofs.Reporting.{found_is}
-use Rattle.craft_session.proofs.Timely.{in_message}
+use Rattle.craft_session.proofs.Timely.{in_message, sent_to}
 use Rattle.craft_session.proofs.Walking.{cursor_within, due_some, snoc_some, passes_all, run_answered, with_history}
 
 pub writes_none : (told : Type 0) (k : LinkState) → Writes told k k
@@ -274,7 +274,7 @@ module _ (l : Language Request Moment) (told clock_told : Type 0) (k : LinkState
 
       -- each byte of the answer was written in its time
       pub answered_in_time : (stamped : Stamp → Type 0) (seat : SeatAt) (users : UserSeatAt) (sent : Sent) → IsSaid l told clock_told j j2 d d2 sent u reply → IsAt b seat users → seat.seen ≡ after.seen → users.seen ≡ after.users
-          → stamped (stamp_at d j seat users) → IsTimely l (telling told clock_told stamped) (starting k c b) j j2
+          → stamped (stamp_at d j seat users) → IsTimely l (telling told clock_told stamped) (starting k c b) j (reached j2.written seat.seen users.seen)
       unfolding past_answered
       answered_in_time stamped seat users sent said at seen users_seen was t n from below =
           let p = past_answered l clock_told c b d now s.items s.rest s.out s.past u is d2 said.moment said.now said.later reply after hears acts in (
@@ -295,8 +295,12 @@ module _ (l : Language Request Moment) (told clock_told : Type 0) (k : LinkState
               message = l.response said.moment u reply;
               says = inl (record { before = s.past.walk.moments; moment = said.moment; unit = u; reply = reply; all = refl; gave = λ ct. (s.past.gave ct, said.now ct); is = refl });
               written = sym p.written;
+              sent = said.wrote.part;
+              unsent = said.wrote.rest;
+              split = said.wrote.split;
+              goes_on = sent_to told b j j2 seat.seen users.seen said.wrote.part said.wrote.wrote;
               follows = from;
-              within = in_message told j j2 said.wrote.part said.wrote.rest (l.response said.moment u reply) said.wrote.wrote said.wrote.split t n below;
+              within = in_message told j j2 said.wrote.part said.wrote.wrote t n below;
             },
           )
 
@@ -478,7 +482,7 @@ module _ (l : Language Request Moment) (told clock_told : Type 0) (k : LinkState
 
       -- each byte of the reports was written in its time
       pub looked_in_time : (stamped : Stamp → Type 0) (seat : SeatAt) (users : UserSeatAt) (sent : Sent) → AreTold l told clock_told j j2 d d2 sent (found_notices looked.since looked.newest given) → IsAt b seat users → seat.seen ≡ seen → users.seen ≡ now.users
-          → AreStamped stamped (stamp_at d j seat users) j2 d2 → IsTimely l (telling told clock_told stamped) (starting k c b) j j2
+          → AreStamped stamped (stamp_at d j seat users) j2 d2 → IsTimely l (telling told clock_told stamped) (starting k c b) j (reached j2.written seat.seen users.seen)
       unfolding past_look_cut
       looked_in_time stamped seat users sent told_all at seat_seen users_seen was t n from below =
           let x = told_here sent told_all in
@@ -503,8 +507,12 @@ module _ (l : Language Request Moment) (told clock_told : Type 0) (k : LinkState
                 message = x.bytes;
                 says = inr (record { notices = notices found cursor; moments = x.taken ++ x.untaken; are = x.reported });
                 written = sym (ap (λ (y : List ℕ). y ++ x.bytes) past_now.written ∙ append_assoc past_now.walk.earlier past_now.walk.latest x.bytes);
+                sent = x.wrote.part;
+                unsent = x.wrote.rest;
+                split = x.wrote.split;
+                goes_on = sent_to told b j j2 seat.seen users.seen x.wrote.part x.wrote.wrote;
                 follows = from;
-                within = in_message told j j2 x.wrote.part x.wrote.rest x.bytes x.wrote.wrote x.wrote.split t n below;
+                within = in_message told j j2 x.wrote.part x.wrote.wrote t n below;
               },
             )
           ]

@@ -1,51 +1,158 @@
 -- That each byte was written in its time, one call after the other.
-use Rattle.std.proofs.Common.{◌≡◌, ◌⊎◌, ◌≤◌, ◌<◌, ◌+◌, ℕ, zero, suc, List, ◌++◌, length, length-append, inl, inr, ◌∙◌, ap, subst, arith}
+use Rattle.std.proofs.Common.{◌≡◌, ◌⊎◌, ◌≤◌, ◌<◌, ◌+◌, ℕ, zero, suc, false, List, [], ◌++◌, append-nil, append_assoc, length, length-append, inl, inr, sym, ◌∙◌, ap, subst, arith}
+use base.Stored.{Gv}
 use Rattle.dxc_outside.specs.declared.clock.Moment.{Moment}
+use Rattle.dxc_outside.specs.declared.gate.GatePlace.{GatePlace}
 use Rattle.dxc_outside.specs.declared.link.Got.{Got}
 use Rattle.dxc_outside.specs.Links.{LinkState, IsRead, Wrote}
+use Rattle.dxc_model.specs.declared.entry.Entry.{Entry}
 use Rattle.dxc_model.specs.declared.user.SessionUser.{SessionUser}
 use Rattle.shelf_file.specs.Contents.{Contents}
+use Rattle.user_admin.specs.declared.op.UserEntry.{UserEntry}
+use Rattle.user_admin.specs.Histories.{Opening as UsersOpening}
+use Rattle.user_admin.specs.Turns.{Saw as SawUsers}
+use Rattle.xc_core.specs.Seeing.{Saw}
+use Rattle.xc_core.specs.States.{Opening}
 use Rattle.craft_session.specs.Asks.{Language}
+use Rattle.craft_session.specs.Gated.{AreEntered, Entered, NothingAsked}
 use Rattle.craft_session.specs.Happenings.{Request}
 use Rattle.craft_session.specs.Meanings.{language_for}
 use Rattle.craft_session.specs.Seats.{IsSameSeat, IsSameUserSeat, SeatAt, UserSeatAt}
-use Rattle.craft_session.specs.Sessions.{Beginning, IsAt, Stands}
+use Rattle.craft_session.specs.Sessions.{Beginning, IsAt, Stands, Writes}
 use Rattle.craft_session.specs.Stamps.{AreStamped, Stamp, stamp_at}
-use Rattle.craft_session.specs.Timely.{InHand, IsTimely, IsTimelyFrom, Start, Telling, starting}
+use Rattle.craft_session.specs.Timely.{GoesOn, InHand, IsTimely, IsTimelyFrom, IsWrittenBehind, Reached, SeesOn, Start, Telling, reached, starting}
 
 less_or_not : (n m : ℕ) → (n < m) ⊎ (m ≤ n)
 less_or_not n zero = inr (omega arith)
 less_or_not zero (suc m) = inl (omega arith)
 less_or_not (suc n) (suc m) = elim (less_or_not n m) [ inl lt ↦ inl (omega (arith, lt)) | inr le ↦ inr (omega (arith, le)) ]
 
--- a byte of a message, of which a part was written
-pub in_message : (told : Type 0) (j m : LinkState) (part rest message : List ℕ) → Wrote told j m part → message ≡ part ++ rest → told → (n : ℕ) → n < length m.written → n < length j.written + length message
-in_message told j m part rest message wrote split t n below =
+-- a byte of what was written of a message
+pub in_message : (told : Type 0) (j m : LinkState) (part : List ℕ) → Wrote told j m part → told → (n : ℕ) → n < length m.written → n < length j.written + length part
+in_message told j m part wrote t n below =
     let a = ap length (wrote.written t) ∙ length-append j.written part in
-    let b = ap length split ∙ length-append part rest in
-    omega (arith, a, b, below)
+    omega (arith, a, below)
+
+-- what link and seats come to
+module _ (told : Type 0) (b : Beginning) where
+  pub sees_no_more : (h : List Entry) (g : List UserEntry) (r : Reached) → Saw b.opening r.seen h → SawUsers b.users r.users g → SeesOn b h g r
+  sees_no_more h g r saw users = record {
+    entries = [];
+    users_entries = [];
+    saw = subst (λ (l : List Entry). Saw b.opening r.seen l) (sym (append-nil h)) saw;
+    saw_users = subst (λ (l : List UserEntry). SawUsers b.users r.users l) (sym (append-nil g)) users;
+  }
+
+  pub goes_nowhere : (r : Reached) → GoesOn told b r r
+  goes_nowhere r = record { written = λ t. ([], sym (append-nil r.written)); sees_on = λ h g saw saw_users. sees_no_more h g r saw saw_users }
+
+  pub goes_further : (x y z : Reached) → GoesOn told b x y → GoesOn told b y z → GoesOn told b x z
+  goes_further x y z first next = record {
+    written = λ t. (let f = first.written t in let n = next.written t in (f.0 ++ n.0, n.1 ∙ ap (λ (l : List ℕ). l ++ n.0) f.1 ∙ append_assoc x.written f.0 n.0));
+    sees_on = λ h g saw users.
+        let f = first.sees_on h g saw users in
+        let n = next.sees_on (h ++ f.entries) (g ++ f.users_entries) f.saw f.saw_users in
+        record {
+          entries = f.entries ++ n.entries;
+          users_entries = f.users_entries ++ n.users_entries;
+          saw = subst (λ (l : List Entry). Saw b.opening z.seen l) (append_assoc h f.entries n.entries) n.saw;
+          saw_users = subst (λ (l : List UserEntry). SawUsers b.users z.users l) (append_assoc g f.users_entries n.users_entries) n.saw_users;
+        };
+  }
+
+  -- a part of a message was written
+  pub sent_to : (j m : LinkState) (seen users : List Gv) (part : List ℕ) → Wrote told j m part → GoesOn told b (reached (j.written ++ part) seen users) (reached m.written seen users)
+  sent_to j m seen users part wrote = record {
+    written = λ t. ([], wrote.written t ∙ sym (append-nil (j.written ++ part)));
+    sees_on = λ h g saw saw_users. sees_no_more h g (reached m.written seen users) saw saw_users;
+  }
+
+  -- the link was read
+  pub read_to : (j m : LinkState) (seen users : List Gv) (got : Got) (buffer : List ℕ) → IsRead told j m got buffer → GoesOn told b (reached j.written seen users) (reached m.written seen users)
+  read_to j m seen users got buffer read = record {
+    written = λ t. ([], read.written t ∙ sym (append-nil j.written));
+    sees_on = λ h g saw saw_users. sees_no_more h g (reached m.written seen users) saw saw_users;
+  }
+
+  module _ (j m : LinkState) (s : SeatAt) (u : UserSeatAt) (at : IsAt b s u) (writes : Writes told j m) where
+    -- turns were taken at both seats, and the link was written
+    pub went_to : (asked : List GatePlace → Type 0) (seen users : List Gv) → AreEntered s u asked seen users → GoesOn told b (reached j.written s.seen u.seen) (reached m.written seen users)
+    went_to asked seen users entered = record {
+      written = λ t. (writes.out, writes.wrote.written t);
+      sees_on = λ h g saw saw_users.
+          let x = entered h g (subst (λ (o : Opening). Saw o s.seen h) (sym at.0) saw) (subst (λ (o : UsersOpening). SawUsers o u.seen g) (sym at.2) saw_users) in
+          record {
+            entries = x.entries;
+            users_entries = x.users_entries;
+            saw = subst (λ (o : Opening). Saw o seen (h ++ x.entries)) at.0 x.saw;
+            saw_users = subst (λ (o : UsersOpening). SawUsers o users (g ++ x.users_entries)) at.2 x.saw_users;
+          };
+    }
+
+    -- a look at what changed, and the link was written
+    pub looked_to : (seen users : List Gv) → users ≡ u.seen → ((h : List Entry) → Saw s.opening s.seen h → Entered s.opening s.place NothingAsked false false h seen) → GoesOn told b (reached j.written s.seen u.seen) (reached m.written seen users)
+    looked_to seen users same entered = record {
+      written = λ t. (writes.out, writes.wrote.written t);
+      sees_on = λ h g saw saw_users.
+          let x = entered h (subst (λ (o : Opening). Saw o s.seen h) (sym at.0) saw) in
+          record {
+            entries = x.entries;
+            users_entries = [];
+            saw = subst (λ (o : Opening). Saw o seen (h ++ x.entries)) at.0 x.saw;
+            saw_users = subst (λ (y : List Gv × List UserEntry). SawUsers b.users y.0 y.1) (λ i. (sym same i, sym (append-nil g) i)) saw_users;
+          };
+    }
 
 module _ (l : Language Request Moment) (t : Telling) (s : Start) where
-  pub timely_none : (i j : LinkState) → j ≡ i → IsTimely l t s i j
-  timely_none i j same told n from below = absurd (let e = ap (λ (k : LinkState). length k.written) same in omega (arith, e, from, below))
+  pub timely_none : (i : LinkState) (e : Reached) → e.written ≡ i.written → IsTimely l t s i e
+  timely_none i e same told n from below = absurd (let k = ap length same in omega (arith, k, from, below))
 
-  -- more was written
-  pub timely_more : (i j m : LinkState) → IsTimely l t s i j → IsTimely l t s j m → IsTimely l t s i m
-  timely_more i j m so_far next told n from below = elim (less_or_not n (length j.written)) [ inl lt ↦ so_far told n from lt | inr le ↦ next told n le below ]
+  -- of a later end
+  behind_on : (p : Stamp) (e f : Reached) (n : ℕ) → IsWrittenBehind l t s p e n → GoesOn t.told s.beginning e f → IsWrittenBehind l t s p f n
+  behind_on p e f n x on = record {
+    items = x.items;
+    ahead = x.ahead;
+    out = x.out;
+    exchanged = x.exchanged;
+    walk = x.walk;
+    rest = x.rest;
+    happened = x.happened;
+    run = x.run;
+    at = x.at;
+    saw = x.saw;
+    consulted = x.consulted;
+    message = x.message;
+    says = x.says;
+    written = x.written;
+    sent = x.sent;
+    unsent = x.unsent;
+    split = x.split;
+    goes_on = goes_further t.told s.beginning (reached (p.link.written ++ x.sent) p.seat.seen p.users.seen) e f x.goes_on on;
+    follows = x.follows;
+    within = x.within;
+  }
 
-  -- a read, and more behind it
-  pub timely_read : (i j m q : LinkState) (got : Got) (buffer : List ℕ) → IsTimely l t s i j → IsRead t.told j m got buffer → IsTimely l t s m q → IsTimely l t s i q
-  timely_read i j m q got buffer so_far read next told n from below =
-      let e = ap length (read.written told) in
-      elim (less_or_not n (length m.written)) [ inl lt ↦ so_far told n from (omega (arith, e, lt)) | inr le ↦ next told n le below ]
+  module _ (i j : LinkState) (seen users : List Gv) (so_far : IsTimely l t s i (reached j.written seen users)) (f : Reached) where
+    -- more was written
+    pub timely_more : IsTimely l t s j f → GoesOn t.told s.beginning (reached j.written seen users) f → IsTimely l t s i f
+    timely_more next on told n from below = elim (less_or_not n (length j.written)) [
+      | inl lt ↦ (let x = so_far told n from lt in (x.0, x.1, behind_on x.0 (reached j.written seen users) f n x.2 on))
+      | inr le ↦ next told n le below
+    ]
+
+    -- a read, and more behind it
+    pub timely_read : (m : LinkState) (got : Got) (buffer : List ℕ) → IsRead t.told j m got buffer → IsTimely l t s m f → GoesOn t.told s.beginning (reached m.written seen users) f → IsTimely l t s i f
+    timely_read m got buffer read next on =
+        timely_more (λ told n from below. next told n (let e = ap length (read.written told) in omega (arith, e, from)) below)
+        (goes_further t.told s.beginning (reached j.written seen users) (reached m.written seen users) f (read_to t.told s.beginning j m seen users got buffer read) on)
 
 -- what a call wrote in its time was so for the language and the seats that the session began with
-module _ {Shelf : Type 0} (value : Shelf → Contents) (t : Telling) (d : List Moment) (j m : LinkState) (x : InHand) (old new : Shelf) (was is_now : SeatAt) (users_was users_now : UserSeatAt) where
-  pub timely_moved : new ≡ old → IsSameSeat was is_now → IsSameUserSeat users_was users_now → IsTimelyFrom (value new) t (stamp_at d j is_now users_now) x m
+module _ {Shelf : Type 0} (value : Shelf → Contents) (t : Telling) (d : List Moment) (j : LinkState) (e : Reached) (x : InHand) (old new : Shelf) (was is_now : SeatAt) (users_was users_now : UserSeatAt) where
+  pub timely_moved : new ≡ old → IsSameSeat was is_now → IsSameUserSeat users_was users_now → IsTimelyFrom (value new) t (stamp_at d j is_now users_now) x e
       → (first : SessionUser) (k : LinkState) (c : List Moment) (b : Beginning) → IsAt b was users_was
-      → Stands (language_for first (value old)) t.told t.clock_told k j c d b (record { seen = is_now.seen; users = users_now.seen; attending = x.attending }) x.due x.kind x.reader x.ahead → IsTimely (language_for first (value old)) t (starting k c b) j m
+      → Stands (language_for first (value old)) t.told t.clock_told k j c d b (record { seen = is_now.seen; users = users_now.seen; attending = x.attending }) x.due x.kind x.reader x.ahead → IsTimely (language_for first (value old)) t (starting k c b) j e
   timely_moved shelf seat users timely first k c b at stands =
-      let there = subst (λ (s : Shelf). IsTimelyFrom (value s) t (stamp_at d j is_now users_now) x m) shelf timely in
+      let there = subst (λ (s : Shelf). IsTimelyFrom (value s) t (stamp_at d j is_now users_now) x e) shelf timely in
       there first k c b (seat.0 ∙ at.0, seat.1 ∙ at.1, users.0 ∙ at.2, users.1 ∙ at.3) stands
 
 -- messages behind one another, of which the first was begun so

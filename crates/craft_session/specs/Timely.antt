@@ -1,13 +1,16 @@
 -- That each byte of a session was written in its time: behind the turns that its message rests on.
 use Rattle.std.specs.Prelude.{◌≡◌, ◌⊎◌, ◌≤◌, ◌<◌, ◌+◌, ℕ, Bool, List, [], ◌∷◌, ◌++◌, length}
+use base.Stored.{Gv}
 use Rattle.dxc_outside.specs.declared.clock.Moment.{Moment}
 use Rattle.dxc_outside.specs.Items.{Item, bytes}
 use Rattle.dxc_outside.specs.Links.{LinkState, Exchanged}
 use Rattle.dxc_outside.specs.Moments.{moment_now}
+use Rattle.dxc_model.specs.declared.entry.Entry.{Entry}
 use Rattle.dxc_model.specs.declared.user.SessionUser.{SessionUser}
 use Rattle.tl1_text.specs.declared.reader.UnitKind.{UnitKind}
 use Rattle.tl1_text.specs.Reading.{Reader}
 use Rattle.shelf_file.specs.Contents.{Contents}
+use Rattle.user_admin.specs.declared.op.UserEntry.{UserEntry}
 use Rattle.user_admin.specs.Turns.{Saw as SawUsers}
 use Rattle.xc_core.specs.Seeing.{Saw}
 use Rattle.craft_session.specs.declared.attending.Attending.{Attending}
@@ -38,6 +41,27 @@ pub record Start : Type 0 where
 abbrev pub starting : LinkState → List Moment → Beginning → Start
 starting link coming beginning = record { link = link; coming = coming; beginning = beginning }
 
+-- what a link was written by then, and what both seats of the place had seen
+pub record Reached : Type 0 where
+  pub written : List ℕ
+  pub seen : List Gv
+  pub users : List Gv
+
+abbrev pub reached : List ℕ → List Gv → List Gv → Reached
+reached written seen users = record { written = written; seen = seen; users = users }
+
+-- the seats have seen these histories, and more behind them
+pub record SeesOn (b : Beginning) (h : List Entry) (g : List UserEntry) (r : Reached) : Type 0 where
+  pub entries : List Entry
+  pub users_entries : List UserEntry
+  pub saw : Saw b.opening r.seen (h ++ entries)
+  pub saw_users : SawUsers b.users r.users (g ++ users_entries)
+
+-- From the one to the other the link was written more, where it tells, and the histories that the seats had seen are beginnings of what they have seen.
+pub record GoesOn (told : Type 0) (b : Beginning) (old new : Reached) : Type 0 where
+  pub written : told → (more : List ℕ) × (new.written ≡ old.written ++ more)
+  pub sees_on : (h : List Entry) (g : List UserEntry) → Saw b.opening old.seen h → SawUsers b.users old.users g → SeesOn b h g new
+
 -- who attends, whether a look is due, the unit that is being read, and what stands ahead of it
 pub record InHand : Type 0 where
   pub attending : Attending
@@ -66,9 +90,10 @@ module _ (l : Language Request Moment) where
     pub moments : List Moment
     pub are : AreReported l.report notices moments message
 
-  -- The byte of this number, of all that the link was written, is one of a message that wasn't begun where the session stood so. All in front of it
-  -- was written by then; and of what the link had been read and the place had seen by then, a session writes all that and then this message.
-  pub record IsWrittenBehind (t : Telling) (b : Start) (s : Stamp) (number : ℕ) : Type 0 where
+  -- The byte of this number, of all that the link was written in the end, is one of a message that wasn't begun where the session stood so. All in
+  -- front of it was written by then; and of what the link had been read and the place had seen by then, a session writes all that and then this message.
+  -- What the place had seen is a beginning of what it has seen in the end.
+  pub record IsWrittenBehind (t : Telling) (b : Start) (s : Stamp) (e : Reached) (number : ℕ) : Type 0 where
     pub items : List Item
     pub ahead : List ℕ
     pub out : List ℕ
@@ -83,21 +108,26 @@ module _ (l : Language Request Moment) where
     pub message : List ℕ
     pub says : IsResponseThen t.clock_told b.coming s.coming walk.moments message ⊎ AreReportsThen message
     pub written : walk.earlier ++ walk.latest ≡ out ++ message
+    -- so much of the message was written
+    pub sent : List ℕ
+    pub unsent : List ℕ
+    pub split : message ≡ sent ++ unsent
+    pub goes_on : GoesOn t.told b.beginning (reached (s.link.written ++ sent) s.seat.seen s.users.seen) e
     pub follows : length s.link.written ≤ number
-    pub within : number < length s.link.written + length message
+    pub within : number < length s.link.written + length sent
 
-  -- each byte that was written from one state of the link to the other, where the link tells them
-  abbrev pub IsTimely : Telling → Start → LinkState → LinkState → Type 0
-  IsTimely t b i j = t.told → (number : ℕ) → length i.written ≤ number → number < length j.written → (s : Stamp) × t.stamped s × IsWrittenBehind t b s number
+  -- each byte that was written from a state of the link to an end, where the link tells them
+  abbrev pub IsTimely : Telling → Start → LinkState → Reached → Type 0
+  IsTimely t b i e = t.told → (number : ℕ) → length i.written ≤ number → number < length e.written → (s : Stamp) × t.stamped s × IsWrittenBehind t b s e number
 
-  -- what a session wrote from this state on, whatever histories its seats had seen then
-  abbrev pub WasTimely : Telling → Stamp → LinkState → Type 0
-  WasTimely t s j =
-      (b : Beginning) → IsAt b s.seat s.users → Saw b.opening s.seat.seen b.before → SawUsers b.users s.users.seen b.users_before → IsTimely t (starting s.link s.coming b) s.link j
+  -- what a session wrote from this state on to its end, whatever histories its seats had seen then
+  abbrev pub WasTimely : Telling → Stamp → Reached → Type 0
+  WasTimely t s e =
+      (b : Beginning) → IsAt b s.seat s.users → Saw b.opening s.seat.seen b.before → SawUsers b.users s.users.seen b.users_before → IsTimely t (starting s.link s.coming b) s.link e
 
--- what a call wrote that a session made which stood so
-abbrev pub IsTimelyFrom : Contents → Telling → Stamp → InHand → LinkState → Type 0
-IsTimelyFrom shelf t s x j =
+-- what a call wrote to its end that a session made which stood so
+abbrev pub IsTimelyFrom : Contents → Telling → Stamp → InHand → Reached → Type 0
+IsTimelyFrom shelf t s x e =
     (first : SessionUser) (k : LinkState) (c : List Moment) (b : Beginning) → IsAt b s.seat s.users
     → Stands (language_for first shelf) t.told t.clock_told k s.link c s.coming b (record { seen = s.seat.seen; users = s.users.seen; attending = x.attending }) x.due x.kind x.reader x.ahead
-    → IsTimely (language_for first shelf) t (starting k c b) s.link j
+    → IsTimely (language_for first shelf) t (starting k c b) s.link e

@@ -20,7 +20,7 @@ ghost use Rattle.craft_session.specs.Gated.{Entered, NothingAsked};
 ghost use Rattle.craft_session.specs.Seats.{IsSameSeat};
 ghost use Rattle.craft_session.specs.Sessions.{AreTold, Beginning, IsAt, IsReported, Writes, Stands, Goes};
 ghost use Rattle.craft_session.specs.Stamps.{AreStamped, stamp_at};
-ghost use Rattle.craft_session.specs.Timely.{IsTimelyFrom, in_hand, telling};
+ghost use Rattle.craft_session.specs.Timely.{IsTimelyFrom, in_hand, reached, telling};
 
 use crate::desk::Desk;
 use crate::end::Progress;
@@ -57,7 +57,7 @@ pub fn report<K: Link, C: Timestamps, D: Disk + Drop, U: Disk + Drop, R: Wait>(
         (telling K.told C.told C.stamped)
         (stamp_at (C.coming clock.old) (K.state link.old) desk.old.seat desk.old.users.seat)
         (in_hand desk.old.attending (is_some desk.old.attending.watch) More r ahead)
-        (K.state link.new) }
+        (reached (K.state link.new).written desk.new.seat.seen desk.new.users.seat.seen) }
     ensures unstopped { result ≢ Progress.Stopped }
     ensures entered { (h : List Entry) → Saw desk.old.seat.opening desk.old.seat.seen h → Entered
         desk.old.seat.opening desk.old.seat.place NothingAsked false false h desk.new.seat.seen }
@@ -95,7 +95,7 @@ fn report_since<K: Link, C: Timestamps, D: Disk + Drop, U: Disk + Drop, R: Wait>
         (telling K.told C.told C.stamped)
         (stamp_at (C.coming clock.old) (K.state link.old) desk.old.seat desk.old.users.seat)
         (in_hand desk.old.attending (is_some desk.old.attending.watch) More r ahead)
-        (K.state link.new) }
+        (reached (K.state link.new).written desk.new.seat.seen desk.new.users.seat.seen) }
     ensures unstopped { result ≢ Progress.Stopped }
     ensures entered { (h : List Entry) → Saw desk.old.seat.opening desk.old.seat.seen h → Entered
         desk.old.seat.opening desk.old.seat.place NothingAsked false false h desk.new.seat.seen }

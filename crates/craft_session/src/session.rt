@@ -13,7 +13,7 @@ ghost use Rattle.craft_session.specs.Desks.{now, place_of, input_of, ConsultedIs
 ghost use Rattle.craft_session.specs.Seats.{IsSameSeat, IsSameUserSeat};
 ghost use Rattle.craft_session.specs.Sessions.{Beginning, IsAt, Writes, Stands, Goes, IsPrompt, IsServed};
 ghost use Rattle.craft_session.specs.Stamps.{stamp_at};
-ghost use Rattle.craft_session.specs.Timely.{IsTimelyFrom, WasTimely, in_hand, telling};
+ghost use Rattle.craft_session.specs.Timely.{IsTimelyFrom, WasTimely, in_hand, reached, telling};
 ghost use Rattle.craft_session.specs.Waiting.{IsLetGo, IsUnattended};
 ghost use Rattle.craft_session.specs.Walks.{begun_by};
 
@@ -57,7 +57,8 @@ fn serve_piece<K: Link, C: Timestamps, G: Gate, D: Disk + Drop, U: Disk + Drop, 
         (C.coming clock.new) b (now desk.new) result false desk.new.reader [] }
     ensures timely { IsTimelyFrom (arc_value desk.old.shelf) (telling K.told C.told C.stamped)
         (stamp_at (C.coming clock.old) (K.state link.old) desk.old.seat desk.old.users.seat)
-        (in_hand desk.old.attending false More desk.old.reader piece.now) (K.state link.new) }
+        (in_hand desk.old.attending false More desk.old.reader piece.now)
+        (reached (K.state link.new).written desk.new.seat.seen desk.new.users.seat.seen) }
     ensures stopped { result ≡ Progress.Stopped → Rose (G.stops gate.old) (G.stops gate.new) }
     ensures unstopped { result ≢ Progress.Stopped → G.stops gate.new ≡ G.stops gate.old }
     ensures later { G.stops gate.old ≤ G.stops gate.new }
@@ -101,7 +102,8 @@ fn serve_unit<K: Link, C: Timestamps, G: Gate, D: Disk + Drop, U: Disk + Drop, R
     ensures timely { (ahead : List ℕ)
         → IsTimelyFrom (arc_value desk.old.shelf) (telling K.told C.told C.stamped)
         (stamp_at (C.coming clock.old) (K.state link.old) desk.old.seat desk.old.users.seat)
-        (in_hand desk.old.attending false kind desk.old.reader ahead) (K.state link.new) }
+        (in_hand desk.old.attending false kind desk.old.reader ahead)
+        (reached (K.state link.new).written desk.new.seat.seen desk.new.users.seat.seen) }
     ensures stopped { result ≡ Progress.Stopped → Rose (G.stops gate.old) (G.stops gate.new) }
     ensures unstopped { result ≢ Progress.Stopped → G.stops gate.new ≡ G.stops gate.old }
     ensures later { G.stops gate.old ≤ G.stops gate.new }
@@ -140,7 +142,8 @@ fn attend<K: Link, C: Timestamps, G: Gate, D: Disk + Drop, U: Disk + Drop, R: Wa
     ensures timely { (ahead : List ℕ)
         → IsTimelyFrom (arc_value desk.old.shelf) (telling K.told C.told C.stamped)
         (stamp_at (C.coming clock.old) (K.state link.old) desk.old.seat desk.old.users.seat)
-        (in_hand desk.old.attending false kind desk.old.reader ahead) (K.state link.new) }
+        (in_hand desk.old.attending false kind desk.old.reader ahead)
+        (reached (K.state link.new).written desk.new.seat.seen desk.new.users.seat.seen) }
     ensures stopped { result ≡ Progress.Stopped → Rose (G.stops gate.old) (G.stops gate.new) }
     ensures unstopped { result ≢ Progress.Stopped → G.stops gate.new ≡ G.stops gate.old }
     ensures later { G.stops gate.old ≤ G.stops gate.new }
@@ -269,7 +272,7 @@ pub(crate) fn serve<K: Link, C: Timestamps, G: Gate, D: Disk + Drop, U: Disk + D
     ensures timely { WasTimely (language_for desk.old.attending.user (arc_value desk.old.shelf))
         (telling K.told C.told C.stamped)
         (stamp_at (C.coming clock.old) (K.state link.old) desk.old.seat desk.old.users.seat)
-        (K.state link.new) }
+        (reached (K.state link.new).written desk.new.seat.seen desk.new.users.seat.seen) }
     ensures hung_up { K.hung_up link.new ≡ K.hung_up link.old }
     ensures end { (result ≡ SessionEnd.End) ↔ IsTrue (K.state link.new).ended }
     ensures all_read { K.told → result ≡ SessionEnd.End → (K.state link.new).left ≡ [] }

@@ -10,12 +10,12 @@ use Rattle.craft_session.specs.Desks.{now, input_of, IsAnswered}
 use Rattle.craft_session.specs.Meanings.{language_for}
 use Rattle.craft_session.specs.Sessions.{Goes, IsAt, Stands}
 use Rattle.craft_session.specs.Stamps.{stamp_at}
-use Rattle.craft_session.specs.Timely.{IsTimelyFrom, in_hand, starting, telling}
+use Rattle.craft_session.specs.Timely.{IsTimelyFrom, in_hand, reached, starting, telling}
 use Rattle.craft_session.proofs.Answering.{answered, answered_timely, input_ended}
 use Rattle.craft_session.proofs.Ends.{on_goes}
 use Rattle.craft_session.proofs.Gated.{are_entered_beside}
 use Rattle.craft_session.proofs.SessionSteps.{goes_ended_is, writes_more}
-use Rattle.craft_session.proofs.Timely.{timely_more}
+use Rattle.craft_session.proofs.Timely.{looked_to, timely_more}
 use Rattle.craft_session.proofs.session.attend.Goals as goal
 
 pub returns-in-On : goal.returns-in-On
@@ -46,8 +46,9 @@ returns-in-On g c =
           let at2 : IsAt b c.answer.new.desk.seat c.answer.new.desk.users.seat = (first.seat.0 ∙ at.0, first.seat.1 ∙ at.1, first.users.0 ∙ at.2, first.users.1 ∙ at.3) in
           let x = answered (arc_value desk.shelf) user g.K.Link.told g.C.Timestamps.told k (g.K.Link.state c.args.link.now) c1 (g.C.Timestamps.coming c.args.clock.now) b (now desk) c.args.kind desk.reader ahead s desk.seat desk.users.seat at (g.K.Link.state c.answer.new.link) (g.C.Timestamps.coming c.answer.new.clock) (now c.answer.new.desk) refl (input_of c.args.kind desk.reader) ended On was in
           let said = answered_timely (arc_value desk.shelf) user g.K.Link.told g.C.Timestamps.told k (g.K.Link.state c.args.link.now) c1 (g.C.Timestamps.coming c.args.clock.now) b (now desk) c.args.kind desk.reader ahead s desk.seat desk.users.seat at (g.K.Link.state c.answer.new.link) (g.C.Timestamps.coming c.answer.new.clock) (now c.answer.new.desk) refl (input_of c.args.kind desk.reader) ended g.C.Timestamps.stamped c.answer.new.desk.seat c.answer.new.desk.users.seat at2 refl refl On was (λ _. first.stamped (on_goes _ c.in-On.is)) in
-          let told = subst (λ (y : Contents). IsTimelyFrom y t (stamp_at (g.C.Timestamps.coming c.answer.new.clock) (g.K.Link.state c.answer.new.link) c.answer.new.desk.seat c.answer.new.desk.users.seat) (in_hand c.answer.new.desk.attending (is_some c.answer.new.desk.attending.watch) More desk.reader ahead) (g.K.Link.state c.report.new.link)) (ap arc_value first.shelf) (next.timely desk.reader ahead) in
-          timely_more l t (starting k c1 b) (g.K.Link.state c.args.link.now) (g.K.Link.state c.answer.new.link) (g.K.Link.state c.report.new.link) said (told user k c1 b at2 x);
+          let told = subst (λ (y : Contents). IsTimelyFrom y t (stamp_at (g.C.Timestamps.coming c.answer.new.clock) (g.K.Link.state c.answer.new.link) c.answer.new.desk.seat c.answer.new.desk.users.seat) (in_hand c.answer.new.desk.attending (is_some c.answer.new.desk.attending.watch) More desk.reader ahead) (reached (g.K.Link.state c.report.new.link).written c.report.new.desk.seat.seen c.report.new.desk.users.seat.seen)) (ap arc_value first.shelf) (next.timely desk.reader ahead) in
+          timely_more l t (starting k c1 b) (g.K.Link.state c.args.link.now) (g.K.Link.state c.answer.new.link) c.answer.new.desk.seat.seen c.answer.new.desk.users.seat.seen said _ (told user k c1 b at2 x)
+          (looked_to g.K.Link.told b (g.K.Link.state c.answer.new.link) (g.K.Link.state c.report.new.link) c.answer.new.desk.seat c.answer.new.desk.users.seat at2 next.link _ _ (ap (λ (u : UserDesk g.row.U.Denot). u.seat.seen) next.users) next.entered);
       stopped = λ is. absurd (next.unstopped is);
       unstopped = λ is. first.unstopped (on_goes _ c.in-On.is);
       later = first.later;

@@ -15,7 +15,7 @@ use Rattle.craft_session.proofs.Prompt.{prompt_more, prompt_none}
 use Rattle.craft_session.proofs.SessionSteps.{stands_none, stands_piece, stands_quiet, goes_on_is, goes_cut_is, goes_stopped_is, counted_more, served_nothing, served_here}
 use Rattle.craft_session.specs.Timely.{in_hand, starting, telling}
 use Rattle.craft_session.proofs.Answering.{moved_goes}
-use Rattle.craft_session.proofs.Timely.{timely_moved, timely_none, timely_read}
+use Rattle.craft_session.proofs.Timely.{goes_nowhere, looked_to, timely_moved, timely_none, timely_read, went_to}
 use Rattle.craft_session.specs.declared.patience.Patience.TheVariants.{Limited}
 use Rattle.craft_session.specs.Waiting.{waited_after}
 use Rattle.craft_session.proofs.Waiting.{both_no, let_go_behind, let_go_here, some_made, unattended_at, waits_more, waits_none}
@@ -29,7 +29,7 @@ loop-init g c = record {
   users = (refl, refl, refl, refl);
   stands = λ b at saw users. stands_none (language_for c.args.desk.now.attending.user (arc_value c.args.desk.now.shelf)) g.K.Link.told g.C.Timestamps.told (g.K.Link.state c.args.link.now) (g.C.Timestamps.coming c.args.clock.now) b (now c.args.desk.now) c.args.desk.now.reader saw users c.requires.begun c.requires.nothing_read;
   prompt = prompt_none (language_for c.args.desk.now.attending.user (arc_value c.args.desk.now.shelf)) g.K.Link.begun g.K.Link.told g.C.Timestamps.told (g.K.Link.state c.args.link.now) (g.C.Timestamps.coming c.args.clock.now) c.args.desk.now.seat c.args.desk.now.users.seat;
-  timely = λ b at saw users. timely_none (language_for c.args.desk.now.attending.user (arc_value c.args.desk.now.shelf)) (telling g.K.Link.told g.C.Timestamps.told g.C.Timestamps.stamped) (starting (g.K.Link.state c.args.link.now) (g.C.Timestamps.coming c.args.clock.now) b) (g.K.Link.state c.args.link.now) (g.K.Link.state c.args.link.now) refl;
+  timely = λ b at saw users. timely_none (language_for c.args.desk.now.attending.user (arc_value c.args.desk.now.shelf)) (telling g.K.Link.told g.C.Timestamps.told g.C.Timestamps.stamped) (starting (g.K.Link.state c.args.link.now) (g.C.Timestamps.coming c.args.clock.now) b) (g.K.Link.state c.args.link.now) _ refl;
   gate = refl;
   counted = counted_none _;
   faults = refl;
@@ -57,9 +57,10 @@ returns-in-Cut g c =
       session = record { before = h.0; users_before = p.0; saw = h.1; users_saw = p.1; attending = _; session = breaks };
       prompt = prompt_more (language_for c.args.desk.now.attending.user (arc_value c.args.desk.now.shelf)) g.K.Link.begun g.K.Link.told g.C.Timestamps.told (g.K.Link.state c.args.link.now) (g.C.Timestamps.coming c.args.clock.now) c.args.desk.now.seat c.args.desk.now.users.seat (g.K.Link.state c.loop.link) (g.K.Link.state c.serve_piece-progress.new.link) _ (g.C.Timestamps.coming c.loop.clock) (now c.loop.desk) c.loop.desk.reader c.loop.invariant.prompt c.in-Bytes.ensures.begun c.loop.invariant.stands c.in-Bytes.ensures.read.reads s.link.wrote.reads;
       timely = λ b at saw users.
-          timely_read (language_for c.args.desk.now.attending.user (arc_value c.args.desk.now.shelf)) (telling g.K.Link.told g.C.Timestamps.told g.C.Timestamps.stamped) (starting (g.K.Link.state c.args.link.now) (g.C.Timestamps.coming c.args.clock.now) b) (g.K.Link.state c.args.link.now) (g.K.Link.state c.loop.link) _ (g.K.Link.state c.serve_piece-progress.new.link) _ _ (c.loop.invariant.timely b at saw users) c.in-Bytes.ensures.read
-          (timely_moved arc_value (telling g.K.Link.told g.C.Timestamps.told g.C.Timestamps.stamped) (g.C.Timestamps.coming c.loop.clock) _ (g.K.Link.state c.serve_piece-progress.new.link) (in_hand c.loop.desk.attending false More c.loop.desk.reader _) c.args.desk.now.shelf c.loop.desk.shelf c.args.desk.now.seat c.loop.desk.seat c.args.desk.now.users.seat c.loop.desk.users.seat c.loop.invariant.shelf c.loop.invariant.seat c.loop.invariant.users c.serve_piece-progress.ensures.timely c.args.desk.now.attending.user _ _ b at
-          (stands_piece _ _ _ _ _ _ _ _ _ _ _ _ _ _ (c.loop.invariant.stands b at saw users) c.in-Bytes.ensures.read (grind (arith, common_steps))));
+          timely_read (language_for c.args.desk.now.attending.user (arc_value c.args.desk.now.shelf)) (telling g.K.Link.told g.C.Timestamps.told g.C.Timestamps.stamped) (starting (g.K.Link.state c.args.link.now) (g.C.Timestamps.coming c.args.clock.now) b) (g.K.Link.state c.args.link.now) (g.K.Link.state c.loop.link) c.loop.desk.seat.seen c.loop.desk.users.seat.seen (c.loop.invariant.timely b at saw users) _ _ _ _ c.in-Bytes.ensures.read
+          (timely_moved arc_value (telling g.K.Link.told g.C.Timestamps.told g.C.Timestamps.stamped) (g.C.Timestamps.coming c.loop.clock) _ _ (in_hand c.loop.desk.attending false More c.loop.desk.reader _) c.args.desk.now.shelf c.loop.desk.shelf c.args.desk.now.seat c.loop.desk.seat c.args.desk.now.users.seat c.loop.desk.users.seat c.loop.invariant.shelf c.loop.invariant.seat c.loop.invariant.users c.serve_piece-progress.ensures.timely c.args.desk.now.attending.user _ _ b at
+          (stands_piece _ _ _ _ _ _ _ _ _ _ _ _ _ _ (c.loop.invariant.stands b at saw users) c.in-Bytes.ensures.read (grind (arith, common_steps))))
+          (went_to g.K.Link.told b _ (g.K.Link.state c.serve_piece-progress.new.link) c.loop.desk.seat c.loop.desk.users.seat (c.loop.invariant.seat.0 ∙ at.0, c.loop.invariant.seat.1 ∙ at.1, c.loop.invariant.users.0 ∙ at.2, c.loop.invariant.users.1 ∙ at.3) c.serve_piece-progress.ensures.link _ _ _ c.serve_piece-progress.ensures.asked);
       end = ((λ is. write_no _ is refl), (λ ended. unheld _ going ended));
       all_read = λ t is. write_no _ is refl;
       read_fault = λ is. write_no _ is refl;
@@ -91,9 +92,10 @@ returns-in-Stopped g c =
       session = record { before = h.0; users_before = p.0; saw = h.1; users_saw = p.1; attending = _; session = goes_stopped_is _ _ _ _ _ _ _ _ _ _ _ _ _ c.in-Stopped.is (moved_goes arc_value c.args.desk.now.attending.user g.K.Link.told g.C.Timestamps.told _ (g.K.Link.state c.serve_piece-progress.new.link) (g.C.Timestamps.coming c.loop.clock) (g.C.Timestamps.coming c.serve_piece-progress.new.clock) (now c.loop.desk) (now c.serve_piece-progress.new.desk) false c.loop.desk.reader c.serve_piece-progress.new.desk.reader c.serve_piece-progress.result c.args.desk.now.shelf c.loop.desk.shelf c.args.desk.now.seat c.loop.desk.seat c.args.desk.now.users.seat c.loop.desk.users.seat _ [] c.loop.invariant.shelf c.loop.invariant.seat c.loop.invariant.users (c.serve_piece-progress.ensures.goes c.args.desk.now.attending.user) _ _ b (refl, refl, refl, c.args.desk.now.same_place) (stands_piece _ _ _ _ _ _ _ _ _ _ _ _ _ _ (c.loop.invariant.stands b (refl, refl, refl, c.args.desk.now.same_place) h.1 p.1) c.in-Bytes.ensures.read (grind (arith, common_steps)))) };
       prompt = prompt_more (language_for c.args.desk.now.attending.user (arc_value c.args.desk.now.shelf)) g.K.Link.begun g.K.Link.told g.C.Timestamps.told (g.K.Link.state c.args.link.now) (g.C.Timestamps.coming c.args.clock.now) c.args.desk.now.seat c.args.desk.now.users.seat (g.K.Link.state c.loop.link) (g.K.Link.state c.serve_piece-progress.new.link) _ (g.C.Timestamps.coming c.loop.clock) (now c.loop.desk) c.loop.desk.reader c.loop.invariant.prompt c.in-Bytes.ensures.begun c.loop.invariant.stands c.in-Bytes.ensures.read.reads s.link.wrote.reads;
       timely = λ b at saw users.
-          timely_read (language_for c.args.desk.now.attending.user (arc_value c.args.desk.now.shelf)) (telling g.K.Link.told g.C.Timestamps.told g.C.Timestamps.stamped) (starting (g.K.Link.state c.args.link.now) (g.C.Timestamps.coming c.args.clock.now) b) (g.K.Link.state c.args.link.now) (g.K.Link.state c.loop.link) _ (g.K.Link.state c.serve_piece-progress.new.link) _ _ (c.loop.invariant.timely b at saw users) c.in-Bytes.ensures.read
-          (timely_moved arc_value (telling g.K.Link.told g.C.Timestamps.told g.C.Timestamps.stamped) (g.C.Timestamps.coming c.loop.clock) _ (g.K.Link.state c.serve_piece-progress.new.link) (in_hand c.loop.desk.attending false More c.loop.desk.reader _) c.args.desk.now.shelf c.loop.desk.shelf c.args.desk.now.seat c.loop.desk.seat c.args.desk.now.users.seat c.loop.desk.users.seat c.loop.invariant.shelf c.loop.invariant.seat c.loop.invariant.users c.serve_piece-progress.ensures.timely c.args.desk.now.attending.user _ _ b at
-          (stands_piece _ _ _ _ _ _ _ _ _ _ _ _ _ _ (c.loop.invariant.stands b at saw users) c.in-Bytes.ensures.read (grind (arith, common_steps))));
+          timely_read (language_for c.args.desk.now.attending.user (arc_value c.args.desk.now.shelf)) (telling g.K.Link.told g.C.Timestamps.told g.C.Timestamps.stamped) (starting (g.K.Link.state c.args.link.now) (g.C.Timestamps.coming c.args.clock.now) b) (g.K.Link.state c.args.link.now) (g.K.Link.state c.loop.link) c.loop.desk.seat.seen c.loop.desk.users.seat.seen (c.loop.invariant.timely b at saw users) _ _ _ _ c.in-Bytes.ensures.read
+          (timely_moved arc_value (telling g.K.Link.told g.C.Timestamps.told g.C.Timestamps.stamped) (g.C.Timestamps.coming c.loop.clock) _ _ (in_hand c.loop.desk.attending false More c.loop.desk.reader _) c.args.desk.now.shelf c.loop.desk.shelf c.args.desk.now.seat c.loop.desk.seat c.args.desk.now.users.seat c.loop.desk.users.seat c.loop.invariant.shelf c.loop.invariant.seat c.loop.invariant.users c.serve_piece-progress.ensures.timely c.args.desk.now.attending.user _ _ b at
+          (stands_piece _ _ _ _ _ _ _ _ _ _ _ _ _ _ (c.loop.invariant.stands b at saw users) c.in-Bytes.ensures.read (grind (arith, common_steps))))
+          (went_to g.K.Link.told b _ (g.K.Link.state c.serve_piece-progress.new.link) c.loop.desk.seat c.loop.desk.users.seat (c.loop.invariant.seat.0 ∙ at.0, c.loop.invariant.seat.1 ∙ at.1, c.loop.invariant.users.0 ∙ at.2, c.loop.invariant.users.1 ∙ at.3) c.serve_piece-progress.ensures.link _ _ _ c.serve_piece-progress.ensures.asked);
       hung_up = s.hung_up ∙ c.in-Bytes.ensures.hung_up ∙ c.loop.invariant.hung_up;
       end = ((λ is. stop_no _ is refl), (λ ended. unheld _ going ended));
       all_read = λ t is. stop_no _ is refl;
@@ -125,7 +127,7 @@ returns-in-End g c =
       users = c.loop.invariant.users;
       session = record { before = h.0; users_before = p.0; saw = h.1; users_saw = p.1; attending = _; session = served_nothing _ _ _ _ _ _ _ _ _ _ _ _ _ stands c.in-End.ensures.read refl };
       prompt = prompt_more (language_for c.args.desk.now.attending.user (arc_value c.args.desk.now.shelf)) g.K.Link.begun g.K.Link.told g.C.Timestamps.told (g.K.Link.state c.args.link.now) (g.C.Timestamps.coming c.args.clock.now) c.args.desk.now.seat c.args.desk.now.users.seat (g.K.Link.state c.loop.link) (g.K.Link.state c.read.new.self) _ (g.C.Timestamps.coming c.loop.clock) (now c.loop.desk) c.loop.desk.reader c.loop.invariant.prompt c.in-End.ensures.begun c.loop.invariant.stands c.in-End.ensures.read.reads refl;
-      timely = λ b at saw users. timely_read (language_for c.args.desk.now.attending.user (arc_value c.args.desk.now.shelf)) (telling g.K.Link.told g.C.Timestamps.told g.C.Timestamps.stamped) (starting (g.K.Link.state c.args.link.now) (g.C.Timestamps.coming c.args.clock.now) b) (g.K.Link.state c.args.link.now) (g.K.Link.state c.loop.link) (g.K.Link.state c.read.new.self) (g.K.Link.state c.read.new.self) _ _ (c.loop.invariant.timely b at saw users) c.in-End.ensures.read (timely_none (language_for c.args.desk.now.attending.user (arc_value c.args.desk.now.shelf)) (telling g.K.Link.told g.C.Timestamps.told g.C.Timestamps.stamped) (starting (g.K.Link.state c.args.link.now) (g.C.Timestamps.coming c.args.clock.now) b) (g.K.Link.state c.read.new.self) (g.K.Link.state c.read.new.self) refl);
+      timely = λ b at saw users. timely_read (language_for c.args.desk.now.attending.user (arc_value c.args.desk.now.shelf)) (telling g.K.Link.told g.C.Timestamps.told g.C.Timestamps.stamped) (starting (g.K.Link.state c.args.link.now) (g.C.Timestamps.coming c.args.clock.now) b) (g.K.Link.state c.args.link.now) (g.K.Link.state c.loop.link) c.loop.desk.seat.seen c.loop.desk.users.seat.seen (c.loop.invariant.timely b at saw users) _ (g.K.Link.state c.read.new.self) _ _ c.in-End.ensures.read (timely_none (language_for c.args.desk.now.attending.user (arc_value c.args.desk.now.shelf)) (telling g.K.Link.told g.C.Timestamps.told g.C.Timestamps.stamped) (starting (g.K.Link.state c.args.link.now) (g.C.Timestamps.coming c.args.clock.now) b) (g.K.Link.state c.read.new.self) _ refl) (goes_nowhere g.K.Link.told b _);
       end = ((λ is. c.in-End.ensures.read.ended), (λ ended. refl));
       all_read = λ t is. c.in-End.ensures.read.end t refl;
       read_fault = λ is. end_no _ is refl;
@@ -156,7 +158,7 @@ returns-in-Failed g c =
       users = c.loop.invariant.users;
       session = record { before = h.0; users_before = p.0; saw = h.1; users_saw = p.1; attending = _; session = served_nothing _ _ _ _ _ _ _ _ _ _ _ _ _ stands c.in-Failed.ensures.read refl };
       prompt = prompt_more (language_for c.args.desk.now.attending.user (arc_value c.args.desk.now.shelf)) g.K.Link.begun g.K.Link.told g.C.Timestamps.told (g.K.Link.state c.args.link.now) (g.C.Timestamps.coming c.args.clock.now) c.args.desk.now.seat c.args.desk.now.users.seat (g.K.Link.state c.loop.link) (g.K.Link.state c.read.new.self) _ (g.C.Timestamps.coming c.loop.clock) (now c.loop.desk) c.loop.desk.reader c.loop.invariant.prompt c.in-Failed.ensures.begun c.loop.invariant.stands c.in-Failed.ensures.read.reads refl;
-      timely = λ b at saw users. timely_read (language_for c.args.desk.now.attending.user (arc_value c.args.desk.now.shelf)) (telling g.K.Link.told g.C.Timestamps.told g.C.Timestamps.stamped) (starting (g.K.Link.state c.args.link.now) (g.C.Timestamps.coming c.args.clock.now) b) (g.K.Link.state c.args.link.now) (g.K.Link.state c.loop.link) (g.K.Link.state c.read.new.self) (g.K.Link.state c.read.new.self) _ _ (c.loop.invariant.timely b at saw users) c.in-Failed.ensures.read (timely_none (language_for c.args.desk.now.attending.user (arc_value c.args.desk.now.shelf)) (telling g.K.Link.told g.C.Timestamps.told g.C.Timestamps.stamped) (starting (g.K.Link.state c.args.link.now) (g.C.Timestamps.coming c.args.clock.now) b) (g.K.Link.state c.read.new.self) (g.K.Link.state c.read.new.self) refl);
+      timely = λ b at saw users. timely_read (language_for c.args.desk.now.attending.user (arc_value c.args.desk.now.shelf)) (telling g.K.Link.told g.C.Timestamps.told g.C.Timestamps.stamped) (starting (g.K.Link.state c.args.link.now) (g.C.Timestamps.coming c.args.clock.now) b) (g.K.Link.state c.args.link.now) (g.K.Link.state c.loop.link) c.loop.desk.seat.seen c.loop.desk.users.seat.seen (c.loop.invariant.timely b at saw users) _ (g.K.Link.state c.read.new.self) _ _ c.in-Failed.ensures.read (timely_none (language_for c.args.desk.now.attending.user (arc_value c.args.desk.now.shelf)) (telling g.K.Link.told g.C.Timestamps.told g.C.Timestamps.stamped) (starting (g.K.Link.state c.args.link.now) (g.C.Timestamps.coming c.args.clock.now) b) (g.K.Link.state c.read.new.self) _ refl) (goes_nowhere g.K.Link.told b _);
       end = ((λ is. read_no _ is refl), (λ ended. unheld _ c.in-Failed.ensures.read.ended ended));
       all_read = λ t is. read_no _ is refl;
       read_fault = λ is. rose_later _ _ _ stands.exchanged.read_later (c.in-Failed.ensures.read.cause.cause refl);
@@ -191,9 +193,10 @@ loop-preserved g c =
         stands = λ b at saw users. goes_on_is _ _ _ _ _ _ _ _ _ _ _ _ w.in-On.is (moved_goes arc_value c.args.desk.now.attending.user g.K.Link.told g.C.Timestamps.told _ (g.K.Link.state w.serve_piece-progress.new.link) (g.C.Timestamps.coming c.loop.clock) (g.C.Timestamps.coming w.serve_piece-progress.new.clock) (now c.loop.desk) (now w.serve_piece-progress.new.desk) false c.loop.desk.reader w.serve_piece-progress.new.desk.reader w.serve_piece-progress.result c.args.desk.now.shelf c.loop.desk.shelf c.args.desk.now.seat c.loop.desk.seat c.args.desk.now.users.seat c.loop.desk.users.seat _ [] c.loop.invariant.shelf c.loop.invariant.seat c.loop.invariant.users (w.serve_piece-progress.ensures.goes c.args.desk.now.attending.user) _ _ b at (stands_piece _ _ _ _ _ _ _ _ _ _ _ _ _ _ (c.loop.invariant.stands b at saw users) w.in-Bytes.ensures.read (grind (arith, common_steps))));
         prompt = prompt_more (language_for c.args.desk.now.attending.user (arc_value c.args.desk.now.shelf)) g.K.Link.begun g.K.Link.told g.C.Timestamps.told (g.K.Link.state c.args.link.now) (g.C.Timestamps.coming c.args.clock.now) c.args.desk.now.seat c.args.desk.now.users.seat (g.K.Link.state c.loop.link) (g.K.Link.state w.serve_piece-progress.new.link) _ (g.C.Timestamps.coming c.loop.clock) (now c.loop.desk) c.loop.desk.reader c.loop.invariant.prompt w.in-Bytes.ensures.begun c.loop.invariant.stands w.in-Bytes.ensures.read.reads w.serve_piece-progress.ensures.link.wrote.reads;
         timely = λ b at saw users.
-            timely_read (language_for c.args.desk.now.attending.user (arc_value c.args.desk.now.shelf)) (telling g.K.Link.told g.C.Timestamps.told g.C.Timestamps.stamped) (starting (g.K.Link.state c.args.link.now) (g.C.Timestamps.coming c.args.clock.now) b) (g.K.Link.state c.args.link.now) (g.K.Link.state c.loop.link) _ (g.K.Link.state w.serve_piece-progress.new.link) _ _ (c.loop.invariant.timely b at saw users) w.in-Bytes.ensures.read
-            (timely_moved arc_value (telling g.K.Link.told g.C.Timestamps.told g.C.Timestamps.stamped) (g.C.Timestamps.coming c.loop.clock) _ (g.K.Link.state w.serve_piece-progress.new.link) (in_hand c.loop.desk.attending false More c.loop.desk.reader _) c.args.desk.now.shelf c.loop.desk.shelf c.args.desk.now.seat c.loop.desk.seat c.args.desk.now.users.seat c.loop.desk.users.seat c.loop.invariant.shelf c.loop.invariant.seat c.loop.invariant.users w.serve_piece-progress.ensures.timely c.args.desk.now.attending.user _ _ b at
-            (stands_piece _ _ _ _ _ _ _ _ _ _ _ _ _ _ (c.loop.invariant.stands b at saw users) w.in-Bytes.ensures.read (grind (arith, common_steps))));
+            timely_read (language_for c.args.desk.now.attending.user (arc_value c.args.desk.now.shelf)) (telling g.K.Link.told g.C.Timestamps.told g.C.Timestamps.stamped) (starting (g.K.Link.state c.args.link.now) (g.C.Timestamps.coming c.args.clock.now) b) (g.K.Link.state c.args.link.now) (g.K.Link.state c.loop.link) c.loop.desk.seat.seen c.loop.desk.users.seat.seen (c.loop.invariant.timely b at saw users) _ _ _ _ w.in-Bytes.ensures.read
+            (timely_moved arc_value (telling g.K.Link.told g.C.Timestamps.told g.C.Timestamps.stamped) (g.C.Timestamps.coming c.loop.clock) _ _ (in_hand c.loop.desk.attending false More c.loop.desk.reader _) c.args.desk.now.shelf c.loop.desk.shelf c.args.desk.now.seat c.loop.desk.seat c.args.desk.now.users.seat c.loop.desk.users.seat c.loop.invariant.shelf c.loop.invariant.seat c.loop.invariant.users w.serve_piece-progress.ensures.timely c.args.desk.now.attending.user _ _ b at
+            (stands_piece _ _ _ _ _ _ _ _ _ _ _ _ _ _ (c.loop.invariant.stands b at saw users) w.in-Bytes.ensures.read (grind (arith, common_steps))))
+            (went_to g.K.Link.told b _ (g.K.Link.state w.serve_piece-progress.new.link) c.loop.desk.seat c.loop.desk.users.seat (c.loop.invariant.seat.0 ∙ at.0, c.loop.invariant.seat.1 ∙ at.1, c.loop.invariant.users.0 ∙ at.2, c.loop.invariant.users.1 ∙ at.3) w.serve_piece-progress.ensures.link _ _ _ w.serve_piece-progress.ensures.asked);
         gate = w.serve_piece-progress.ensures.unstopped (on_goes _ w.in-On.is) ∙ c.loop.invariant.gate;
         counted = rw w.serve_piece-progress.ensures.link.wrote.reads (counted_more _ _ _ _ c.loop.invariant.counted w.in-Bytes.ensures.read.reads);
         faults = w.serve_piece-progress.ensures.link.wrote.read_faults ∙ w.in-Bytes.ensures.read.no_fault (bytes_came _) ∙ c.loop.invariant.faults;
@@ -211,9 +214,10 @@ loop-preserved g c =
             (goes_on_is _ _ _ _ _ _ _ _ _ _ _ _ w.in-On-report.is (moved_goes arc_value c.args.desk.now.attending.user g.K.Link.told g.C.Timestamps.told _ (g.K.Link.state w.report.new.link) (g.C.Timestamps.coming c.loop.clock) (g.C.Timestamps.coming w.report.new.clock) (now c.loop.desk) (now w.report.new.desk) (is_some c.loop.desk.attending.watch) c.loop.desk.reader c.loop.desk.reader w.report.result c.args.desk.now.shelf c.loop.desk.shelf c.args.desk.now.seat c.loop.desk.seat c.args.desk.now.users.seat c.loop.desk.users.seat [] [] c.loop.invariant.shelf c.loop.invariant.seat c.loop.invariant.users (λ k c1 b1. w.report.ensures.goes c.args.desk.now.attending.user k c1 b1 c.loop.desk.reader []) _ _ b at (stands_quiet _ _ _ _ _ _ _ _ _ _ _ _ (c.loop.invariant.stands b at saw users) w.in-Quiet.ensures.read)));
         prompt = prompt_more (language_for c.args.desk.now.attending.user (arc_value c.args.desk.now.shelf)) g.K.Link.begun g.K.Link.told g.C.Timestamps.told (g.K.Link.state c.args.link.now) (g.C.Timestamps.coming c.args.clock.now) c.args.desk.now.seat c.args.desk.now.users.seat (g.K.Link.state c.loop.link) (g.K.Link.state w.report.new.link) _ (g.C.Timestamps.coming c.loop.clock) (now c.loop.desk) c.loop.desk.reader c.loop.invariant.prompt w.in-Quiet.ensures.begun c.loop.invariant.stands w.in-Quiet.ensures.read.reads w.report.ensures.link.wrote.reads;
         timely = λ b at saw users.
-            timely_read (language_for c.args.desk.now.attending.user (arc_value c.args.desk.now.shelf)) (telling g.K.Link.told g.C.Timestamps.told g.C.Timestamps.stamped) (starting (g.K.Link.state c.args.link.now) (g.C.Timestamps.coming c.args.clock.now) b) (g.K.Link.state c.args.link.now) (g.K.Link.state c.loop.link) _ (g.K.Link.state w.report.new.link) _ _ (c.loop.invariant.timely b at saw users) w.in-Quiet.ensures.read
-            (timely_moved arc_value (telling g.K.Link.told g.C.Timestamps.told g.C.Timestamps.stamped) (g.C.Timestamps.coming c.loop.clock) _ (g.K.Link.state w.report.new.link) (in_hand c.loop.desk.attending (is_some c.loop.desk.attending.watch) More c.loop.desk.reader []) c.args.desk.now.shelf c.loop.desk.shelf c.args.desk.now.seat c.loop.desk.seat c.args.desk.now.users.seat c.loop.desk.users.seat c.loop.invariant.shelf c.loop.invariant.seat c.loop.invariant.users (w.report.ensures.timely c.loop.desk.reader []) c.args.desk.now.attending.user _ _ b at
-            (stands_quiet _ _ _ _ _ _ _ _ _ _ _ _ (c.loop.invariant.stands b at saw users) w.in-Quiet.ensures.read));
+            timely_read (language_for c.args.desk.now.attending.user (arc_value c.args.desk.now.shelf)) (telling g.K.Link.told g.C.Timestamps.told g.C.Timestamps.stamped) (starting (g.K.Link.state c.args.link.now) (g.C.Timestamps.coming c.args.clock.now) b) (g.K.Link.state c.args.link.now) (g.K.Link.state c.loop.link) c.loop.desk.seat.seen c.loop.desk.users.seat.seen (c.loop.invariant.timely b at saw users) _ _ _ _ w.in-Quiet.ensures.read
+            (timely_moved arc_value (telling g.K.Link.told g.C.Timestamps.told g.C.Timestamps.stamped) (g.C.Timestamps.coming c.loop.clock) _ _ (in_hand c.loop.desk.attending (is_some c.loop.desk.attending.watch) More c.loop.desk.reader []) c.args.desk.now.shelf c.loop.desk.shelf c.args.desk.now.seat c.loop.desk.seat c.args.desk.now.users.seat c.loop.desk.users.seat c.loop.invariant.shelf c.loop.invariant.seat c.loop.invariant.users (w.report.ensures.timely c.loop.desk.reader []) c.args.desk.now.attending.user _ _ b at
+            (stands_quiet _ _ _ _ _ _ _ _ _ _ _ _ (c.loop.invariant.stands b at saw users) w.in-Quiet.ensures.read))
+            (looked_to g.K.Link.told b _ (g.K.Link.state w.report.new.link) c.loop.desk.seat c.loop.desk.users.seat (c.loop.invariant.seat.0 ∙ at.0, c.loop.invariant.seat.1 ∙ at.1, c.loop.invariant.users.0 ∙ at.2, c.loop.invariant.users.1 ∙ at.3) w.report.ensures.link _ _ (ap (λ (u : UserDesk g.row.U.Denot). u.seat.seen) w.report.ensures.users) w.report.ensures.entered);
         gate = c.loop.invariant.gate;
         counted = rw w.report.ensures.link.wrote.reads (counted_more _ _ _ _ c.loop.invariant.counted w.in-Quiet.ensures.read.reads);
         faults = w.report.ensures.link.wrote.read_faults ∙ w.in-Quiet.ensures.read.no_fault quiet_came ∙ c.loop.invariant.faults;
@@ -242,9 +246,10 @@ returns-in-Cut-report g c =
       session = record { before = h.0; users_before = p.0; saw = h.1; users_saw = p.1; attending = _; session = breaks };
       prompt = prompt_more (language_for c.args.desk.now.attending.user (arc_value c.args.desk.now.shelf)) g.K.Link.begun g.K.Link.told g.C.Timestamps.told (g.K.Link.state c.args.link.now) (g.C.Timestamps.coming c.args.clock.now) c.args.desk.now.seat c.args.desk.now.users.seat (g.K.Link.state c.loop.link) (g.K.Link.state c.report.new.link) _ (g.C.Timestamps.coming c.loop.clock) (now c.loop.desk) c.loop.desk.reader c.loop.invariant.prompt c.in-Quiet.ensures.begun c.loop.invariant.stands c.in-Quiet.ensures.read.reads c.report.ensures.link.wrote.reads;
       timely = λ b at saw users.
-          timely_read (language_for c.args.desk.now.attending.user (arc_value c.args.desk.now.shelf)) (telling g.K.Link.told g.C.Timestamps.told g.C.Timestamps.stamped) (starting (g.K.Link.state c.args.link.now) (g.C.Timestamps.coming c.args.clock.now) b) (g.K.Link.state c.args.link.now) (g.K.Link.state c.loop.link) _ (g.K.Link.state c.report.new.link) _ _ (c.loop.invariant.timely b at saw users) c.in-Quiet.ensures.read
-          (timely_moved arc_value (telling g.K.Link.told g.C.Timestamps.told g.C.Timestamps.stamped) (g.C.Timestamps.coming c.loop.clock) _ (g.K.Link.state c.report.new.link) (in_hand c.loop.desk.attending (is_some c.loop.desk.attending.watch) More c.loop.desk.reader []) c.args.desk.now.shelf c.loop.desk.shelf c.args.desk.now.seat c.loop.desk.seat c.args.desk.now.users.seat c.loop.desk.users.seat c.loop.invariant.shelf c.loop.invariant.seat c.loop.invariant.users (c.report.ensures.timely c.loop.desk.reader []) c.args.desk.now.attending.user _ _ b at
-          (stands_quiet _ _ _ _ _ _ _ _ _ _ _ _ (c.loop.invariant.stands b at saw users) c.in-Quiet.ensures.read));
+          timely_read (language_for c.args.desk.now.attending.user (arc_value c.args.desk.now.shelf)) (telling g.K.Link.told g.C.Timestamps.told g.C.Timestamps.stamped) (starting (g.K.Link.state c.args.link.now) (g.C.Timestamps.coming c.args.clock.now) b) (g.K.Link.state c.args.link.now) (g.K.Link.state c.loop.link) c.loop.desk.seat.seen c.loop.desk.users.seat.seen (c.loop.invariant.timely b at saw users) _ _ _ _ c.in-Quiet.ensures.read
+          (timely_moved arc_value (telling g.K.Link.told g.C.Timestamps.told g.C.Timestamps.stamped) (g.C.Timestamps.coming c.loop.clock) _ _ (in_hand c.loop.desk.attending (is_some c.loop.desk.attending.watch) More c.loop.desk.reader []) c.args.desk.now.shelf c.loop.desk.shelf c.args.desk.now.seat c.loop.desk.seat c.args.desk.now.users.seat c.loop.desk.users.seat c.loop.invariant.shelf c.loop.invariant.seat c.loop.invariant.users (c.report.ensures.timely c.loop.desk.reader []) c.args.desk.now.attending.user _ _ b at
+          (stands_quiet _ _ _ _ _ _ _ _ _ _ _ _ (c.loop.invariant.stands b at saw users) c.in-Quiet.ensures.read))
+          (looked_to g.K.Link.told b _ (g.K.Link.state c.report.new.link) c.loop.desk.seat c.loop.desk.users.seat (c.loop.invariant.seat.0 ∙ at.0, c.loop.invariant.seat.1 ∙ at.1, c.loop.invariant.users.0 ∙ at.2, c.loop.invariant.users.1 ∙ at.3) c.report.ensures.link _ _ (ap (λ (u : UserDesk g.row.U.Denot). u.seat.seen) c.report.ensures.users) c.report.ensures.entered);
       end = ((λ is. write_no _ is refl), (λ ended. unheld _ going ended));
       all_read = λ t is. write_no _ is refl;
       read_fault = λ is. write_no _ is refl;

@@ -12,11 +12,11 @@ use Rattle.craft_session.specs.Timely.{in_hand, starting, telling}
 use Rattle.craft_session.proofs.Ends.{later_behind, on_goes, rose_behind}
 use Rattle.craft_session.proofs.Gated.{are_entered_none, are_entered_on}
 use Rattle.craft_session.proofs.SessionSteps.{stands_on, goes_on_is, goes_ended_is, writes_none, writes_more}
-use Rattle.craft_session.proofs.Timely.{timely_more, timely_moved, timely_none}
+use Rattle.craft_session.proofs.Timely.{timely_more, timely_moved, timely_none, went_to}
 use Rattle.craft_session.proofs.session.serve_piece.Goals as goal
 
 pub loop-at-init : goal.loop-at-init
-loop-at-init g c = record { hung_up = refl; shelf = refl; seat = (refl, refl, refl, refl); users = (refl, refl, refl, refl); link = writes_none _ _; gate = refl; within = omega arith; asked = are_entered_none c.args.desk.now.seat c.args.desk.now.users.seat (g.G.Gate.asked c.args.gate.now c.args.gate.now) (g.G.Gate.unasked c.args.gate.now); stands = λ user k c1 b at s. s; timely = λ user k c1 b at s. timely_none (language_for user (arc_value c.args.desk.now.shelf)) (telling g.K.Link.told g.C.Timestamps.told g.C.Timestamps.stamped) (starting k c1 b) (g.K.Link.state c.args.link.now) (g.K.Link.state c.args.link.now) refl }
+loop-at-init g c = record { hung_up = refl; shelf = refl; seat = (refl, refl, refl, refl); users = (refl, refl, refl, refl); link = writes_none _ _; gate = refl; within = omega arith; asked = are_entered_none c.args.desk.now.seat c.args.desk.now.users.seat (g.G.Gate.asked c.args.gate.now c.args.gate.now) (g.G.Gate.unasked c.args.gate.now); stands = λ user k c1 b at s. s; timely = λ user k c1 b at s. timely_none (language_for user (arc_value c.args.desk.now.shelf)) (telling g.K.Link.told g.C.Timestamps.told g.C.Timestamps.stamped) (starting k c1 b) (g.K.Link.state c.args.link.now) _ refl }
 
 pub loop-at-preserved : goal.loop-at-preserved
 loop-at-preserved g c =
@@ -34,9 +34,10 @@ loop-at-preserved g c =
       within = omega (arith, c.feed-fed.ensures.within, ap length offer, length-drop c.loop-at.at piece, c.loop-at.invariant.within);
       asked = are_entered_on g.G.Gate.asked g.G.Gate.asked_on c.args.desk.now.seat c.loop-at.desk.seat c.args.desk.now.users.seat c.loop-at.desk.users.seat c.args.gate.now c.loop-at.gate c.serve_unit.new.gate _ _ c.loop-at.invariant.asked c.loop-at.invariant.seat c.loop-at.invariant.users c.serve_unit.ensures.asked;
       timely = λ user k c1 b at s.
-          timely_more (language_for user (arc_value c.args.desk.now.shelf)) (telling g.K.Link.told g.C.Timestamps.told g.C.Timestamps.stamped) (starting k c1 b) (g.K.Link.state c.args.link.now) (g.K.Link.state c.loop-at.link) (g.K.Link.state c.serve_unit.new.link) (c.loop-at.invariant.timely user k c1 b at s)
-          (timely_moved arc_value (telling g.K.Link.told g.C.Timestamps.told g.C.Timestamps.stamped) (g.C.Timestamps.coming c.loop-at.clock) (g.K.Link.state c.loop-at.link) (g.K.Link.state c.serve_unit.new.link) (in_hand c.loop-at.desk.attending false c.feed-fed.result.unit c.feed-fed.new.self (drop (c.loop-at.at + c.feed-fed.result.taken) c.args.piece.now)) c.args.desk.now.shelf c.loop-at.desk.shelf c.args.desk.now.seat c.loop-at.desk.seat c.args.desk.now.users.seat c.loop-at.desk.users.seat c.loop-at.invariant.shelf c.loop-at.invariant.seat c.loop-at.invariant.users (c.serve_unit.ensures.timely (drop (c.loop-at.at + c.feed-fed.result.taken) c.args.piece.now)) user k c1 b at
-          (stands_on (language_for user (arc_value c.args.desk.now.shelf)) g.K.Link.told g.C.Timestamps.told k c1 b (g.K.Link.state c.loop-at.link) (g.C.Timestamps.coming c.loop-at.clock) (record { seen = c.loop-at.desk.seat.seen; users = c.loop-at.desk.users.seat.seen; attending = c.loop-at.desk.attending }) c.loop-at.desk.reader c.args.piece.now _ c.loop-at.at c.feed-fed.result c.feed-fed.new.self (c.loop-at.invariant.stands user k c1 b at s) (take_rest c.args.piece.now c.loop-at.at) c.feed-fed.ensures.fed));
+          timely_more (language_for user (arc_value c.args.desk.now.shelf)) (telling g.K.Link.told g.C.Timestamps.told g.C.Timestamps.stamped) (starting k c1 b) (g.K.Link.state c.args.link.now) (g.K.Link.state c.loop-at.link) c.loop-at.desk.seat.seen c.loop-at.desk.users.seat.seen (c.loop-at.invariant.timely user k c1 b at s) _
+          (timely_moved arc_value (telling g.K.Link.told g.C.Timestamps.told g.C.Timestamps.stamped) (g.C.Timestamps.coming c.loop-at.clock) (g.K.Link.state c.loop-at.link) _ (in_hand c.loop-at.desk.attending false c.feed-fed.result.unit c.feed-fed.new.self (drop (c.loop-at.at + c.feed-fed.result.taken) c.args.piece.now)) c.args.desk.now.shelf c.loop-at.desk.shelf c.args.desk.now.seat c.loop-at.desk.seat c.args.desk.now.users.seat c.loop-at.desk.users.seat c.loop-at.invariant.shelf c.loop-at.invariant.seat c.loop-at.invariant.users (c.serve_unit.ensures.timely (drop (c.loop-at.at + c.feed-fed.result.taken) c.args.piece.now)) user k c1 b at
+          (stands_on (language_for user (arc_value c.args.desk.now.shelf)) g.K.Link.told g.C.Timestamps.told k c1 b (g.K.Link.state c.loop-at.link) (g.C.Timestamps.coming c.loop-at.clock) (record { seen = c.loop-at.desk.seat.seen; users = c.loop-at.desk.users.seat.seen; attending = c.loop-at.desk.attending }) c.loop-at.desk.reader c.args.piece.now _ c.loop-at.at c.feed-fed.result c.feed-fed.new.self (c.loop-at.invariant.stands user k c1 b at s) (take_rest c.args.piece.now c.loop-at.at) c.feed-fed.ensures.fed))
+          (went_to g.K.Link.told b (g.K.Link.state c.loop-at.link) (g.K.Link.state c.serve_unit.new.link) c.loop-at.desk.seat c.loop-at.desk.users.seat (c.loop-at.invariant.seat.0 ∙ at.0, c.loop-at.invariant.seat.1 ∙ at.1, c.loop-at.invariant.users.0 ∙ at.2, c.loop-at.invariant.users.1 ∙ at.3) c.serve_unit.ensures.link _ _ _ c.serve_unit.ensures.asked);
       stands = λ user k c1 b at s. rw c.serve_unit.ensures.reader (goes_on_is (language_for user (arc_value c.args.desk.now.shelf)) g.K.Link.told g.C.Timestamps.told k c1 b (g.K.Link.state c.serve_unit.new.link) (g.C.Timestamps.coming c.serve_unit.new.clock) (now c.serve_unit.new.desk) c.feed-fed.new.self c.serve_unit.result _ c.in-On.is (goes user k c1 b (drop (c.loop-at.at + c.feed-fed.result.taken) c.args.piece.now) (c.loop-at.invariant.seat.0 ∙ at.0, c.loop-at.invariant.seat.1 ∙ at.1, c.loop-at.invariant.users.0 ∙ at.2, c.loop-at.invariant.users.1 ∙ at.3)
           (stands_on (language_for user (arc_value c.args.desk.now.shelf)) g.K.Link.told g.C.Timestamps.told k c1 b (g.K.Link.state c.loop-at.link) (g.C.Timestamps.coming c.loop-at.clock) (record { seen = c.loop-at.desk.seat.seen; users = c.loop-at.desk.users.seat.seen; attending = c.loop-at.desk.attending }) c.loop-at.desk.reader c.args.piece.now _ c.loop-at.at c.feed-fed.result c.feed-fed.new.self (c.loop-at.invariant.stands user k c1 b at s) (take_rest c.args.piece.now c.loop-at.at) c.feed-fed.ensures.fed)));
     }
@@ -56,9 +57,10 @@ returns-in_default g c =
       later = later_behind _ _ _ k.gate u.later;
       asked = are_entered_on g.G.Gate.asked g.G.Gate.asked_on c.args.desk.now.seat c.loop-at.desk.seat c.args.desk.now.users.seat c.loop-at.desk.users.seat c.args.gate.now c.loop-at.gate c.serve_unit.new.gate _ _ c.loop-at.invariant.asked c.loop-at.invariant.seat c.loop-at.invariant.users c.serve_unit.ensures.asked;
       timely = λ user k c1 b at s.
-          timely_more (language_for user (arc_value c.args.desk.now.shelf)) (telling g.K.Link.told g.C.Timestamps.told g.C.Timestamps.stamped) (starting k c1 b) (g.K.Link.state c.args.link.now) (g.K.Link.state c.loop-at.link) (g.K.Link.state c.serve_unit.new.link) (c.loop-at.invariant.timely user k c1 b at s)
-          (timely_moved arc_value (telling g.K.Link.told g.C.Timestamps.told g.C.Timestamps.stamped) (g.C.Timestamps.coming c.loop-at.clock) (g.K.Link.state c.loop-at.link) (g.K.Link.state c.serve_unit.new.link) (in_hand c.loop-at.desk.attending false c.feed-fed.result.unit c.feed-fed.new.self (drop (c.loop-at.at + c.feed-fed.result.taken) c.args.piece.now)) c.args.desk.now.shelf c.loop-at.desk.shelf c.args.desk.now.seat c.loop-at.desk.seat c.args.desk.now.users.seat c.loop-at.desk.users.seat c.loop-at.invariant.shelf c.loop-at.invariant.seat c.loop-at.invariant.users (c.serve_unit.ensures.timely (drop (c.loop-at.at + c.feed-fed.result.taken) c.args.piece.now)) user k c1 b at
-          (stands_on (language_for user (arc_value c.args.desk.now.shelf)) g.K.Link.told g.C.Timestamps.told k c1 b (g.K.Link.state c.loop-at.link) (g.C.Timestamps.coming c.loop-at.clock) (record { seen = c.loop-at.desk.seat.seen; users = c.loop-at.desk.users.seat.seen; attending = c.loop-at.desk.attending }) c.loop-at.desk.reader c.args.piece.now _ c.loop-at.at c.feed-fed.result c.feed-fed.new.self (c.loop-at.invariant.stands user k c1 b at s) (take_rest c.args.piece.now c.loop-at.at) c.feed-fed.ensures.fed));
+          timely_more (language_for user (arc_value c.args.desk.now.shelf)) (telling g.K.Link.told g.C.Timestamps.told g.C.Timestamps.stamped) (starting k c1 b) (g.K.Link.state c.args.link.now) (g.K.Link.state c.loop-at.link) c.loop-at.desk.seat.seen c.loop-at.desk.users.seat.seen (c.loop-at.invariant.timely user k c1 b at s) _
+          (timely_moved arc_value (telling g.K.Link.told g.C.Timestamps.told g.C.Timestamps.stamped) (g.C.Timestamps.coming c.loop-at.clock) (g.K.Link.state c.loop-at.link) _ (in_hand c.loop-at.desk.attending false c.feed-fed.result.unit c.feed-fed.new.self (drop (c.loop-at.at + c.feed-fed.result.taken) c.args.piece.now)) c.args.desk.now.shelf c.loop-at.desk.shelf c.args.desk.now.seat c.loop-at.desk.seat c.args.desk.now.users.seat c.loop-at.desk.users.seat c.loop-at.invariant.shelf c.loop-at.invariant.seat c.loop-at.invariant.users (c.serve_unit.ensures.timely (drop (c.loop-at.at + c.feed-fed.result.taken) c.args.piece.now)) user k c1 b at
+          (stands_on (language_for user (arc_value c.args.desk.now.shelf)) g.K.Link.told g.C.Timestamps.told k c1 b (g.K.Link.state c.loop-at.link) (g.C.Timestamps.coming c.loop-at.clock) (record { seen = c.loop-at.desk.seat.seen; users = c.loop-at.desk.users.seat.seen; attending = c.loop-at.desk.attending }) c.loop-at.desk.reader c.args.piece.now _ c.loop-at.at c.feed-fed.result c.feed-fed.new.self (c.loop-at.invariant.stands user k c1 b at s) (take_rest c.args.piece.now c.loop-at.at) c.feed-fed.ensures.fed))
+          (went_to g.K.Link.told b (g.K.Link.state c.loop-at.link) (g.K.Link.state c.serve_unit.new.link) c.loop-at.desk.seat c.loop-at.desk.users.seat (c.loop-at.invariant.seat.0 ∙ at.0, c.loop-at.invariant.seat.1 ∙ at.1, c.loop-at.invariant.users.0 ∙ at.2, c.loop-at.invariant.users.1 ∙ at.3) c.serve_unit.ensures.link _ _ _ c.serve_unit.ensures.asked);
       goes = λ user k c1 b at s.
           let goes = subst (λ (y : Contents). (user : SessionUser) (k : LinkState) (c2 : List Moment) (b : Beginning) (ahead : List ℕ) → IsAt b c.loop-at.desk.seat c.loop-at.desk.users.seat → Stands (language_for user y) g.K.Link.told g.C.Timestamps.told k (g.K.Link.state c.loop-at.link) c2 (g.C.Timestamps.coming c.loop-at.clock) b (record { seen = c.loop-at.desk.seat.seen; users = c.loop-at.desk.users.seat.seen; attending = c.loop-at.desk.attending }) false c.feed-fed.result.unit c.feed-fed.new.self ahead
           → Goes (language_for user y) g.K.Link.told g.C.Timestamps.told k (g.K.Link.state c.serve_unit.new.link) c2 (g.C.Timestamps.coming c.serve_unit.new.clock) b (now c.serve_unit.new.desk) c.serve_unit.result false c.feed-fed.new.self ahead) (ap arc_value c.loop-at.invariant.shelf) c.serve_unit.ensures.goes in

@@ -10,7 +10,7 @@ use Rattle.craft_session.specs.Meanings.{language_for}
 use Rattle.craft_session.specs.Seats.{IsSameSeat, IsSameUserSeat}
 use Rattle.craft_session.specs.Sessions.{Beginning, IsAt, Stands, Writes}
 use Rattle.craft_session.specs.Stamps.{stamp_at}
-use Rattle.craft_session.specs.Timely.{IsTimelyFrom, in_hand, telling}
+use Rattle.craft_session.specs.Timely.{IsTimelyFrom, in_hand, reached, telling}
 use Rattle.craft_session.proofs.session.serve_piece.Given as goal
 
 abbrev pub invariant-loop-at : goal.invariant-loop-at
@@ -29,7 +29,7 @@ invariant-loop-at g l =
       asked : AreEntered l.fn.desk.seat l.fn.desk.users.seat (g.G.Gate.asked l.fn.gate l.gate) l.desk.seat.seen l.desk.users.seat.seen;
       stands : (user : SessionUser) → (k : LinkState) (c : List Moment) (b : Beginning) → IsAt b l.fn.desk.seat l.fn.desk.users.seat → Stands (tongue user) g.K.Link.told g.C.Timestamps.told k (state l.fn.link) c (coming l.fn.clock) b (now l.fn.desk) false More l.fn.desk.reader l.piece
           → Stands (tongue user) g.K.Link.told g.C.Timestamps.told k (state l.link) c (coming l.clock) b (now l.desk) false More l.desk.reader (drop l.at l.piece);
-      timely : IsTimelyFrom (arc_value l.fn.desk.shelf) (telling g.K.Link.told g.C.Timestamps.told g.C.Timestamps.stamped) (stamp_at (coming l.fn.clock) (state l.fn.link) l.fn.desk.seat l.fn.desk.users.seat) (in_hand l.fn.desk.attending false More l.fn.desk.reader l.piece) (state l.link);
+      timely : IsTimelyFrom (arc_value l.fn.desk.shelf) (telling g.K.Link.told g.C.Timestamps.told g.C.Timestamps.stamped) (stamp_at (coming l.fn.clock) (state l.fn.link) l.fn.desk.seat l.fn.desk.users.seat) (in_hand l.fn.desk.attending false More l.fn.desk.reader l.piece) (reached (state l.link).written l.desk.seat.seen l.desk.users.seat.seen);
     }
 
 abbrev pub decreases-loop-at : goal.decreases-loop-at
