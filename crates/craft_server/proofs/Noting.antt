@@ -11,7 +11,7 @@ module _ {L K C G N : Type 0} (m : Means L K C G N) where
   coming listener = (m.hall.listener.state listener).coming
 
   abbrev pub Served : (old new : LentTo L C G N) → K → Type 0
-  Served old new caller = ServedCaller m.disk_told m.clock.told m.hall.link.told m.hall.link.state m.hall.link.begun m.gate.stops m.gate.asked (standing_in m old) (standing_in m new) caller
+  Served old new caller = ServedCaller m.disk_told m.clock m.hall.link m.gate (standing_in m old) (standing_in m new) caller
 
   -- nobody came yet
   pub nothing_noted : (s : LentTo L C G N) → NotedSoFar m s s

@@ -1,18 +1,16 @@
 -- What is noted of the callers of a place.
-use Rattle.std.specs.Prelude.{ℕ, List, [], ◌∷◌, ◌++◌}
+use Rattle.std.specs.Prelude.{List, [], ◌∷◌, ◌++◌}
 use Rattle.dxc_notes.specs.declared.note.Ending.{Ending}
 use Rattle.dxc_notes.specs.declared.note.Ending.TheVariants as ending
 use Rattle.dxc_notes.specs.declared.note.Note.{Note}
 use Rattle.dxc_notes.specs.declared.note.Note.TheVariants as note
 use Rattle.dxc_notes.specs.declared.notes.Notes.{Ghosts as NotesOf}
-use Rattle.dxc_outside.specs.declared.clock.Clock.{Ghosts as ClockOf}
 use Rattle.dxc_outside.specs.declared.gate.Gate.{Ghosts as GateOf}
-use Rattle.dxc_outside.specs.declared.gate.GatePlace.{GatePlace}
 use Rattle.dxc_outside.specs.declared.link.Link.{Ghosts as LinkOf}
 use Rattle.dxc_outside.specs.declared.listener.Listener.{Ghosts as ListenerOf}
-use Rattle.dxc_outside.specs.Links.{LinkState}
 use Rattle.craft_session.specs.declared.end.SessionEnd.{SessionEnd}
 use Rattle.craft_session.specs.declared.end.SessionEnd.TheVariants as end
+use Rattle.craft_session.specs.declared.timestamps.Timestamps.{Ghosts as ClockOf}
 use Rattle.craft_session.specs.Seats.{PlaceAt}
 use Rattle.craft_server.specs.declared.links.LinksEnd.{LinksEnd}
 use Rattle.craft_server.specs.declared.links.LinksEnd.TheVariants as links
@@ -27,9 +25,9 @@ ending_of end.Stopped = ending.Stopped
 ending_of end.Spent = ending.Spent
 ending_of end.Unattended = ending.Unattended
 
-module _ (disk_told clock_told link_told : Type 0) {K G : Type 0} (link : K → LinkState) (begun : LinkState → Type 0) (stops : G → ℕ) (asked : G → G → List GatePlace → Type 0) where
+module _ (disk_told : Type 0) {C K G : Type 0} (clock : ClockOf C) (link : LinkOf K) (gate : GateOf G) where
   -- of each caller, in their order, how its session ended
-  abbrev pub notes_in : (old : Standing G) (came : List K) (new : Standing G) → InTurn (ServedCaller disk_told clock_told link_told link begun stops asked) old came new → List Note
+  abbrev pub notes_in : (old : Standing G) (came : List K) (new : Standing G) → InTurn (ServedCaller disk_told clock link gate) old came new → List Note
   notes_in _ _ _ (none_yet s) = []
   notes_in _ _ _ (one_more s t u ks k past step) = notes_in s ks t past ++ note.Gone (ending_of step.end) ∷ []
 
@@ -73,10 +71,10 @@ module _ {L K C G N : Type 0} (m : Means L K C G N) where
   standing_in s = standing s.place (m.clock.coming s.clock) s.gate
 
   abbrev pub ServedIn : (old new : LentTo L C G N) → Type 0
-  ServedIn old new = ServedAll m.disk_told m.clock.told m.hall.link.told m.hall.link.state m.hall.link.begun m.gate.stops m.gate.asked m.hall.listener.told (m.hall.listener.state old.listener).coming (m.hall.listener.state new.listener).coming (standing_in old) (standing_in new)
+  ServedIn old new = ServedAll m.disk_told m.clock m.hall.link m.gate m.hall.listener.told (m.hall.listener.state old.listener).coming (m.hall.listener.state new.listener).coming (standing_in old) (standing_in new)
 
   abbrev pub notes_of : (old new : LentTo L C G N) → ServedIn old new → List Note
-  notes_of old new all = notes_in m.disk_told m.clock.told m.hall.link.told m.hall.link.state m.hall.link.begun m.gate.stops m.gate.asked (standing_in old) all.callers (standing_in new) all.served
+  notes_of old new all = notes_in m.disk_told m.clock m.hall.link m.gate (standing_in old) all.callers (standing_in new) all.served
 
   -- callers were served, and of each of them it was noted how its session ended
   pub record NotedSoFar (old new : LentTo L C G N) : Type 0 where

@@ -1,7 +1,6 @@
 -- The serving of callers, and the program's jobs.
 use Rattle.std.specs.Prelude.{◌≡◌, ◌≢◌, ℕ, ◌+◌, ◌≤◌, ◌⊎◌, true, All, List, [], ◌++◌, length, map, Option, None}
 use Rattle.dxc_causes.specs.Causes.{Rose}
-use Rattle.dxc_outside.specs.declared.clock.Clock.{Ghosts as ClockOf}
 use Rattle.dxc_outside.specs.declared.gate.Gate.{Ghosts as GateOf}
 use Rattle.dxc_outside.specs.declared.lines.Lines.{Ghosts as LinesOf}
 use Rattle.dxc_outside.specs.declared.link.Link.{Ghosts as LinkOf}
@@ -13,6 +12,7 @@ use Rattle.dxc_leaving.specs.Values.{AnyValue, any_value}
 use Rattle.shelf_file.specs.Contents.{Contents}
 use Rattle.user_admin.specs.Histories.{Opening as UsersOpening}
 use Rattle.xc_core.specs.States.{Opening}
+use Rattle.craft_session.specs.declared.timestamps.Timestamps.{Ghosts as ClockOf}
 use Rattle.craft_session.specs.Places.{HasPlaces}
 use Rattle.craft_session.specs.Seats.{PlaceAt}
 use Rattle.craft_words.specs.declared.line.Line.{Line}

@@ -10,6 +10,7 @@ ghost use Rattle.craft_server.specs.Serving.{ServedSite, jobs_told, site_at};
 
 use crate::serve::{Site, serve_on};
 use craft_element::{Controller, Element, Names, open_mirrored};
+use craft_session::Timestamps;
 use craft_words::Status;
 use dxc_leaving::LetGo;
 use dxc_notes::Noted;
@@ -29,6 +30,7 @@ pub(crate) fn serve_mirrored<O: Opener + LetGo, G: Gate, P: Spawner, R: Wait>(
     rt: &R,
 ) -> Status
 where
+    O::Clock: Timestamps,
     O::Listener: Noted,
     <O::Listener as Listener>::Link: Send + 'static,
     <O::Listener as Noted>::Notes: Send + 'static,
@@ -40,7 +42,7 @@ where
         (P.state spawner.new ≡ P.state spawner.old)
         (λ f o u. ServedSite (MirrorDisk O.Journal O.Peer) O.Journal
         (jobs_told O.Journal.told O.Opener O.Lines.Lines O.Listener.Listener O.Listener.Link.Link
-        O.Clock.Clock O.Gate.Gate O.gone (P.handed spawner.old spawner.new))
+        O.Clock.Timestamps O.Gate.Gate O.gone (P.handed spawner.old spawner.new))
         (site_at site.entry.address.now site.entry.lines.now site.entry.workers)
         (sources (O.state opener.old) (O.journal_at opener.old) (G.stops gate.old))
         (sources (O.state opener.new) (O.journal_at opener.new) (G.stops gate.new))

@@ -14,6 +14,7 @@ use crate::serve::serve_line;
 use crate::trial::run_trial;
 use craft_element::{Names, run_check, run_export};
 use craft_jobs::run_standby;
+use craft_session::Timestamps;
 use craft_words::{Line, Status, WordsFault, line_of};
 use dxc_leaving::LetGo;
 use dxc_notes::Noted;
@@ -44,6 +45,7 @@ pub fn dxc_run<O: Opener + LetGo, K: Link, C: Clock, G: Gate, P: Spawner, R: Wai
     rt: &R,
 ) -> Status
 where
+    O::Clock: Timestamps,
     O::Listener: Noted,
     <O::Listener as Listener>::Link: Send + 'static,
     <O::Listener as Noted>::Notes: Send + 'static,
@@ -51,7 +53,7 @@ where
     ensures run { IsRun (told_by O.told O.Journal.told K.told C.told O.Peer.told O.Listener.told
         O.Listener.Link.told K.begun O.Listener.Link.begun O.gone (O.asked opener.old opener.new))
         (jobs_told O.Journal.told O.Opener O.Lines.Lines O.Listener.Listener O.Listener.Link.Link
-        O.Clock.Clock O.Gate.Gate O.gone (P.handed spawner.old spawner.new)) O.Journal.state
+        O.Clock.Timestamps O.Gate.Gate O.gone (P.handed spawner.old spawner.new)) O.Journal.state
         O.Peer.state O.Listener.state O.Listener.Link.state O.Listener.Link.hung_up
         (O.listener_at opener.old) words.now
         (lent (sources (O.state opener.old) (O.journal_at opener.old) (G.stops gate.old))
@@ -80,6 +82,7 @@ fn run_line<O: Opener + LetGo, K: Link, C: Clock, G: Gate, P: Spawner, R: Wait>(
     rt: &R,
 ) -> Status
 where
+    O::Clock: Timestamps,
     O::Listener: Noted,
     <O::Listener as Listener>::Link: Send + 'static,
     <O::Listener as Noted>::Notes: Send + 'static,
@@ -88,7 +91,7 @@ where
         → IsRunOf (told_by O.told O.Journal.told K.told C.told O.Peer.told O.Listener.told
         O.Listener.Link.told K.begun O.Listener.Link.begun O.gone (O.asked opener.old opener.new))
         (jobs_told O.Journal.told O.Opener O.Lines.Lines O.Listener.Listener O.Listener.Link.Link
-        O.Clock.Clock O.Gate.Gate O.gone (P.handed spawner.old spawner.new)) O.Journal.state
+        O.Clock.Timestamps O.Gate.Gate O.gone (P.handed spawner.old spawner.new)) O.Journal.state
         O.Peer.state O.Listener.state O.Listener.Link.state O.Listener.Link.hung_up
         (O.listener_at opener.old) line.now
         (lent (sources (O.state opener.old) (O.journal_at opener.old) (G.stops gate.old))

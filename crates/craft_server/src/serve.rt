@@ -24,12 +24,13 @@ use crate::mirrored::serve_mirrored;
 use crate::sessions::SessionJob;
 use craft_element::{Controller, Element, Names, open};
 use craft_jobs::{FrameJob, frame_jobs, run_all};
+use craft_session::Timestamps;
 use craft_session::places::open_places;
 use craft_words::{Line, Status};
 use dxc_disk::Disk;
 use dxc_leaving::LetGo;
 use dxc_notes::Noted;
-use dxc_outside::{Clock, Gate, Lines, Listener, Opener, Spawner, Started};
+use dxc_outside::{Gate, Lines, Listener, Opener, Spawner, Started};
 use fabric_words::{Fabric, WorkerSeat};
 use shelf_file::Shelf;
 use std::alloc::Global;
@@ -42,7 +43,7 @@ fn run_jobs<
     D: Disk + Send + Drop + 'static,
     U: Disk + Send + Drop + 'static,
     L: Listener + Noted + Send + Drop + 'static,
-    C: Clock + Send + Drop + 'static,
+    C: Timestamps + Send + Drop + 'static,
     G: Gate + Send + Drop + 'static,
     N: Lines + Send + Drop + 'static,
     O: LetGo,
@@ -65,7 +66,7 @@ where
         → P.handed spawner.old spawner.new (any_jobs workers.items ++ any_jobs sessions.items) }
     // Each worker has carried its frames in its seat, and each session's place is left as its sessions left it.
     ensures left { result ≡ Status.Done → AreLeft O.gone (left_by (RanFrames N.Lines G.Gate))
-        (left_by (RanAt D.told L.Listener L.Link.Link C.Clock G.Gate)) workers.items
+        (left_by (RanAt D.told L.Listener L.Link.Link C.Timestamps G.Gate)) workers.items
         sessions.items }
 {
     let ran = run_all(alloc, spawner, workers, sessions, rt);
@@ -108,6 +109,7 @@ pub(crate) fn serve_on<
     rt: &R,
 ) -> Status
 where
+    O::Clock: Timestamps,
     O::Listener: Noted,
     <O::Listener as Listener>::Link: Send + 'static,
     <O::Listener as Noted>::Notes: Send + 'static,
@@ -121,9 +123,9 @@ where
         (arc_value fabric.now) }
     ensures serving { IsServing (site.entry.workers + 16) (O.state opener.old).faults
         (O.state opener.new).faults (P.state spawner.old) (P.state spawner.new) result }
-    ensures jobs { result ≡ Status.Done
-        → HandedJobs D U (jobs_told D.told O.Opener O.Lines.Lines O.Listener.Listener
-        O.Listener.Link.Link O.Clock.Clock O.Gate.Gate O.gone (P.handed spawner.old spawner.new))
+    ensures jobs { result ≡ Status.Done → HandedJobs D U
+        (jobs_told D.told O.Opener O.Lines.Lines O.Listener.Listener O.Listener.Link.Link
+        O.Clock.Timestamps O.Gate.Gate O.gone (P.handed spawner.old spawner.new))
         (site_at site.entry.address.now site.entry.lines.now site.entry.workers)
         (arc_value shelf.now) (opening_of D.state state) (users_opening U.state users) }
     ensures asked { AskedFor (O.asked opener.old opener.new)
@@ -155,6 +157,7 @@ fn serve_alone<O: Opener + LetGo, G: Gate, P: Spawner, R: Wait>(
     rt: &R,
 ) -> Status
 where
+    O::Clock: Timestamps,
     O::Listener: Noted,
     <O::Listener as Listener>::Link: Send + 'static,
     <O::Listener as Noted>::Notes: Send + 'static,
@@ -165,7 +168,7 @@ where
         (sources (O.state opener.new) (O.journal_at opener.new) (G.stops gate.new))
         (P.state spawner.new ≡ P.state spawner.old) (λ f o u. ServedSite O.Journal O.Journal
         (jobs_told O.Journal.told O.Opener O.Lines.Lines O.Listener.Listener O.Listener.Link.Link
-        O.Clock.Clock O.Gate.Gate O.gone (P.handed spawner.old spawner.new))
+        O.Clock.Timestamps O.Gate.Gate O.gone (P.handed spawner.old spawner.new))
         (site_at site.entry.address.now site.entry.lines.now site.entry.workers)
         (sources (O.state opener.old) (O.journal_at opener.old) (G.stops gate.old))
         (sources (O.state opener.new) (O.journal_at opener.new) (G.stops gate.new))
@@ -203,6 +206,7 @@ pub fn serve_all<O: Opener + LetGo, G: Gate, P: Spawner, R: Wait>(
     rt: &R,
 ) -> Status
 where
+    O::Clock: Timestamps,
     O::Listener: Noted,
     <O::Listener as Listener>::Link: Send + 'static,
     <O::Listener as Noted>::Notes: Send + 'static,
@@ -213,7 +217,7 @@ where
         (sources (O.state opener.new) (O.journal_at opener.new) (G.stops gate.new))
         (P.state spawner.new ≡ P.state spawner.old) (λ f o u. ServedSite O.Journal O.Journal
         (jobs_told O.Journal.told O.Opener O.Lines.Lines O.Listener.Listener O.Listener.Link.Link
-        O.Clock.Clock O.Gate.Gate O.gone (P.handed spawner.old spawner.new)) (site_in line.now)
+        O.Clock.Timestamps O.Gate.Gate O.gone (P.handed spawner.old spawner.new)) (site_in line.now)
         (sources (O.state opener.old) (O.journal_at opener.old) (G.stops gate.old))
         (sources (O.state opener.new) (O.journal_at opener.new) (G.stops gate.new))
         (P.state spawner.old) (P.state spawner.new) f.shelf o u.opening result) result }
@@ -224,7 +228,7 @@ where
         (P.state spawner.new ≡ P.state spawner.old)
         (λ f o u. ServedSite (MirrorDisk O.Journal O.Peer) O.Journal
         (jobs_told O.Journal.told O.Opener O.Lines.Lines O.Listener.Listener O.Listener.Link.Link
-        O.Clock.Clock O.Gate.Gate O.gone (P.handed spawner.old spawner.new)) (site_in line.now)
+        O.Clock.Timestamps O.Gate.Gate O.gone (P.handed spawner.old spawner.new)) (site_in line.now)
         (sources (O.state opener.old) (O.journal_at opener.old) (G.stops gate.old))
         (sources (O.state opener.new) (O.journal_at opener.new) (G.stops gate.new))
         (P.state spawner.old) (P.state spawner.new) f.shelf o u.opening result) result }
@@ -268,6 +272,7 @@ pub(crate) fn serve_line<O: Opener + LetGo, G: Gate, P: Spawner, R: Wait>(
     rt: &R,
 ) -> Status
 where
+    O::Clock: Timestamps,
     O::Listener: Noted,
     <O::Listener as Listener>::Link: Send + 'static,
     <O::Listener as Noted>::Notes: Send + 'static,
@@ -277,7 +282,7 @@ where
         (sources (O.state opener.new) (O.journal_at opener.new) (G.stops gate.new))
         (P.state spawner.new ≡ P.state spawner.old) (λ f o u. ServedSite O.Journal O.Journal
         (jobs_told O.Journal.told O.Opener O.Lines.Lines O.Listener.Listener O.Listener.Link.Link
-        O.Clock.Clock O.Gate.Gate O.gone (P.handed spawner.old spawner.new)) (site_in line.now)
+        O.Clock.Timestamps O.Gate.Gate O.gone (P.handed spawner.old spawner.new)) (site_in line.now)
         (sources (O.state opener.old) (O.journal_at opener.old) (G.stops gate.old))
         (sources (O.state opener.new) (O.journal_at opener.new) (G.stops gate.new))
         (P.state spawner.old) (P.state spawner.new) f.shelf o u.opening result) result }
@@ -288,7 +293,7 @@ where
         (P.state spawner.new ≡ P.state spawner.old)
         (λ f o u. ServedSite (MirrorDisk O.Journal O.Peer) O.Journal
         (jobs_told O.Journal.told O.Opener O.Lines.Lines O.Listener.Listener O.Listener.Link.Link
-        O.Clock.Clock O.Gate.Gate O.gone (P.handed spawner.old spawner.new)) (site_in line.now)
+        O.Clock.Timestamps O.Gate.Gate O.gone (P.handed spawner.old spawner.new)) (site_in line.now)
         (sources (O.state opener.old) (O.journal_at opener.old) (G.stops gate.old))
         (sources (O.state opener.new) (O.journal_at opener.new) (G.stops gate.new))
         (P.state spawner.old) (P.state spawner.new) f.shelf o u.opening result) result }

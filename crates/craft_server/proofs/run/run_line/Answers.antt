@@ -36,7 +36,7 @@ use Rattle.craft_server.proofs.run.run_line.Goals as goal
 pub returns-in-Script-clause-run : goal.returns-in-Script-clause-run
 returns-in-Script-clause-run g c = λ fit.
     let told = told_by g.O.Opener.told g.O.Journal.Disk.told g.K.Link.told g.C.Clock.told g.O.Peer.Link.told g.O.Listener.Listener.told g.O.Listener.Link.Link.told g.K.Link.begun g.O.Listener.Link.Link.begun g.O.LetGo.gone (g.O.Opener.asked c.args.opener.now c.run_script.new.opener) in
-    let jobs = jobs_told g.O.Journal.Disk.told g.O.Opener g.O.Lines.Lines g.O.Listener.Listener g.O.Listener.Link.Link g.O.Clock.Clock g.O.Gate.Gate g.O.LetGo.gone (g.P.Spawner.handed c.args.spawner.now c.args.spawner.now) in
+    let jobs = jobs_told g.O.Journal.Disk.told g.O.Opener g.O.Lines.Lines g.O.Listener.Listener g.O.Listener.Link.Link g.O.Clock.Timestamps g.O.Gate.Gate g.O.LetGo.gone (g.P.Spawner.handed c.args.spawner.now c.args.spawner.now) in
     let state = g.O.Journal.Disk.state in
     let p = g.P.Spawner.state c.args.spawner.now in
     let before = lent (sources (g.O.Opener.state c.args.opener.now) (g.O.Opener.journal_at c.args.opener.now) (g.G.Gate.stops c.args.gate.now)) (g.K.Link.state c.args.terminal.now) (g.C.Clock.coming c.args.clock.now) p in
@@ -51,7 +51,7 @@ returns-in-Script-clause-run g c = λ fit.
 pub returns-in-Check-clause-run : goal.returns-in-Check-clause-run
 returns-in-Check-clause-run g c = λ fit.
     let told = told_by g.O.Opener.told g.O.Journal.Disk.told g.K.Link.told g.C.Clock.told g.O.Peer.Link.told g.O.Listener.Listener.told g.O.Listener.Link.Link.told g.K.Link.begun g.O.Listener.Link.Link.begun g.O.LetGo.gone (g.O.Opener.asked c.args.opener.now c.run_check.new.opener) in
-    let jobs = jobs_told g.O.Journal.Disk.told g.O.Opener g.O.Lines.Lines g.O.Listener.Listener g.O.Listener.Link.Link g.O.Clock.Clock g.O.Gate.Gate g.O.LetGo.gone (g.P.Spawner.handed c.args.spawner.now c.args.spawner.now) in
+    let jobs = jobs_told g.O.Journal.Disk.told g.O.Opener g.O.Lines.Lines g.O.Listener.Listener g.O.Listener.Link.Link g.O.Clock.Timestamps g.O.Gate.Gate g.O.LetGo.gone (g.P.Spawner.handed c.args.spawner.now c.args.spawner.now) in
     let state = g.O.Journal.Disk.state in
     let p = g.P.Spawner.state c.args.spawner.now in
     let moments = g.C.Clock.coming c.args.clock.now in
@@ -67,7 +67,7 @@ returns-in-Check-clause-run g c = λ fit.
 pub returns-in-Export-clause-run : goal.returns-in-Export-clause-run
 returns-in-Export-clause-run g c = λ fit.
     let told = told_by g.O.Opener.told g.O.Journal.Disk.told g.K.Link.told g.C.Clock.told g.O.Peer.Link.told g.O.Listener.Listener.told g.O.Listener.Link.Link.told g.K.Link.begun g.O.Listener.Link.Link.begun g.O.LetGo.gone (g.O.Opener.asked c.args.opener.now c.run_export.new.opener) in
-    let jobs = jobs_told g.O.Journal.Disk.told g.O.Opener g.O.Lines.Lines g.O.Listener.Listener g.O.Listener.Link.Link g.O.Clock.Clock g.O.Gate.Gate g.O.LetGo.gone (g.P.Spawner.handed c.args.spawner.now c.args.spawner.now) in
+    let jobs = jobs_told g.O.Journal.Disk.told g.O.Opener g.O.Lines.Lines g.O.Listener.Listener g.O.Listener.Link.Link g.O.Clock.Timestamps g.O.Gate.Gate g.O.LetGo.gone (g.P.Spawner.handed c.args.spawner.now c.args.spawner.now) in
     let state = g.O.Journal.Disk.state in
     let p = g.P.Spawner.state c.args.spawner.now in
     let moments = g.C.Clock.coming c.args.clock.now in
@@ -83,7 +83,7 @@ returns-in-Export-clause-run g c = λ fit.
 pub returns-in-Serve-clause-run : goal.returns-in-Serve-clause-run
 returns-in-Serve-clause-run g c = λ fit.
     let told = told_by g.O.Opener.told g.O.Journal.Disk.told g.K.Link.told g.C.Clock.told g.O.Peer.Link.told g.O.Listener.Listener.told g.O.Listener.Link.Link.told g.K.Link.begun g.O.Listener.Link.Link.begun g.O.LetGo.gone (g.O.Opener.asked c.args.opener.now c.serve_line.new.opener) in
-    let jobs = jobs_told g.O.Journal.Disk.told g.O.Opener g.O.Lines.Lines g.O.Listener.Listener g.O.Listener.Link.Link g.O.Clock.Clock g.O.Gate.Gate g.O.LetGo.gone (g.P.Spawner.handed c.args.spawner.now c.serve_line.new.spawner) in
+    let jobs = jobs_told g.O.Journal.Disk.told g.O.Opener g.O.Lines.Lines g.O.Listener.Listener g.O.Listener.Link.Link g.O.Clock.Timestamps g.O.Gate.Gate g.O.LetGo.gone (g.P.Spawner.handed c.args.spawner.now c.serve_line.new.spawner) in
     let state = g.O.Journal.Disk.state in
     let peer_state = g.O.Peer.Link.state in
     let terminal = g.K.Link.state c.args.terminal.now in
@@ -114,7 +114,7 @@ returns-in-Serve-clause-run g c = λ fit.
 pub returns-in-Standby-clause-run : goal.returns-in-Standby-clause-run
 returns-in-Standby-clause-run g c = λ fit.
     let told = told_by g.O.Opener.told g.O.Journal.Disk.told g.K.Link.told g.C.Clock.told g.O.Peer.Link.told g.O.Listener.Listener.told g.O.Listener.Link.Link.told g.K.Link.begun g.O.Listener.Link.Link.begun g.O.LetGo.gone (g.O.Opener.asked c.args.opener.now c.run_standby.new.opener) in
-    let jobs = jobs_told g.O.Journal.Disk.told g.O.Opener g.O.Lines.Lines g.O.Listener.Listener g.O.Listener.Link.Link g.O.Clock.Clock g.O.Gate.Gate g.O.LetGo.gone (g.P.Spawner.handed c.args.spawner.now c.args.spawner.now) in
+    let jobs = jobs_told g.O.Journal.Disk.told g.O.Opener g.O.Lines.Lines g.O.Listener.Listener g.O.Listener.Link.Link g.O.Clock.Timestamps g.O.Gate.Gate g.O.LetGo.gone (g.P.Spawner.handed c.args.spawner.now c.args.spawner.now) in
     let state = g.O.Journal.Disk.state in
     let listener = g.O.Listener.Listener.state in
     let link = g.O.Listener.Link.Link.state in
@@ -154,7 +154,7 @@ returns-in-Serve-clause-words g c = λ fit bad.
     let q = g.P.Spawner.state c.serve_line.new.spawner in
     let line = c.args.line.now in
     let status = c.serve_line.result in
-    let jobs = jobs_told g.O.Journal.Disk.told g.O.Opener g.O.Lines.Lines g.O.Listener.Listener g.O.Listener.Link.Link g.O.Clock.Clock g.O.Gate.Gate g.O.LetGo.gone (g.P.Spawner.handed c.args.spawner.now c.serve_line.new.spawner) in
+    let jobs = jobs_told g.O.Journal.Disk.told g.O.Opener g.O.Lines.Lines g.O.Listener.Listener g.O.Listener.Link.Link g.O.Clock.Timestamps g.O.Gate.Gate g.O.LetGo.gone (g.P.Spawner.handed c.args.spawner.now c.serve_line.new.spawner) in
     let disk : Type 0 = g.row.O-Journal.Denot in
     let mirror : Type 0 = MirrorDisk disk g.row.O-Peer.Denot in
     let S : Contents → Opening → UsersOpening → Type 0 = λ s o u. ServedSite disk disk jobs (site_in line) before after p q s o u status in
@@ -170,7 +170,7 @@ returns-in-Standby-clause-words g c = λ fit bad. stands_words _ _ _ _ _ _ _ _ _
 pub returns-in-Load-clause-run : goal.returns-in-Load-clause-run
 returns-in-Load-clause-run g c = λ fit.
     let told = told_by g.O.Opener.told g.O.Journal.Disk.told g.K.Link.told g.C.Clock.told g.O.Peer.Link.told g.O.Listener.Listener.told g.O.Listener.Link.Link.told g.K.Link.begun g.O.Listener.Link.Link.begun g.O.LetGo.gone (g.O.Opener.asked c.args.opener.now c.args.opener.now) in
-    let jobs = jobs_told g.O.Journal.Disk.told g.O.Opener g.O.Lines.Lines g.O.Listener.Listener g.O.Listener.Link.Link g.O.Clock.Clock g.O.Gate.Gate g.O.LetGo.gone (g.P.Spawner.handed c.args.spawner.now c.args.spawner.now) in
+    let jobs = jobs_told g.O.Journal.Disk.told g.O.Opener g.O.Lines.Lines g.O.Listener.Listener g.O.Listener.Link.Link g.O.Clock.Timestamps g.O.Gate.Gate g.O.LetGo.gone (g.P.Spawner.handed c.args.spawner.now c.args.spawner.now) in
     let state = g.O.Journal.Disk.state in
     let at = λ (stops : ℕ) (terminal : LinkState). lent (sources (g.O.Opener.state c.args.opener.now) (g.O.Opener.journal_at c.args.opener.now) stops) terminal (g.C.Clock.coming c.args.clock.now) (g.P.Spawner.state c.args.spawner.now) in
     let before = at (g.G.Gate.stops c.args.gate.now) (g.K.Link.state c.args.terminal.now) in
@@ -207,7 +207,7 @@ returns-in-Load-clause-asked g c = λ fit.
 pub returns-in-Trial-clause-run : goal.returns-in-Trial-clause-run
 returns-in-Trial-clause-run g c = λ fit.
     let told = told_by g.O.Opener.told g.O.Journal.Disk.told g.K.Link.told g.C.Clock.told g.O.Peer.Link.told g.O.Listener.Listener.told g.O.Listener.Link.Link.told g.K.Link.begun g.O.Listener.Link.Link.begun g.O.LetGo.gone (g.O.Opener.asked c.args.opener.now c.args.opener.now) in
-    let jobs = jobs_told g.O.Journal.Disk.told g.O.Opener g.O.Lines.Lines g.O.Listener.Listener g.O.Listener.Link.Link g.O.Clock.Clock g.O.Gate.Gate g.O.LetGo.gone (g.P.Spawner.handed c.args.spawner.now c.args.spawner.now) in
+    let jobs = jobs_told g.O.Journal.Disk.told g.O.Opener g.O.Lines.Lines g.O.Listener.Listener g.O.Listener.Link.Link g.O.Clock.Timestamps g.O.Gate.Gate g.O.LetGo.gone (g.P.Spawner.handed c.args.spawner.now c.args.spawner.now) in
     let state = g.O.Journal.Disk.state in
     let at = λ (stops : ℕ) (terminal : LinkState) (moments : List Moment). lent (sources (g.O.Opener.state c.args.opener.now) (g.O.Opener.journal_at c.args.opener.now) stops) terminal moments (g.P.Spawner.state c.args.spawner.now) in
     let before = at (g.G.Gate.stops c.args.gate.now) (g.K.Link.state c.args.terminal.now) (g.C.Clock.coming c.args.clock.now) in

@@ -43,7 +43,7 @@ returns-clause-opens g c =
     let x = c.in-Ok.element in
     let names = named c.args.names.shelf.now c.args.names.journal.now in
     let site = site_at c.args.site.address.now c.args.site.lines.now c.args.site.workers in
-    let jobs = jobs_told g.O.Journal.Disk.told g.O.Opener g.O.Lines.Lines g.O.Listener.Listener g.O.Listener.Link.Link g.O.Clock.Clock g.O.Gate.Gate g.O.LetGo.gone (g.P.Spawner.handed c.args.spawner.now c.serve_on.new.spawner) in
+    let jobs = jobs_told g.O.Journal.Disk.told g.O.Opener g.O.Lines.Lines g.O.Listener.Listener g.O.Listener.Link.Link g.O.Clock.Timestamps g.O.Gate.Gate g.O.LetGo.gone (g.P.Spawner.handed c.args.spawner.now c.serve_on.new.spawner) in
     inr (
       h.0,
       opening_of state x.controller.state,
