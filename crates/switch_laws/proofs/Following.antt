@@ -237,15 +237,15 @@ module _ {U M : Type 0} (l : Language U M) (r : Rules) (excused : Excuse) (past 
     lived _ _ (stopped h ss w u front op run none fronts cuts x) = stop w u front op ss none fronts cuts (ran h ss w run (lived h ss x))
     lived _ _ (stopped_at_users h ss w u op run none wants changing x) = stop_at_users w u op ss none wants changing (ran h ss w run (lived h ss x))
 
-  shorter : (h : List Entry) (e : Entry) → Good (h ++ e ∷ []) → Good h
+  pub shorter : (h : List Entry) (e : Entry) → Good (h ++ e ∷ []) → Good h
   shorter h e g = (legal_so_far r h (e ∷ []) g.0, each_front (IsExcused excused) h (e ∷ []) g.1, each_front (λ (x : Entry). x.place < n) h (e ∷ []) g.2)
 
-  last_within : (h : List Entry) (e : Entry) → AllByRecursion (λ x. x.place < n) (h ++ e ∷ []) → e.place < n
+  pub last_within : (h : List Entry) (e : Entry) → AllByRecursion (λ x. x.place < n) (h ++ e ∷ []) → e.place < n
   last_within [] e a = a.0
   last_within (x ∷ xs) e a = last_within xs e a.1
 
   -- an entry of a turn that only took the Provisioner changes nothing
-  takes_only : (h : List Entry) (e : Entry) (f : ℕ → Desk) → IsTaken e → Good (h ++ e ∷ []) → Pl h f → Pl (h ++ e ∷ []) f
+  pub takes_only : (h : List Entry) (e : Entry) (f : ℕ → Desk) → IsTaken e → Good (h ++ e ∷ []) → Pl h f → Pl (h ++ e ∷ []) f
   takes_only h e f is good x =
       let made_none : made e.outcome ≡ None = ap made is in
       let table : table_after r.table h ≡ table_after r.table (h ++ e ∷ []) = sym (table_more r.table h e ∙ ap (with_change (table_after r.table h)) made_none) in
