@@ -1,4 +1,5 @@
 pub mod Resting
+pub mod Timing
 pub mod Serving
 pub mod Placing
 pub mod Owning

@@ -26,7 +26,9 @@ use Rattle.craft_session.specs.Places.{ArePlaces, Turnstiles, place_at}
 use Rattle.craft_session.specs.Seats.{PlaceAt}
 use Rattle.switch_laws.specs.Element.{ComesTo, Session}
 use Rattle.switch_laws.specs.Laws.{IsExcused, Lives, element}
+use Rattle.switch_laws.specs.Beginnings.{IsPlayedWith}
 use Rattle.switch_laws.specs.Users.{AreHeard, Hearing, Listens}
+use Rattle.switch_laws.proofs.Beginning.{played_with}
 use Rattle.switch_laws.proofs.Following.{together}
 use Rattle.switch_laws.specs.Moments.{AreUsersThen}
 use Rattle.switch_laws.proofs.HeardThen.{compared, users_then}
@@ -34,10 +36,12 @@ use Rattle.switch_laws.proofs.Listening.{heard_together}
 use Rattle.craft_jobs.specs.Begun.{AreRan}
 use Rattle.craft_jobs.specs.Leaves.{left_by}
 use Rattle.craft_server.specs.Callers.{Standing, standing}
-use Rattle.serve_laws.specs.Jobs.{Done, IsServedAt, Job, Ran, World}
+use Rattle.serve_laws.specs.Jobs.{Done, IsServedAt, Job, Ran, World, links_of}
+use Rattle.serve_laws.specs.Timing.{MomentAt, WereWrittenThen}
 use Rattle.serve_laws.proofs.Homes.{nobody_holds, fresh_rests, rested_all, rests_along}
 use Rattle.serve_laws.proofs.Keepers.{nobody_keeps, rested_users, same_place, users_rest_along}
 use Rattle.serve_laws.proofs.Serving.{Lived, Step, all_along, heard_along, lived}
+use Rattle.serve_laws.proofs.Timing.{Allows}
 
 -- what a list has at a place, its image has there
 pub get_map : {A B : Type 0} (f : A → B) (xs : List A) (k : ℕ) (x : A) → slice_get xs k ≡ Some x → slice_get (map f xs) k ≡ Some (f x)
@@ -99,11 +103,11 @@ module _ (w : World) (s : Contents) (o : Opening) (p : UsersOpening) (t : Turnst
     abbrev last_at : (k : ℕ) → k < 16 → Standing w.office.Gate
     last_at k lt = let x = ran_at k lt in standing x.left (w.uses.clock.coming x.done.clock) x.done.gate
 
-    place_lived : (k : ℕ) (lt : k < 16) → Lived w.disk.told w.uses.clock.told w.office.link.told w.office.link.state w.office.link.begun w.uses.gate.stops w.uses.gate.asked s o k p (first_at k lt) (ran_at k lt).ran.served.callers (last_at k lt) (ran_at k lt).ran.served.served
+    place_lived : (k : ℕ) (lt : k < 16) → Lived w.disk.told w.uses.clock w.office.link w.uses.gate s o k p (first_at k lt) (ran_at k lt).ran.served.callers (last_at k lt) (ran_at k lt).ran.served.served
     place_lived k lt =
         let x = ran_at k lt in
-        lived w.disk.told w.uses.clock.told w.office.link.told w.office.link.state w.office.link.begun w.uses.gate.stops w.uses.gate.asked s o k p (first_at k lt) (last_at k lt) x.ran.served.callers x.ran.served.served
-        (ap (λ (q : PlaceAt). q.shelf) x.there, ap (λ (q : PlaceAt). q.seat.opening) x.there, ap (λ (q : PlaceAt). q.seat.place) x.there, ap (λ (q : PlaceAt). q.users.opening) x.there)
+        lived w.disk.told w.uses.clock w.office.link w.uses.gate s o k p (first_at k lt) (last_at k lt) x.ran.served.callers x.ran.served.served
+        (ap (λ (q : PlaceAt). q.shelf) x.there, ap (λ (q : PlaceAt). q.seat.opening) x.there, ap (λ (q : PlaceAt). q.seat.place) x.there, ap (λ (q : PlaceAt). q.users.opening) x.there, ap (λ (q : PlaceAt). q.users.place) x.there)
         (ap (λ (q : PlaceAt). q.seat.seen) x.there) (ap (λ (q : PlaceAt). q.users.seen) x.there)
 
     abbrev sessions_by : (k : ℕ) → (k < 16) ⊎ (16 ≤ k) → List (Session Request Moment)
@@ -120,10 +124,15 @@ module _ (w : World) (s : Contents) (o : Opening) (p : UsersOpening) (t : Turnst
     pub hearings : ℕ → List (Hearing Request)
     hearings k = hearings_by k (compared k 16)
 
-    pub served_at : (k : ℕ) → k < 16 → IsServedAt w jobs lefts k (sessions k) (hearings k)
+    -- what came of a job, and so much its links had been written by a moment
+    pub record ServedThen (k : ℕ) (ss : List (Session Request Moment)) (hs : List (Hearing Request)) : Type 0 where
+      pub served : IsServedAt w jobs lefts k ss hs
+      pub by_then : (m : MomentAt) → Allows w.office.link.told w.uses.clock.stamped (language s) o k m → (rest more : List Gv) → served.left.seat.seen ++ rest ≡ m.seen ++ more → WereWrittenThen m w.office.link.state (links_of w served.job served.done served.left served.ran) ss
+
+    pub served_then : (k : ℕ) → k < 16 → ServedThen k (sessions k) (hearings k)
     unfolding sessions hearings
-    served_at k lt = elim (compared k 16) as (λ d. IsServedAt w jobs lefts k (sessions_by k d) (hearings_by k d)) [
-      | inl below ↦ (let x = ran_at k below in let l = place_lived k below in record { job = x.job; is = x.is; left = x.left; left_is = x.left_is; done = x.done; ran = x.ran; written = l.written; heard = l.heard_in })
+    served_then k lt = elim (compared k 16) as (λ d. ServedThen k (sessions_by k d) (hearings_by k d)) [
+      | inl below ↦ (let x = ran_at k below in let l = place_lived k below in record { served = record { job = x.job; is = x.is; left = x.left; left_is = x.left_is; done = x.done; ran = x.ran; written = l.written; heard = l.heard_in }; by_then = l.written_then })
       | inr ge ↦ absurd (omega (arith, lt, ge))
     ]
 
@@ -139,7 +148,7 @@ module _ (w : World) (s : Contents) (o : Opening) (p : UsersOpening) (t : Turnst
       lives_each : (k : ℕ) → k < 16 → Lives (language s) k o.first.fold.table (began o.due) (began o.due ++ history) (sessions k)
       unfolding sessions
       lives_each k lt = elim (compared k 16) as (λ d. Lives (language s) k o.first.fold.table (began o.due) (began o.due ++ history) (sessions_by k d)) [
-        | inl below ↦ (let x = ran_at k below in all_along w.disk.told w.uses.clock.told w.office.link.told w.office.link.state w.office.link.begun w.uses.gate.stops w.uses.gate.asked s o k p (first_at k below) x.ran.served.callers (last_at k below) x.ran.served.served history (place_lived k below) (seen k x.left x.left_is))
+        | inl below ↦ (let x = ran_at k below in all_along w.disk.told w.uses.clock w.office.link w.uses.gate s o k p (first_at k below) x.ran.served.callers (last_at k below) x.ran.served.served history (place_lived k below) (seen k x.left x.left_is))
         | inr ge ↦ absurd (omega (arith, lt, ge))
       ]
 
@@ -150,7 +159,7 @@ module _ (w : World) (s : Contents) (o : Opening) (p : UsersOpening) (t : Turnst
           let is = (place_lived k lt).is in
           let seat = λ (t : Standing w.office.Gate). t.place.seat in
           let fresh = fresh_rests x.job.place.seat (ap (λ (q : PlaceAt). q.seat.seen) x.there) in
-          let rested = rested_all (Step w.disk.told w.uses.clock.told w.office.link.told w.office.link.state w.office.link.begun w.uses.gate.stops w.uses.gate.asked) seat
+          let rested = rested_all (Step w.disk.told w.uses.clock w.office.link w.uses.gate) seat
           (λ t u c y. let v = y.session in let b = y.gated v.before v.users_before v.saw v.users_saw in record { same = y.seat; before = v.before; saw = v.saw.codes_are; entries = b.entries; then_saw = b.saw.codes_are; users_place = t.place.users.place; users_entries = b.users_entries; places = b.places; gated = b.gated })
           (first_at k lt) (last_at k lt) x.ran.served.callers x.ran.served.served fresh in
           rests_along o k x.left.seat is.1 is.2 rested history (seen k x.left x.left_is)
@@ -163,6 +172,16 @@ module _ (w : World) (s : Contents) (o : Opening) (p : UsersOpening) (t : Turnst
       played_as_one legal numbers excused all =
           together (language s) (rules_of o) (λ q. IsTrue (excused q)) (began o.due) 16 (began o.due ++ history) sessions (omega arith) (legal, all, within 16 o.due history (omega arith) numbers) lives_each none_beyond
 
+      -- so it is over a beginning of the history, with what one place had done there
+      pub played_then : IsLegal (rules_of o) (began o.due ++ history) → Each (λ e. e.place < 16) history → (excused : Cause → Bool) → AllByRecursion (IsExcused (λ q. IsTrue (excused q))) (began o.due ++ history)
+          → (k : ℕ) → k < 16 → (h more : List Entry) (ss : List (Session Request Moment)) → h ++ more ≡ began o.due ++ history → Lives (language s) k o.first.fold.table (began o.due) h ss
+          → IsPlayedWith (λ all. ComesTo (language s) (LimitBehind o.first) (λ q. IsTrue (excused q)) (element o.first.fold.table (began o.due) (λ p. [])) (element o.first.fold.table h all)) k ss
+      played_then legal numbers excused all k lt h more ss is had =
+          let good = (legal, all, within 16 o.due history (omega arith) numbers) in
+          let along = λ (p : ℕ) (below : p < 16). subst (λ (g : List Entry). Lives (language s) p o.first.fold.table (began o.due) g (sessions p)) (sym is) (lives_each p below) in
+          played_with (language s) (rules_of o) (λ q. IsTrue (excused q)) (began o.due) 16 h more sessions along k lt ss had (omega arith)
+          (subst (λ (g : List Entry). IsLegal (rules_of o) g × AllByRecursion (IsExcused (λ q. IsTrue (excused q))) g × AllByRecursion (λ e. e.place < 16) g) (sym is) good)
+
     module _ (left : List UserMark) (seen : (k : ℕ) (q : PlaceAt) → slice_get lefts k ≡ Some q → HasSeen user_coded.code user_place_of left k q.users.seen) where
       abbrev history : List UserEntry
       history = entries_of left
@@ -170,7 +189,7 @@ module _ (w : World) (s : Contents) (o : Opening) (p : UsersOpening) (t : Turnst
       listens_each : (k : ℕ) → k < 16 → Listens (language s) k p history (hearings k)
       unfolding hearings
       listens_each k lt = elim (compared k 16) as (λ d. Listens (language s) k p history (hearings_by k d)) [
-        | inl below ↦ (let x = ran_at k below in heard_along w.disk.told w.uses.clock.told w.office.link.told w.office.link.state w.office.link.begun w.uses.gate.stops w.uses.gate.asked s o k p (first_at k below) x.ran.served.callers (last_at k below) x.ran.served.served left (place_lived k below) (seen k x.left x.left_is))
+        | inl below ↦ (let x = ran_at k below in heard_along w.disk.told w.uses.clock w.office.link w.uses.gate s o k p (first_at k below) x.ran.served.callers (last_at k below) x.ran.served.served left (place_lived k below) (seen k x.left x.left_is))
         | inr ge ↦ absurd (omega (arith, lt, ge))
       ]
 
@@ -182,7 +201,7 @@ module _ (w : World) (s : Contents) (o : Opening) (p : UsersOpening) (t : Turnst
       users_rest_each k lt =
           let x = ran_at k lt in
           let seat = λ (t : Standing w.office.Gate). t.place.users in
-          let step = Step w.disk.told w.uses.clock.told w.office.link.told w.office.link.state w.office.link.begun w.uses.gate.stops w.uses.gate.asked in
+          let step = Step w.disk.told w.uses.clock w.office.link w.uses.gate in
           let fresh = subst (λ (g : List Gv). SawRest x.job.place.users.place g) (sym (ap (λ (q : PlaceAt). q.users.seen) x.there)) (nothing_rests x.job.place.users.place) in
           let rests = rested_users step seat (λ t u c y. y.users_rest) (first_at k lt) (last_at k lt) x.ran.served.callers x.ran.served.served fresh in
           let there = same_place step seat (λ t u c y. y.users.1) (first_at k lt) (last_at k lt) x.ran.served.callers x.ran.served.served ∙ ap (λ (q : PlaceAt). q.users.place) x.there in

@@ -1,48 +1,42 @@
 -- One place's callers, one behind the other.
-use Rattle.std.specs.Prelude.{IsTrue}
-use Rattle.std.specs.List.{AllByRecursion}
-use Rattle.std.proofs.Common.{◌≡◌, ◌≢◌, ◌⊎◌, ◌<◌, ◌≤◌, ℕ, Bool, true, false, List, [], ◌∷◌, ◌++◌, refl, sym, ◌∙◌, ap, subst, append-nil, append_assoc, inl, inr, arith}
-use Rattle.std.proofs.lemmas.Bool.Decides.{leb_tells}
+use Rattle.std.proofs.Common.{◌≡◌, ◌≢◌, ℕ, List, [], ◌∷◌, ◌++◌, refl, sym, ◌∙◌, ap, subst, append-nil, append_assoc, inl, inr}
 use Rattle.std.proofs.lemmas.List.{map-append}
-use native.Mathlib.Bridge.{le_prop}
 use base.Stored.{Gv}
 use Rattle.turnstile.specs.Turning.{Each}
 use Rattle.turnstile.proofs.Lists.{map_once}
 use Rattle.dxc_outside.specs.declared.clock.Moment.{Moment}
-use Rattle.dxc_outside.specs.declared.gate.GatePlace.{GatePlace}
-use Rattle.dxc_outside.specs.Callers.{ListenerState}
+use Rattle.dxc_outside.specs.declared.gate.Gate.{Ghosts as GateOf}
+use Rattle.dxc_outside.specs.declared.link.Link.{Ghosts as LinkOf}
 use Rattle.dxc_outside.specs.Items.{Item}
 use Rattle.dxc_outside.specs.Links.{LinkState, Exchanged}
-use Rattle.dxc_model.specs.declared.cause.Cause.{Cause}
 use Rattle.dxc_model.specs.declared.entry.Entry.{Entry}
-use Rattle.dxc_model.specs.Histories.{IsLegal}
 use Rattle.dxc_model.specs.Tables.{Board}
 use Rattle.shelf_file.specs.Contents.{Contents}
 use Rattle.user_admin.specs.declared.op.UserEntry.{UserEntry}
 use Rattle.user_admin.specs.declared.op.UserMark.{UserMark}
 use Rattle.user_admin.specs.Coding.{mark_coded as user_coded}
-use Rattle.user_admin.specs.Histories.{IsLegal as AreLegal, Opening as UsersOpening, failures, users_after}
+use Rattle.user_admin.specs.Histories.{Opening as UsersOpening}
 use Rattle.user_admin.specs.Marks.{entries_of, place_of as user_place_of}
 use Rattle.user_admin.specs.Turns.{codes as user_codes}
 use Rattle.user_admin.proofs.Marking.{entries_append, others_entries}
 use Rattle.user_admin.proofs.Turning.{same_marks}
-use Rattle.switch_laws.specs.Users.{AreHeard, Hearing, Listens, consulted_on, nobody_asked, others_asked}
-use Rattle.switch_laws.proofs.Listening.{heard_together}
+use Rattle.switch_laws.specs.Users.{Hearing, Listens, consulted_on, nobody_asked, others_asked}
 use Rattle.xc_core.specs.Seeing.{codes, entry_coded, place_of}
-use Rattle.xc_core.specs.States.{LimitBehind, Opening, began, rules_of}
+use Rattle.xc_core.specs.States.{Opening, began}
 use Rattle.craft_session.specs.declared.end.SessionEnd.{SessionEnd}
 use Rattle.craft_session.specs.declared.end.SessionEnd.TheVariants.{End, ReadFault, WriteFault, Stopped, Spent, Unattended}
+use Rattle.craft_session.specs.declared.timestamps.Timestamps.{Ghosts as ClockOf}
 use Rattle.craft_session.specs.Asks.{Language, user_after}
 use Rattle.craft_session.specs.Happenings.{Request, unit}
 use Rattle.craft_session.specs.Meanings.{language}
-use Rattle.craft_session.specs.Places.{place_at}
 use Rattle.craft_session.specs.Sessions.{Beginning, Breaks, Halts, IsSession, Now, Served}
-use Rattle.switch_laws.specs.Element.{ComesTo, Session, unanswered}
-use Rattle.switch_laws.specs.Laws.{IsExcused, Lives, element, nobody_came, passed_on, served, session_in, stopped, stopped_at_users}
-use Rattle.switch_laws.proofs.Following.{together}
+use Rattle.switch_laws.specs.Element.{Session, unanswered}
+use Rattle.switch_laws.specs.Laws.{Lives, nobody_came, passed_on, served, session_in, stopped, stopped_at_users}
 use Rattle.craft_server.specs.Callers.{InTurn, ServedCaller, Standing, none_yet, one_more}
 use Rattle.turnstile.specs.Laws.{HasSeen}
+use Rattle.serve_laws.specs.Timing.{MomentAt, WasWrittenThen, WereWrittenThen}
 use Rattle.serve_laws.specs.Written.{AreHeardIn, AreWritten, IsHeardIn, IsWritten, links_in}
+use Rattle.serve_laws.proofs.Timing.{Allows, saw_on, was_written_then}
 
 -- of what was seen of the users' turnstile these are the entries
 abbrev pub Sees : List Gv → List UserEntry → Type 0
@@ -173,13 +167,13 @@ module _ (l : Language Request Moment) (told clock_told : Type 0) (k j : LinkSta
 same_codes : (h g : List Entry) → codes h ≡ codes g → h ≡ g
 same_codes h g e = map_once entry_coded.code entry_coded.inj h g e
 
-module _ (disk_told clock_told link_told : Type 0) {K G : Type 0} (link : K → LinkState) (begun : LinkState → Type 0) (stops : G → ℕ) (asked : G → G → List GatePlace → Type 0) where
+module _ (disk_told : Type 0) {C K G : Type 0} (clock : ClockOf C) (link : LinkOf K) (gate : GateOf G) where
   abbrev pub Step : Standing G → Standing G → K → Type 0
-  Step = ServedCaller disk_told clock_told link_told link begun stops asked
+  Step = ServedCaller disk_told clock link gate
 
   -- a place of this shelf and opening, and of this number
   abbrev pub IsOf : Contents → Opening → ℕ → UsersOpening → Standing G → Type 0
-  IsOf s o own us t = (t.place.shelf ≡ s) × (t.place.seat.opening ≡ o) × (t.place.seat.place ≡ own) × (t.place.users.opening ≡ us)
+  IsOf s o own us t = (t.place.shelf ≡ s) × (t.place.seat.opening ≡ o) × (t.place.seat.place ≡ own) × (t.place.users.opening ≡ us) × (t.place.users.place ≡ own)
 
   -- what the callers of a place came to: its sessions along the history that it has seen, and what they heard along that of the users
   pub record Lived (s : Contents) (o : Opening) (own : ℕ) (us : UsersOpening) (first : Standing G) (came : List K) (t : Standing G) (turns : InTurn Step first came t) : Type 0 where
@@ -187,18 +181,20 @@ module _ (disk_told clock_told link_told : Type 0) {K G : Type 0} (link : K → 
     pub sessions : List (Session Request Moment)
     pub is : IsOf s o own us t
     pub lives : Lives (language s) own o.first.fold.table (began o.due) history sessions
-    pub written : AreWritten link_told link (links_in disk_told clock_told link_told link begun stops asked first came t turns) sessions
+    pub written : AreWritten link.told link.state (links_in disk_told clock link gate first came t turns) sessions
     pub saw : codes (began o.due) ++ t.place.seat.seen ≡ codes history
     pub users_history : List UserEntry
     pub hearings : List (Hearing Request)
     pub listens : Listens (language s) own us users_history hearings
     pub heard_in : AreHeardIn sessions hearings
     pub users_saw : Sees t.place.users.seen users_history
+    -- so much each link had been written by a moment, when the place had seen a beginning of this
+    pub written_then : (m : MomentAt) → Allows link.told clock.stamped (language s) o own m → (rest more : List Gv) → t.place.seat.seen ++ rest ≡ m.seen ++ more → WereWrittenThen m link.state (links_in disk_told clock link gate first came t turns) sessions
 
   -- one caller more
   called : (t u : Standing G) (c : K) (x : Step t u c) (h : List Entry) (ss : List (Session Request Moment)) (g : List UserEntry) (hs : List (Hearing Request)) → Lives (language t.place.shelf) t.place.seat.place t.place.seat.opening.first.fold.table (began t.place.seat.opening.due) h ss
       → codes (began t.place.seat.opening.due) ++ t.place.seat.seen ≡ codes h → Listens (language t.place.shelf) t.place.seat.place t.place.users.opening g hs → Sees t.place.users.seen g
-      → Came (language t.place.shelf) t.place.seat.opening t.place.seat.place link_told (link c) (link x.left) u.place.seat.seen ss t.place.users.opening u.place.users.seen hs
+      → Came (language t.place.shelf) t.place.seat.opening t.place.seat.place link.told (link.state c) (link.state x.left) u.place.seat.seen ss t.place.users.opening u.place.users.seen hs
   called t u c x h ss g hs lives saw listens users_saw =
       let v = x.session in
       let same : h ≡ v.before = same_codes h v.before (sym saw ∙ v.saw.codes_are) in
@@ -206,16 +202,35 @@ module _ (disk_told clock_told link_told : Type 0) {K G : Type 0} (link : K → 
       let l = language t.place.shelf in
       let there : Lives l t.place.seat.place t.place.seat.opening.first.fold.table (began t.place.seat.opening.due) v.before ss = subst (λ (k : List Entry). Lives l t.place.seat.place t.place.seat.opening.first.fold.table (began t.place.seat.opening.due) k ss) same lives in
       let heard : Listens l t.place.seat.place t.place.users.opening v.users_before hs = subst (λ (k : List UserEntry). Listens l t.place.seat.place t.place.users.opening k hs) users_same listens in
-      gone l link_told clock_told (link c) (link x.left) t.moments u.moments (record { opening = t.place.seat.opening; users = t.place.users.opening; place = t.place.seat.place; before = v.before; users_before = v.users_before })
+      gone l link.told clock.told (link.state c) (link.state x.left) t.moments u.moments (record { opening = t.place.seat.opening; users = t.place.users.opening; place = t.place.seat.place; before = v.before; users_before = v.users_before })
       (record { seen = u.place.seat.seen; users = u.place.users.seen; attending = v.attending }) ss there hs heard x.end v.session
 
   called_as : (s : Contents) (o : Opening) (own : ℕ) (us : UsersOpening) (t u : Standing G) (c : K) (x : Step t u c) (h : List Entry) (ss : List (Session Request Moment)) (g : List UserEntry) (hs : List (Hearing Request)) → IsOf s o own us t
       → Lives (language s) own o.first.fold.table (began o.due) h ss → codes (began o.due) ++ t.place.seat.seen ≡ codes h → Listens (language s) own us g hs → Sees t.place.users.seen g
-      → Came (language s) o own link_told (link c) (link x.left) u.place.seat.seen ss us u.place.users.seen hs
+      → Came (language s) o own link.told (link.state c) (link.state x.left) u.place.seat.seen ss us u.place.users.seen hs
   called_as s o own us t u c x h ss g hs is =
       subst (λ (y : Contents × Opening × ℕ × UsersOpening). Lives (language y.0) y.2 y.1.first.fold.table (began y.1.due) h ss → codes (began y.1.due) ++ t.place.seat.seen ≡ codes h → Listens (language y.0) y.2 y.3 g hs → Sees t.place.users.seen g
-      → Came (language y.0) y.1 y.2 link_told (link c) (link x.left) u.place.seat.seen ss y.3 u.place.users.seen hs)
+      → Came (language y.0) y.1 y.2 link.told (link.state c) (link.state x.left) u.place.seat.seen ss y.3 u.place.users.seen hs)
       (λ i. (is.0 i, is.1 i, is.2 i, is.3 i)) (called t u c x h ss g hs)
+
+  -- so much its link had been written by a moment
+  called_then : (t u : Standing G) (c : K) (x : Step t u c) (h : List Entry) (ss : List (Session Request Moment)) → t.place.users.place ≡ t.place.seat.place → Lives (language t.place.shelf) t.place.seat.place t.place.seat.opening.first.fold.table (began t.place.seat.opening.due) h ss
+      → codes (began t.place.seat.opening.due) ++ t.place.seat.seen ≡ codes h → (m : MomentAt) → Allows link.told clock.stamped (language t.place.shelf) t.place.seat.opening t.place.seat.place m → (rest more : List Gv) → u.place.seat.seen ++ rest ≡ m.seen ++ more
+      → (out : List ℕ) → (link.state x.left).written ≡ (link.state c).written ++ out → WasWrittenThen m ss (link.state c) (link.state x.left)
+  called_then t u c x h ss there lives saw m a rest more ends out all =
+      let v = x.session in
+      let l = language t.place.shelf in
+      let same : h ≡ v.before = same_codes h v.before (sym saw ∙ v.saw.codes_are) in
+      let b : Beginning = record { opening = t.place.seat.opening; users = t.place.users.opening; place = t.place.seat.place; before = v.before; users_before = v.users_before } in
+      let lived_so : Lives l t.place.seat.place t.place.seat.opening.first.fold.table (began t.place.seat.opening.due) v.before ss = subst (λ (k : List Entry). Lives l t.place.seat.place t.place.seat.opening.first.fold.table (began t.place.seat.opening.due) k ss) same lives in
+      was_written_then link.told clock.told clock.stamped l (link.state c) (link.state x.left) t.moments u.place.seat.seen u.place.users.seen b ss lived_so m a rest more ends (x.timely b (refl, refl, refl, there) v.saw v.users_saw) out all
+
+  called_then_as : (s : Contents) (o : Opening) (own : ℕ) (us : UsersOpening) (t u : Standing G) (c : K) (x : Step t u c) (h : List Entry) (ss : List (Session Request Moment)) → IsOf s o own us t → Lives (language s) own o.first.fold.table (began o.due) h ss → codes (began o.due) ++ t.place.seat.seen ≡ codes h
+      → (m : MomentAt) → Allows link.told clock.stamped (language s) o own m → (rest more : List Gv) → u.place.seat.seen ++ rest ≡ m.seen ++ more → (out : List ℕ) → (link.state x.left).written ≡ (link.state c).written ++ out → WasWrittenThen m ss (link.state c) (link.state x.left)
+  called_then_as s o own us t u c x h ss is =
+      subst (λ (y : Contents × Opening × ℕ). Lives (language y.0) y.2 y.1.first.fold.table (began y.1.due) h ss → codes (began y.1.due) ++ t.place.seat.seen ≡ codes h
+      → (m : MomentAt) → Allows link.told clock.stamped (language y.0) y.1 y.2 m → (rest more : List Gv) → u.place.seat.seen ++ rest ≡ m.seen ++ more → (out : List ℕ) → (link.state x.left).written ≡ (link.state c).written ++ out → WasWrittenThen m ss (link.state c) (link.state x.left))
+      (λ i. (is.0 i, is.1 i, is.2 i)) (called_then t u c x h ss (is.4 ∙ sym is.2))
 
   pub lived : (s : Contents) (o : Opening) (own : ℕ) (us : UsersOpening) (t u : Standing G) (came : List K) (turns : InTurn Step t came u) → IsOf s o own us t → t.place.seat.seen ≡ [] → t.place.users.seen ≡ [] → Lived s o own us t came u turns
   lived s o own us _ _ _ (none_yet t) is none users_none = record {
@@ -230,6 +245,7 @@ module _ (disk_told clock_told link_told : Type 0) {K G : Type 0} (link : K → 
     listens = nobody_asked;
     heard_in = tt;
     users_saw = ([], users_none, refl);
+    written_then = λ m a rest more ends. tt;
   }
   lived s o own us _ _ _ (one_more t m u ks c turns x) is none users_none =
       let so_far = lived s o own us t m ks turns is none users_none in
@@ -237,7 +253,7 @@ module _ (disk_told clock_told link_told : Type 0) {K G : Type 0} (link : K → 
       record {
         history = now.history;
         sessions = now.session ∷ so_far.sessions;
-        is = (x.shelf ∙ so_far.is.0, x.seat.0 ∙ so_far.is.1, x.seat.1 ∙ so_far.is.2, x.users.0 ∙ so_far.is.3);
+        is = (x.shelf ∙ so_far.is.0, x.seat.0 ∙ so_far.is.1, x.seat.1 ∙ so_far.is.2, x.users.0 ∙ so_far.is.3, x.users.1 ∙ so_far.is.4);
         lives = now.lives;
         written = (now.written, so_far.written);
         saw = now.saw;
@@ -246,6 +262,12 @@ module _ (disk_told clock_told link_told : Type 0) {K G : Type 0} (link : K → 
         listens = now.listens;
         heard_in = (now.heard_in, so_far.heard_in);
         users_saw = now.users_saw;
+        written_then = λ w a rest more ends.
+            let entered = x.gated x.session.before x.session.users_before x.session.saw x.session.users_saw in
+            let on = saw_on m.place.seat.opening m.place.seat.seen u.place.seat.seen x.session.before entered.entries x.session.saw entered.saw in (
+              called_then_as s o own us m u c x so_far.history so_far.sessions so_far.is so_far.lives so_far.saw w a rest more ends now.written.out (now.written.exchanged.written a.tells),
+              so_far.written_then w a (codes entered.entries ++ rest) more (sym (append_assoc m.place.seat.seen (codes entered.entries) rest) ∙ ap (λ (g : List Gv). g ++ rest) (sym on) ∙ ends),
+            );
       }
 
   others_on : (l : Language Request Moment) (own : ℕ) (t : Board) (past h more : List Entry) (ss : List (Session Request Moment)) → Lives l own t past h ss → Each (λ e. e.place ≢ own) more → Lives l own t past (h ++ more) ss

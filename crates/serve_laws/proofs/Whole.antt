@@ -1,8 +1,8 @@
 -- The headline, of its parts.
 use Rattle.std.specs.Prelude.{IsTrue}
-use Rattle.std.proofs.Common.{◌≡◌, ◌<◌, ◌+◌, ℕ, Bool, arith, List, [], ◌∷◌, ◌++◌, length, map, Option, Some, Box, ◌∙◌, ap, refl, subst, sym}
+use Rattle.std.specs.List.{AllByRecursion}
+use Rattle.std.proofs.Common.{◌≡◌, ◌<◌, ◌+◌, ℕ, Bool, arith, List, [], ◌∷◌, ◌++◌, append-nil, append_assoc, length, map, Option, Some, ◌∙◌, ap, refl, subst, sym}
 use Rattle.std.specs.List.{slice_get}
-use Rattle.std.specs.declared.alloc.Global.{Global}
 use mathlib.Core.Option.{some as some_of}
 use lib.ListN.{get_elem?}
 use Rattle.atomic_table.specs.Table.{State as TableState}
@@ -33,20 +33,24 @@ use Rattle.craft_session.specs.Happenings.{Request}
 use Rattle.craft_session.specs.Meanings.{language}
 use Rattle.craft_session.specs.Places.{HasPlaces}
 use Rattle.craft_session.specs.Seats.{PlaceAt}
-use Rattle.switch_laws.specs.Element.{ComesTo, Turn}
+use Rattle.switch_laws.specs.Beginnings.{IsPlayedWith}
+use Rattle.switch_laws.specs.Element.{ComesTo, Session, Turn}
+use Rattle.switch_laws.specs.Laws.{IsExcused, Lives}
 use Rattle.switch_laws.specs.Moments.{changed}
 use Rattle.switch_laws.proofs.Passing.{moment_of, table_changed}
 use Rattle.craft_jobs.specs.declared.frames_left.FramesLeft.{FramesLeft}
 use Rattle.craft_jobs.specs.Begun.{AreRan}
 use Rattle.craft_jobs.specs.Leaves.{left_by}
 use Rattle.craft_server.specs.Serving.{SiteAt}
-use Rattle.serve_laws.specs.Headline.{IsEarlier, IsEnd, IsHitlessFabric, IsOneElement, IsOneOrder, IsOrder, LiesFor, Lying, Sessions, UsersLying, WasThen, behind, opened, seen_by, users_seen_by}
-use Rattle.serve_laws.specs.Jobs.{Job, Jobs, Ran, World}
+use Rattle.serve_laws.specs.Headline.{IsEarlier, IsEnd, IsHitlessFabric, IsOneElement, IsOneOrder, IsOrder, LiesFor, LinksThen, Lying, Sessions, UsersLying, WasThen, behind, moment_at, opened, seen_by, users_seen_by}
+use Rattle.serve_laws.specs.Jobs.{Job, Jobs, Ran, World, links_of}
+use Rattle.serve_laws.specs.Timing.{MomentAt}
 use Rattle.serve_laws.proofs.Earlier.{SeesOn, earlier}
 use Rattle.serve_laws.proofs.Keepers.{keeper_home}
 use Rattle.serve_laws.proofs.Leaving.{brought_home, leaves_changes}
 use Rattle.serve_laws.proofs.Owning.{all_own, core_of}
-use Rattle.serve_laws.proofs.Placing.{get_map, heard_as_one, heard_then, hearings, map_length, nobody_has, nobody_keeps_it, played_as_one, ran_length, served_at, sessions}
+use Rattle.serve_laws.proofs.Placing.{get_map, heard_as_one, heard_then, hearings, map_length, nobody_has, nobody_keeps_it, played_as_one, played_then, ran_length, served_then, sessions}
+use Rattle.serve_laws.proofs.Timing.{Allows}
 use Rattle.serve_laws.proofs.Resting.{at_home, begun, count, get_below, history, lying, numbers, opening_is, seen_at, stand}
 
 module _ (w : World) (synced : SyncedAreMirrored w.disk.told w.disk.state) (adopted : StandbysAreAdopted w.disk.told w.disk.state) (since : StandbysStandSince w.disk.told w.disk.state) (s : Contents) (o : Opening) (p : UsersOpening) (jobs : List (Job w)) (lefts : List PlaceAt) (seats : List FramesLeft) (sixteen : length jobs ≡ 16) (has : HasPlaces s o p 16 (map (λ (j : Job w). j.place) jobs)) (ran : AreRan (left_by (Ran w)) jobs lefts) (e : IsEnd w o p has.turnstiles lefts seats) where
@@ -135,6 +139,45 @@ module _ (w : World) (synced : SyncedAreMirrored w.disk.told w.disk.state) (adop
         let moment = moment_of (language s) (LimitBehind o.first) (λ q. IsTrue (excused q)) (opened w s o) ts (behind w s o h ss) (changes_of m.allowed.history) (changes_of before.0) played split in
         record { earlier = m.allowed.history; later = before.0; whole = before.1; lies = lay_for; moment = moment; same_table = moment.table_is ∙ table_was }
 
+    -- and what links had been written then
+    abbrev all_sessions : Sessions w
+    all_sessions = sessions w s o p has.turnstiles jobs lefts sixteen has.each ran
+
+    module _ (excused : Cause → Bool) (all : AllByRecursion (IsExcused (λ q. IsTrue (excused q))) (began o.due ++ h)) (k : ℕ) (lt : k < 16) (v : View) (at : get_elem? z.views (k + 1) ≡ some_of v) where
+      abbrev moment : MomentAt
+      moment = moment_at w s o excused m.allowed.history k v.seen
+
+      plays_then : (g more : List Entry) (ss : List (Session Request Moment)) → g ++ more ≡ moment.history → Lives (language s) k o.first.fold.table (began o.due) g ss → IsPlayedWith (moment.comes g) k ss
+      plays_then g more ss is had =
+          let whole = sym (append_assoc g more before.0) ∙ ap (λ (es : List Entry). es ++ before.0) is ∙ append_assoc (began o.due) m.allowed.history before.0 ∙ ap (λ (es : List Entry). began o.due ++ es) before.1 in
+          played_then w s o p has.turnstiles jobs lefts sixteen has.each ran h seen stands.legal few excused all k lt g (more ++ before.0) ss whole had
+
+      allows : w.office.link.told → Allows w.office.link.told w.uses.clock.stamped (language s) o k moment
+      allows told =
+          let f = (m.allowed.each (k + 1) v at).front in
+          record {
+            tells = told;
+            stamps = λ x there. there;
+            place = refl;
+            begun = f.begun;
+            later = f.later;
+            whole = append_assoc (began o.due) f.begun f.later ∙ ap (λ (es : List Entry). began o.due ++ es) f.whole;
+            codes_are = f.seen;
+            plays = plays_then;
+          }
+
+      links_then : w.office.link.told → let x = (served_then w s o p has.turnstiles jobs lefts sixteen has.each ran k lt).served in LinksThen w s o excused h z k v (links_of w x.job x.done x.left x.ran) (all_sessions k)
+      links_then told =
+          let y = served_then w s o p has.turnstiles jobs lefts sixteen has.each ran k lt in
+          let more = m.sees_on k y.served.left v y.served.left_is at in
+          record {
+            earlier = m.allowed.history;
+            later = before.0;
+            whole = before.1;
+            lies = lay_for;
+            written = y.by_then moment (allows told) [] more.0 (append-nil y.served.left.seat.seen ∙ more.1);
+          }
+
   one_order : (excused : Cause → Bool) (ss : Sessions w) → ComesTo (language s) (LimitBehind o.first) (λ q. IsTrue (excused q)) (opened w s o) (behind w s o h ss) → IsOneOrder w s o excused e.key lefts h ss
   one_order excused ss c = record { turns = c.0; played = c.1; moments = λ z m. was_then z m excused ss c.0 c.1 }
 
@@ -159,8 +202,9 @@ module _ (w : World) (synced : SyncedAreMirrored w.disk.told w.disk.state) (adop
         users_home = keeper_home w.office.disk.told w.office.disk.state p g (nobody_keeps_it w s o p has.turnstiles jobs lefts sixteen has.each ran g users_seen users_few) users_lie.state.value users_stand;
         sessions = ss;
         hearings = hearings w s o p has.turnstiles jobs lefts sixteen has.each ran;
-        each = served_at w s o p has.turnstiles jobs lefts sixteen has.each ran;
+        each = λ k lt. (served_then w s o p has.turnstiles jobs lefts sixteen has.each ran k lt).served;
         played = λ excused all. one_order excused ss (played_as_one w s o p has.turnstiles jobs lefts sixteen has.each ran h seen stands.legal few excused all);
+        written_before = λ told excused all z m k lt v at. links_then z m excused all k lt v at told;
         heard = heard_as_one w s o p has.turnstiles jobs lefts sixteen has.each ran g users_seen users_stand.legal users_few;
         heard_before = heard_then w s o p has.turnstiles jobs lefts sixteen has.each ran g users_seen users_stand.legal users_few;
       }

@@ -36,7 +36,7 @@ use Rattle.craft_session.specs.Happenings.{Request}
 use Rattle.craft_session.specs.Meanings.{language}
 use Rattle.craft_session.specs.Places.{Turnstiles}
 use Rattle.craft_session.specs.Seats.{PlaceAt}
-use Rattle.switch_laws.specs.Element.{Element, IsPlayed, Session, Turn}
+use Rattle.switch_laws.specs.Element.{ComesTo, Element, IsPlayed, Session, Turn}
 use Rattle.switch_laws.specs.Laws.{IsExcused, element}
 use Rattle.switch_laws.specs.Moments.{AreUsersThen, IsMoment}
 use Rattle.switch_laws.specs.Users.{AreHeard, Hearing}
@@ -46,8 +46,9 @@ use Rattle.craft_server.specs.Serving.{SiteAt}
 use Rattle.serve_laws.specs.Copies.{IsBroughtHome, LeavesChanges}
 use Rattle.serve_laws.specs.Frames.{AreSeatsIn, CarriedOwn}
 use Rattle.serve_laws.specs.Keepers.{IsKeeperHome}
-use Rattle.serve_laws.specs.Jobs.{Frames, IsServedAt, Job, Jobs, World}
+use Rattle.serve_laws.specs.Jobs.{Frames, IsServedAt, Job, Jobs, World, links_of}
 use Rattle.serve_laws.specs.Passes.{IsRestOf}
+use Rattle.serve_laws.specs.Timing.{MomentAt, WereWrittenThen}
 
 -- what the seats of places have seen
 abbrev pub seen_by : List PlaceAt → List (List Gv)
@@ -118,6 +119,25 @@ module _ (w : World) where
       pub moment : IsMoment (language s) (LimitBehind o.first) (λ q. IsTrue (excused q)) opened ts (behind history sessions) (changes_of earlier) (changes_of later)
       pub same_table : moment.element.table ≡ lies.lying.state.value.table
 
+    -- a place at a moment, where this was the history and its pass had seen this
+    abbrev pub moment_at : (Cause → Bool) → List Entry → (place : ℕ) → (seen : List Gv) → MomentAt
+    moment_at excused earlier place seen = record {
+      comes = λ h sessions. ComesTo (language s) (LimitBehind o.first) (λ q. IsTrue (excused q)) opened (element o.first.fold.table h sessions);
+      stamped = w.uses.clock.stamped;
+      history = began o.due ++ earlier;
+      place = place;
+      seen = seen;
+    }
+
+    -- At that moment the history was a beginning of this one, and what lay in the turnstile stood for it. Of these links of a place no more had been written
+    -- than what the plain element had said over a beginning of that history.
+    pub record LinksThen (excused : Cause → Bool) (history : List Entry) (z : TableState (Option Lying) View) (place : ℕ) (v : View) (links : List (w.office.Link × w.office.Link)) (ss : List (Session Request Moment)) : Type 0 where
+      pub earlier : List Entry
+      pub later : List Entry
+      pub whole : earlier ++ later ≡ history
+      pub lies : LiesFor o earlier z
+      pub written : WereWrittenThen (moment_at excused earlier place v.seen) w.office.link.state links ss
+
     -- An order of turns by which the element comes to the history, and what it was at each earlier moment.
     pub record IsOneOrder (excused : Cause → Bool) (key : Opened (Box (State w.Disk) Global)) (lefts : List PlaceAt) (history : List Entry) (sessions : Sessions) : Type 0 where
       pub turns : List (Turn Request Moment)
@@ -144,6 +164,10 @@ module _ (w : World) where
     pub hearings : ℕ → List (Hearing Request)
     pub each : (k : ℕ) → k < 16 → IsServedAt w jobs lefts k (sessions k) (hearings k)
     pub played : (excused : Cause → Bool) → AllByRecursion (IsExcused (λ q. IsTrue (excused q))) (began o.due ++ history) → IsOneOrder s o excused key lefts history sessions
+    -- where links tell what they are written, so much each had been written at each earlier moment
+    pub written_before : w.office.link.told → (excused : Cause → Bool) → AllByRecursion (IsExcused (λ q. IsTrue (excused q))) (began o.due ++ history)
+        → (z : TableState (Option Lying) View) → IsEarlier key lefts z → (k : ℕ) → (lt : k < 16) → (v : View) → get_elem? z.views (k + 1) ≡ some v
+        → let x = each k lt in LinksThen s o excused history z k v (links_of w x.job x.done x.left x.ran) (sessions k)
     pub heard : (failing : Bool) → (1 ≤ failures users_history → IsTrue failing)
         → AreHeard (language s) p.shelf.sid (IsTrue failing) (record { users = p.users; sessions = λ k. [] }) (record { users = users_after p users_history; sessions = hearings })
     -- so it was at each beginning of their history

@@ -1,7 +1,6 @@
 -- The jobs of a server, over what it is lent.
 use Rattle.std.specs.Prelude.{◌≡◌, ℕ, List, Some, slice_get}
 use Rattle.dxc_disk.specs.declared.disk.Disk.{Ghosts as DiskOf}
-use Rattle.dxc_outside.specs.declared.clock.Clock.{Ghosts as ClockOf}
 use Rattle.dxc_outside.specs.declared.clock.Moment.{Moment}
 use Rattle.dxc_outside.specs.declared.gate.Gate.{Ghosts as GateOf}
 use Rattle.dxc_outside.specs.declared.lines.Lines.{Ghosts as LinesOf}
@@ -10,12 +9,12 @@ use Rattle.dxc_leaving.specs.Values.{AnyValue}
 use Rattle.shelf_file.specs.Contents.{Contents}
 use Rattle.user_admin.specs.Histories.{Opening as UsersOpening}
 use Rattle.xc_core.specs.States.{Opening}
+use Rattle.craft_session.specs.declared.timestamps.Timestamps.{Ghosts as ClockOf}
 use Rattle.craft_session.specs.Happenings.{Request}
 use Rattle.craft_session.specs.Seats.{PlaceAt}
 use Rattle.switch_laws.specs.Element.{Session}
 use Rattle.switch_laws.specs.Users.{Hearing}
 use Rattle.craft_jobs.specs.declared.frames.FrameJob.{FrameJob}
-use Rattle.craft_jobs.specs.declared.frames_left.FramesLeft.{FramesLeft}
 use Rattle.craft_jobs.specs.Offices.{Office}
 use Rattle.craft_server.specs.declared.sessions.SessionDone.{SessionDone}
 use Rattle.craft_server.specs.declared.sessions.SessionJob.{SessionJob}
@@ -66,6 +65,10 @@ module _ (w : World) where
   abbrev pub Jobs : (List AnyJob → Type 0) → SiteAt → Contents → Opening → UsersOpening → Type 0
   Jobs handed site s o p = HandedJobs w.Disk w.office.Disk (told_of handed) site s o p
 
+  -- the links that came to a place, as they came and as they were left, the newest first
+  abbrev pub links_of : (job : Job) (done : Done) (left : PlaceAt) → Ran job done left → List (w.office.Link × w.office.Link)
+  links_of job done left ran = links_in w.disk.told w.uses.clock w.office.link w.uses.gate (standing job.place (w.uses.clock.coming job.clock) job.gate) ran.served.callers (standing left (w.uses.clock.coming done.clock) done.gate) ran.served.served
+
   -- The job of this number, and the place that it left: the links that came to it were written what the element writes these sessions, in which that
   -- happened which was heard of the users.
   pub record IsServedAt (jobs : List Job) (lefts : List PlaceAt) (k : ℕ) (ss : List (Session Request Moment)) (hs : List (Hearing Request)) : Type 0 where
@@ -75,5 +78,5 @@ module _ (w : World) where
     pub left_is : slice_get lefts k ≡ Some left
     pub done : Done
     pub ran : Ran job done left
-    pub written : AreWritten w.office.link.told w.office.link.state (links_in w.disk.told w.uses.clock.told w.office.link.told w.office.link.state w.office.link.begun w.uses.gate.stops w.uses.gate.asked (standing job.place (w.uses.clock.coming job.clock) job.gate) ran.served.callers (standing left (w.uses.clock.coming done.clock) done.gate) ran.served.served) ss
+    pub written : AreWritten w.office.link.told w.office.link.state (links_of job done left ran) ss
     pub heard : AreHeardIn ss hs

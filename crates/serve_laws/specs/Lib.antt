@@ -1,4 +1,5 @@
 pub mod Written
+pub mod Timing
 pub mod Passes
 pub mod Frames
 pub mod Jobs

@@ -2,9 +2,11 @@
 use Rattle.std.specs.Prelude.{◌≡◌, ◌⊎◌, ℕ, List, [], ◌∷◌, ◌++◌}
 use Rattle.dxc_causes.specs.Causes.{Rose}
 use Rattle.dxc_outside.specs.declared.clock.Moment.{Moment}
-use Rattle.dxc_outside.specs.declared.gate.GatePlace.{GatePlace}
+use Rattle.dxc_outside.specs.declared.gate.Gate.{Ghosts as GateOf}
+use Rattle.dxc_outside.specs.declared.link.Link.{Ghosts as LinkOf}
 use Rattle.dxc_outside.specs.Items.{Item, bytes}
 use Rattle.dxc_outside.specs.Links.{LinkState, Exchanged}
+use Rattle.craft_session.specs.declared.timestamps.Timestamps.{Ghosts as ClockOf}
 use Rattle.craft_session.specs.Happenings.{Happens, Request, unit}
 use Rattle.switch_laws.specs.Element.{Session}
 use Rattle.switch_laws.specs.Users.{Hearing}
@@ -30,9 +32,9 @@ AreWritten told link [] (s ∷ ss) = ⊥
 AreWritten told link (k ∷ ks) [] = ⊥
 AreWritten told link (k ∷ ks) (s ∷ ss) = IsWritten told (link k.0) (link k.1) s × AreWritten told link ks ss
 
-module _ (disk_told clock_told link_told : Type 0) {K G : Type 0} (link : K → LinkState) (begun : LinkState → Type 0) (stops : G → ℕ) (asked : G → G → List GatePlace → Type 0) where
+module _ (disk_told : Type 0) {C K G : Type 0} (clock : ClockOf C) (link : LinkOf K) (gate : GateOf G) where
   -- the links of the callers that were served, as they came and as they were left, the newest first
-  abbrev pub links_in : (old : Standing G) (came : List K) (new : Standing G) → InTurn (ServedCaller disk_told clock_told link_told link begun stops asked) old came new → List (K × K)
+  abbrev pub links_in : (old : Standing G) (came : List K) (new : Standing G) → InTurn (ServedCaller disk_told clock link gate) old came new → List (K × K)
   links_in _ _ _ (none_yet s) = []
   links_in _ _ _ (one_more s t u ks k past step) = (k, step.left) ∷ links_in s ks t past
 

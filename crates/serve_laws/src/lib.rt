@@ -6,9 +6,10 @@ ghost use Rattle.serve_laws.specs.Headline.{IsHeadline};
 ghost use Rattle.serve_laws.specs.Jobs.{means, world};
 
 use core_laws::{standbys_are_adopted, standbys_stand_for_commands};
+use craft_session::Timestamps;
 use dxc_disk::Disk;
 use dxc_leaving::LetGo;
-use dxc_outside::{Clock, Gate, Lines, Link, Listener, Opener, Spawner};
+use dxc_outside::{Gate, Lines, Link, Listener, Opener, Spawner};
 use frame_worker::laws::own_bytes;
 
 /// The headline of the README as one law, of a server whose line ended with Done, at any states of its two turnstiles and of its fabric that their rules
@@ -23,8 +24,10 @@ use frame_worker::laws::own_bytes;
 /// `turns_of`. That a pass of a place rests, and is of the place's turnstile: the invariants of `Pass` and of `Seat`. That its table's state says of a pass, or
 /// of a worker's seat, what that knows, and that each state is one that the rule allows: the model of the kit's `atomic_table`.
 pub fn headline<O: Opener + LetGo, D: Disk, P: Spawner>()
+where
+    O::Clock: Timestamps,
     ensures { IsHeadline (world (office O.Opener O.Journal.Disk O.Listener.Listener
-        O.Listener.Link.Link) D.Disk (means O.Lines.Lines O.Clock.Clock O.Gate.Gate) O.gone)
+        O.Listener.Link.Link) D.Disk (means O.Lines.Lines O.Clock.Timestamps O.Gate.Gate) O.gone)
         P.handed }
 {
     // Their laws: they name no lemma.

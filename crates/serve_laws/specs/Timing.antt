@@ -1,0 +1,56 @@
+-- How much a link had been written at an earlier moment.
+use Rattle.std.specs.Prelude.{◌≡◌, ◌⊎◌, ◌≤◌, ◌<◌, ℕ, List, [], ◌∷◌, ◌++◌, length}
+use base.Stored.{Gv}
+use Rattle.dxc_outside.specs.declared.clock.Moment.{Moment}
+use Rattle.dxc_outside.specs.Links.{LinkState}
+use Rattle.dxc_model.specs.declared.entry.Entry.{Entry}
+use Rattle.craft_session.specs.Happenings.{Request}
+use Rattle.craft_session.specs.Stamps.{Stamp}
+use Rattle.switch_laws.specs.Element.{Session}
+
+-- A moment at a place: to which histories the plain element comes, with which sessions of all places, and what it is to take a moment of a message; then the
+-- history by this moment, the number of the place, and what its pass had seen.
+pub record MomentAt : Type 1 where
+  pub comes : List Entry → (ℕ → List (Session Request Moment)) → Type 0
+  pub stamped : Stamp → Type 0
+  pub history : List Entry
+  pub place : ℕ
+  pub seen : List Gv
+
+module _ (m : MomentAt) where
+  -- By some order of turns over a beginning of the history then, the plain element had said this to the newest session of the place, which came behind these.
+  pub record WasSaid (older : List (Session Request Moment)) (out : List ℕ) : Type 0 where
+    pub earlier : List Entry
+    pub later : List Entry
+    pub whole : earlier ++ later ≡ m.history
+    pub sessions : ℕ → List (Session Request Moment)
+    pub comes : m.comes earlier sessions
+    pub session : Session Request Moment
+    pub newest : sessions m.place ≡ session ∷ older
+    pub unsaid : List ℕ
+    pub said : session.said.bytes ≡ out ++ unsaid
+
+  -- The byte of this number wasn't written before a moment was taken for its message, and there the place had seen more than its pass had by then.
+  pub record WasWrittenSince (number : ℕ) : Type 0 where
+    pub stamp : Stamp
+    pub stamped : m.stamped stamp
+    pub place : stamp.seat.place ≡ m.place
+    pub follows : length stamp.link.written ≤ number
+    pub next : Gv
+    pub more : List Gv
+    pub sees_on : stamp.seat.seen ≡ m.seen ++ next ∷ more
+
+  -- Of all that the link of a session was written, which came behind these, no more than a first part was written by then: what the plain element had said.
+  -- Each byte of the rest was written behind a turn of the place that came after.
+  pub record WasWrittenThen (older : List (Session Request Moment)) (k j : LinkState) : Type 0 where
+    pub by_then : List ℕ
+    pub since : List ℕ
+    pub all : j.written ≡ k.written ++ (by_then ++ since)
+    pub said : (by_then ≡ []) ⊎ WasSaid older by_then
+    pub after : (number : ℕ) → length (k.written ++ by_then) ≤ number → number < length j.written → WasWrittenSince number
+
+  -- so it is of each of these links, as it came and as it was left, the newest first, with the sessions over them
+  abbrev pub WereWrittenThen : {K : Type 0} → (K → LinkState) → List (K × K) → List (Session Request Moment) → Type 0
+  WereWrittenThen link [] ss = Unit {0}
+  WereWrittenThen link (k ∷ ks) [] = ⊥
+  WereWrittenThen link (k ∷ ks) (s ∷ ss) = WasWrittenThen ss (link k.0) (link k.1) × WereWrittenThen link ks ss
