@@ -14,8 +14,15 @@ use Rattle.craft_element.specs.declared.opening.Controller.{Controller}
 use Rattle.craft_element.specs.declared.opening.Element.{Element}
 use Rattle.craft_words.specs.declared.status.Status.{Status}
 use Rattle.craft_element.specs.Openings.{IsStarted, Named, NotStarted, Sources}
-use Rattle.craft_element.specs.Peers.{FoundMirror, HasMirrored, IsMirrorOf, IsOpenedOn, Mirrors, NoMirrored, mirror_state}
+use Rattle.craft_element.specs.Peers.{FoundMirror, HasMirrored, IsMirrorOf, IsOpenedOn, IsUnused, Mirrors, NoMirrored, mirror_state}
 use Rattle.craft_element.proofs.Starting.{begun, users_began}
+
+-- nothing was done with a disk of this name behind the reading of a shelf file
+pub unused_behind : {D : Type 0} (opener_told : Type 0) (gone : AnyValue → Type 0) (name : List ℕ) (before mid after : List ℕ → Option D) → (opener_told → (n : List ℕ) → mid n ≡ before n) → IsUnused opener_told gone name mid after → IsUnused opener_told gone name before after
+unused_behind opener_told gone name before mid after same unused = elim unused [
+  | inl kept ↦ inl (λ t. kept t ∙ same t name)
+  | inr left ↦ inr (record { disk = left.disk; handed = λ t. sym (same t name) ∙ left.handed t; let_go = left.let_go })
+]
 
 module _ {D K : Type 0} (told link_told : Type 0) (state : D → DiskState) (link : K → LinkState) (opener_told : Type 0) where
   -- a mirror of what is handed out behind the reading of a shelf file

@@ -5,6 +5,10 @@ use Rattle.std.specs.Arc.{arc_value}
 use Rattle.dxc_causes.specs.Causes.{HasCause, Rose}
 use Rattle.dxc_disk.specs.Disks.{CountsOn, DiskState, IsDisk, IsSound, Spends}
 use Rattle.dxc_leaving.specs.Values.{AnyValue}
+use Rattle.dxc_outside.specs.declared.opened.Opened.{Opened}
+use Rattle.dxc_outside.specs.declared.opened.Opened.TheVariants.{Open, Failed}
+use Rattle.dxc_outside.specs.declared.opened.Opened.TheVariants as unopened
+use Rattle.dxc_outside.specs.Openings.{Hands, IsClosed}
 use Rattle.fabric_words.specs.New.{AreNew}
 use Rattle.fabric_words.specs.Seats.{FabricId}
 use Rattle.shelf_file.specs.Contents.{Contents}
@@ -25,11 +29,25 @@ use Rattle.craft_element.specs.declared.opening.Controller.{Controller}
 use Rattle.craft_words.specs.declared.status.Status.{Status}
 use Rattle.craft_words.specs.declared.status.Status.TheVariants.{CannotOpen, NoMemory}
 use Rattle.craft_jobs.proofs.Counting.{rose_behind}
-use Rattle.craft_element.specs.Openings.{AreUsersNotStarted, AreUsersStarted, Began, Found, HasController, HasOpening, HasUsers, IsStarted, IsTaken, Named, NoController, NoUsers, NotStarted, Opens, Sources, StartFails, users_name}
+use Rattle.craft_element.specs.Openings.{AreUsersNotStarted, AreUsersStarted, Began, Found, HasController, HasOpening, HasUsers, IsKept, IsStarted, IsTaken, IsUnopened, Named, NoController, NoUsers, NotStarted, Opens, Sources, StartFails, users_name}
 
 -- the name of a users' journal isn't that of the journal beside it
 users_apart : (n : List ℕ) → users_name n ≢ n
 users_apart n is = let longer = length-append n (codes ".users") in let same = ap length is in absurd (omega (arith, longer, same))
+
+-- nothing was handed out of the users' journal where nothing was of another name than the journal's
+pub users_kept : {D : Type 0} (opener_told : Type 0) (journal : List ℕ) (before after : List ℕ → Option D) → (opener_told → (n : List ℕ) → n ≢ journal → after n ≡ before n) → IsKept opener_told (users_name journal) before after
+users_kept opener_told journal before after others t = others t (users_name journal) (users_apart journal)
+
+-- an opening of a journal that failed handed out nothing of its name
+pub kept_by : {D : Type 0} (opener_told : Type 0) (name : List ℕ) (before mid after : List ℕ → Option D) (opened none : Opened D) → opened ≡ none → IsClosed none → (opener_told → (n : List ℕ) → mid n ≡ before n) → (opener_told → Hands opened (mid name) (after name)) → IsKept opener_told name before after
+kept_by opener_told name before mid after opened (Open d) is closed same hands t = absurd closed
+kept_by {D} opener_told name before mid after opened Failed is closed same hands t = subst (λ (x : Opened D). Hands x (mid name) (after name)) is (hands t) ∙ same t name
+kept_by {D} opener_told name before mid after opened unopened.NoMemory is closed same hands t = subst (λ (x : Opened D). Hands x (mid name) (after name)) is (hands t) ∙ same t name
+
+-- what couldn't be opened behind an earlier call
+pub unopened_behind : (faults mid later : ℕ) (status : Status) → faults ≤ mid → IsUnopened mid later status → IsUnopened faults later status
+unopened_behind faults mid later status low none = elim none [ inl m ↦ inl m | inr f ↦ inr (f.0, rose_behind faults mid later low f.1) ]
 
 -- what a call tells of the disk that the state has at home
 at_home : {D : Type 0} (P : D → Type 0) (r : Result (State D) (OpenFault D)) (x : State D) → r ≡ Ok x → (d : D) → disk_home x.home ≡ Some d → IfSome (disk_of r) P → P d
@@ -97,12 +115,12 @@ module _ {D : Type 0} (disk_told : Type 0) (state : D → DiskState) where
   -- the users beside a controller, by what a later call tells
   pub with_users : (opener_told : Type 0) (gone : AnyValue → Type 0) (names : Named) (before mid after : Sources D) (s lent : Contents) (r : Result (UserState D) Status) → lent ≡ s → (opener_told → (n : List ℕ) → n ≢ names.journal → mid.journal_at n ≡ before.journal_at n) → before.opener.faults ≤ mid.opener.faults
       → MatchResult r (λ u. (d : D) × (opener_told → mid.journal_at (users_name names.journal) ≡ Some d) × AreUsersStarted disk_told state d lent u)
-      (λ status. ((status ≡ NoMemory) ⊎ ((status ≡ CannotOpen) × Rose mid.opener.faults after.opener.faults)) ⊎ ((d : D) × (opener_told → mid.journal_at (users_name names.journal) ≡ Some d) × AreUsersNotStarted disk_told state gone d lent status))
+      (λ status. (IsUnopened mid.opener.faults after.opener.faults status × IsKept opener_told (users_name names.journal) mid.journal_at after.journal_at) ⊎ ((d : D) × (opener_told → mid.journal_at (users_name names.journal) ≡ Some d) × AreUsersNotStarted disk_told state gone d lent status))
       → MatchResult r (HasUsers opener_told disk_told state names before s) (NoUsers opener_told disk_told state gone names before after s)
   with_users opener_told gone names before mid after s lent (Ok u) is others later given =
       (record { disk = given.0; handed = λ t. sym (others t (users_name names.journal) (users_apart names.journal)) ∙ given.1 t }, subst (λ (y : Contents). AreUsersStarted disk_told state given.0 y u) is given.2)
   with_users opener_told gone names before mid after s lent (Err status) is others later given = elim given [
-    | inl none ↦ inl (elim none [ inl m ↦ inl m | inr f ↦ inr (f.0, rose_behind before.opener.faults mid.opener.faults after.opener.faults later f.1) ])
+    | inl none ↦ inl (unopened_behind before.opener.faults mid.opener.faults after.opener.faults status later none.0, λ t. none.1 t ∙ others t (users_name names.journal) (users_apart names.journal))
     | inr not ↦ inr (record { disk = not.0; handed = λ t. sym (others t (users_name names.journal) (users_apart names.journal)) ∙ not.1 t }, subst (λ (y : Contents). AreUsersNotStarted disk_told state gone not.0 y status) is not.2)
   ]
 

@@ -1,5 +1,5 @@
 -- How an opening ends, and what was done behind one.
-use Rattle.std.proofs.Common.{◌≡◌, ℕ, List, inl, inr, sym, subst}
+use Rattle.std.proofs.Common.{◌≡◌, ◌∙◌, ℕ, List, inl, inr, sym, subst}
 use Rattle.dxc_disk.specs.Disks.{DiskState}
 use Rattle.dxc_outside.specs.Links.{LinkState}
 use Rattle.dxc_leaving.specs.Values.{AnyValue}
@@ -19,7 +19,9 @@ use Rattle.craft_words.specs.declared.status.Status.{Status}
 use Rattle.craft_words.specs.declared.status.Status.TheVariants.{Done, BadWords, BadShelf, BadJournal, Disk, CannotOpen, NoThread, NoMemory, Link, Stopped, Spent, BadMessage, NotEmpty}
 use Rattle.craft_words.specs.Statuses.{status_of_sent}
 use Rattle.craft_jobs.specs.Missing.{IsOfNoOpening}
-use Rattle.craft_element.specs.Openings.{Began, Found, Named, NoDisk, NoShelf, NotOpened, NoUsers, Opens, Sources}
+use Rattle.craft_element.specs.Exports.{IsExport}
+use Rattle.craft_element.specs.Listings.{IsCheck}
+use Rattle.craft_element.specs.Openings.{Began, Found, IsUnopened, Named, NoShelf, NotOpened, NoUsers, Opens, Sources}
 use Rattle.craft_element.specs.Peers.{Mirrors, NotMirrored}
 use Rattle.craft_element.specs.Statuses.{status_of_fault, status_of_users_fault, status_of_users_why, status_of_why}
 
@@ -59,22 +61,22 @@ no_shelf_ends told before after name Spent not is = not
 no_shelf_ends told before after name BadMessage not is = not
 no_shelf_ends told before after name NotEmpty not is = not
 
-no_disk_ends : {D : Type 0} (before after : Sources D) (s : Status) → NoDisk before after s → IsOfNoOpening s → ⊥
-no_disk_ends before after s not is = elim not.1 [ inl e ↦ subst IsOfNoOpening e is | inr e ↦ subst IsOfNoOpening e.0 is ]
+unopened_ends : (faults later : ℕ) (s : Status) → IsUnopened faults later s → IsOfNoOpening s → ⊥
+unopened_ends faults later s not is = elim not [ inl e ↦ subst IsOfNoOpening e is | inr e ↦ subst IsOfNoOpening e.0 is ]
 
 no_users_ends : {D : Type 0} (opener_told told : Type 0) (state : D → DiskState) (gone : AnyValue → Type 0) (names : Named) (before after : Sources D) (s : Contents) (status : Status) → NoUsers opener_told told state gone names before after s status → IsOfNoOpening status → ⊥
 no_users_ends opener_told told state gone names before after s status none is = elim none [
-  | inl no_disk ↦ (elim no_disk [ inl e ↦ subst IsOfNoOpening e is | inr e ↦ subst IsOfNoOpening e.0 is ])
+  | inl no_disk ↦ unopened_ends _ _ status no_disk.0 is
   | inr not ↦ users_fault_ends not.1.fault (subst IsOfNoOpening not.1.is is)
 ]
 
 -- what wasn't opened ends with a status of an opening
 pub not_opened_ends : (opener_told : Type 0) {D : Type 0} (told : Type 0) (state : D → DiskState) (gone : AnyValue → Type 0) (names : Named) (before after : Sources D) (status : Status) → NotOpened opener_told told state gone names before after status → IsOfNoOpening status → ⊥
 not_opened_ends opener_told told state gone names before after status not is = elim not [
-  | inl no_controller ↦ (elim no_controller [
+  | inl no_controller ↦ (elim no_controller.0 [
     | inl no_shelf ↦ no_shelf_ends opener_told before.opener after.opener names.shelf status no_shelf.1 is
     | inr further ↦ (elim further [
-      | inl no_disk ↦ no_disk_ends before after status no_disk.2 is
+      | inl no_disk ↦ unopened_ends _ _ status no_disk.3.0 is
       | inr not_on ↦ fault_ends not_on.1.fault (subst IsOfNoOpening not_on.1.is is)
     ])
   ])
@@ -84,10 +86,10 @@ not_opened_ends opener_told told state gone names before after status not is = e
 -- nor what wasn't mirrored
 pub not_mirrored_ends : {D K : Type 0} (told link_told : Type 0) (state : D → DiskState) (link : K → LinkState) (opener_told : Type 0) (gone : AnyValue → Type 0) (names : Named) (before after : Sources D) (status : Status) → NotMirrored told link_told state link opener_told gone names before after status → IsOfNoOpening status → ⊥
 not_mirrored_ends told link_told state link opener_told gone names before after status not is = elim not [
-  | inl no_controller ↦ (elim no_controller [
+  | inl no_controller ↦ (elim no_controller.0 [
     | inl no_shelf ↦ no_shelf_ends opener_told before.opener after.opener names.shelf status no_shelf.1 is
     | inr further ↦ (elim further [
-      | inl no_disk ↦ no_disk_ends before after status no_disk.2 is
+      | inl no_disk ↦ unopened_ends _ _ status no_disk.3.0 is
       | inr not_on ↦ fault_ends not_on.1.fault (subst IsOfNoOpening not_on.1.is is)
     ])
   ])
@@ -98,6 +100,13 @@ not_mirrored_ends told link_told state link opener_told gone names before after 
 pub sent_words : (sent : Sent) → status_of_sent sent ≡ BadWords → ⊥
 sent_words sent.Whole is = cc
 sent_words sent.Cut is = cc
+
+-- nor an audit or an export, for which memory may be wanting
+pub check_words : (told : Type 0) (s : Contents) (o : Opening) (k l : LinkState) (status : Status) → IsCheck told s o k l status → status ≡ BadWords → ⊥
+check_words told s o k l status is bad = elim is [ inl wrote ↦ sent_words wrote.sent (sym wrote.status_is ∙ bad) | inr none ↦ (let no = sym none.0 ∙ bad in cc) ]
+
+pub export_words : (told : Type 0) (s : Contents) (o : Opening) (k l : LinkState) (status : Status) → IsExport told s o k l status → status ≡ BadWords → ⊥
+export_words told s o k l status is bad = elim is [ inl wrote ↦ sent_words wrote.sent (sym wrote.status_is ∙ bad) | inr none ↦ (let no = sym none.0 ∙ bad in cc) ]
 
 -- nor what was opened by these names, where what was done there doesn't
 pub opens_words : (opener_told : Type 0) {D : Type 0} (told : Type 0) (state : D → DiskState) (gone : AnyValue → Type 0) (names : Named) (before after : Sources D) (untouched : Type 0) (done : (f : Found opener_told names before) → Opening → Began opener_told told state names before f.shelf → Type 0) (status : Status)

@@ -1,5 +1,5 @@
 -- What an export of a journal writes.
-use Rattle.std.specs.Prelude.{◌≡◌, List, ℕ}
+use Rattle.std.specs.Prelude.{◌≡◌, ◌⊎◌, List, ℕ}
 use Rattle.dxc_disk.specs.Disks.{DiskState}
 use Rattle.dxc_outside.specs.declared.send.Sent.{Sent}
 use Rattle.dxc_outside.specs.Links.{LinkState, IsSent}
@@ -8,6 +8,7 @@ use Rattle.tl1_script.specs.Commands.{lines_from}
 use Rattle.tl1_script.specs.Scripts.{changes_to}
 use Rattle.xc_core.specs.States.{Opening}
 use Rattle.craft_words.specs.declared.status.Status.{Status}
+use Rattle.craft_words.specs.declared.status.Status.TheVariants.{NoMemory}
 use Rattle.craft_words.specs.Statuses.{status_of_sent}
 use Rattle.dxc_leaving.specs.Values.{AnyValue}
 use Rattle.craft_element.specs.Openings.{Named, Opens, Sources, WasLetGo, opened_on}
@@ -17,10 +18,14 @@ abbrev pub script : Contents → Opening → List ℕ
 script s o = lines_from s.shape 1 (changes_to s.equipped o.first.fold.table)
 
 -- they were written, or a part of them where a write failed
-pub record IsExport (told : Type 0) (s : Contents) (o : Opening) (k l : LinkState) (status : Status) : Type 0 where
+pub record WroteCommands (told : Type 0) (s : Contents) (o : Opening) (k l : LinkState) (status : Status) : Type 0 where
   pub sent : Sent
   pub wrote : IsSent told k l sent (script s o)
   pub status_is : status ≡ status_of_sent sent
+
+-- so they were, or memory was wanting and nothing was written
+abbrev pub IsExport : (told : Type 0) (s : Contents) (o : Opening) (k l : LinkState) (status : Status) → Type 0
+IsExport told s o k l status = WroteCommands told s o k l status ⊎ ((status ≡ NoMemory) × (l ≡ k))
 
 -- whether opener, disk and link tell what they hold, what a disk holds, and what was let go
 pub record Told (D : Type 0) : Type 1 where
@@ -41,7 +46,7 @@ pub record Lent (D : Type 0) : Type 0 where
 abbrev pub lent : {D : Type 0} → Sources D → LinkState → Lent D
 lent sources terminal = record { sources = sources; terminal = terminal }
 
--- nothing was opened and written, and why; or the commands of what was opened were written, and it was let go as it was opened
+-- nothing was opened and written, and why; or the commands of what was opened were written, unless memory was wanting, and it was let go as it was opened
 abbrev pub Exports : {D : Type 0} → Told D → Named → (before after : Lent D) → Status → Type 0
 Exports told names before after status = Opens told.opener told.disk told.state told.gone names before.sources after.sources (after.terminal ≡ before.terminal)
     (λ f o u. (after.sources.stops ≡ before.sources.stops) × IsExport told.link f.shelf o before.terminal after.terminal status

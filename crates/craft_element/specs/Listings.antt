@@ -1,5 +1,5 @@
 -- What an audit of a journal writes.
-use Rattle.std.specs.Prelude.{◌≡◌, ℕ, List, [], ◌∷◌, ◌++◌, codes, decimal, flat_map, length}
+use Rattle.std.specs.Prelude.{◌≡◌, ◌⊎◌, ℕ, List, [], ◌∷◌, ◌++◌, codes, decimal, flat_map, length}
 use Rattle.dxc_num.specs.Dimensions.{Dimensions}
 use Rattle.dxc_outside.specs.declared.send.Sent.{Sent}
 use Rattle.dxc_outside.specs.Links.{LinkState, IsSent}
@@ -12,6 +12,7 @@ use Rattle.xc_core.specs.declared.state.Home.{Home}
 use Rattle.xc_core.specs.declared.state.Home.TheVariants.{In, Out}
 use Rattle.xc_core.specs.States.{Opening}
 use Rattle.craft_words.specs.declared.status.Status.{Status}
+use Rattle.craft_words.specs.declared.status.Status.TheVariants.{NoMemory}
 use Rattle.craft_words.specs.Statuses.{status_of_sent}
 
 -- a row of the table, without its quotes, and its end
@@ -32,7 +33,11 @@ abbrev pub listing : Dimensions → List Conn → ℕ → List ℕ
 listing d cs records = flat_map (row_line d) cs ++ count_line records
 
 -- the rows of the table were written with the number of records, or a part of them where a write failed
-pub record IsCheck (told : Type 0) (s : Contents) (o : Opening) (k l : LinkState) (status : Status) : Type 0 where
+pub record WroteRows (told : Type 0) (s : Contents) (o : Opening) (k l : LinkState) (status : Status) : Type 0 where
   pub sent : Sent
   pub wrote : IsSent told k l sent (listing s.shape (rows o.first.fold.table All) (length o.records))
   pub status_is : status ≡ status_of_sent sent
+
+-- so they were, or memory was wanting and nothing was written
+abbrev pub IsCheck : (told : Type 0) (s : Contents) (o : Opening) (k l : LinkState) (status : Status) → Type 0
+IsCheck told s o k l status = WroteRows told s o k l status ⊎ ((status ≡ NoMemory) × (l ≡ k))

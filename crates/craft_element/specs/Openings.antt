@@ -75,9 +75,17 @@ NoShelf told o p name Spent = ⊥
 NoShelf told o p name BadMessage = ⊥
 NoShelf told o p name NotEmpty = ⊥
 
--- no disk was handed out, and why
-abbrev pub NoDisk : {D : Type 0} → Sources D → Sources D → Status → Type 0
-NoDisk before after status = (after.stops ≡ before.stops) × ((status ≡ NoMemory) ⊎ ((status ≡ CannotOpen) × Rose before.opener.faults after.opener.faults))
+-- why something couldn't be opened
+abbrev pub IsUnopened : (faults later : ℕ) → Status → Type 0
+IsUnopened faults later status = (status ≡ NoMemory) ⊎ ((status ≡ CannotOpen) × Rose faults later)
+
+-- the opener would hand out of this name what it would have handed out before, where it tells that: it handed out none
+abbrev pub IsKept : (opener_told : Type 0) {D : Type 0} (name : List ℕ) (before after : List ℕ → Option D) → Type 0
+IsKept opener_told name before after = opener_told → after name ≡ before name
+
+-- no disk was handed out for this name, and why
+abbrev pub NoDisk : (opener_told : Type 0) {D : Type 0} (name : List ℕ) → Sources D → Sources D → Status → Type 0
+NoDisk opener_told name before after status = IsUnopened before.opener.faults after.opener.faults status × IsKept opener_told name before.journal_at after.journal_at
 
 -- An opening of a disk left these faults, room and margin: it took of the room what it may, and each fault in it lowered the margin.
 pub record IsTaken (d : DiskState) (faults room margin : ℕ) : Type 0 where
@@ -201,20 +209,20 @@ module _ (opener_told : Type 0) {D : Type 0} (disk_told : Type 0) (state : D →
   -- no shelf, no disk, or one on which the controller didn't start
   abbrev pub NoController : Named → (before after : Sources D) → Status → Type 0
   NoController names before after status =
-      ((after.stops ≡ before.stops) × NoShelf opener_told before.opener after.opener names.shelf status)
-      ⊎ (((s : Contents) × HasShelf opener_told before.opener names.shelf s × NoDisk before after status)
+      ((after.stops ≡ before.stops) × NoShelf opener_told before.opener after.opener names.shelf status × IsKept opener_told names.journal before.journal_at after.journal_at)
+      ⊎ (((s : Contents) × HasShelf opener_told before.opener names.shelf s × (after.stops ≡ before.stops) × NoDisk opener_told names.journal before after status)
       ⊎ ((f : Found opener_told names before) × NotStarted disk_told state gone f.disk f.shelf (Rose before.stops after.stops) status))
 
   -- no disk for the users' journal, or one on which they weren't taken up
   abbrev pub NoUsers : Named → (before after : Sources D) → Contents → Status → Type 0
   NoUsers names before after s status =
-      ((status ≡ NoMemory) ⊎ ((status ≡ CannotOpen) × Rose before.opener.faults after.opener.faults))
+      NoDisk opener_told (users_name names.journal) before after status
       ⊎ ((u : FoundUsers opener_told names before) × AreUsersNotStarted disk_told state gone u.disk s status)
 
-  -- No controller, or none of its users. What was opened was let go so.
+  -- No controller, and no disk for its users, or none of its users. What was opened was let go so.
   abbrev pub NotOpened : Named → (before after : Sources D) → Status → Type 0
   NotOpened names before after status =
-      NoController names before after status
+      (NoController names before after status × IsKept opener_told (users_name names.journal) before.journal_at after.journal_at)
       ⊎ ((f : Found opener_told names before) × LeftStarted disk_told state gone f.disk f.shelf × (after.stops ≡ before.stops) × NoUsers names before after f.shelf status)
 
   -- Nothing was opened, why, and nothing else happened; or this was done on what was opened.

@@ -4,7 +4,7 @@ use Rattle.dxc_causes.specs.Causes.{Rose}
 use Rattle.dxc_disk.specs.Disks.{DiskState, Looks}
 use Rattle.dxc_outside.specs.Asked.{Asking, shelf_named, journal_named, peer_named}
 use Rattle.dxc_outside.specs.Links.{LinkState}
-use Rattle.dxc_leaving.specs.Values.{AnyValue}
+use Rattle.dxc_leaving.specs.Values.{AnyValue, any_value}
 use Rattle.shelf_file.specs.Contents.{Contents}
 use Rattle.standby_link.specs.declared.mirror_disk.MirrorDisk.{MirrorDisk}
 use Rattle.standby_link.specs.Lines.{line_at}
@@ -13,11 +13,25 @@ use Rattle.xc_core.specs.States.{Opening}
 use Rattle.craft_element.specs.declared.opening.Controller.{Controller}
 use Rattle.craft_element.specs.declared.opening.Element.{Element}
 use Rattle.craft_words.specs.declared.status.Status.{Status}
-use Rattle.craft_element.specs.Openings.{Began, HasOpening, HasShelf, HasUsers, IsStarted, LeftStarted, Named, NoDisk, NoShelf, NotStarted, NoUsers, Sources, users_name}
+use Rattle.craft_element.specs.Openings.{Began, HasOpening, HasShelf, HasUsers, IsKept, IsStarted, IsUnopened, LeftStarted, Named, NoShelf, NotStarted, NoUsers, Sources, users_name}
 
 -- what an opener is asked for by these names, with a peer
 abbrev pub mirror_asked : Named → List ℕ → List Asking
 mirror_asked names peer = shelf_named names.shelf ∷ journal_named names.journal ∷ peer_named peer ∷ journal_named (users_name names.journal) ∷ []
+
+-- the disk that was handed out for this name was let go as it was handed out
+pub record LeftUnmirrored (opener_told : Type 0) {D : Type 0} (gone : AnyValue → Type 0) (name : List ℕ) (journal_at : List ℕ → Option D) : Type 0 where
+  pub disk : D
+  pub handed : opener_told → journal_at name ≡ Some disk
+  pub let_go : gone (any_value disk)
+
+-- no disk was handed out for this name, or it was let go so
+abbrev pub IsUnused : (opener_told : Type 0) {D : Type 0} (gone : AnyValue → Type 0) (name : List ℕ) (before after : List ℕ → Option D) → Type 0
+IsUnused opener_told gone name before after = IsKept opener_told name before after ⊎ LeftUnmirrored opener_told gone name before
+
+-- there is no mirror of the disk of this name: it couldn't be opened, or no peer could
+abbrev pub NoMirror : (opener_told : Type 0) {D : Type 0} (gone : AnyValue → Type 0) (name : List ℕ) → Sources D → Sources D → Status → Type 0
+NoMirror opener_told gone name before after status = IsUnopened before.opener.faults after.opener.faults status × IsUnused opener_told gone name before.journal_at after.journal_at
 
 -- what a mirrored disk shows is what the disk below shows
 abbrev pub mirror_state : {D K : Type 0} → (D → DiskState) → MirrorDisk D K → DiskState
@@ -57,14 +71,14 @@ module _ {D K : Type 0} (disk_told link_told : Type 0) (state : D → DiskState)
       -- no shelf, no disk or no peer, or a mirror on which the controller didn't start
       abbrev pub NoMirrored : Named → (before after : Sources D) → Status → Type 0
       NoMirrored names before after status =
-          ((after.stops ≡ before.stops) × NoShelf opener_told before.opener after.opener names.shelf status)
-          ⊎ (((s : Contents) × HasShelf opener_told before.opener names.shelf s × NoDisk before after status)
+          ((after.stops ≡ before.stops) × NoShelf opener_told before.opener after.opener names.shelf status × IsKept opener_told names.journal before.journal_at after.journal_at)
+          ⊎ (((s : Contents) × HasShelf opener_told before.opener names.shelf s × (after.stops ≡ before.stops) × NoMirror opener_told gone names.journal before after status)
           ⊎ ((f : FoundMirror names before) × NotStarted disk_told (mirror_state state) gone f.mirror f.shelf (Rose before.stops after.stops) status))
 
-      -- No controller, or none of its users. What was opened was let go so.
+      -- No controller, and no disk for its users, or none of its users. What was opened was let go so.
       abbrev pub NotMirrored : Named → (before after : Sources D) → Status → Type 0
       NotMirrored names before after status =
-          NoMirrored names before after status
+          (NoMirrored names before after status × IsKept opener_told (users_name names.journal) before.journal_at after.journal_at)
           ⊎ ((f : FoundMirror names before) × LeftStarted disk_told (mirror_state state) gone f.mirror f.shelf × (after.stops ≡ before.stops) × NoUsers opener_told disk_told state gone names before after f.shelf status)
 
       -- Nothing was opened, why, and nothing else happened; or this was done on what was opened and mirrored.

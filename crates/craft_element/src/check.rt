@@ -55,6 +55,7 @@ pub fn run_check<O: Opener + LetGo, K: Link, G: Gate>(
     };
     let ports = controller.shelf.shape().ports();
     let Ok(mut listed) = Vec::with_capacity(alloc, ports as usize) else {
+        opener.let_go(Element { controller, users });
         return Status::NoMemory;
     };
     let status = Status::of_sent(check(&controller.state, &mut listed, terminal));

@@ -45,6 +45,7 @@ pub fn run_export<O: Opener + LetGo, K: Link, G: Gate>(
         Err(status) => return status,
     };
     let Ok(changes) = changes_to(alloc, controller.shelf.equipped(), &controller.state.table) else {
+        opener.let_go(Element { controller, users });
         return Status::NoMemory;
     };
     let status = Status::of_sent(write_commands(terminal, controller.shelf.shape(), &changes));

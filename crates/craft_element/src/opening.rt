@@ -2,7 +2,7 @@
 ghost use Rattle.std.specs.Prelude.{◌≡◌, ◌≢◌, ◌⊎◌, ◌≤◌, ◌∷◌, [], Some, IfOk, IsOk, ◌<◌, ℕ, List, MatchResult};
 ghost use Rattle.dxc_causes.specs.Causes.{Rose};
 ghost use Rattle.dxc_outside.specs.Asked.{AskedFor, shelf_named, journal_named};
-ghost use Rattle.craft_element.specs.Openings.{AreUsersStarted, FoundUsers, HasController, HasShelf, IsOpened, IsStarted, LetGoOf, NoController, NoShelf, NotOpened, StartFails, UsersStartFails, files_asked, named, sources, users_name as name_of_users};
+ghost use Rattle.craft_element.specs.Openings.{AreUsersStarted, FoundUsers, HasController, HasShelf, IsKept, IsOpened, IsStarted, IsUnopened, LetGoOf, NoController, NoShelf, NotOpened, StartFails, UsersStartFails, files_asked, named, sources, users_name as name_of_users};
 ghost use Rattle.craft_element.specs.Statuses.{status_of_fault, status_of_users_fault};
 
 use craft_words::{JournalBad, Status};
@@ -229,8 +229,9 @@ pub(crate) fn open_users<O: Opener + LetGo>(
     ensures users { MatchResult result (λ x. (d : O.Journal)
         × (O.told → O.journal_at opener.old (name_of_users journal.now) ≡ Some d)
         × AreUsersStarted O.Journal.told O.Journal.state d shelf.now x)
-        (λ status. ((status ≡ Status.NoMemory) ⊎ ((status ≡ Status.CannotOpen)
-        × Rose (O.state opener.old).faults (O.state opener.new).faults))
+        (λ status. (IsUnopened (O.state opener.old).faults (O.state opener.new).faults status
+        × IsKept O.told (name_of_users journal.now) (O.journal_at opener.old)
+        (O.journal_at opener.new))
         ⊎ ((d : O.Journal) × (O.told → O.journal_at opener.old (name_of_users journal.now) ≡ Some d)
         × LetGoOf O.gone status_of_users_fault
         (UsersStartFails O.Journal.told O.Journal.state d shelf.now) status)) }

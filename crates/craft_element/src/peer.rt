@@ -2,8 +2,8 @@
 ghost use Rattle.std.specs.Prelude.{◌≡◌, ◌≢◌, ◌⊎◌, ◌≤◌, ◌<◌, ◌∷◌, [], ℕ, IsOk, List, MatchResult};
 ghost use Rattle.dxc_causes.specs.Causes.{Rose};
 ghost use Rattle.dxc_outside.specs.Asked.{AskedFor, shelf_named, journal_named, peer_named};
-ghost use Rattle.craft_element.specs.Openings.{named, sources};
-ghost use Rattle.craft_element.specs.Peers.{HasMirrored, IsMirrorOf, IsOpenedOn, NoMirrored, NotMirrored, mirror_asked};
+ghost use Rattle.craft_element.specs.Openings.{IsUnopened, named, sources};
+ghost use Rattle.craft_element.specs.Peers.{HasMirrored, IsMirrorOf, IsOpenedOn, IsUnused, NoMirrored, NotMirrored, mirror_asked};
 
 use crate::opening::{Controller, Element, Names, open_users, shelf_of_file, start};
 use craft_words::Status;
@@ -81,16 +81,17 @@ fn mirrored_controller<O: Opener + LetGo, G: Gate>(
     start(alloc, opener, shelf, mirror, workers, gate)
 }
 
-// The disk of the journal of that name, mirrored to the standby at the peer.
-fn mirror_of<O: Opener>(
+// The disk of the journal of that name, mirrored to the standby at the peer. Where the peer can't be called the disk is let go as it was handed out.
+fn mirror_of<O: Opener + LetGo>(
     alloc: Global,
     opener: &mut O,
     journal: &str,
     peer: &str,
 ) -> Result<Mirror<O>, Status>
     ensures mirror { MatchResult result (IsMirrorOf O.Journal.told O.Peer.told O.Journal.state
-        O.Peer.state O.told (O.journal_at opener.old) journal.now) (λ s. (s ≡ Status.NoMemory) ⊎
-        ((s ≡ Status.CannotOpen) × Rose (O.state opener.old).faults (O.state opener.new).faults)) }
+        O.Peer.state O.told (O.journal_at opener.old) journal.now)
+        (λ s. IsUnopened (O.state opener.old).faults (O.state opener.new).faults s × IsUnused O.told
+        O.gone journal.now (O.journal_at opener.old) (O.journal_at opener.new)) }
     ensures others { O.told → (n : List ℕ) → n ≢ journal.now
         → O.journal_at opener.new n ≡ O.journal_at opener.old n }
     ensures later { (O.state opener.old).faults ≤ (O.state opener.new).faults }
@@ -104,7 +105,13 @@ fn mirror_of<O: Opener>(
     };
     match opener.peer(alloc, peer) {
         Opened::Open(link) => Ok(MirrorDisk::join(disk, link)),
-        Opened::Failed => Err(Status::CannotOpen),
-        Opened::NoMemory => Err(Status::NoMemory),
+        Opened::Failed => {
+            opener.let_go(disk);
+            Err(Status::CannotOpen)
+        }
+        Opened::NoMemory => {
+            opener.let_go(disk);
+            Err(Status::NoMemory)
+        }
     }
 }

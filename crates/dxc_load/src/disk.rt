@@ -1,4 +1,4 @@
-ghost use Rattle.std.specs.Prelude.{◌≡◌, ◌+◌, ◌≤◌, ◌<◌, ◌^◌, false, [], length};
+ghost use Rattle.std.specs.Prelude.{◌≡◌, ◌+◌, ◌≤◌, ◌<◌, ◌^◌, false, true, [], length};
 
 use dxc_causes::NoMemory;
 use dxc_disk::{Disk, DiskFault, MemDisk};
@@ -6,9 +6,10 @@ use std::alloc::Global;
 
 /// A disk that tells whether a call of it failed.
 pub trait Noting: Disk {
-    /// Where none did, its count of faults stands at 0.
+    /// Where none did, its count of faults stands at 0; where one did, above it.
     fn has_failed(&self) -> bool
-        ensures { result ≡ false → (Self.state self.now).faults ≡ 0 };
+        ensures none { result ≡ false → (Self.state self.now).faults ≡ 0 }
+        ensures some { result ≡ true → 0 < (Self.state self.now).faults };
 }
 
 /// The disk of the load's journal: one in memory, which notes that a call failed.
@@ -17,6 +18,7 @@ pub struct LoadDisk {
     inner: MemDisk,
     failed: bool,
     ghost noted: { failed ≡ false → inner.faults ≡ 0 },
+    ghost counted: { failed ≡ true → 0 < inner.faults },
 }
 
 impl LoadDisk {

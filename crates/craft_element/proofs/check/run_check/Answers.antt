@@ -24,6 +24,31 @@ check-requires-clause-room g c =
 pub returns-in-Err-clause-opens : goal.returns-in-Err-clause-opens
 returns-in-Err-clause-opens g c = inl (c.in-Err.ensures.opened, refl)
 
+pub returns-in_default-clause-opens : goal.returns-in_default-clause-opens
+returns-in_default-clause-opens g c =
+    let f = c.in-Ok.ensures.opened.0.0 in
+    let x = c.in-Ok.element.controller in
+    let st = c.in-Ok.ensures.opened.0.1 in
+    let told = g.O.Journal.Disk.told in
+    let state = g.O.Journal.Disk.state in
+    inr (
+      f,
+      opening_of state x.state,
+      begun told state f.disk f.shelf _ x st,
+      users_began told state g.O.Opener.told _ _ f.shelf c.in-Ok.element.users c.in-Ok.ensures.opened.1,
+      (
+        c.in-Ok.ensures.unstopped,
+        inr (refl, refl),
+        record {
+          element = c.in-Ok.element;
+          let_go = c.let_go.ensures;
+          started = st;
+          opening_is = refl;
+          users_started = c.in-Ok.ensures.opened.1.1;
+        },
+      ),
+    )
+
 pub returns-clause-opens : goal.returns-clause-opens
 returns-clause-opens g c =
     let f = c.in-Ok.ensures.opened.0.0 in
@@ -38,14 +63,14 @@ returns-clause-opens g c =
       users_began told state g.O.Opener.told _ _ f.shelf c.in-Ok.element.users c.in-Ok.ensures.opened.1,
       (
         c.in-Ok.ensures.unstopped,
-        record {
+        inl (record {
           sent = c.check.result;
           wrote = listed_first told state f.shelf x.state st.begins st.shape g.K.Link.told (g.K.Link.state c.args.terminal.now) (g.K.Link.state c.check.new.link) c.check.result c.check.ensures.sent;
           status_is = c.of_sent-status.ensures;
-        },
+        }),
         record {
           element = c.in-Ok.element;
-          let_go = c.let_go.ensures;
+          let_go = c.let_go-2.ensures;
           started = st;
           opening_is = refl;
           users_started = c.in-Ok.ensures.opened.1.1;

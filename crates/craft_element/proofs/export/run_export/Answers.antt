@@ -28,6 +28,31 @@ write_commands-requires g c =
 pub returns-in-Err-clause-opens : goal.returns-in-Err-clause-opens
 returns-in-Err-clause-opens g c = inl (c.in-Err.ensures.opened, refl)
 
+pub returns-in_default-clause-opens : goal.returns-in_default-clause-opens
+returns-in_default-clause-opens g c =
+    let f = c.in-Ok.ensures.opened.0.0 in
+    let x = c.in-Ok.element.controller in
+    let st = c.in-Ok.ensures.opened.0.1 in
+    let told = g.O.Journal.Disk.told in
+    let state = g.O.Journal.Disk.state in
+    inr (
+      f,
+      opening_of state x.state,
+      begun told state f.disk f.shelf _ x st,
+      users_began told state g.O.Opener.told _ _ f.shelf c.in-Ok.element.users c.in-Ok.ensures.opened.1,
+      (
+        c.in-Ok.ensures.unstopped,
+        inr (refl, refl),
+        record {
+          element = c.in-Ok.element;
+          let_go = c.let_go.ensures;
+          started = st;
+          opening_is = refl;
+          users_started = c.in-Ok.ensures.opened.1.1;
+        },
+      ),
+    )
+
 pub returns-clause-opens : goal.returns-clause-opens
 returns-clause-opens g c =
     let f = c.in-Ok.ensures.opened.0.0 in
@@ -42,16 +67,16 @@ returns-clause-opens g c =
       users_began told state g.O.Opener.told _ _ f.shelf c.in-Ok.element.users c.in-Ok.ensures.opened.1,
       (
         c.in-Ok.ensures.unstopped,
-        record {
+        inl (record {
           sent = c.write_commands.result;
           wrote = subst (λ (l : List ℕ). IsSent g.K.Link.told (g.K.Link.state c.args.terminal.now) (g.K.Link.state c.write_commands.new.link) c.write_commands.result l)
               (script_first told state f.shelf x.state st.begins st.shape c.shape.result c.equipped.result c.deref-3.result.now (c.shape.ensures ∙ ap (λ (s : Contents). s.shape) (c.deref-2.ensures ∙ st.shelf)) (c.equipped.ensures.value ∙ ap (λ (s : Contents). s.equipped) (c.deref.ensures ∙ st.shelf)) (c.deref-3.ensures.value ∙ c.in-Ok-changes_to.ensures.changes))
               c.write_commands.ensures.sent;
           status_is = c.of_sent-status.ensures;
-        },
+        }),
         record {
           element = c.in-Ok.element;
-          let_go = c.let_go.ensures;
+          let_go = c.let_go-2.ensures;
           started = st;
           opening_is = refl;
           users_started = c.in-Ok.ensures.opened.1.1;

@@ -1,7 +1,7 @@
 use Rattle.std.proofs.Common.{[], ◌∷◌, Ok, Err, ◌∙◌, inl, inr, true≢false, sym, refl}
 use Rattle.std.proofs.lemmas.Result.{err_from_is_err_and}
 use Rattle.craft_element.specs.Openings.{named, sources, users_name}
-use Rattle.craft_element.proofs.Starting.{with_users}
+use Rattle.craft_element.proofs.Starting.{users_kept, with_users}
 use Rattle.dxc_outside.specs.Asked.{journal_named, shelf_named}
 use Rattle.dxc_outside.proofs.Asking.{all_made, asked_behind, asked_within}
 use Rattle.craft_element.proofs.opening.open.Goals as goal
@@ -32,7 +32,7 @@ returns-in-Err-clause-opened g c =
     )
 
 pub returns-in_err-controller-clause-opened : goal.returns-in_err-controller-clause-opened
-returns-in_err-controller-clause-opened g c = let p = err_from_is_err_and c.from_residual.result c.from_residual.ensures.1 in rw (p.1, p.2) (inl c.in_err-controller.ensures.opened)
+returns-in_err-controller-clause-opened g c = let p = err_from_is_err_and c.from_residual.result c.from_residual.ensures.1 in rw (p.1, p.2) (inl (c.in_err-controller.ensures.opened, users_kept g.O.Opener.told c.args.names.journal.now (g.O.Opener.journal_at c.args.opener.now) (g.O.Opener.journal_at c.open_controller.new.opener) c.in_err-controller.ensures.others))
 
 pub returns-in-Ok-clause-asked : goal.returns-in-Ok-clause-asked
 returns-in-Ok-clause-asked g c =

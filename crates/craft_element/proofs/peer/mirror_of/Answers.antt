@@ -2,14 +2,21 @@ use Rattle.std.proofs.Common.{◌∙◌, [], ◌∷◌, arith, inl, inr, refl, t
 use Rattle.craft_jobs.proofs.Handing.{handed}
 use Rattle.craft_jobs.proofs.Counting.{rose_behind}
 use Rattle.dxc_outside.specs.Asked.{journal_named, peer_named}
+use Rattle.dxc_outside.specs.declared.opened.Opened.TheVariants.{Failed, NoMemory}
 use Rattle.dxc_outside.proofs.Asking.{asked_all, asked_part}
+use Rattle.craft_element.proofs.Starting.{kept_by}
 use Rattle.craft_element.proofs.peer.mirror_of.Goals as goal
 
 pub returns-in-Failed-clause-mirror : goal.returns-in-Failed-clause-mirror
-returns-in-Failed-clause-mirror g c = inr (refl, c.journal.ensures.opening.cause.cause c.in-Failed.is)
+returns-in-Failed-clause-mirror g c =
+    let at = g.O.Opener.journal_at in
+    let e = c.journal.ensures.opening in
+    (inr (refl, e.cause.cause c.in-Failed.is), inl (kept_by g.O.Opener.told c.args.journal.now (at c.args.opener.now) (at c.args.opener.now) (at c.journal.new.self) c.journal.result Failed c.in-Failed.is tt (λ t n. refl) e.hands))
 
 pub returns-in-NoMemory-clause-mirror : goal.returns-in-NoMemory-clause-mirror
-returns-in-NoMemory-clause-mirror g c = inl refl
+returns-in-NoMemory-clause-mirror g c =
+    let at = g.O.Opener.journal_at in
+    (inl refl, inl (kept_by g.O.Opener.told c.args.journal.now (at c.args.opener.now) (at c.args.opener.now) (at c.journal.new.self) c.journal.result NoMemory c.in-NoMemory.is tt (λ t n. refl) c.journal.ensures.opening.hands))
 
 pub returns-in-Open-peer-clause-mirror : goal.returns-in-Open-peer-clause-mirror
 returns-in-Open-peer-clause-mirror g c = record {
@@ -24,10 +31,28 @@ returns-in-Open-peer-clause-mirror g c = record {
 }
 
 pub returns-in-Failed-peer-clause-mirror : goal.returns-in-Failed-peer-clause-mirror
-returns-in-Failed-peer-clause-mirror g c = inr (refl, rose_behind _ _ _ c.journal.ensures.opening.cause.later (c.peer.ensures.cause.cause c.in-Failed-peer.is))
+returns-in-Failed-peer-clause-mirror g c =
+    let at = g.O.Opener.journal_at in
+    let e = c.journal.ensures.opening in (
+      inr (refl, rose_behind _ _ _ e.cause.later (c.peer.ensures.cause.cause c.in-Failed-peer.is)),
+      inr (record {
+        disk = c.in-Open.disk;
+        handed = handed g.O.Opener.told (at c.args.opener.now) (at c.args.opener.now) (at c.journal.new.self) c.journal.result c.in-Open.disk c.args.journal.now (λ t n. refl) c.in-Open.is e.hands;
+        let_go = c.let_go.ensures;
+      }),
+    )
 
 pub returns-in-NoMemory-peer-clause-mirror : goal.returns-in-NoMemory-peer-clause-mirror
-returns-in-NoMemory-peer-clause-mirror g c = inl refl
+returns-in-NoMemory-peer-clause-mirror g c =
+    let at = g.O.Opener.journal_at in
+    let e = c.journal.ensures.opening in (
+      inl refl,
+      inr (record {
+        disk = c.in-Open.disk;
+        handed = handed g.O.Opener.told (at c.args.opener.now) (at c.args.opener.now) (at c.journal.new.self) c.journal.result c.in-Open.disk c.args.journal.now (λ t n. refl) c.in-Open.is e.hands;
+        let_go = c.let_go-in-NoMemory-peer.ensures;
+      }),
+    )
 
 pub returns-in-Failed-clause-others : goal.returns-in-Failed-clause-others
 returns-in-Failed-clause-others g c = c.journal.ensures.opening.others

@@ -1,6 +1,7 @@
 use Rattle.craft_element.specs.Openings.{named, sources}
-use Rattle.craft_element.proofs.Mirroring.{mirror_behind, mirrored}
-use Rattle.std.proofs.Common.{[], ◌∷◌, refl, true≢false, sym}
+use Rattle.craft_element.proofs.Mirroring.{mirror_behind, mirrored, unused_behind}
+use Rattle.craft_element.proofs.Starting.{unopened_behind}
+use Rattle.std.proofs.Common.{[], ◌∷◌, inl, inr, refl, true≢false, sym}
 use Rattle.std.proofs.lemmas.Result.{err_from_is_err_and}
 use Rattle.dxc_outside.specs.Asked.{journal_named, peer_named, shelf_named}
 use Rattle.dxc_outside.proofs.Asking.{asked_behind, asked_less, asked_part}
@@ -18,6 +19,26 @@ returns-clause-opened g c =
       mirror = c.in_ok-mirror.mirror;
       mirrors = mirror_behind told g.O.Peer.Link.told state g.O.Peer.Link.state g.O.Opener.told _ _ _ _ c.in_ok-shelf.ensures.journals c.in_ok-mirror.ensures.mirror;
     }) c.start.result c.start.ensures.started
+
+pub returns-in_err-shelf-clause-opened : goal.returns-in_err-shelf-clause-opened
+returns-in_err-shelf-clause-opened g c =
+    let p = err_from_is_err_and c.from_residual.result c.from_residual.ensures.1 in
+    rw (p.1, p.2) (inl (refl, c.in_err-shelf.ensures.shelf, λ t. c.in_err-shelf.ensures.journals t c.args.names.journal.now))
+
+pub returns-in_err-mirror-clause-opened : goal.returns-in_err-mirror-clause-opened
+returns-in_err-mirror-clause-opened g c =
+    let p = err_from_is_err_and c.from_residual-in_err-mirror.result c.from_residual-in_err-mirror.ensures.1 in
+    let e = c.in_err-mirror.ensures.mirror in
+    let at = g.O.Opener.journal_at in
+    rw (p.1, p.2) (inr (inl (
+      c.in_ok-shelf.shelf,
+      c.in_ok-shelf.ensures.shelf,
+      refl,
+      (
+        unopened_behind _ _ _ _ c.in_ok-shelf.ensures.later e.0,
+        unused_behind g.O.Opener.told g.O.LetGo.gone c.args.names.journal.now (at c.args.opener.now) (at c.shelf_of_file.new.opener) (at c.mirror_of.new.opener) c.in_ok-shelf.ensures.journals e.1,
+      ),
+    )))
 
 pub returns-clause-asked : goal.returns-clause-asked
 returns-clause-asked g c =
