@@ -2,17 +2,18 @@
 ghost use Rattle.std.specs.Prelude.{◌≡◌, ◌≢◌, ◌≤◌, true, [], IfSome, None, is_some, length, map};
 ghost use Rattle.dxc_causes.specs.Causes.{Rose};
 ghost use Rattle.dxc_num.specs.Dimensions.{Dimensions};
+ghost use Rattle.dxc_model.specs.declared.user.SessionUser.{SessionUser as AUser};
 ghost use Rattle.tl1_text.specs.Spans.{AreBlocksOf, block_at};
 ghost use Rattle.tl1_text.specs.Tags.{ctag_of as tag_in};
 ghost use Rattle.tl1_text.specs.Units.{whole};
 ghost use Rattle.tl1_command.specs.Blocks.{code_text};
-ghost use Rattle.tl1_command.specs.Commands.{asked_by, IsAptCommand};
+ghost use Rattle.tl1_command.specs.Commands.{asked_by, asked_often, IsAptCommand, IsAptOften};
 ghost use Rattle.user_admin.specs.Spellable.{NamesUid};
 ghost use Rattle.user_admin.specs.Verdicts.{IsChanging};
 ghost use Rattle.craft_session.specs.Asks.{IsAptAsk};
 ghost use Rattle.craft_session.specs.Desks.{ConsultedIs, put_down};
 ghost use Rattle.craft_session.specs.Gated.{NothingAsked};
-ghost use Rattle.craft_session.specs.Hearing.{AskedIs, IsAsked, to_do};
+ghost use Rattle.craft_session.specs.Hearing.{AskedIs, Heard, IsAsked, nothing, to_do};
 ghost use Rattle.tl1_command.specs.Meanings.{meaning};
 ghost use Rattle.user_admin.specs.Commands.{code_named, user_meaning};
 ghost use Rattle.craft_session.specs.Meanings.{command_ask, command_wants, heard_ask, is_other_user as other_user, log_in, login_wants, named_by, op_wants, session_ask, session_wants, table_ask, users_ask, users_want};
@@ -21,12 +22,12 @@ ghost use Rattle.craft_session.specs.Seats.{IsSameUserSeat};
 use crate::ask::Ask;
 use crate::users::UserDesk;
 use dxc_disk::Disk;
-use dxc_model::{Cause, Class, Op, SessionUser, Uid};
+use dxc_model::{Cause, Cct, Class, Conn, Label, Op, SessionUser, Uid};
 use dxc_outside::{Gate, Pass1};
 use shelf_file::Shelf;
 use std::sync::Wait;
 use tl1_command::parts::block_text;
-use tl1_command::{Command, command_with};
+use tl1_command::{Command, Frequent, command_with, frequent_of};
 use tl1_text::grammar::blocks;
 use tl1_text::{Blocks, Ctag, ctag_in, ctag_of};
 use user_admin::turns::UserTook;
@@ -64,10 +65,15 @@ pub fn consult<U: Disk + Drop, G: Gate, R: Wait>(
     };
     *tag = ctag_in(unit, &found);
     let tagged = tag.is_some();
+    if let Some(often) = frequent_of(shelf.shape(), shelf.sid(), user, unit, &found, tagged) {
+        on_frequent(often, ask);
+        return Pass1::Go;
+    }
     ask_in(shelf, users, user, unit, &found, tagged, ask, gate, rt)
 }
 
 /// What a unit in the grammar asks. The blocks are the unit's. One that is no command may be one of the users'.
+#[inline(never)]
 fn ask_in<U: Disk + Drop, G: Gate, R: Wait>(
     shelf: &Shelf,
     users: &mut UserDesk<U>,
@@ -202,6 +208,27 @@ fn is_other_user(user: &SessionUser, name: &[u8]) -> bool
         SessionUser::User { uid, .. } => {
             !name.is_empty() && !name.eq_ignore_ascii_case(uid.bytes())
         }
+    }
+}
+
+/// What a frequent unit asks.
+#[inline(always)]
+fn on_frequent(often: Frequent, ask: &mut Ask)
+    ensures asked { (user : AUser) (x : Heard)
+        → session_ask user x (asked_often often) ≡ ask.new }
+    ensures unasked { session_wants (asked_often often) ≡ nothing }
+    ensures apt { (d : Dimensions) → IsAptOften d often → IsAptAsk d ask.new }
+{
+    match often {
+        Frequent::Header => *ask = Ask::Completes,
+        Frequent::Rows(selection) => *ask = Ask::Lists(selection),
+        Frequent::Enter { from, to, cct } => *ask = Ask::Changes(Op::Enter(Conn {
+            from,
+            to,
+            cct: cct.unwrap_or(Cct::OneWay),
+            label: Label::default(),
+        })),
+        Frequent::Delete { from, to, cct } => *ask = Ask::Changes(Op::Delete { from, to, cct }),
     }
 }
 

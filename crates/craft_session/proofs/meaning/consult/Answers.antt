@@ -1,9 +1,18 @@
-use Rattle.std.proofs.Common.{List, Option, refl, ap, sym, subst}
+use Rattle.std.specs.Prelude.{IfSome}
+use Rattle.std.specs.Option.{is_some}
+use Rattle.std.proofs.Common.{◌≡◌, List, Option, Ok, map, refl, ap, ap₂, sym, subst, ◌∙◌, ℕ}
+use Rattle.dxc_num.specs.Dimensions.{Dimensions}
 use Rattle.tl1_text.specs.Grammar.{Block}
 use Rattle.tl1_text.specs.Units.{whole}
+use Rattle.tl1_text.specs.Spans.{block_at}
+use Rattle.tl1_command.specs.declared.frequent.Frequent.{Frequent}
+use Rattle.tl1_command.specs.Commands.{asked_often, IsAptOften}
+use Rattle.tl1_command.specs.Meanings.{meaning}
+use Rattle.tl1_command.proofs.TagFacts.{tagged_is}
+use Rattle.craft_session.specs.Asks.{IsAptAsk}
 use Rattle.craft_session.specs.Desks.{put_down}
 use Rattle.craft_session.specs.Hearing.{AskedIs, unasked}
-use Rattle.craft_session.specs.Meanings.{text_ask, text_wants}
+use Rattle.craft_session.specs.Meanings.{command_ask, command_wants, text_ask, text_wants}
 use Rattle.craft_session.proofs.Consulted.{asked_nothing, consulted_by}
 use Rattle.craft_session.proofs.Ends.{stop_went, stayed}
 use Rattle.craft_session.proofs.meaning.consult.Goals as goal
@@ -16,6 +25,33 @@ returns-in_default g c =
       same = (refl, refl, refl, refl);
       consulted = (c.ctag_of.ensures, asked_nothing _ _ _ _ _ (g.G.Gate.asked c.args.gate.now c.args.gate.now) (g.G.Gate.unasked c.args.gate.now) (ap (λ (o : Option (List Block)). text_wants s user o) c.in_default.ensures) (sym (ap (λ (o : Option (List Block)). text_ask s user unasked o) c.in_default.ensures)) c.requires.no_rows);
       apt = λ _. tt;
+      unstopped = λ _. refl;
+      stopped = λ is. stop_went is;
+      later = stayed _ _ refl;
+    }
+
+pub frequent_of-requires-clause-tagged : goal.frequent_of-requires-clause-tagged
+frequent_of-requires-clause-tagged g c = c.is_some-tagged.ensures ∙ (ap (λ (t : Option (List ℕ)). is_some t) c.ctag_in.ensures ∙ tagged_is c.args.unit.now c.in-Ok.found.block.items c.in-Ok.ensures)
+
+pub returns-in-Some : goal.returns-in-Some
+returns-in-Some g c =
+    let s = c.args.shelf.now in
+    let user = c.args.user.now in
+    let bs = map (block_at c.args.unit.now) c.in-Ok.found.block.items in
+    let meant : meaning c.shape.result c.sid.result.now user bs ≡ Ok (asked_often c.in-Some.often) = subst (λ (o : Option Frequent). IfSome o (λ f. meaning c.shape.result c.sid.result.now user bs ≡ Ok (asked_often f))) c.in-Some.is c.frequent_of.ensures.meaning in
+    let is : meaning s.shape s.sid user bs ≡ Ok (asked_often c.in-Some.often) = sym (ap₂ (λ (d : Dimensions) (sid : List ℕ). meaning d sid user bs) c.shape.ensures c.sid.ensures) ∙ meant in
+    let fit = subst (λ (o : Option Frequent). IfSome o (IsAptOften c.shape.result)) c.in-Some.is c.frequent_of.ensures.apt in
+    let often = c.on_frequent.ensures in
+    record {
+      same = (refl, refl, refl, refl);
+      consulted = (
+        c.ctag_in.ensures,
+        asked_nothing _ _ _ _ _ (g.G.Gate.asked c.args.gate.now c.args.gate.now) (g.G.Gate.unasked c.args.gate.now)
+            (ap (λ (o : Option (List Block)). text_wants s user o) c.in-Ok.ensures.reading ∙ (ap (command_wants s user bs) is ∙ often.unasked))
+            (sym (ap (λ (o : Option (List Block)). text_ask s user unasked o) c.in-Ok.ensures.reading ∙ (ap (command_ask s user unasked bs) is ∙ often.asked user unasked)))
+            c.requires.no_rows,
+      );
+      apt = λ _. subst (λ (d : Dimensions). IsAptAsk d c.on_frequent.new.ask) c.shape.ensures (often.apt c.shape.result fit);
       unstopped = λ _. refl;
       stopped = λ is. stop_went is;
       later = stayed _ _ refl;
