@@ -13,7 +13,7 @@ use Rattle.craft_words.specs.declared.status.Status.{Status}
 use Rattle.craft_words.specs.declared.status.Status.TheVariants.{Done, CannotOpen, NoThread, NoMemory}
 use Rattle.craft_element.specs.Openings.{Sources}
 use Rattle.craft_server.specs.Runs.{Lent, RanServe}
-use Rattle.craft_server.specs.Serving.{HandedJobs, IsServing, JobsTold, ServedSite, SiteAt}
+use Rattle.craft_server.specs.Serving.{CameTo, IsServing, JobsTold, LeftPlaces, ServedSite, SiteAt}
 
 module _ (jobs faults later : ℕ) (old new : SpawnerState) where
   -- all were started
@@ -70,11 +70,12 @@ serving_behind jobs faults mid later old new status more s = record {
 module _ (D U : Type 0) {N L C G : Type 0} (told : JobsTold N L C G) where
   -- and by the shelf that was found
   pub served_on : (site : SiteAt) {J : Type 0} (before after : Sources J) (mid : ℕ) (old new : SpawnerState) (s t : Contents) (o : Opening) (p : UsersOpening) (status : Status) → after.stops ≡ before.stops → before.opener.faults ≤ mid → t ≡ s
-      → IsServing (site.workers + 16) mid after.opener.faults old new status → (status ≡ Done → HandedJobs D U told site t o p) → ServedSite D U told site before after old new s o p status
-  served_on site before after mid old new s t o p status unstopped later same serving jobs = record {
+      → IsServing (site.workers + 16) mid after.opener.faults old new status → CameTo D U told site status t o p → (status ≡ CannotOpen → LeftPlaces told.gone t o p) → ServedSite D U told site before after old new s o p status
+  served_on site before after mid old new s t o p status unstopped later same serving jobs closed = record {
     gate = unstopped;
     serving = serving_behind (site.workers + 16) before.opener.faults mid after.opener.faults old new status later serving;
-    jobs = λ done. subst (λ (r : Contents). HandedJobs D U told site r o p) same (jobs done);
+    jobs = subst (λ (r : Contents). CameTo D U told site status r o p) same jobs;
+    closed = λ none. subst (λ (r : Contents). LeftPlaces told.gone r o p) same (closed none);
   }
 
   -- with terminal and clock as they were, at the site that a line names

@@ -24,7 +24,7 @@ use Rattle.craft_element.specs.Listings.{IsCheck}
 use Rattle.craft_server.specs.Loads.{IsLoad}
 use Rattle.craft_element.specs.Openings.{Began, Found, Named, OpenedOn, Opens, Sources, WasLetGo, named, opened_on}
 use Rattle.craft_element.specs.Peers.{Mirrors}
-use Rattle.craft_server.specs.Scripts.{RanAndLeft}
+use Rattle.craft_server.specs.Scripts.{IsUnplaced, RanAndLeft}
 use Rattle.craft_server.specs.Trials.{IsTrialOn, memory_told, trial_lent}
 use Rattle.craft_server.specs.Serving.{JobsTold, ServedSite, SiteAt, named_in, site_at}
 use Rattle.craft_jobs.specs.Standbys.{StandsBy}
@@ -64,12 +64,12 @@ pub record IsUntouched {D : Type 0} (before after : Lent D) : Type 0 where
   pub spawner : after.spawner ≡ before.spawner
 
 module _ (told : Told) {D : Type 0} (state : D → DiskState) where
-  -- one session was served over the terminal, and the place was let go as it left it
+  -- one session was served over the terminal, and the place was let go as it left it; or memory was wanting for the place
   pub record RanScript (before after : Lent D) (s : Contents) (o : Opening) (p : UsersOpening) (disk users_disk : D) (status : Status) : Type 0 where
-    pub session : RanAndLeft told.disk told.terminal told.clock told.terminal_begun told.gone (state disk) (state users_disk) Nobody s o p before.terminal after.terminal before.clock after.clock before.sources.stops after.sources.stops status
+    pub session : RanAndLeft told.disk told.terminal told.clock told.terminal_begun told.gone (state disk) (state users_disk) Nobody s o p before.terminal after.terminal before.clock after.clock before.sources.stops after.sources.stops status ⊎ IsUnplaced before.terminal after.terminal before.clock after.clock before.sources.stops after.sources.stops status
     pub spawner : after.spawner ≡ before.spawner
 
-  -- the table was written to the terminal, and what was opened was let go as it was opened
+  -- the table was written to the terminal, unless memory was wanting, and what was opened was let go as it was opened
   pub record RanCheck (before after : Lent D) (on : OpenedOn D) (status : Status) : Type 0 where
     pub check : IsCheck told.terminal on.shelf on.opening before.terminal after.terminal status
     pub let_go : WasLetGo told.disk state told.gone on
@@ -77,7 +77,7 @@ module _ (told : Told) {D : Type 0} (state : D → DiskState) where
     pub spawner : after.spawner ≡ before.spawner
     pub gate : after.sources.stops ≡ before.sources.stops
 
-  -- the commands that make the table were written to the terminal, and what was opened was let go as it was opened
+  -- the commands that make the table were written to the terminal, unless memory was wanting, and what was opened was let go as it was opened
   pub record RanExport (before after : Lent D) (on : OpenedOn D) (status : Status) : Type 0 where
     pub export : IsExport told.terminal on.shelf on.opening before.terminal after.terminal status
     pub let_go : WasLetGo told.disk state told.gone on

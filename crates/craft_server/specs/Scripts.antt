@@ -16,7 +16,7 @@ use Rattle.craft_session.specs.Scripts.{IsScript}
 use Rattle.craft_session.specs.Seats.{IsSameSeat, IsSameUserSeat, PlaceAt}
 use Rattle.craft_session.specs.Sessions.{IsPrompt, IsServed}
 use Rattle.craft_words.specs.declared.status.Status.{Status}
-use Rattle.craft_words.specs.declared.status.Status.TheVariants.{Done, Link, Stopped, Spent}
+use Rattle.craft_words.specs.declared.status.Status.TheVariants.{Done, Link, NoMemory, Stopped, Spent}
 use Rattle.craft_server.specs.Statuses.{status_of}
 
 -- one session from the opening on that began with this user, by its end, and the status; so many stops were before and after it
@@ -42,3 +42,10 @@ pub record RanAndLeft (disk_told told clock_told : Type 0) (begun : LinkState �
   pub session : IsServed (language_for first s) told clock_told k l c d (place_at s o p ran.turnstiles 0).seat left.seat (place_at s o p ran.turnstiles 0).users left.users ran.end
   pub seat : IsSameSeat (place_at s o p ran.turnstiles 0).seat left.seat
   pub users : IsSameUserSeat (place_at s o p ran.turnstiles 0).users left.users
+
+-- memory was wanting for the place, and nothing was read or written
+pub record IsUnplaced (k l : LinkState) (c d : List Moment) (stops later : ℕ) (status : Status) : Type 0 where
+  pub no_memory : status ≡ NoMemory
+  pub link : l ≡ k
+  pub clock : d ≡ c
+  pub unstopped : later ≡ stops

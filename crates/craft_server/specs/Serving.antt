@@ -1,11 +1,13 @@
 -- The serving of callers, and the program's jobs.
-use Rattle.std.specs.Prelude.{◌≡◌, ◌≢◌, ℕ, ◌+◌, ◌≤◌, ◌⊎◌, true, All, List, [], ◌++◌, length, map, Option, None}
+use Rattle.std.specs.Prelude.{◌≡◌, ◌≢◌, ℕ, ◌+◌, ◌≤◌, ◌⊎◌, true, All, List, [], ◌++◌, length, map, Option, None, Vec}
+use Rattle.std.specs.declared.alloc.Global.{Global}
 use Rattle.dxc_causes.specs.Causes.{Rose}
 use Rattle.dxc_outside.specs.declared.gate.Gate.{Ghosts as GateOf}
 use Rattle.dxc_outside.specs.declared.lines.Lines.{Ghosts as LinesOf}
 use Rattle.dxc_outside.specs.declared.link.Link.{Ghosts as LinkOf}
 use Rattle.dxc_outside.specs.declared.listener.Listener.{Ghosts as ListenerOf}
 use Rattle.dxc_outside.specs.declared.opener.Opener.{Ghosts as OpenerOf}
+use Rattle.dxc_outside.specs.declared.spawner.Started.TheVariants.{Failed}
 use Rattle.dxc_outside.specs.Jobs.{AnyJob, any_jobs}
 use Rattle.dxc_outside.specs.Threads.{SpawnerState}
 use Rattle.dxc_leaving.specs.Values.{AnyValue, any_value}
@@ -23,7 +25,7 @@ use Rattle.craft_jobs.specs.declared.begun.RanAll.{RanAll}
 use Rattle.craft_jobs.specs.declared.frames.FrameJob.{FrameJob}
 use Rattle.craft_jobs.specs.declared.frames_left.FramesDone.{FramesDone}
 use Rattle.craft_jobs.specs.declared.frames_left.FramesLeft.{FramesLeft}
-use Rattle.craft_jobs.specs.Begun.{AreRan}
+use Rattle.craft_jobs.specs.Begun.{AreRan, RanTo}
 use Rattle.craft_jobs.specs.Counts.{RoseBy}
 use Rattle.craft_jobs.specs.Framed.{RanFrames}
 use Rattle.craft_jobs.specs.Handed.{AreJobsOf}
@@ -123,11 +125,24 @@ pub record AreLeft {J K E F : Type 0} (gone : AnyValue → Type 0) (carried : J 
   pub of_workers : AreRan carried workers left.workers.items
   pub of_sessions : AreRan served sessions left.sessions.items
 
+-- What those of these jobs left that were started, where a start failed: they stand in front of the one whose start failed, each has run, and what they left was let go.
+pub record AreLeftTo {J K E F : Type 0} (gone : AnyValue → Type 0) (carried : J → E → Type 0) (served : K → F → Type 0) (workers : List J) (sessions : List K) : Type 0 where
+  pub left : RanAll E F
+  pub let_go : gone (any_value left)
+  pub of_workers : RanTo carried workers Failed left.workers.items
+  pub of_sessions : RanTo served sessions Failed left.sessions.items
+
+-- the sixteen places at what was opened were let go as they were made: none of them took a turn
+pub record LeftPlaces (gone : AnyValue → Type 0) (s : Contents) (o : Opening) (p : UsersOpening) : Type 0 where
+  pub places : Vec PlaceAt Global
+  pub let_go : gone (any_value places)
+  pub are : HasPlaces s o p 16 places.items
+
 module _ (D U : Type 0) {N L C G : Type 0} (told : JobsTold N L C G) (site : SiteAt) where
-  -- What the spawner was handed: a job for each worker of the opening's fabric, with its seat of it and lines that were handed out for it; behind these one for
-  -- each of 16 places of one turnstile, at the opening's state, and of one at its users, with a listener that was handed out at the address; and no other.
-  -- Each has run, and what it left was let go: the seat, as the worker's frames left it, and the place, as its sessions left it.
-  pub record HandedJobs (s : Contents) (o : Opening) (p : UsersOpening) : Type 0 where
+  -- The jobs of the site: one for each worker of the opening's fabric, with its seat of it and lines that were handed out for it; behind these one for
+  -- each of 16 places of one turnstile, at the opening's state, and of one at its users, with a listener that was handed out at the address; and no other. The
+  -- spawner was handed so much of them, and they left this.
+  pub record SiteJobs (spawned : List AnyJob → Type 0) (leaving : List (FrameJob N G) → List (SessionJob D U L C G) → Type 0) (s : Contents) (o : Opening) (p : UsersOpening) : Type 0 where
     pub workers : List (FrameJob N G)
     pub each : length workers ≡ site.workers
     pub sized : o.site.fabric.size ≡ record { shape = s.shape; workers = site.workers }
@@ -136,11 +151,26 @@ module _ (D U : Type 0) {N L C G : Type 0} (told : JobsTold N L C G) (site : Sit
     pub sixteen : length sessions ≡ 16
     pub places : HasPlaces s o p 16 (map (λ (job : SessionJob D U L C G). job.place) sessions)
     pub listeners : All (λ (job : SessionJob D U L C G). told.listener_for job.listener site.address) sessions
-    pub handed : told.handed (any_jobs workers ++ any_jobs sessions)
-    pub left : AreLeft told.gone (left_by told.carried) (left_by (told.served D U)) workers sessions
+    pub handed : spawned (any_jobs workers ++ any_jobs sessions)
+    pub left : leaving workers sessions
 
-  -- What came of serving the site on what was opened. The gate is asked no more once that is so; where the status is Done, these jobs were started.
+  -- The spawner was handed these jobs, and no other. Each has run, and what it left was let go: the seat, as the worker's frames left it, and the place, as its
+  -- sessions left it.
+  abbrev pub HandedJobs : Contents → Opening → UsersOpening → Type 0
+  HandedJobs s o p = SiteJobs told.handed (λ ws ss. AreLeft told.gone (left_by told.carried) (left_by (told.served D U)) ws ss) s o p
+
+  -- A start of them failed.
+  abbrev pub FailedJobs : Contents → Opening → UsersOpening → Type 0
+  FailedJobs s o p = SiteJobs (λ jobs. Unit {0}) (λ ws ss. AreLeftTo told.gone (left_by told.carried) (left_by (told.served D U)) ws ss) s o p
+
+  -- what came of the jobs, by the status
+  abbrev pub CameTo : Status → Contents → Opening → UsersOpening → Type 0
+  CameTo status s o p = (status ≡ Done → HandedJobs s o p) × (status ≡ NoThread → FailedJobs s o p)
+
+  -- What came of serving the site on what was opened. The gate is asked no more once that is so; where the status is Done, these jobs were started, and where it is
+  -- NoThread, some of them. Where something couldn't be opened, its places were let go.
   pub record ServedSite {J : Type 0} (before after : Sources J) (old new : SpawnerState) (s : Contents) (o : Opening) (p : UsersOpening) (status : Status) : Type 0 where
     pub gate : after.stops ≡ before.stops
     pub serving : IsServing (site.workers + 16) before.opener.faults after.opener.faults old new status
-    pub jobs : status ≡ Done → HandedJobs s o p
+    pub jobs : CameTo status s o p
+    pub closed : status ≡ CannotOpen → LeftPlaces told.gone s o p

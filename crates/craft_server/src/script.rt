@@ -1,9 +1,9 @@
-ghost use Rattle.std.specs.Prelude.{◌≡◌, ◌≢◌};
+ghost use Rattle.std.specs.Prelude.{◌≡◌, ◌≢◌, ◌⊎◌};
 ghost use Rattle.dxc_outside.specs.Asked.{AskedFor};
 ghost use Rattle.craft_jobs.specs.Missing.{IsOfNoOpening};
 ghost use Rattle.craft_element.specs.Openings.{Opens, files_asked, named, sources};
 ghost use Rattle.dxc_model.specs.declared.user.SessionUser.{SessionUser};
-ghost use Rattle.craft_server.specs.Scripts.{RanAndLeft};
+ghost use Rattle.craft_server.specs.Scripts.{IsUnplaced, RanAndLeft};
 ghost use Rattle.craft_server.specs.Statuses.{status_of};
 
 use craft_element::{Controller, Element, Names, WORKERS, open};
@@ -34,7 +34,9 @@ pub(crate) fn run_script<O: Opener + LetGo, K: Link, C: Clock, G: Gate, R: Wait>
         (λ f o u. RanAndLeft O.Journal.told K.told C.told K.begun O.gone (O.Journal.state f.disk)
         (O.Journal.state u.found.disk) SessionUser.Nobody f.shelf o u.opening (K.state terminal.old)
         (K.state terminal.new) (C.coming clock.old) (C.coming clock.new) (G.stops gate.old)
-        (G.stops gate.new) result) result }
+        (G.stops gate.new) result ⊎ IsUnplaced (K.state terminal.old) (K.state terminal.new)
+        (C.coming clock.old) (C.coming clock.new) (G.stops gate.old) (G.stops gate.new) result)
+        result }
     ensures asked { AskedFor (O.asked opener.old opener.new)
         (files_asked (named names.entry.shelf.now names.entry.journal.now)) (IsOfNoOpening result) }
     ensures hung_up { K.hung_up terminal.new ≡ K.hung_up terminal.old }

@@ -1,5 +1,5 @@
 //! Sessions and frame workers, side by side.
-ghost use Rattle.std.specs.Prelude.{◌≡◌, ◌↔◌, ◌≤◌, IsTrue, ◌+◌, ◌++◌, ℕ, length, vec_len, None, IsSome};
+ghost use Rattle.std.specs.Prelude.{◌≡◌, ◌↔◌, ◌≤◌, ◌⊎◌, IsTrue, ◌+◌, ◌++◌, [], ℕ, length, vec_len, None, IsSome};
 ghost use Rattle.std.specs.Arc.{arc_value};
 ghost use Rattle.dxc_outside.specs.Asked.{AskedFor};
 ghost use Rattle.dxc_outside.specs.Jobs.{any_jobs};
@@ -17,7 +17,7 @@ ghost use Rattle.craft_element.specs.Openings.{Opens, files_asked, named, source
 ghost use Rattle.craft_element.specs.Peers.{Mirrors};
 ghost use Rattle.craft_server.specs.Askings.{line_asked, site_asked};
 ghost use Rattle.craft_server.specs.Served.{RanAt};
-ghost use Rattle.craft_server.specs.Serving.{AreLeft, HandedJobs, IsServe, IsServing, ServedSite, jobs_told, named_in, peer_of, site_at, site_in};
+ghost use Rattle.craft_server.specs.Serving.{AreLeft, AreLeftTo, CameTo, IsServe, IsServing, LeftPlaces, ServedSite, jobs_told, named_in, peer_of, site_at, site_in};
 
 use crate::jobs::session_jobs;
 use crate::mirrored::serve_mirrored;
@@ -68,6 +68,12 @@ where
     ensures left { result ≡ Status.Done → AreLeft O.gone (left_by (RanFrames N.Lines G.Gate))
         (left_by (RanAt D.told L.Listener L.Link.Link C.Timestamps G.Gate)) workers.items
         sessions.items }
+    ensures opened { (result ≡ Status.CannotOpen) ⊎ (result ≡ Status.NoMemory) → ⊥ }
+    // So have those before the one whose start failed.
+    ensures left_to { result ≡ Status.NoThread → AreLeftTo O.gone
+        (left_by (RanFrames N.Lines G.Gate))
+        (left_by (RanAt D.told L.Listener L.Link.Link C.Timestamps G.Gate)) workers.items
+        sessions.items }
 {
     let ran = run_all(alloc, spawner, workers, sessions, rt);
     let started = ran.started;
@@ -89,7 +95,8 @@ pub(crate) struct Site<'a> {
     pub(crate) workers: u16,
 }
 
-/// Opens the lines of each worker and a listener for each of 16 places at the state and the users, and runs their jobs to their ends.
+/// Opens the lines of each worker and a listener for each of 16 places at the state and the users, and runs their jobs to their ends. Where one of them
+/// can't be opened the places are let go as they were made.
 pub(crate) fn serve_on<
     O: Opener + LetGo,
     D: Disk + Send + Drop + 'static,
@@ -123,11 +130,17 @@ where
         (arc_value fabric.now) }
     ensures serving { IsServing (site.entry.workers + 16) (O.state opener.old).faults
         (O.state opener.new).faults (P.state spawner.old) (P.state spawner.new) result }
-    ensures jobs { result ≡ Status.Done → HandedJobs D U
-        (jobs_told D.told O.Opener O.Lines.Lines O.Listener.Listener O.Listener.Link.Link
-        O.Clock.Timestamps O.Gate.Gate O.gone (P.handed spawner.old spawner.new))
-        (site_at site.entry.address.now site.entry.lines.now site.entry.workers)
+    ensures jobs { CameTo D U (jobs_told D.told O.Opener O.Lines.Lines O.Listener.Listener
+        O.Listener.Link.Link O.Clock.Timestamps O.Gate.Gate O.gone
+        (P.handed spawner.old spawner.new))
+        (site_at site.entry.address.now site.entry.lines.now site.entry.workers) result
         (arc_value shelf.now) (opening_of D.state state) (users_opening U.state users) }
+    ensures closed { result ≡ Status.CannotOpen → LeftPlaces O.gone (arc_value shelf.now)
+        (opening_of D.state state) (users_opening U.state users) }
+    // Memory may be wanting for the places too, before anything is asked for.
+    ensures no_memory { result ≡ Status.NoMemory → LeftPlaces O.gone (arc_value shelf.now)
+        (opening_of D.state state) (users_opening U.state users)
+        ⊎ O.asked opener.old opener.new [] }
     ensures asked { AskedFor (O.asked opener.old opener.new)
         (site_asked site.entry.lines.now site.entry.address.now site.entry.workers)
         (IsOfNoOpening result) }
@@ -137,7 +150,10 @@ where
     };
     let workers = match frame_jobs(alloc, opener, site.lines, site.workers, fabric, seats) {
         Ok(jobs) => jobs,
-        Err(status) => return status,
+        Err(status) => {
+            opener.let_go(places);
+            return status;
+        }
     };
     let sessions = match session_jobs(alloc, opener, site.address, places) {
         Ok(jobs) => jobs,

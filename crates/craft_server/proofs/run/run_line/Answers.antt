@@ -1,4 +1,4 @@
-use Rattle.std.proofs.Common.{◌≡◌, ◌+◌, ◌∙◌, [], ◌∷◌, ℕ, List, Option, refl, sym, ap, subst}
+use Rattle.std.proofs.Common.{◌≡◌, ◌+◌, ◌⊎◌, ◌∙◌, [], ◌∷◌, ℕ, List, Option, inl, inr, refl, sym, ap, subst}
 use Rattle.std.specs.Prelude.{IsSome}
 use Rattle.dxc_model.specs.declared.user.SessionUser.TheVariants.{Nobody}
 use Rattle.dxc_outside.specs.declared.clock.Moment.{Moment}
@@ -14,13 +14,13 @@ use Rattle.craft_element.specs.Openings.{WasLetGo, named, opened_on, sources}
 use Rattle.craft_element.specs.Exports.{IsExport}
 use Rattle.craft_element.specs.Listings.{IsCheck}
 use Rattle.craft_server.specs.Runs.{IsRunOf, IsUntouched, RanCheck, RanExport, RanScript, RanServe, lent, told_by}
-use Rattle.craft_server.specs.Scripts.{RanAndLeft}
+use Rattle.craft_server.specs.Scripts.{IsUnplaced, RanAndLeft}
 use Rattle.craft_jobs.specs.Standbys.{StandsBy}
 use Rattle.craft_server.specs.Serving.{IsServe, ServedSite, jobs_told, named_in, peer_of, site_at, site_in}
 use Rattle.craft_server.proofs.Loading.{load_words}
 use Rattle.craft_element.proofs.Mirroring.{mirrors_for}
 use Rattle.craft_element.proofs.Starting.{opens_for}
-use Rattle.craft_element.proofs.Wording.{mirrors_words, opens_words, sent_words}
+use Rattle.craft_element.proofs.Wording.{check_words, export_words, mirrors_words, opens_words}
 use Rattle.craft_jobs.proofs.Wording.{stands_words}
 use Rattle.craft_server.proofs.Mirroring.{serves_for}
 use Rattle.craft_server.proofs.Serves.{ran_serve}
@@ -42,7 +42,7 @@ returns-in-Script-clause-run g c = λ fit.
     let before = lent (sources (g.O.Opener.state c.args.opener.now) (g.O.Opener.journal_at c.args.opener.now) (g.G.Gate.stops c.args.gate.now)) (g.K.Link.state c.args.terminal.now) (g.C.Clock.coming c.args.clock.now) p in
     let after = lent (sources (g.O.Opener.state c.run_script.new.opener) (g.O.Opener.journal_at c.run_script.new.opener) (g.G.Gate.stops c.run_script.new.gate)) (g.K.Link.state c.run_script.new.terminal) (g.C.Clock.coming c.run_script.new.clock) p in
     let status = c.run_script.result in
-    let P : Contents → g.row.O-Journal.Denot → Opening → g.row.O-Journal.Denot → UsersOpening → Type 0 = λ s d o e u. RanAndLeft g.O.Journal.Disk.told g.K.Link.told g.C.Clock.told g.K.Link.begun g.O.LetGo.gone (state d) (state e) Nobody s o u before.terminal after.terminal before.clock after.clock before.sources.stops after.sources.stops status in
+    let P : Contents → g.row.O-Journal.Denot → Opening → g.row.O-Journal.Denot → UsersOpening → Type 0 = λ s d o e u. RanAndLeft g.O.Journal.Disk.told g.K.Link.told g.C.Clock.told g.K.Link.begun g.O.LetGo.gone (state d) (state e) Nobody s o u before.terminal after.terminal before.clock after.clock before.sources.stops after.sources.stops status ⊎ IsUnplaced before.terminal after.terminal before.clock after.clock before.sources.stops after.sources.stops status in
     let Q : Contents → g.row.O-Journal.Denot → Opening → g.row.O-Journal.Denot → UsersOpening → Type 0 = λ s d o e u. RanScript told state before after s o u d e status in
     let ran = opens_for told.disk state told.opener told.gone _ (named c.in-Script.shelf c.in-Script.journal) c.names_of-names.ensures before.sources after.sources ((after.terminal ≡ before.terminal) × (after.clock ≡ before.clock)) (IsUntouched before after) P Q status
     (λ u. record { terminal = u.0; clock = u.1; spawner = refl }) (λ s d o e u one. record { session = one; spawner = refl }) c.run_script.ensures.opens in
@@ -132,19 +132,19 @@ pub returns-in-Script-clause-words : goal.returns-in-Script-clause-words
 returns-in-Script-clause-words g c = λ fit bad.
     let before = sources (g.O.Opener.state c.args.opener.now) (g.O.Opener.journal_at c.args.opener.now) (g.G.Gate.stops c.args.gate.now) in
     let after = sources (g.O.Opener.state c.run_script.new.opener) (g.O.Opener.journal_at c.run_script.new.opener) (g.G.Gate.stops c.run_script.new.gate) in
-    opens_words g.O.Opener.told g.O.Journal.Disk.told g.O.Journal.Disk.state g.O.LetGo.gone _ before after _ _ c.run_script.result (λ f o u ran no. end_words ran.ran.end (sym ran.ran.status_is ∙ no)) c.run_script.ensures.opens bad
+    opens_words g.O.Opener.told g.O.Journal.Disk.told g.O.Journal.Disk.state g.O.LetGo.gone _ before after _ _ c.run_script.result (λ f o u ran no. elim ran [ inl one ↦ end_words one.ran.end (sym one.ran.status_is ∙ no) | inr none ↦ (let other = sym none.no_memory ∙ no in cc) ]) c.run_script.ensures.opens bad
 
 pub returns-in-Check-clause-words : goal.returns-in-Check-clause-words
 returns-in-Check-clause-words g c = λ fit bad.
     let before = sources (g.O.Opener.state c.args.opener.now) (g.O.Opener.journal_at c.args.opener.now) (g.G.Gate.stops c.args.gate.now) in
     let after = sources (g.O.Opener.state c.run_check.new.opener) (g.O.Opener.journal_at c.run_check.new.opener) (g.G.Gate.stops c.run_check.new.gate) in
-    opens_words g.O.Opener.told g.O.Journal.Disk.told g.O.Journal.Disk.state g.O.LetGo.gone _ before after _ _ c.run_check.result (λ f o u ran no. sent_words ran.1.sent (sym ran.1.status_is ∙ no)) c.run_check.ensures.opens bad
+    opens_words g.O.Opener.told g.O.Journal.Disk.told g.O.Journal.Disk.state g.O.LetGo.gone _ before after _ _ c.run_check.result (λ f o u ran no. check_words _ _ _ _ _ c.run_check.result ran.1 no) c.run_check.ensures.opens bad
 
 pub returns-in-Export-clause-words : goal.returns-in-Export-clause-words
 returns-in-Export-clause-words g c = λ fit bad.
     let before = sources (g.O.Opener.state c.args.opener.now) (g.O.Opener.journal_at c.args.opener.now) (g.G.Gate.stops c.args.gate.now) in
     let after = sources (g.O.Opener.state c.run_export.new.opener) (g.O.Opener.journal_at c.run_export.new.opener) (g.G.Gate.stops c.run_export.new.gate) in
-    opens_words g.O.Opener.told g.O.Journal.Disk.told g.O.Journal.Disk.state g.O.LetGo.gone _ before after _ _ c.run_export.result (λ f o u ran no. sent_words ran.1.sent (sym ran.1.status_is ∙ no)) c.run_export.ensures.opens bad
+    opens_words g.O.Opener.told g.O.Journal.Disk.told g.O.Journal.Disk.state g.O.LetGo.gone _ before after _ _ c.run_export.result (λ f o u ran no. export_words _ _ _ _ _ c.run_export.result ran.1 no) c.run_export.ensures.opens bad
 
 pub returns-in-Serve-clause-words : goal.returns-in-Serve-clause-words
 returns-in-Serve-clause-words g c = λ fit bad.

@@ -40,8 +40,22 @@ returns-clause-opens g c =
       opening_of state x.state,
       begun told state f.disk f.shelf _ x st,
       users_began told state g.O.Opener.told _ _ f.shelf users u,
-      ran_and_left told state g.K.Link.told g.C.Clock.told g.K.Link.begun k l (g.C.Clock.coming c.args.clock.now) (g.C.Clock.coming c.serve_session.new.clock) (g.G.Gate.stops c.args.gate.now) later Nobody f.shelf f.disk u.0.disk g.O.LetGo.gone _ x users c.in-Ok-lone_place.place c.serve_session.new.place c.serve_session.result c.after_session-status.result st u.1 c.in-Ok-lone_place.ensures e.place.seat e.place.users e.place.numbers e.place.users_numbers e.place.astray e.session e.prompt
-          (subst (λ (n : ℕ). IsEnd k l n later c.serve_session.result) c.in-Ok.ensures.unstopped ended) c.after_session-status.ensures c.let_go.ensures,
+      inl (ran_and_left told state g.K.Link.told g.C.Clock.told g.K.Link.begun k l (g.C.Clock.coming c.args.clock.now) (g.C.Clock.coming c.serve_session.new.clock) (g.G.Gate.stops c.args.gate.now) later Nobody f.shelf f.disk u.0.disk g.O.LetGo.gone _ x users c.in-Ok-lone_place.place c.serve_session.new.place c.serve_session.result c.after_session-status.result st u.1 c.in-Ok-lone_place.ensures e.place.seat e.place.users e.place.numbers e.place.users_numbers e.place.astray e.session e.prompt
+          (subst (λ (n : ℕ). IsEnd k l n later c.serve_session.result) c.in-Ok.ensures.unstopped ended) c.after_session-status.ensures c.let_go.ensures),
+    )
+
+pub returns-in_default-clause-opens : goal.returns-in_default-clause-opens
+returns-in_default-clause-opens g c =
+    let h = c.in-Ok.ensures.opened.0 in
+    let x = c.in-Ok.element.controller in
+    let told = g.O.Journal.Disk.told in
+    let state = g.O.Journal.Disk.state in
+    inr (
+      h.0,
+      opening_of state x.state,
+      begun told state h.0.disk h.0.shelf _ x h.1,
+      users_began told state g.O.Opener.told _ _ h.0.shelf c.in-Ok.element.users c.in-Ok.ensures.opened.1,
+      inr (record { no_memory = refl; link = refl; clock = refl; unstopped = c.in-Ok.ensures.unstopped }),
     )
 
 pub returns-in-Err-clause-asked : goal.returns-in-Err-clause-asked

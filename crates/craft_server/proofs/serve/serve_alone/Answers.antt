@@ -49,7 +49,7 @@ returns-clause-opens g c =
       opening_of state x.controller.state,
       begun told state h.0.disk h.0.shelf _ x.controller h.1,
       users_began told state g.O.Opener.told names before h.0.shelf x.users c.in-Ok.ensures.opened.1,
-      served_on g.row.O-Journal.Denot g.row.O-Journal.Denot jobs site before after _ p q h.0.shelf _ _ _ c.serve_on.result c.in-Ok.ensures.unstopped c.in-Ok.ensures.later h.1.shelf c.serve_on.ensures.serving c.serve_on.ensures.jobs,
+      served_on g.row.O-Journal.Denot g.row.O-Journal.Denot jobs site before after _ p q h.0.shelf _ _ _ c.serve_on.result c.in-Ok.ensures.unstopped c.in-Ok.ensures.later h.1.shelf c.serve_on.ensures.serving c.serve_on.ensures.jobs c.serve_on.ensures.closed,
     )
 
 pub returns-in-Err-clause-asked : goal.returns-in-Err-clause-asked

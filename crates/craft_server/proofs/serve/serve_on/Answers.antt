@@ -1,4 +1,4 @@
-use Rattle.std.proofs.Common.{◌+◌, ◌∙◌, [], ◌++◌, ℕ, List, ap, ap₂, arith, Err, refl, subst, sym, ◌≡◌, Bool, true}
+use Rattle.std.proofs.Common.{◌+◌, ◌∙◌, [], ◌++◌, ℕ, List, ap, ap₂, arith, Err, inl, inr, refl, subst, sym, ◌≡◌, Bool, true}
 use Rattle.std.specs.Arc.{arc_value}
 use Rattle.craft_words.specs.declared.status.Status.{Status}
 use Rattle.craft_words.specs.declared.status.Status.TheVariants.{NoMemory}
@@ -69,30 +69,82 @@ returns-clause-asked g c =
     asked_less (asked c.args.opener.now c.session_jobs.new.opener) _ (lines ++ listeners) (λ ends. refl)
     (asked_behind asked g.O.Opener.asked_on c.args.opener.now c.frame_jobs.new.opener c.session_jobs.new.opener lines listeners first behind)
 
+pub returns-in_default-clause-closed : goal.returns-in_default-clause-closed
+returns-in_default-clause-closed g c = λ none. cc
+
+pub returns-in-Err-clause-closed : goal.returns-in-Err-clause-closed
+returns-in-Err-clause-closed g c = λ none. record { places = c.in-Ok.places; let_go = c.let_go.ensures; are = c.in-Ok.ensures.places }
+
+pub returns-in-Err-session_jobs-clause-closed : goal.returns-in-Err-session_jobs-clause-closed
+returns-in-Err-session_jobs-clause-closed g c = λ none. record { places = c.in-Ok.places; let_go = c.in-Err-session_jobs.ensures.let_go; are = c.in-Ok.ensures.places }
+
+pub returns-clause-closed : goal.returns-clause-closed
+returns-clause-closed g c = λ none. absurd (c.run_jobs.ensures.opened (inl none))
+
+pub returns-in_default-clause-no_memory : goal.returns-in_default-clause-no_memory
+returns-in_default-clause-no_memory g c = λ none. inr (g.O.Opener.unasked c.args.opener.now)
+
+pub returns-in-Err-clause-no_memory : goal.returns-in-Err-clause-no_memory
+returns-in-Err-clause-no_memory g c = λ none. inl (record { places = c.in-Ok.places; let_go = c.let_go.ensures; are = c.in-Ok.ensures.places })
+
+pub returns-in-Err-session_jobs-clause-no_memory : goal.returns-in-Err-session_jobs-clause-no_memory
+returns-in-Err-session_jobs-clause-no_memory g c = λ none. inl (record { places = c.in-Ok.places; let_go = c.in-Err-session_jobs.ensures.let_go; are = c.in-Ok.ensures.places })
+
+pub returns-clause-no_memory : goal.returns-clause-no_memory
+returns-clause-no_memory g c = λ none. absurd (c.run_jobs.ensures.opened (inr none))
+
 pub returns-in_default-clause-jobs : goal.returns-in_default-clause-jobs
-returns-in_default-clause-jobs g c = λ done. cc
+returns-in_default-clause-jobs g c = (
+  λ done. cc,
+  λ none. cc,
+)
 
 pub returns-in-Err-clause-jobs : goal.returns-in-Err-clause-jobs
-returns-in-Err-clause-jobs g c = λ done. absurd (made_ends _ _ _ c.frame_jobs.ensures.made c.in-Err.status c.in-Err.is (subst IsOfNoOpening (sym done) tt))
+returns-in-Err-clause-jobs g c = (
+  λ done. absurd (made_ends _ _ _ c.frame_jobs.ensures.made c.in-Err.status c.in-Err.is (subst IsOfNoOpening (sym done) tt)),
+  λ none. absurd (made_ends _ _ _ c.frame_jobs.ensures.made c.in-Err.status c.in-Err.is (subst IsOfNoOpening (sym none) tt)),
+)
 
 pub returns-in-Err-session_jobs-clause-jobs : goal.returns-in-Err-session_jobs-clause-jobs
-returns-in-Err-session_jobs-clause-jobs g c = λ done. absurd (made_ends _ _ _ c.session_jobs.ensures.made c.in-Err-session_jobs.status c.in-Err-session_jobs.is (subst IsOfNoOpening (sym done) tt))
+returns-in-Err-session_jobs-clause-jobs g c = (
+  λ done. absurd (made_ends _ _ _ c.session_jobs.ensures.made c.in-Err-session_jobs.status c.in-Err-session_jobs.is (subst IsOfNoOpening (sym done) tt)),
+  λ none. absurd (made_ends _ _ _ c.session_jobs.ensures.made c.in-Err-session_jobs.status c.in-Err-session_jobs.is (subst IsOfNoOpening (sym none) tt)),
+)
 
 pub returns-clause-jobs : goal.returns-clause-jobs
-returns-clause-jobs g c = λ done.
-    let workers = c.in-Ok-frame_jobs.jobs in
-    let sessions = c.in-Ok-session_jobs.jobs in
-    let o = opening_of g.D.Disk.state c.args.state in
-    let p = users_opening g.U.Disk.state c.args.users in
-    record {
-      workers = workers.items;
-      each = let ok = workers.ok.0 in let each = c.in-Ok-frame_jobs.ensures.jobs in omega (arith, ok, each);
-      seats = subst (λ (f : FabricId). AreJobsOf g.O.Opener.lines_for f c.args.site.lines.now 0 workers.items) (sym c.requires.opening.fabric) c.in-Ok-frame_jobs.ensures.workers;
-      sessions = sessions.items;
-      sixteen = let ok = sessions.ok.0 in let all : vec_len sessions ≡ 16 = c.in-Ok-session_jobs.ensures.jobs ∙ c.in-Ok.ensures.each in omega (arith, ok, all);
-      places = subst (λ (l : List PlaceAt). HasPlaces (arc_value c.args.shelf.now) o p 16 l) (sym c.in-Ok-session_jobs.ensures.places) c.in-Ok.ensures.places;
-      listeners = c.in-Ok-session_jobs.ensures.listeners;
-      sized = ap (λ (f : FabricId). f.size) c.requires.opening.fabric ∙ c.requires.sized;
-      handed = c.run_jobs.ensures.handed done;
-      left = c.run_jobs.ensures.left done;
-    }
+returns-clause-jobs g c = (
+  λ done.
+      let workers = c.in-Ok-frame_jobs.jobs in
+      let sessions = c.in-Ok-session_jobs.jobs in
+      let o = opening_of g.D.Disk.state c.args.state in
+      let p = users_opening g.U.Disk.state c.args.users in
+      record {
+        workers = workers.items;
+        each = let ok = workers.ok.0 in let each = c.in-Ok-frame_jobs.ensures.jobs in omega (arith, ok, each);
+        seats = subst (λ (f : FabricId). AreJobsOf g.O.Opener.lines_for f c.args.site.lines.now 0 workers.items) (sym c.requires.opening.fabric) c.in-Ok-frame_jobs.ensures.workers;
+        sessions = sessions.items;
+        sixteen = let ok = sessions.ok.0 in let all : vec_len sessions ≡ 16 = c.in-Ok-session_jobs.ensures.jobs ∙ c.in-Ok.ensures.each in omega (arith, ok, all);
+        places = subst (λ (l : List PlaceAt). HasPlaces (arc_value c.args.shelf.now) o p 16 l) (sym c.in-Ok-session_jobs.ensures.places) c.in-Ok.ensures.places;
+        listeners = c.in-Ok-session_jobs.ensures.listeners;
+        sized = ap (λ (f : FabricId). f.size) c.requires.opening.fabric ∙ c.requires.sized;
+        handed = c.run_jobs.ensures.handed done;
+        left = c.run_jobs.ensures.left done;
+      },
+  λ none.
+      let workers = c.in-Ok-frame_jobs.jobs in
+      let sessions = c.in-Ok-session_jobs.jobs in
+      let o = opening_of g.D.Disk.state c.args.state in
+      let p = users_opening g.U.Disk.state c.args.users in
+      record {
+        workers = workers.items;
+        each = let ok = workers.ok.0 in let each = c.in-Ok-frame_jobs.ensures.jobs in omega (arith, ok, each);
+        seats = subst (λ (f : FabricId). AreJobsOf g.O.Opener.lines_for f c.args.site.lines.now 0 workers.items) (sym c.requires.opening.fabric) c.in-Ok-frame_jobs.ensures.workers;
+        sessions = sessions.items;
+        sixteen = let ok = sessions.ok.0 in let all : vec_len sessions ≡ 16 = c.in-Ok-session_jobs.ensures.jobs ∙ c.in-Ok.ensures.each in omega (arith, ok, all);
+        places = subst (λ (l : List PlaceAt). HasPlaces (arc_value c.args.shelf.now) o p 16 l) (sym c.in-Ok-session_jobs.ensures.places) c.in-Ok.ensures.places;
+        listeners = c.in-Ok-session_jobs.ensures.listeners;
+        sized = ap (λ (f : FabricId). f.size) c.requires.opening.fabric ∙ c.requires.sized;
+        handed = tt;
+        left = c.run_jobs.ensures.left_to none;
+      },
+)

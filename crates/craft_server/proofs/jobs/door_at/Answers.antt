@@ -1,7 +1,7 @@
-use Rattle.std.proofs.Common.{◌∙◌, [], ◌∷◌, refl}
+use Rattle.std.proofs.Common.{◌∙◌, [], ◌∷◌}
 use Rattle.dxc_outside.specs.Asked.{listener_named}
 use Rattle.craft_jobs.proofs.Faulting.{is_made, kept, no_memory, not_opened}
-use Rattle.craft_server.proofs.jobs.session_job.Goals as goal
+use Rattle.craft_server.proofs.jobs.door_at.Goals as goal
 
 pub returns-in-Open-clause-made : goal.returns-in-Open-clause-made
 returns-in-Open-clause-made g c = kept _ _ _ _ (c.gate.ensures.faults ∙ c.clock.ensures.faults) (is_made _ _ c.listener.ensures.cause.later _)
@@ -24,5 +24,5 @@ returns-in-Failed-clause-asked g c = c.listener.ensures.asked
 pub returns-in-NoMemory-clause-asked : goal.returns-in-NoMemory-clause-asked
 returns-in-NoMemory-clause-asked g c = c.listener.ensures.asked
 
-pub returns-in-Open-clause-job : goal.returns-in-Open-clause-job
-returns-in-Open-clause-job g c = (refl, c.listener.ensures.listener_for c.in-Open.listener c.in-Open.is)
+pub returns-in-Open-clause-door : goal.returns-in-Open-clause-door
+returns-in-Open-clause-door g c = c.listener.ensures.listener_for c.in-Open.listener c.in-Open.is
