@@ -177,7 +177,7 @@ module _ (w : World) (s : Contents) (o : Opening) (p : UsersOpening) (t : Turnst
           → (k : ℕ) → k < 16 → (h more : List Entry) (ss : List (Session Request Moment)) → h ++ more ≡ began o.due ++ history → Lives (language s) k o.first.fold.table (began o.due) h ss
           → IsPlayedWith (λ all. ComesTo (language s) (LimitBehind o.first) (λ q. IsTrue (excused q)) (element o.first.fold.table (began o.due) (λ p. [])) (element o.first.fold.table h all)) k ss
       played_then legal numbers excused all k lt h more ss is had =
-          let good = (legal, all, within 16 o.due history (omega arith) numbers) in
+          let good : IsLegal (rules_of o) (began o.due ++ history) × AllByRecursion (IsExcused (λ q. IsTrue (excused q))) (began o.due ++ history) × AllByRecursion (λ e. e.place < 16) (began o.due ++ history) = (legal, all, within 16 o.due history (omega arith) numbers) in
           let along = λ (p : ℕ) (below : p < 16). subst (λ (g : List Entry). Lives (language s) p o.first.fold.table (began o.due) g (sessions p)) (sym is) (lives_each p below) in
           played_with (language s) (rules_of o) (λ q. IsTrue (excused q)) (began o.due) 16 h more sessions along k lt ss had (omega arith)
           (subst (λ (g : List Entry). IsLegal (rules_of o) g × AllByRecursion (IsExcused (λ q. IsTrue (excused q))) g × AllByRecursion (λ e. e.place < 16) g) (sym is) good)

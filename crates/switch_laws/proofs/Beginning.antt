@@ -69,7 +69,7 @@ module _ (l : Language Request Moment) (r : Rules) (excused : Excuse) (past : Li
 
     pub played_with : 0 < n → Good l r excused past n (h ++ more) → IsPlayedWith (Pl l r excused past n h) own ss
     played_with pos good =
-        let front = (legal_so_far r h more good.0, each_front (IsExcused excused) h more good.1, each_front (λ (x : Entry). x.place < n) h more good.2) in
+        let front : Good l r excused past n h = (legal_so_far r h more good.0, each_front (IsExcused excused) h more good.1, each_front (λ (x : Entry). x.place < n) h more good.2) in
         record {
           sessions = all;
           own_sessions = placed_here own ss others;
