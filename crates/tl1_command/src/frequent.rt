@@ -1,5 +1,6 @@
 // The units that most sessions are made of, read without room for what the others may hold.
 ghost use Rattle.std.specs.Prelude.{◌≡◌, ◌≤◌, ℕ, List, [], Option, true, None, Some, Ok, IfSome, length, map};
+ghost use Rattle.dxc_num.specs.Dimensions.{Dimensions};
 ghost use Rattle.dxc_model.specs.declared.conn.Cct.{Cct as ACct};
 ghost use Rattle.dxc_model.specs.declared.op.Op.{Op as AnOp};
 ghost use Rattle.dxc_model.specs.Operations.{ArePorts};
@@ -9,7 +10,7 @@ ghost use Rattle.tl1_text.specs.Values.{values_behind};
 ghost use Rattle.tl1_command.specs.Blocks.{block as block_in, code_text, tag_text};
 ghost use Rattle.tl1_command.specs.Codes.{code_named};
 ghost use Rattle.tl1_command.specs.Commands.{asked_often, named_by, IsAptOften};
-ghost use Rattle.tl1_command.specs.Meanings.{asked as asked_for, asked_of_ends, asks_table, first_refusal, meaning, Ends};
+ghost use Rattle.tl1_command.specs.Meanings.{asked as asked_for, asked_of_ends, asks_table, first_refusal, meaning, selection_or_all, Ends};
 ghost use Rattle.tl1_command.specs.Parts.{AreParts, IsPair};
 
 use crate::asked::{ends_of, frequent_cct, selection_or_all_of};
@@ -61,40 +62,70 @@ pub fn frequent_of(
         (map (block_at unit.now) blocks.now.block.items) ≡ Ok (asked_often f)) }
     ensures apt { IfSome result (IsAptOften shape) }
 {
-    let code = frequent(block_text(unit, blocks, 0))?;
-    let parts = bare_parts(unit, blocks)?;
-    if !is_admitted(sid, user, code, unit, blocks, &parts, tagged) {
-        return None;
-    }
-    asked_of(shape, code, unit, parts.named())
-}
-
-/// What a frequent command with its parameters asks for, where it has no label.
-#[inline(always)]
-fn asked_of(shape: Shape, code: CommandCode, unit: &[u8], named: Named) -> Option<Frequent>
-    requires first { IsIn unit.now named.first }
-    requires second { IsIn unit.now named.second }
-    requires value { IsIn unit.now named.value }
-    requires label { IsIn unit.now named.label }
-    ensures asked { IfSome result
-        (λ f. asked_for shape code (named_by unit.now named) ≡ Ok (asked_often f)) }
-    ensures apt { IfSome result (IsAptOften shape) }
-{
-    match code {
-        CommandCode::RtrvHdr => Some(Frequent::Header),
-        CommandCode::RtrvCrsT0 => match selection_or_all_of(shape, named.first.text(unit)) {
-            Ok(selection) => Some(Frequent::Rows(selection)),
-            Err(_) => None,
-        },
+    match frequent(block_text(unit, blocks, 0))? {
+        CommandCode::RtrvHdr => {
+            bare_named(sid, user, CommandCode::RtrvHdr, unit, blocks, tagged)?;
+            Some(Frequent::Header)
+        }
+        CommandCode::RtrvCrsT0 => {
+            let named = bare_named(sid, user, CommandCode::RtrvCrsT0, unit, blocks, tagged)?;
+            let selection = bare_selection(shape, named.first.text(unit))?;
+            Some(Frequent::Rows(selection))
+        }
         CommandCode::EntCrsT0 => {
+            let named = bare_named(sid, user, CommandCode::EntCrsT0, unit, blocks, tagged)?;
             let (from, to, cct) = bare_ends(shape, unit, named)?;
             Some(Frequent::Enter { from, to, cct })
         }
         CommandCode::DltCrsT0 => {
+            let named = bare_named(sid, user, CommandCode::DltCrsT0, unit, blocks, tagged)?;
             let (from, to, cct) = bare_ends(shape, unit, named)?;
             Some(Frequent::Delete { from, to, cct })
         }
         _ => None,
+    }
+}
+
+/// The parameters of a unit with a code, where nothing refuses it before they are read, and none of them is in quotes. In
+/// line, so that what is asked of them is known where the code is.
+#[inline(always)]
+#[tactic(auto, unfolding(crate::specs::Meanings::meaning))]
+fn bare_named(
+    sid: &Sid,
+    user: &SessionUser,
+    code: CommandCode,
+    unit: &[u8],
+    blocks: &Blocks,
+    tagged: bool,
+) -> Option<Named>
+    requires short { length unit.now ≤ 2047 }
+    requires blocks { AreBlocksOf unit.now blocks.now.block.items }
+    requires tagged { tagged ≡ is_ctag (tag_text (map (block_at unit.now) blocks.now.block.items)) }
+    requires code { code_named (code_text (map (block_at unit.now) blocks.now.block.items)) ≡ Some
+        code }
+    ensures meaning { (d : Dimensions) → IfSome result (λ n. meaning d sid.now user.now
+        (map (block_at unit.now) blocks.now.block.items) ≡ asked_for d code (named_by unit.now n)) }
+    ensures first { IfSome result (λ n. IsIn unit.now n.first) }
+    ensures second { IfSome result (λ n. IsIn unit.now n.second) }
+    ensures value { IfSome result (λ n. IsIn unit.now n.value) }
+    ensures label { IfSome result (λ n. IsIn unit.now n.label) }
+{
+    let parts = bare_parts(unit, blocks)?;
+    if is_admitted(sid, user, code, unit, blocks, &parts, tagged) {
+        Some(parts.named())
+    } else {
+        None
+    }
+}
+
+/// The selection that a text names, all where it is empty.
+#[inline(always)]
+fn bare_selection(shape: Shape, text: &[u8]) -> Option<Selection>
+    ensures { IfSome result (λ s. selection_or_all shape text.now ≡ Ok s) }
+{
+    match selection_or_all_of(shape, text) {
+        Ok(selection) => Some(selection),
+        Err(_) => None,
     }
 }
 
