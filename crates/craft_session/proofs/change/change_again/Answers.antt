@@ -13,7 +13,7 @@ use Rattle.craft_session.specs.Askings.{no_mending}
 use Rattle.craft_session.proofs.Gated.{entered_none, entered_on, entered_take_on, takes_out}
 use Rattle.craft_session.proofs.Gating.{denied_asked, mending_denied, mending_more, mending_none, mending_stopped, carried_asked, nothing_more}
 use Rattle.craft_session.proofs.Ends.{apart, changed_goes, later_behind, mended_goes, rose_behind}
-use Rattle.craft_session.proofs.change.change.Goals as goal
+use Rattle.craft_session.proofs.change.change_again.Goals as goal
 
 pub take-requires-clause-seen : goal.take-requires-clause-seen
 take-requires-clause-seen g c = let w = c.requires.seen in let b = c.loop.invariant.mended w.0 w.1 in (w.0 ++ b.front, b.saw)
