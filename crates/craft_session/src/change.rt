@@ -39,6 +39,7 @@ pub enum Changed {
 }
 
 /// Makes the register writes, and waits for the frames in their way. Stop: the gate stopped before one of them, or before the end.
+#[inline(always)]
 pub fn roll<D: Disk, G: Gate, R: Wait>(
     p: &mut Provisioner<D>,
     fabric: &Fabric,
@@ -215,10 +216,42 @@ pub fn change_in_line<D: Disk + Drop, G: Gate, R: Wait>(
     }
 }
 
-/// Makes a change of the table, and of the registers before it. It tries again while another place has the Provisioner, and makes a restart first
-/// where one is due.
-#[inline(never)]
+/// Makes a change of the table, and of the registers before it. Where another place has the Provisioner, or a restart is due, it tries again.
+#[inline(always)]
 fn change<D: Disk + Drop, G: Gate, R: Wait>(
+    pass: &mut Pass,
+    turns: &Turnstile<State<D>>,
+    fabric: &Fabric,
+    op: &Op,
+    gate: &mut G,
+    rt: &R,
+) -> Changed
+    requires pass { HasPass turns.now pass.old }
+    requires fabric { (opening_of D.state turns.now.first).site.fabric ≡ fabric.now }
+    requires apt { IsApt (opening_of D.state turns.now.first).first.fold.table.shape op.now }
+    requires seen { HasSeen D.Disk turns.now pass.old }
+    ensures pass { HasPass turns.now pass.new × (pass.new.number ≡ pass.old.number) }
+    ensures changed { After D.Disk turns.now pass.old (ChangesTo op.now pass.new result) }
+    ensures astray { SawNoneAstray D.told pass.new.seen }
+    ensures done { result ≢ Changed.Stopped → G.stops gate.new ≡ G.stops gate.old }
+    ensures stopped { result ≡ Changed.Stopped → Rose (G.stops gate.old) (G.stops gate.new) }
+    ensures later { G.stops gate.old ≤ G.stops gate.new }
+    ensures asked { ChangeAsked (G.asked gate.old gate.new) result }
+    ensures entered { After D.Disk turns.now pass.old
+        (AsksFor (G.asked gate.old gate.new) pass.new) }
+{
+    match turns::take(pass, turns, op, rt) {
+        Took::Rolling(driver, bytes) => {
+            carry_out(pass, turns, fabric, op, driver, &bytes, gate, rt)
+        }
+        Took::Denied(cause) => Changed::Denied(cause),
+        Took::Halted | Took::Waits => change_again(pass, turns, fabric, op, gate, rt),
+    }
+}
+
+// The same as often as it takes: it tries again while another place has the Provisioner, and makes a restart first where one is due.
+#[inline(never)]
+fn change_again<D: Disk + Drop, G: Gate, R: Wait>(
     pass: &mut Pass,
     turns: &Turnstile<State<D>>,
     fabric: &Fabric,

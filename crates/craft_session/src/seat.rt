@@ -160,6 +160,7 @@ impl<D: Disk + Drop> Seat<D> {
 
     /// Makes a change of the table, and of the registers before it. It waits in the line of those who change something, and for frames in the way; what
     /// the table denies meanwhile waits for the turn alone.
+    #[inline(never)]
     pub fn change<G: Gate, R: Wait>(&mut self, op: &Op, gate: &mut G, rt: &R) -> Changed
         requires apt { IsApt self.old.opening.first.fold.table.shape op.now }
         ensures same { IsSameSeat self.old self.new }

@@ -53,6 +53,7 @@ impl FileCopy {
     }
 
     /// Writes over what is there, and past the end.
+    #[inline(never)]
     pub(crate) fn write_at(&mut self, at: u64, from: &[u8]) -> Result<(), DiskFault> {
         let at = at as usize;
         let end = at.checked_add(from.len()).ok_or(DiskFault)?;

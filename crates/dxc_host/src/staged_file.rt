@@ -66,11 +66,14 @@ impl StagedFile {
         self.staged.read(at, into)
     }
 
+    #[inline(never)]
     pub(crate) fn write_at(&mut self, at: u64, from: &[u8]) -> Result<(), DiskFault> {
         self.staged.write_at(at, from)
     }
 
     /// The first one that succeeds gives the file its name.
+    // Apart, since it has room for a line: the sync of a journal would clear that too.
+    #[inline(never)]
     pub(crate) fn sync(&mut self) -> Result<(), DiskFault> {
         self.staged.sync()?;
         if !self.is_named {

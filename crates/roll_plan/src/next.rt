@@ -1,10 +1,10 @@
 //! The next writes of a work, taken together where they are those of one move, one join or one part.
-ghost use Rattle.std.specs.Prelude.{◌≡◌, ◌<◌, ◌≤◌, ◌+◌, ◌*◌, length, IfSome, MatchResult, Some};
+ghost use Rattle.std.specs.Prelude.{◌≡◌, ◌<◌, ◌*◌, length, IfSome, Some};
 ghost use Rattle.roll_plan.specs.Works.{join_writes, moves_writes, op_writes, part_writes, writes_of};
 ghost use Rattle.roll_plan.specs.Nexts.{IsNext};
 
 use crate::op::{LegOp, Move};
-use crate::op_writes::{MOVE, move_write, writes_of_join, writes_of_part};
+use crate::op_writes::{MOVE, move_write, op_count, writes_of_join, writes_of_part};
 use crate::work::Work;
 use dxc_num::{Leg, Middle, RegWrite};
 
@@ -37,57 +37,47 @@ fn next_of_moves(moves: &[Move], place: usize) -> Next
     }
 }
 
-// What is written next at a place of a join. Err: the place is so far behind it.
+// What is written next at a place of a join.
 #[inline(always)]
-fn next_of_join(leg: Leg, middle: Middle, place: usize) -> Result<Next, usize>
-    ensures { MatchResult result (λ n. IsNext (join_writes leg middle) place (Some n))
-        (λ p. p + 3 ≡ place) }
+fn next_of_join(leg: Leg, middle: Middle, place: usize) -> Next
+    requires { place < 3 }
+    ensures { IsNext (join_writes leg middle) place (Some result) }
 {
     match place {
-        0 => Ok(Next::Join(leg, middle)),
-        1 | 2 => Ok(Next::One(writes_of_join(leg, middle)[place])),
-        _ => Err(place - 3),
+        0 => Next::Join(leg, middle),
+        _ => Next::One(writes_of_join(leg, middle)[place]),
     }
 }
 
-// What is written next at a place of a part. Err: the place is so far behind it.
+// What is written next at a place of a part.
 #[inline(always)]
-fn next_of_part(leg: Leg, middle: Middle, place: usize) -> Result<Next, usize>
-    ensures { MatchResult result (λ n. IsNext (part_writes leg middle) place (Some n))
-        (λ p. p + 3 ≡ place) }
+fn next_of_part(leg: Leg, middle: Middle, place: usize) -> Next
+    requires { place < 3 }
+    ensures { IsNext (part_writes leg middle) place (Some result) }
 {
     match place {
-        0 => Ok(Next::Part(leg, middle)),
-        1 | 2 => Ok(Next::One(writes_of_part(leg, middle)[place])),
-        _ => Err(place - 3),
+        0 => Next::Part(leg, middle),
+        _ => Next::One(writes_of_part(leg, middle)[place]),
     }
 }
 
-// What is written next at a place of an op. Err: the place is so far behind it.
+// What is written next at a place of an op.
 #[inline(always)]
-fn next_of_op(op: &LegOp, place: usize) -> Result<Next, usize>
-    ensures next { MatchResult result (λ n. IsNext (op_writes op.now) place (Some n))
-        (λ p. p + length (op_writes op.now) ≡ place) }
-    ensures few { MatchResult result (λ _. place < 473) (λ p. place ≤ p + 473) }
+fn next_of_op(op: &LegOp, place: usize) -> Next
+    requires { place < length (op_writes op.now) }
+    ensures { IsNext (op_writes op.now) place (Some result) }
 {
     match op {
         LegOp::Join { leg, choice, moves } => {
             let before = MOVE * moves.len();
             if place < before {
-                Ok(next_of_moves(moves.as_slice(), place))
+                next_of_moves(moves.as_slice(), place)
             } else {
                 next_of_join(*leg, choice.middle, place - before)
             }
         }
         LegOp::Part { leg, middle } => next_of_part(*leg, *middle, place),
-        LegOp::Shift { moves } => {
-            let count = MOVE * moves.len();
-            if place < count {
-                Ok(next_of_moves(moves.as_slice(), place))
-            } else {
-                Err(place - count)
-            }
-        }
+        LegOp::Shift { moves } => next_of_moves(moves.as_slice(), place),
     }
 }
 
@@ -99,10 +89,11 @@ pub fn next_at_step(work: &Work, t: usize) -> Option<Next>
 {
     let mut place = t;
     for op in work.ops.as_slice() {
-        match next_of_op(op, place) {
-            Ok(next) => return Some(next),
-            Err(behind) => place = behind,
+        let count = op_count(op);
+        if place < count {
+            return Some(next_of_op(op, place));
         }
+        place -= count;
     }
     None
 }

@@ -1,27 +1,24 @@
-use Rattle.std.proofs.Common.{◌≡◌, ◌<◌, ◌≤◌, ◌+◌, ℕ, List, Result, Some, drop, length, slice_get, ◌∙◌, sym, ap, arith, subst}
-use Rattle.std.specs.Prelude.{MatchResult}
+use Rattle.std.proofs.Common.{◌≡◌, ◌≤◌, ◌+◌, ◌-◌, List, Some, drop, length, slice_get, ◌∙◌, sym, ap, arith, subst}
 use Rattle.std.proofs.lemmas.List.{at_drop_all}
-use Rattle.roll_plan.specs.declared.next.Next.{Next}
 use Rattle.roll_plan.specs.declared.op.LegOp.{LegOp}
 use Rattle.roll_plan.specs.Works.{op_writes, ops_writes}
 use Rattle.roll_plan.specs.Nexts.{IsNext}
 use Rattle.roll_plan.proofs.Places.{at_back, at_front, left, next_in}
 use Rattle.roll_plan.proofs.next.next_at_step.Goals as goal
 
-pub returns-in-Ok-clause-next : goal.returns-in-Ok-clause-next
-returns-in-Ok-clause-next c =
+pub returns-then-place-count-clause-next : goal.returns-then-place-count-clause-next
+returns-then-place-count-clause-next c =
     let ops = c.as_slice-op-items.result.now in let op = c.op-item.result in let i = c.loop-op.op-index in let place = c.loop-op.place in
-    let here = subst (λ (r : Result Next ℕ). MatchResult r (λ n. IsNext (op_writes op) place (Some n)) (λ p. p + length (op_writes op) ≡ place)) c.in-Ok.is c.next_of_op.ensures.next in
-    subst (λ (os : List LegOp). IsNext (ops_writes os) c.args.t (Some c.in-Ok.next)) c.as_slice-op-items.ensures.value
+    subst (λ (os : List LegOp). IsNext (ops_writes os) c.args.t (Some c.next_of_op.result)) c.as_slice-op-items.ensures.value
     (next_in (ops_writes ops) (op_writes op) c.args.t place
-    (λ r room. c.loop-op.invariant.same r ∙ (left ops i (place + r) op c.op-item.is c.loop-op-test.true ∙ at_front (op_writes op) (ops_writes (drop (i + 1) ops)) (place + r) room)) c.in-Ok.next here)
+    (λ r room. c.loop-op.invariant.same r ∙ (left ops i (place + r) op c.op-item.is c.loop-op-test.true ∙ at_front (op_writes op) (ops_writes (drop (i + 1) ops)) (place + r) room))
+    c.next_of_op.result c.next_of_op.ensures)
 
 pub loop-op-preserved : goal.loop-op-preserved
-loop-op-preserved c =
-    let ops = c.as_slice-op-items.result.now in let op = c.op-item.result in let i = c.loop-op.op-index in let place = c.loop-op.place in let near = c.loop-op.invariant.near in
-    let past : c.in-Err.behind + length (op_writes op) ≡ place = subst (λ (r : Result Next ℕ). MatchResult r (λ n. IsNext (op_writes op) place (Some n)) (λ p. p + length (op_writes op) ≡ place)) c.in-Err.is c.next_of_op.ensures.next in
-    let few : place ≤ c.in-Err.behind + 473 = subst (λ (r : Result Next ℕ). MatchResult r (λ n. place < 473) (λ p. place ≤ p + 473)) c.in-Err.is c.next_of_op.ensures.few in record {
-      same = λ r. c.loop-op.invariant.same r ∙ (left ops i (place + r) op c.op-item.is c.loop-op-test.true ∙ at_back (op_writes op) (ops_writes (drop (i + 1) ops)) (place + r) (c.in-Err.behind + r) (omega arith));
+loop-op-preserved c = let k = c.op_count-count.ensures.count in let few = c.op_count-count.ensures.few in let low = c.if-place-count.false in let near = c.loop-op.invariant.near in
+    let ops = c.as_slice-op-items.result.now in let op = c.op-item.result in let i = c.loop-op.op-index in let place = c.loop-op.place in record {
+      same = λ r. c.loop-op.invariant.same r ∙ (left ops i (place + r) op c.op-item.is c.loop-op-test.true
+          ∙ at_back (op_writes op) (ops_writes (drop (i + 1) ops)) (place + r) (place - c.op_count-count.result + r) (omega arith));
       near = omega arith;
     }
 

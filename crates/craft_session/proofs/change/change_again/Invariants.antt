@@ -7,7 +7,7 @@ use Rattle.dxc_outside.specs.declared.gate.GatePlace.{GatePlace}
 use Rattle.craft_session.specs.Askings.{AreMendings}
 use Rattle.craft_session.specs.Changing.{MendedBy}
 use Rattle.craft_session.specs.Gated.{Entered}
-use Rattle.craft_session.proofs.change.change.Given as goal
+use Rattle.craft_session.proofs.change.change_again.Given as goal
 
 abbrev pub invariant-loop : goal.invariant-loop
 invariant-loop g l = record {
