@@ -6,7 +6,7 @@ use Rattle.dxc_model.specs.declared.entry.Entry.{Entry}
 use Rattle.dxc_model.specs.Histories.{changes_of}
 use Rattle.shelf_file.specs.Contents.{Contents}
 use Rattle.standby_link.specs.Laws.{KeepsUp, named}
-use Rattle.standby_link.specs.Mirrors.{Pair, Primary}
+use Rattle.standby_link.specs.Mirrors.{Pair}
 use Rattle.xc_core.specs.declared.provisioner.Driver.{Driver}
 use Rattle.xc_core.specs.declared.provisioner.Provisioner.{Provisioner}
 use Rattle.xc_core.specs.declared.state.Home.{Home}
