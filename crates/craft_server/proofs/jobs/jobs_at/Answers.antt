@@ -29,14 +29,14 @@ loop-place-preserved g c =
     record {
       each = let e = i.each in let more = c.push_reserved.ensures.len in omega (arith, e, more, count);
       room = let r = i.room in let more = c.push_reserved.ensures.capacity in omega (arith, r, more);
-      doors = let d = i.doors in let less = c.remove.ensures.len in omega (arith, d, less, count);
+      doors = let d = i.doors in let less = c.remove-listener.ensures.len in omega (arith, d, less, count);
       left = omega (arith, one, left, count);
       all = append_assoc c.loop-place.yielded (c.in-Some.place ∷ []) _ ∙ ap (λ l. c.loop-place.yielded ++ l) (sym c.in-Some.ensures.steps.0) ∙ i.all;
       count = let was = i.count in let short = ap length c.in-Some.ensures.steps.0 in omega (arith, was, one, short);
       places = ap (map (λ job. job.place)) put ∙ map-append (λ job. job.place) c.loop-place.jobs.items _ ∙ ap (λ l. l ++ c.in-Some.place ∷ []) i.places;
-      shut = λ name all. subst (All (λ door. g.O.Opener.listener_for door.listener name)) (sym c.remove.ensures.by_index.2) (All-drop (λ door. g.O.Opener.listener_for door.listener name) 1 c.loop-place.doors.items (i.shut name all));
+      shut = λ name all. subst (All (λ door. g.O.Opener.listener_for door.listener name)) (sym c.remove-listener.ensures.by_index.2) (All-drop (λ door. g.O.Opener.listener_for door.listener name) 1 c.loop-place.doors.items (i.shut name all));
       listeners = λ name all. subst (All (λ job. g.O.Opener.listener_for job.listener name)) (sym put)
-          (All-push (λ job. g.O.Opener.listener_for job.listener name) c.loop-place.jobs.items _ (i.listeners name all) (subst (λ door. g.O.Opener.listener_for door.listener name) (sym c.remove.ensures.value) (i.shut name all 0 c.remove.result some)));
+          (All-push (λ job. g.O.Opener.listener_for job.listener name) c.loop-place.jobs.items _ (i.listeners name all) (subst (λ door. g.O.Opener.listener_for door.listener name) (sym c.remove-listener.ensures.value) (i.shut name all 0 c.remove-listener.result some)));
     }
 
 pub returns-clause-places : goal.returns-clause-places
