@@ -1,9 +1,9 @@
 //! Whom the shelf file and the users' journal are at odds about, where the program didn't start for that.
 #![tactic(auto)]
 
-ghost use Rattle.std.specs.Prelude.{◌≡◌, ◌≢◌, ◌≤◌, ◌∷◌, [], ℕ, IfOk, IfSome, IsSome, List};
+ghost use Rattle.std.specs.Prelude.{◌≡◌, ◌≢◌, ◌≤◌, ◌<◌, ◌∷◌, [], ℕ, IfNone, IfOk, IfSome, IsSome, List, slice_index};
 ghost use Rattle.dxc_outside.specs.Asked.{AskedFor, journal_named, shelf_named};
-ghost use Rattle.users_at_odds.specs.Odds.{HasName, HasShelf, IsAtOdds, IsUserOf, held, name_in as in_record, odds_asked, users_name as beside};
+ghost use Rattle.users_at_odds.specs.Odds.{HasName, HasShelf, IsAtOdds, IsUnnamed, IsUserOf, NoUser, NotAtOdds, done, held, most_bytes, name_in as in_record, odds_asked, users_name as beside};
 
 use craft_words::{JournalBad, Status};
 use dxc_causes::NoMemory;
@@ -15,7 +15,7 @@ use shelf_file::{Shelf, shelf_of};
 use std::alloc::Global;
 
 /// The user whom the record names that the program refused, by its status and its words. None: it ended otherwise, or the record can't be
-/// read again. The opener is to change no file; where the program ended otherwise it is asked for nothing.
+/// read again, or memory is wanting. The opener is to change no file; where the program ended otherwise it is asked for nothing.
 pub fn user_at_odds<O: Opener>(
     alloc: Global,
     opener: &mut O,
@@ -24,6 +24,9 @@ pub fn user_at_odds<O: Opener>(
 ) -> Option<Uid>
     ensures named { IfSome result (IsAtOdds (held O.told O.Journal.told O.Journal.state
         (O.state opener.old) (O.journal_at opener.old)) words.now status) }
+    ensures unnamed { IfNone result (NotAtOdds (held O.told O.Journal.told O.Journal.state
+        (O.state opener.old) (O.journal_at opener.old))
+        (done (O.asked opener.old opener.new) (O.journal_at opener.new)) words.now status) }
     ensures asked { AskedFor (O.asked opener.old opener.new) (odds_asked words.now)
         (IsSome result) }
     ensures unasked { ((n : ℕ) → status ≢ Status.BadJournal (JournalBad.UsersRecord n))
@@ -51,6 +54,10 @@ fn user_in<O: Opener>(
 ) -> Option<Uid>
     ensures named { IfSome result (IsUserOf (held O.told O.Journal.told O.Journal.state
         (O.state opener.old) (O.journal_at opener.old)) shelf.now journal.now number) }
+    ensures unnamed { IfNone result (NoUser (held O.told O.Journal.told O.Journal.state
+        (O.state opener.old) (O.journal_at opener.old))
+        (done (O.asked opener.old opener.new) (O.journal_at opener.new)) shelf.now journal.now
+        number) }
     ensures asked { AskedFor (O.asked opener.old opener.new)
         (shelf_named shelf.now ∷ journal_named (beside journal.now) ∷ []) (IsSome result) }
 {
@@ -60,7 +67,8 @@ fn user_in<O: Opener>(
     };
     match opener.journal(alloc, users.text()) {
         Opened::Open(disk) => name_at(disk, &shelf, number),
-        Opened::Failed | Opened::NoMemory => None,
+        Opened::Failed => None,
+        Opened::NoMemory => None,
     }
 }
 
@@ -94,7 +102,8 @@ fn users_name(alloc: Global, journal: &str) -> Result<Name, NoMemory>
 
 // The name that the journal's record of that number has.
 fn name_at<D: Disk + Drop>(disk: D, shelf: &Shelf, number: u32) -> Option<Uid>
-    ensures { IfSome result (HasName D.told shelf.now.shape (D.state disk) number) }
+    ensures named { IfSome result (HasName D.told shelf.now.shape (D.state disk) number) }
+    ensures unnamed { IfNone result (IsUnnamed D.told D.state shelf.now.shape disk number) }
 {
     let Ok(mut journal) = Journal::open(disk, shelf.shape(), shelf.equipped()) else {
         return None;
@@ -110,7 +119,8 @@ fn name_at<D: Disk + Drop>(disk: D, shelf: &Shelf, number: u32) -> Option<Uid>
 
 // The name of a record of a user: its length stands before it.
 fn name_in(bytes: &[u8; 64]) -> Option<Uid>
-    ensures { IfSome result (λ u. u ≡ in_record bytes.now) }
+    ensures named { IfSome result (λ u. u ≡ in_record bytes.now) }
+    ensures unnamed { IfNone result (most_bytes < slice_index bytes.now 3) }
 {
     let count = bytes[3] as usize;
     if count > Uid::MOST {
