@@ -125,7 +125,7 @@ module _ (w : World) (s : Contents) (o : Opening) (p : UsersOpening) (t : Turnst
     hearings k = hearings_by k (compared k 16)
 
     -- what came of a job, and so much its links had been written by a moment
-    pub record ServedThen (k : ℕ) (ss : List (Session Request Moment)) (hs : List (Hearing Request)) : Type 0 where
+    pub record ServedThen (k : ℕ) (ss : List (Session Request Moment)) (hs : List (Hearing Request)) : Type 1 where
       pub served : IsServedAt w jobs lefts k ss hs
       pub by_then : (m : MomentAt) → Allows w.office.link.told w.uses.clock.stamped (language s) o k m → (rest more : List Gv) → served.left.seat.seen ++ rest ≡ m.seen ++ more → WereWrittenThen m w.office.link.state (links_of w served.job served.done served.left served.ran) ss
 

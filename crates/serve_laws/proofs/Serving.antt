@@ -176,7 +176,7 @@ module _ (disk_told : Type 0) {C K G : Type 0} (clock : ClockOf C) (link : LinkO
   IsOf s o own us t = (t.place.shelf ≡ s) × (t.place.seat.opening ≡ o) × (t.place.seat.place ≡ own) × (t.place.users.opening ≡ us) × (t.place.users.place ≡ own)
 
   -- what the callers of a place came to: its sessions along the history that it has seen, and what they heard along that of the users
-  pub record Lived (s : Contents) (o : Opening) (own : ℕ) (us : UsersOpening) (first : Standing G) (came : List K) (t : Standing G) (turns : InTurn Step first came t) : Type 0 where
+  pub record Lived (s : Contents) (o : Opening) (own : ℕ) (us : UsersOpening) (first : Standing G) (came : List K) (t : Standing G) (turns : InTurn Step first came t) : Type 1 where
     pub history : List Entry
     pub sessions : List (Session Request Moment)
     pub is : IsOf s o own us t
