@@ -1,2 +1,2 @@
 /// SHA-256 of the sources that the program is proved from, this file left out, in hexadecimal. `tools/release` writes it.
-pub const SOURCES: &str = "d27ce60fb593815f91eff32c36e42535a0aa219e7121199e40629dbf3cd5f678";
+pub const SOURCES: &str = "f26ccd63016e82f84878011b63bc8d1f8ba0655c135dee9064151648b9eee563";
