@@ -26,3 +26,4 @@ pub mod Meanwhiles
 pub mod Hearings
 pub mod Scripts
 pub mod FreshPlaces
+pub mod Noted

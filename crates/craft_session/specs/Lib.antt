@@ -24,5 +24,6 @@ pub mod Places
 pub mod Stamps
 pub mod Timely
 pub mod Lending
+pub mod Noted
 pub mod Waiting
 pub mod Served

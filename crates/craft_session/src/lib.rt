@@ -11,6 +11,7 @@ mod guesses;
 mod lent;
 mod meaning;
 mod mend;
+mod noting;
 mod patience;
 mod place;
 pub mod places;

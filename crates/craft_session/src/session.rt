@@ -10,6 +10,7 @@ ghost use Rattle.craft_session.specs.Asks.{IsAptAsk};
 ghost use Rattle.craft_session.specs.Gated.{AreEntered};
 ghost use Rattle.craft_session.specs.Meanings.{language_for};
 ghost use Rattle.craft_session.specs.Desks.{now, place_of, input_of, ConsultedIs, IsAnswered};
+ghost use Rattle.craft_session.specs.Noted.{HasNoted, stood};
 ghost use Rattle.craft_session.specs.Seats.{IsSameSeat, IsSameUserSeat};
 ghost use Rattle.craft_session.specs.Sessions.{Beginning, IsAt, Writes, Stands, Goes, IsPrompt, IsServed};
 ghost use Rattle.craft_session.specs.Stamps.{stamp_at};
@@ -23,12 +24,14 @@ use crate::desk::Desk;
 use crate::end::{Progress, SessionEnd};
 use crate::lent::Lent;
 use crate::meaning::consult;
+use crate::noting::note_unit;
 use crate::patience::{BYTES, Patience, QUIET, waited_after};
 use crate::reports::report;
 use crate::say::say;
 use crate::timestamps::Timestamps;
 use dxc_disk::Disk;
 use dxc_model::Cause;
+use dxc_notes::Notes;
 use dxc_outside::{Gate, Got, Link, Pass1};
 use std::sync::Wait;
 use tl1_text::{Ctag, UnitKind};
@@ -36,11 +39,12 @@ use tl1_text::{Ctag, UnitKind};
 const READS: u64 = 1 << 32;
 
 /// Answers the units that end in the piece.
-fn serve_piece<K: Link, C: Timestamps, G: Gate, D: Disk + Drop, U: Disk + Drop, R: Wait>(
+fn serve_piece<K: Link, C: Timestamps, G: Gate, N: Notes, D: Disk + Drop, U: Disk + Drop, R: Wait>(
     desk: &mut Desk<D, U>,
     link: &mut K,
     clock: &mut C,
     gate: &mut G,
+    notes: &mut N,
     rt: &R,
     piece: &[u8],
 ) -> Progress
@@ -64,12 +68,16 @@ fn serve_piece<K: Link, C: Timestamps, G: Gate, D: Disk + Drop, U: Disk + Drop, 
     ensures later { G.stops gate.old ≤ G.stops gate.new }
     ensures asked { AreEntered desk.old.seat desk.old.users.seat (G.asked gate.old gate.new)
         desk.new.seat.seen desk.new.users.seat.seen }
+    ensures noted { HasNoted (arc_value desk.old.shelf) (telling K.told C.told C.stamped)
+        (stood (K.state link.old) (C.coming clock.old) desk.old.seat desk.old.users.seat
+        desk.old.attending) (stood (K.state link.new) (C.coming clock.new) desk.new.seat
+        desk.new.users.seat desk.new.attending) (N.noted notes.old notes.new) }
 {
     let mut at = 0;
     while at < piece.len() {
         let fed = desk.reader.feed(&piece[at..]);
         at += fed.taken;
-        match serve_unit(desk, link, clock, gate, rt, fed.unit) {
+        match serve_unit(desk, link, clock, gate, notes, rt, fed.unit) {
             Progress::On => {}
             end => return end,
         }
@@ -78,11 +86,12 @@ fn serve_piece<K: Link, C: Timestamps, G: Gate, D: Disk + Drop, U: Disk + Drop, 
 }
 
 /// Answers the unit that ended, if one did, and reports what changed.
-fn serve_unit<K: Link, C: Timestamps, G: Gate, D: Disk + Drop, U: Disk + Drop, R: Wait>(
+fn serve_unit<K: Link, C: Timestamps, G: Gate, N: Notes, D: Disk + Drop, U: Disk + Drop, R: Wait>(
     desk: &mut Desk<D, U>,
     link: &mut K,
     clock: &mut C,
     gate: &mut G,
+    notes: &mut N,
     rt: &R,
     kind: UnitKind,
 ) -> Progress
@@ -109,19 +118,24 @@ fn serve_unit<K: Link, C: Timestamps, G: Gate, D: Disk + Drop, U: Disk + Drop, R
     ensures later { G.stops gate.old ≤ G.stops gate.new }
     ensures asked { AreEntered desk.old.seat desk.old.users.seat (G.asked gate.old gate.new)
         desk.new.seat.seen desk.new.users.seat.seen }
+    ensures noted { HasNoted (arc_value desk.old.shelf) (telling K.told C.told C.stamped)
+        (stood (K.state link.old) (C.coming clock.old) desk.old.seat desk.old.users.seat
+        desk.old.attending) (stood (K.state link.new) (C.coming clock.new) desk.new.seat
+        desk.new.users.seat desk.new.attending) (N.noted notes.old notes.new) }
 {
     match kind {
         UnitKind::More => Progress::On,
-        UnitKind::Whole | UnitKind::TooLong => attend(desk, link, clock, gate, rt, kind),
+        UnitKind::Whole | UnitKind::TooLong => attend(desk, link, clock, gate, notes, rt, kind),
     }
 }
 
 /// Does what the unit that ended asks, answers it, and reports what changed.
-fn attend<K: Link, C: Timestamps, G: Gate, D: Disk + Drop, U: Disk + Drop, R: Wait>(
+fn attend<K: Link, C: Timestamps, G: Gate, N: Notes, D: Disk + Drop, U: Disk + Drop, R: Wait>(
     desk: &mut Desk<D, U>,
     link: &mut K,
     clock: &mut C,
     gate: &mut G,
+    notes: &mut N,
     rt: &R,
     kind: UnitKind,
 ) -> Progress
@@ -149,19 +163,24 @@ fn attend<K: Link, C: Timestamps, G: Gate, D: Disk + Drop, U: Disk + Drop, R: Wa
     ensures later { G.stops gate.old ≤ G.stops gate.new }
     ensures asked { AreEntered desk.old.seat desk.old.users.seat (G.asked gate.old gate.new)
         desk.new.seat.seen desk.new.users.seat.seen }
+    ensures noted { HasNoted (arc_value desk.old.shelf) (telling K.told C.told C.stamped)
+        (stood (K.state link.old) (C.coming clock.old) desk.old.seat desk.old.users.seat
+        desk.old.attending) (stood (K.state link.new) (C.coming clock.new) desk.new.seat
+        desk.new.users.seat desk.new.attending) (N.noted notes.old notes.new) }
 {
-    match answer(desk, link, clock, gate, rt, kind) {
+    match answer(desk, link, clock, gate, notes, rt, kind) {
         Progress::On => report(desk, link, clock, rt),
         end => end,
     }
 }
 
 /// Does what the unit that ended asks, and writes the response with the next moment. Where the gate stops there is no response.
-fn answer<K: Link, C: Timestamps, G: Gate, D: Disk + Drop, U: Disk + Drop, R: Wait>(
+fn answer<K: Link, C: Timestamps, G: Gate, N: Notes, D: Disk + Drop, U: Disk + Drop, R: Wait>(
     desk: &mut Desk<D, U>,
     link: &mut K,
     clock: &mut C,
     gate: &mut G,
+    notes: &mut N,
     rt: &R,
     kind: UnitKind,
 ) -> Progress
@@ -182,6 +201,10 @@ fn answer<K: Link, C: Timestamps, G: Gate, D: Disk + Drop, U: Disk + Drop, R: Wa
     ensures later { G.stops gate.old ≤ G.stops gate.new }
     ensures asked { AreEntered desk.old.seat desk.old.users.seat (G.asked gate.old gate.new)
         desk.new.seat.seen desk.new.users.seat.seen }
+    ensures noted { HasNoted (arc_value desk.old.shelf) (telling K.told C.told C.stamped)
+        (stood (K.state link.old) (C.coming clock.old) desk.old.seat desk.old.users.seat
+        desk.old.attending) (stood (K.state link.new) (C.coming clock.new) desk.new.seat
+        desk.new.users.seat desk.new.attending) (N.noted notes.old notes.new) }
 {
     let mut tag = None;
     let mut ask = Ask::Completes;
@@ -198,7 +221,17 @@ fn answer<K: Link, C: Timestamps, G: Gate, D: Disk + Drop, U: Disk + Drop, R: Wa
         rt,
     );
     match acted {
-        Some(acted) => Progress::of(say(desk, link, clock, &tag, acted)),
+        Some(acted) => {
+            note_unit(
+                notes,
+                desk.shelf.shape(),
+                &desk.attending.user,
+                &tag,
+                &ask,
+                &acted,
+            );
+            Progress::of(say(desk, link, clock, &tag, acted))
+        }
         None => Progress::Stopped,
     }
 }
@@ -247,13 +280,22 @@ fn ask_of<G: Gate, D: Disk + Drop, U: Disk + Drop, R: Wait>(
 }
 
 /// Serves the link from a desk that has read nothing yet.
-pub(crate) fn serve<K: Link, C: Timestamps, G: Gate, D: Disk + Drop, U: Disk + Drop, R: Wait>(
+pub(crate) fn serve<
+    K: Link,
+    C: Timestamps,
+    G: Gate,
+    N: Notes,
+    D: Disk + Drop,
+    U: Disk + Drop,
+    R: Wait,
+>(
     desk: &mut Desk<D, U>,
     piece: &mut [u8],
     patience: Patience,
     link: &mut K,
     clock: &mut C,
     gate: &mut G,
+    notes: &mut N,
     rt: &R,
 ) -> SessionEnd
     requires room { 0 < length piece.old }
@@ -287,6 +329,10 @@ pub(crate) fn serve<K: Link, C: Timestamps, G: Gate, D: Disk + Drop, U: Disk + D
     ensures later { G.stops gate.old ≤ G.stops gate.new }
     ensures asked { AreEntered desk.old.seat desk.old.users.seat (G.asked gate.old gate.new)
         desk.new.seat.seen desk.new.users.seat.seen }
+    ensures noted { HasNoted (arc_value desk.old.shelf) (telling K.told C.told C.stamped)
+        (stood (K.state link.old) (C.coming clock.old) desk.old.seat desk.old.users.seat
+        desk.old.attending) (stood (K.state link.new) (C.coming clock.new) desk.new.seat
+        desk.new.users.seat desk.new.attending) (N.noted notes.old notes.new) }
     ensures spent { result ≡ SessionEnd.Spent
         → Counted (K.state link.old).reads (K.state link.new).reads (2 ^ 32) }
     ensures few { (K.state link.new).reads ≤ (K.state link.old).reads + 2 ^ 32 }
@@ -309,7 +355,7 @@ pub(crate) fn serve<K: Link, C: Timestamps, G: Gate, D: Disk + Drop, U: Disk + D
         let user = desk.attending.user;
         let read = match link.read(piece) {
             Got::Bytes(count) => {
-                let progress = serve_piece(desk, link, clock, gate, rt, &piece[..count]);
+                let progress = serve_piece(desk, link, clock, gate, notes, rt, &piece[..count]);
                 desk.seat.call_next();
                 match progress {
                     Progress::On => BYTES,

@@ -1,3 +1,5 @@
+use crate::command::{Command, text_of};
+use crate::word::Word;
 use std::fmt::{self, Display, Formatter, Write};
 
 /// Why a caller's session ended.
@@ -24,6 +26,12 @@ pub enum Note {
     Gone(Ending),
     /// Nobody is let in any more, since accepts went on failing.
     Closed,
+    /// The user of this name logged in.
+    LoggedIn(Word),
+    /// A log-in was denied. What was given as name and PID isn't kept.
+    LogInDenied,
+    /// A command that changes something was done, or denied.
+    Asked(Command),
 }
 
 impl Ending {
@@ -45,6 +53,9 @@ impl Display for Note {
         match self {
             Note::Gone(ending) => write!(f, "caller gone, {}", ending.text()),
             Note::Closed => write!(f, "closed, accepts went on failing"),
+            Note::LoggedIn(user) => write!(f, "{} logged in", text_of(user)),
+            Note::LogInDenied => write!(f, "a log-in was denied"),
+            Note::Asked(command) => write!(f, "{command}"),
         }
     }
 }

@@ -8,6 +8,7 @@ use Rattle.craft_session.specs.declared.patience.Patience.TheVariants.{Limited}
 use Rattle.craft_session.specs.declared.users.UserDesk.{UserDesk}
 use Rattle.craft_session.specs.Gated.{AreEntered}
 use Rattle.craft_session.specs.Meanings.{language_for}
+use Rattle.craft_session.specs.Noted.{HasNoted, stood}
 use Rattle.craft_session.specs.Seats.{SeatAt, UserSeatAt, PlaceAt}
 use Rattle.craft_session.specs.Sessions.{IsPrompt, IsServed}
 use Rattle.craft_session.specs.Stamps.{stamp_at}
@@ -43,4 +44,9 @@ returns g c =
       attended = c.serve-end.ensures.attended;
       let_go = subst (λ (w : (Contents × SessionUser) × (SeatAt × UserSeatAt)). c.args.patience ≡ Limited → IsLetGoBy (language_for w.0.1 w.0.0) g.K.Link.begun g.K.Link.told g.C.Timestamps.told (g.K.Link.state c.args.link.now) (g.C.Timestamps.coming c.args.clock.now) w.1.0 w.1.1 (g.K.Link.state c.serve-end.new.link) 4800) (λ i. ((shelf_is i, user_is i), (seat_is i, users_is i)))
           c.serve-end.ensures.let_go;
+      noted = record {
+        attending = c.serve-end.new.desk.attending;
+        has = subst (λ (w : (Contents × Attending) × (SeatAt × UserSeatAt)). HasNoted w.0.0 (telling g.K.Link.told g.C.Timestamps.told g.C.Timestamps.stamped) (stood (g.K.Link.state c.args.link.now) (g.C.Timestamps.coming c.args.clock.now) w.1.0 w.1.1 w.0.1) (stood (g.K.Link.state c.serve-end.new.link) (g.C.Timestamps.coming c.serve-end.new.clock) c.serve-end.new.desk.seat c.serve-end.new.desk.users.seat c.serve-end.new.desk.attending) (g.N.Notes.noted c.args.notes.now c.serve-end.new.notes)) (λ i. ((shelf_is i, c.begin.ensures.attending i), (seat_is i, users_is i)))
+            c.serve-end.ensures.noted;
+      };
     }

@@ -7,16 +7,18 @@ use Rattle.dxc_model.specs.declared.user.SessionUser.{SessionUser}
 use Rattle.shelf_file.specs.Contents.{Contents}
 use Rattle.craft_session.specs.Desks.{now}
 use Rattle.craft_session.specs.Meanings.{language_for}
+use Rattle.craft_session.specs.Noted.{stood}
 use Rattle.craft_session.specs.Sessions.{Beginning, Goes, IsAt, Stands}
 use Rattle.craft_session.specs.Timely.{in_hand, starting, telling}
 use Rattle.craft_session.proofs.Ends.{later_behind, on_goes, rose_behind}
 use Rattle.craft_session.proofs.Gated.{are_entered_none, are_entered_on}
+use Rattle.craft_session.proofs.Noted.{noted_more, noted_moved, noted_none}
 use Rattle.craft_session.proofs.SessionSteps.{stands_on, goes_on_is, goes_ended_is, writes_none, writes_more}
 use Rattle.craft_session.proofs.Timely.{timely_more, timely_moved, timely_none, went_to}
 use Rattle.craft_session.proofs.session.serve_piece.Goals as goal
 
 pub loop-at-init : goal.loop-at-init
-loop-at-init g c = record { hung_up = refl; shelf = refl; seat = (refl, refl, refl, refl); users = (refl, refl, refl, refl); link = writes_none _ _; gate = refl; within = omega arith; asked = are_entered_none c.args.desk.now.seat c.args.desk.now.users.seat (g.G.Gate.asked c.args.gate.now c.args.gate.now) (g.G.Gate.unasked c.args.gate.now); stands = λ user k c1 b at s. s; timely = λ user k c1 b at s. timely_none (language_for user (arc_value c.args.desk.now.shelf)) (telling g.K.Link.told g.C.Timestamps.told g.C.Timestamps.stamped) (starting k c1 b) (g.K.Link.state c.args.link.now) _ refl }
+loop-at-init g c = record { hung_up = refl; shelf = refl; seat = (refl, refl, refl, refl); users = (refl, refl, refl, refl); link = writes_none _ _; gate = refl; within = omega arith; asked = are_entered_none c.args.desk.now.seat c.args.desk.now.users.seat (g.G.Gate.asked c.args.gate.now c.args.gate.now) (g.G.Gate.unasked c.args.gate.now); noted = noted_none (arc_value c.args.desk.now.shelf) (telling g.K.Link.told g.C.Timestamps.told g.C.Timestamps.stamped) (stood (g.K.Link.state c.args.link.now) (g.C.Timestamps.coming c.args.clock.now) c.args.desk.now.seat c.args.desk.now.users.seat c.args.desk.now.attending) (g.N.Notes.noted c.args.notes.now c.args.notes.now) (g.N.Notes.unnoted c.args.notes.now); stands = λ user k c1 b at s. s; timely = λ user k c1 b at s. timely_none (language_for user (arc_value c.args.desk.now.shelf)) (telling g.K.Link.told g.C.Timestamps.told g.C.Timestamps.stamped) (starting k c1 b) (g.K.Link.state c.args.link.now) _ refl }
 
 pub loop-at-preserved : goal.loop-at-preserved
 loop-at-preserved g c =
@@ -33,6 +35,8 @@ loop-at-preserved g c =
       gate = c.serve_unit.ensures.unstopped (on_goes _ c.in-On.is) ∙ c.loop-at.invariant.gate;
       within = omega (arith, c.feed-fed.ensures.within, ap length offer, length-drop c.loop-at.at piece, c.loop-at.invariant.within);
       asked = are_entered_on g.G.Gate.asked g.G.Gate.asked_on c.args.desk.now.seat c.loop-at.desk.seat c.args.desk.now.users.seat c.loop-at.desk.users.seat c.args.gate.now c.loop-at.gate c.serve_unit.new.gate _ _ c.loop-at.invariant.asked c.loop-at.invariant.seat c.loop-at.invariant.users c.serve_unit.ensures.asked;
+      noted = noted_more (arc_value c.args.desk.now.shelf) (telling g.K.Link.told g.C.Timestamps.told g.C.Timestamps.stamped) g.N.Notes.noted g.N.Notes.noted_on c.args.notes.now c.loop-at.notes c.serve_unit.new.notes (stood (g.K.Link.state c.args.link.now) (g.C.Timestamps.coming c.args.clock.now) c.args.desk.now.seat c.args.desk.now.users.seat c.args.desk.now.attending) (stood (g.K.Link.state c.loop-at.link) (g.C.Timestamps.coming c.loop-at.clock) c.loop-at.desk.seat c.loop-at.desk.users.seat c.loop-at.desk.attending) (stood (g.K.Link.state c.serve_unit.new.link) (g.C.Timestamps.coming c.serve_unit.new.clock) c.serve_unit.new.desk.seat c.serve_unit.new.desk.users.seat c.serve_unit.new.desk.attending) c.loop-at.invariant.noted
+          (noted_moved arc_value (telling g.K.Link.told g.C.Timestamps.told g.C.Timestamps.stamped) (stood (g.K.Link.state c.loop-at.link) (g.C.Timestamps.coming c.loop-at.clock) c.loop-at.desk.seat c.loop-at.desk.users.seat c.loop-at.desk.attending) (stood (g.K.Link.state c.serve_unit.new.link) (g.C.Timestamps.coming c.serve_unit.new.clock) c.serve_unit.new.desk.seat c.serve_unit.new.desk.users.seat c.serve_unit.new.desk.attending) (g.N.Notes.noted c.loop-at.notes c.serve_unit.new.notes) c.args.desk.now.shelf c.loop-at.desk.shelf c.loop-at.invariant.shelf c.serve_unit.ensures.noted);
       timely = λ user k c1 b at s.
           timely_more (language_for user (arc_value c.args.desk.now.shelf)) (telling g.K.Link.told g.C.Timestamps.told g.C.Timestamps.stamped) (starting k c1 b) (g.K.Link.state c.args.link.now) (g.K.Link.state c.loop-at.link) c.loop-at.desk.seat.seen c.loop-at.desk.users.seat.seen (c.loop-at.invariant.timely user k c1 b at s) _
           (timely_moved arc_value (telling g.K.Link.told g.C.Timestamps.told g.C.Timestamps.stamped) (g.C.Timestamps.coming c.loop-at.clock) (g.K.Link.state c.loop-at.link) _ (in_hand c.loop-at.desk.attending false c.feed-fed.result.unit c.feed-fed.new.self (drop (c.loop-at.at + c.feed-fed.result.taken) c.args.piece.now)) c.args.desk.now.shelf c.loop-at.desk.shelf c.args.desk.now.seat c.loop-at.desk.seat c.args.desk.now.users.seat c.loop-at.desk.users.seat c.loop-at.invariant.shelf c.loop-at.invariant.seat c.loop-at.invariant.users (c.serve_unit.ensures.timely (drop (c.loop-at.at + c.feed-fed.result.taken) c.args.piece.now)) user k c1 b at
@@ -56,6 +60,8 @@ returns-in_default g c =
       unstopped = λ not. u.unstopped not ∙ k.gate;
       later = later_behind _ _ _ k.gate u.later;
       asked = are_entered_on g.G.Gate.asked g.G.Gate.asked_on c.args.desk.now.seat c.loop-at.desk.seat c.args.desk.now.users.seat c.loop-at.desk.users.seat c.args.gate.now c.loop-at.gate c.serve_unit.new.gate _ _ c.loop-at.invariant.asked c.loop-at.invariant.seat c.loop-at.invariant.users c.serve_unit.ensures.asked;
+      noted = noted_more (arc_value c.args.desk.now.shelf) (telling g.K.Link.told g.C.Timestamps.told g.C.Timestamps.stamped) g.N.Notes.noted g.N.Notes.noted_on c.args.notes.now c.loop-at.notes c.serve_unit.new.notes (stood (g.K.Link.state c.args.link.now) (g.C.Timestamps.coming c.args.clock.now) c.args.desk.now.seat c.args.desk.now.users.seat c.args.desk.now.attending) (stood (g.K.Link.state c.loop-at.link) (g.C.Timestamps.coming c.loop-at.clock) c.loop-at.desk.seat c.loop-at.desk.users.seat c.loop-at.desk.attending) (stood (g.K.Link.state c.serve_unit.new.link) (g.C.Timestamps.coming c.serve_unit.new.clock) c.serve_unit.new.desk.seat c.serve_unit.new.desk.users.seat c.serve_unit.new.desk.attending) c.loop-at.invariant.noted
+          (noted_moved arc_value (telling g.K.Link.told g.C.Timestamps.told g.C.Timestamps.stamped) (stood (g.K.Link.state c.loop-at.link) (g.C.Timestamps.coming c.loop-at.clock) c.loop-at.desk.seat c.loop-at.desk.users.seat c.loop-at.desk.attending) (stood (g.K.Link.state c.serve_unit.new.link) (g.C.Timestamps.coming c.serve_unit.new.clock) c.serve_unit.new.desk.seat c.serve_unit.new.desk.users.seat c.serve_unit.new.desk.attending) (g.N.Notes.noted c.loop-at.notes c.serve_unit.new.notes) c.args.desk.now.shelf c.loop-at.desk.shelf c.loop-at.invariant.shelf c.serve_unit.ensures.noted);
       timely = λ user k c1 b at s.
           timely_more (language_for user (arc_value c.args.desk.now.shelf)) (telling g.K.Link.told g.C.Timestamps.told g.C.Timestamps.stamped) (starting k c1 b) (g.K.Link.state c.args.link.now) (g.K.Link.state c.loop-at.link) c.loop-at.desk.seat.seen c.loop-at.desk.users.seat.seen (c.loop-at.invariant.timely user k c1 b at s) _
           (timely_moved arc_value (telling g.K.Link.told g.C.Timestamps.told g.C.Timestamps.stamped) (g.C.Timestamps.coming c.loop-at.clock) (g.K.Link.state c.loop-at.link) _ (in_hand c.loop-at.desk.attending false c.feed-fed.result.unit c.feed-fed.new.self (drop (c.loop-at.at + c.feed-fed.result.taken) c.args.piece.now)) c.args.desk.now.shelf c.loop-at.desk.shelf c.args.desk.now.seat c.loop-at.desk.seat c.args.desk.now.users.seat c.loop-at.desk.users.seat c.loop-at.invariant.shelf c.loop-at.invariant.seat c.loop-at.invariant.users (c.serve_unit.ensures.timely (drop (c.loop-at.at + c.feed-fed.result.taken) c.args.piece.now)) user k c1 b at
