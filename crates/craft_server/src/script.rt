@@ -62,6 +62,7 @@ pub(crate) fn run_script<O: Opener + LetGo, K: Link, C: Clock, G: Gate, R: Wait>
 /// The status of a session that ended so.
 pub(crate) fn after_session(end: SessionEnd) -> Status
     requires attended { end ≢ SessionEnd.Unattended }
+    requires endless { end ≢ SessionEnd.Idle }
     ensures { result ≡ status_of end }
 {
     match end {
@@ -70,5 +71,6 @@ pub(crate) fn after_session(end: SessionEnd) -> Status
         SessionEnd::Stopped => Status::Stopped,
         SessionEnd::Spent => Status::Spent,
         SessionEnd::Unattended => unreachable!(),
+        SessionEnd::Idle => unreachable!(),
     }
 }

@@ -19,6 +19,7 @@ pub mod Timely
 pub mod SessionSteps
 pub mod Prompt
 pub mod Waiting
+pub mod Idling
 pub mod Answering
 pub mod Telling
 pub mod Playing

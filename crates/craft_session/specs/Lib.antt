@@ -26,4 +26,5 @@ pub mod Timely
 pub mod Lending
 pub mod Noted
 pub mod Waiting
+pub mod Idling
 pub mod Served

@@ -2,6 +2,7 @@
 ghost use Rattle.std.specs.Prelude.{◌≡◌, ◌≢◌};
 ghost use Rattle.craft_session.specs.Noted.{NotedFor};
 ghost use Rattle.craft_session.specs.Served.{Served, ServedFor};
+ghost use Rattle.craft_session.specs.Idling.{IsAwake};
 ghost use Rattle.craft_session.specs.Waiting.{IsLetGo};
 
 use crate::end::SessionEnd;
@@ -28,6 +29,7 @@ pub fn serve_session<K: Link, C: Timestamps, G: Gate, D: Disk + Drop, U: Disk + 
     ensures served { Served ⟦<(K, C, G, D) as Lent>⟧ (place.old, link.old, clock.old, gate.old)
         (place.new, link.new, clock.new, gate.new) result }
     ensures attended { result ≢ SessionEnd.Unattended }
+    ensures endless { result ≢ SessionEnd.Idle }
 {
     serve_session_of(place, SessionUser::Nobody, link, clock, gate, rt)
 }
@@ -45,6 +47,7 @@ pub fn serve_session_of<K: Link, C: Timestamps, G: Gate, D: Disk + Drop, U: Disk
         (place.old, link.old, clock.old, gate.old)
         (place.new, link.new, clock.new, gate.new) result }
     ensures attended { result ≢ SessionEnd.Unattended }
+    ensures endless { result ≢ SessionEnd.Idle }
 {
     serve_at(
         place,
@@ -59,7 +62,8 @@ pub fn serve_session_of<K: Link, C: Timestamps, G: Gate, D: Disk + Drop, U: Disk
 }
 
 /// Serves the link as `serve_session` does, and lets it go once nobody has been logged in for a minute of silence: behind 300 reads in which nothing
-/// came, or more where some brought bytes, of which 16 count as one of these. Its log-ins, changes and restarts are noted, and what came of each.
+/// came, or more where some brought bytes, of which 16 count as one of these. It also lets go who is logged in and silent for longer than the shelf
+/// allows one of the class. Its log-ins, changes and restarts are noted, and what came of each.
 pub fn serve_caller<
     K: Link,
     C: Timestamps,
@@ -79,6 +83,8 @@ pub fn serve_caller<
     ensures served { Served ⟦<(K, C, G, D) as Lent>⟧ (place.old, link.old, clock.old, gate.old)
         (place.new, link.new, clock.new, gate.new) result }
     ensures let_go { IsLetGo ⟦<(K, C, G, D) as Lent>⟧ SessionUser.Nobody
+        (place.old, link.old, clock.old, gate.old) (K.state link.new) }
+    ensures awake { IsAwake ⟦<(K, C, G, D) as Lent>⟧ SessionUser.Nobody
         (place.old, link.old, clock.old, gate.old) (K.state link.new) }
     ensures noted { NotedFor ⟦<(K, C, G, D) as Lent>⟧ SessionUser.Nobody
         (place.old, link.old, clock.old, gate.old)
@@ -112,6 +118,9 @@ fn serve_at<K: Link, C: Timestamps, G: Gate, N: Notes, D: Disk + Drop, U: Disk +
         (place.new, link.new, clock.new, gate.new) result }
     ensures attended { patience ≡ Patience.Endless → result ≢ SessionEnd.Unattended }
     ensures let_go { patience ≡ Patience.Limited → IsLetGo ⟦<(K, C, G, D) as Lent>⟧ first
+        (place.old, link.old, clock.old, gate.old) (K.state link.new) }
+    ensures endless { patience ≡ Patience.Endless → result ≢ SessionEnd.Idle }
+    ensures awake { patience ≡ Patience.Limited → IsAwake ⟦<(K, C, G, D) as Lent>⟧ first
         (place.old, link.old, clock.old, gate.old) (K.state link.new) }
     ensures noted { NotedFor ⟦<(K, C, G, D) as Lent>⟧ first
         (place.old, link.old, clock.old, gate.old)

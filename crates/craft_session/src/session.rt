@@ -15,6 +15,7 @@ ghost use Rattle.craft_session.specs.Seats.{IsSameSeat, IsSameUserSeat};
 ghost use Rattle.craft_session.specs.Sessions.{Beginning, IsAt, Writes, Stands, Goes, IsPrompt, IsServed};
 ghost use Rattle.craft_session.specs.Stamps.{stamp_at};
 ghost use Rattle.craft_session.specs.Timely.{IsTimelyFrom, WasTimely, in_hand, reached, telling};
+ghost use Rattle.craft_session.specs.Idling.{IsAwake, IsIdle};
 ghost use Rattle.craft_session.specs.Waiting.{IsLetGo, IsUnattended};
 ghost use Rattle.craft_session.specs.Walks.{begun_by};
 
@@ -25,7 +26,7 @@ use crate::end::{Progress, SessionEnd};
 use crate::lent::Lent;
 use crate::meaning::consult;
 use crate::noting::note_unit;
-use crate::patience::{BYTES, Patience, QUIET, waited_after};
+use crate::patience::{BYTES, Patience, QUIET, silent_after, waited_after};
 use crate::reports::report;
 use crate::say::say;
 use crate::timestamps::Timestamps;
@@ -343,14 +344,26 @@ pub(crate) fn serve<
     ensures let_go { patience ≡ Patience.Limited → IsLetGo ⟦<(K, C, G, D) as Lent>⟧
         desk.old.attending.user (place_of desk.old, link.old, clock.old, gate.old)
         (K.state link.new) }
+    ensures idle { result ≡ SessionEnd.Idle → IsIdle ⟦<(K, C, G, D) as Lent>⟧
+        desk.old.attending.user (place_of desk.old, link.old, clock.old, gate.old)
+        (K.state link.new) }
+    ensures endless { patience ≡ Patience.Endless → result ≢ SessionEnd.Idle }
+    ensures awake { patience ≡ Patience.Limited → IsAwake ⟦<(K, C, G, D) as Lent>⟧
+        desk.old.attending.user (place_of desk.old, link.old, clock.old, gate.old)
+        (K.state link.new) }
 {
     // Their clauses tell that the seats have seen histories.
     desk.seat.seen();
     desk.users.seat.seen();
+    let limits = desk.shelf.idle();
     let mut waited = 0;
+    let mut silent = 0;
     for _ in 0..READS {
         if patience.is_over(&desk.attending, waited) {
             return SessionEnd::Unattended;
+        }
+        if patience.is_idle(limits, &desk.attending, silent) {
+            return SessionEnd::Idle;
         }
         let user = desk.attending.user;
         let read = match link.read(piece) {
@@ -371,6 +384,7 @@ pub(crate) fn serve<
             Got::Failed => return SessionEnd::ReadFault,
         };
         waited = waited_after(user, waited, read);
+        silent = silent_after(silent, read);
     }
     SessionEnd::Spent
 }

@@ -17,6 +17,8 @@ pub enum Ending {
     Spent,
     /// The caller didn't log in for a minute.
     Unattended,
+    /// The caller was logged in, and silent for longer than its class may be.
+    Idle,
 }
 
 /// What happens at a place where callers come in.
@@ -43,6 +45,7 @@ impl Ending {
             Ending::Stopped => "the controller was stopped",
             Ending::Spent => "its session made all the reads that it may",
             Ending::Unattended => "nobody was logged in for a minute",
+            Ending::Idle => "nothing came from it for longer than its class may be idle",
         }
     }
 }
