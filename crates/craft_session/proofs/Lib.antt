@@ -20,6 +20,7 @@ pub mod SessionSteps
 pub mod Prompt
 pub mod Waiting
 pub mod Idling
+pub mod Forgetting
 pub mod Answering
 pub mod Telling
 pub mod Playing

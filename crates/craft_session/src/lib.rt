@@ -18,6 +18,7 @@ pub mod places;
 mod reports;
 mod say;
 mod seat;
+mod secrets;
 mod serving;
 mod session;
 mod shown;

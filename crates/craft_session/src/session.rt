@@ -1,4 +1,4 @@
-ghost use Rattle.std.specs.Prelude.{◌≡◌, ◌≢◌, ◌≤◌, ◌<◌, ◌+◌, ◌^◌, ◌↔◌, false, ℕ, List, [], length, IsTrue};
+ghost use Rattle.std.specs.Prelude.{◌≡◌, ◌≢◌, ◌≤◌, ◌<◌, ◌+◌, ◌^◌, ◌↔◌, false, ℕ, List, [], length, take, IsTrue};
 ghost use Rattle.dxc_causes.specs.Causes.{Rose, Counted};
 ghost use Rattle.dxc_outside.specs.declared.clock.Moment.{Moment};
 ghost use Rattle.dxc_model.specs.declared.user.SessionUser.{SessionUser as AUser};
@@ -39,8 +39,51 @@ use tl1_text::{Ctag, UnitKind};
 
 const READS: u64 = 1 << 32;
 
-/// Answers the units that end in the piece.
+/// Answers the units that end in the first bytes of the piece, so many, and writes over a PID in them.
 fn serve_piece<K: Link, C: Timestamps, G: Gate, N: Notes, D: Disk + Drop, U: Disk + Drop, R: Wait>(
+    desk: &mut Desk<D, U>,
+    link: &mut K,
+    clock: &mut C,
+    gate: &mut G,
+    notes: &mut N,
+    rt: &R,
+    piece: &mut [u8],
+    count: usize,
+) -> Progress
+    requires within { count ≤ length piece.old }
+    ensures length { length piece.new ≡ length piece.old }
+    ensures shelf { desk.new.shelf ≡ desk.old.shelf }
+    ensures seat { IsSameSeat desk.old.seat desk.new.seat }
+    ensures users { IsSameUserSeat desk.old.users.seat desk.new.users.seat }
+    ensures link { Writes K.told (K.state link.old) (K.state link.new) }
+    ensures hung_up { K.hung_up link.new ≡ K.hung_up link.old }
+    ensures goes { (first : AUser) → (k : LinkState) → (c : List Moment) → (b : Beginning)
+        → IsAt b desk.old.seat desk.old.users.seat
+        → Stands (language_for first (arc_value desk.old.shelf)) K.told C.told k (K.state link.old)
+        c (C.coming clock.old) b (now desk.old) false More desk.old.reader (take count piece.old)
+        → Goes (language_for first (arc_value desk.old.shelf)) K.told C.told k (K.state link.new) c
+        (C.coming clock.new) b (now desk.new) result false desk.new.reader [] }
+    ensures timely { IsTimelyFrom (arc_value desk.old.shelf) (telling K.told C.told C.stamped)
+        (stamp_at (C.coming clock.old) (K.state link.old) desk.old.seat desk.old.users.seat)
+        (in_hand desk.old.attending false More desk.old.reader (take count piece.old))
+        (reached (K.state link.new).written desk.new.seat.seen desk.new.users.seat.seen) }
+    ensures stopped { result ≡ Progress.Stopped → Rose (G.stops gate.old) (G.stops gate.new) }
+    ensures unstopped { result ≢ Progress.Stopped → G.stops gate.new ≡ G.stops gate.old }
+    ensures later { G.stops gate.old ≤ G.stops gate.new }
+    ensures asked { AreEntered desk.old.seat desk.old.users.seat (G.asked gate.old gate.new)
+        desk.new.seat.seen desk.new.users.seat.seen }
+    ensures noted { HasNoted (arc_value desk.old.shelf) (telling K.told C.told C.stamped)
+        (stood (K.state link.old) (C.coming clock.old) desk.old.seat desk.old.users.seat
+        desk.old.attending) (stood (K.state link.new) (C.coming clock.new) desk.new.seat
+        desk.new.users.seat desk.new.attending) (N.noted notes.old notes.new) }
+{
+    let progress = serve_units(desk, link, clock, gate, notes, rt, &piece[..count]);
+    desk.forget(piece);
+    progress
+}
+
+/// Answers the units that end in the piece.
+fn serve_units<K: Link, C: Timestamps, G: Gate, N: Notes, D: Disk + Drop, U: Disk + Drop, R: Wait>(
     desk: &mut Desk<D, U>,
     link: &mut K,
     clock: &mut C,
@@ -368,7 +411,7 @@ pub(crate) fn serve<
         let user = desk.attending.user;
         let read = match link.read(piece) {
             Got::Bytes(count) => {
-                let progress = serve_piece(desk, link, clock, gate, notes, rt, &piece[..count]);
+                let progress = serve_piece(desk, link, clock, gate, notes, rt, piece, count);
                 desk.seat.call_next();
                 match progress {
                     Progress::On => BYTES,

@@ -12,7 +12,7 @@ use Rattle.craft_session.specs.Seats.{IsSameSeat, IsSameUserSeat}
 use Rattle.craft_session.specs.Sessions.{Beginning, IsAt, Stands, Writes}
 use Rattle.craft_session.specs.Stamps.{stamp_at}
 use Rattle.craft_session.specs.Timely.{IsTimelyFrom, in_hand, reached, telling}
-use Rattle.craft_session.proofs.session.serve_piece.Given as goal
+use Rattle.craft_session.proofs.session.serve_units.Given as goal
 
 abbrev pub invariant-loop-at : goal.invariant-loop-at
 invariant-loop-at g l =
