@@ -29,6 +29,7 @@ impl Secrets {
 }
 
 // Part of the stack, and a word of it that the system is told of.
+#[derive(Drop)]
 struct Below {
     words: [u64; WORDS],
     told: AtomicU64,
