@@ -11,6 +11,7 @@ ghost use Rattle.craft_session.specs.Gated.{AreEntered};
 ghost use Rattle.craft_session.specs.Meanings.{language_for};
 ghost use Rattle.craft_session.specs.Desks.{now, place_of, input_of, ConsultedIs, IsAnswered};
 ghost use Rattle.craft_session.specs.Noted.{HasNoted, stood};
+ghost use Rattle.craft_session.specs.Pieces.{GoesOver, desk_at};
 ghost use Rattle.craft_session.specs.Seats.{IsSameSeat, IsSameUserSeat};
 ghost use Rattle.craft_session.specs.Sessions.{Beginning, IsAt, Writes, Stands, Goes, IsPrompt, IsServed};
 ghost use Rattle.craft_session.specs.Stamps.{stamp_at};
@@ -57,12 +58,10 @@ fn serve_piece<K: Link, C: Timestamps, G: Gate, N: Notes, D: Disk + Drop, U: Dis
     ensures users { IsSameUserSeat desk.old.users.seat desk.new.users.seat }
     ensures link { Writes K.told (K.state link.old) (K.state link.new) }
     ensures hung_up { K.hung_up link.new ≡ K.hung_up link.old }
-    ensures goes { (first : AUser) → (k : LinkState) → (c : List Moment) → (b : Beginning)
-        → IsAt b desk.old.seat desk.old.users.seat
-        → Stands (language_for first (arc_value desk.old.shelf)) K.told C.told k (K.state link.old)
-        c (C.coming clock.old) b (now desk.old) false More desk.old.reader (take count piece.old)
-        → Goes (language_for first (arc_value desk.old.shelf)) K.told C.told k (K.state link.new) c
-        (C.coming clock.new) b (now desk.new) result false desk.new.reader [] }
+    ensures goes { GoesOver (arc_value desk.old.shelf) (telling K.told C.told C.stamped)
+        (desk_at (K.state link.old) (C.coming clock.old) desk.old)
+        (desk_at (K.state link.new) (C.coming clock.new) desk.new)
+        (take count piece.old, result) }
     ensures timely { IsTimelyFrom (arc_value desk.old.shelf) (telling K.told C.told C.stamped)
         (stamp_at (C.coming clock.old) (K.state link.old) desk.old.seat desk.old.users.seat)
         (in_hand desk.old.attending false More desk.old.reader (take count piece.old))
