@@ -20,9 +20,12 @@ use Rattle.craft_session.proofs.SessionSteps.{served_here}
 use Rattle.craft_session.proofs.Waiting.{StandsAt}
 
 -- one Quiet more behind these
+quiet_at_last : (many : ℕ) (items : List Item) → replicate many quiet ++ quiet ∷ items ≡ replicate (suc many) quiet ++ items
+quiet_at_last zero items = refl
+quiet_at_last (suc n) items = ap (λ (is : List Item). quiet ∷ is) (quiet_at_last n items)
+
 one_quiet_more : (many : ℕ) (items : List Item) → replicate many quiet ++ quiet ∷ items ≡ replicate (many + 1) quiet ++ items
-one_quiet_more zero items = refl
-one_quiet_more (suc n) items = ap (λ (is : List Item). quiet ∷ is) (one_quiet_more n items)
+one_quiet_more many items = let same : suc many ≡ many + 1 = omega arith in quiet_at_last many items ∙ ap (λ (n : ℕ). replicate n quiet ++ items) same
 
 -- a read that brought bytes found one
 pub byte_came : (count : ℕ) (buffer : List ℕ) (rest left : List Item) → (1 ≤ count) × (count ≤ length buffer) → left ≡ bytes (take count buffer) ++ rest → (x : ℕ) × (more : List Item) × (left ≡ byte x ∷ more)
@@ -32,7 +35,7 @@ byte_came (suc n) (b ∷ bs) rest left fits is = (b, bytes (take n bs) ++ rest, 
 
 -- who was silent for too long made a read
 pub some_silent : (limits : IdleLimits) (user : SessionUser) (made silent : ℕ) → IsTooLong limits user silent → silent ≤ made → 0 < made
-some_silent limits user made silent long few = let l = long.2.1 in omega (arith, l, few)
+some_silent limits user made silent long few = let more = long.2 in omega (arith, more, few)
 
 module _ (limited : Type 0) (limits : IdleLimits) (l : Language Request Moment) (begun : LinkState → Type 0) (told clock_told : Type 0) (k : LinkState) (c : List Moment) (old : SeatAt) (users : UserSeatAt) where
   -- how a session stands that made so many reads, of which the last ones, so many, brought nothing
@@ -51,7 +54,7 @@ module _ (limited : Type 0) (limits : IdleLimits) (l : Language Request Moment) 
   }
 
   module _ (j m : LinkState) (reads : ℕ) (d : List Moment) (now : Now) (r : Reader) (begun_j : begun j) (stands : StandsAt limited l begun told clock_told k c old users j d now r) (one : Counted j.reads reads 1) (same : m.reads ≡ reads) where
-    read_here : (b : Beginning) → IsAt b old users → Saw b.opening old.seen b.before → SawUsers b.users users.seen b.users_before → Read l begun told clock_told k c old users b j.reads
+    abbrev read_here : (b : Beginning) → IsAt b old users → Saw b.opening old.seen b.before → SawUsers b.users users.seen b.users_before → Read l begun told clock_told k c old users b j.reads
     read_here b at saw users_saw = record { link = j; begun_at = begun_j; number_is = refl; clock = d; now = now; served = served_here _ _ _ _ _ _ _ _ _ _ (stands b at saw users_saw) }
 
     heard_more : (silent many : ℕ) → silent < many → IsHeardBy l begun told clock_told k c old users j silent → IsHeardBy l begun told clock_told k c old users m many
@@ -68,13 +71,13 @@ module _ (limited : Type 0) (limits : IdleLimits) (l : Language Request Moment) 
     -- a read, behind which the session went on or ended
     pub awake_behind : (made silent : ℕ) → IsInTime limits now.attending.user silent → Idles j now.attending.user made silent → WasAwake l begun told clock_told k c old users limits m
     awake_behind made silent short i = inr (now.attending.user,
-      ((λ b at saw users_saw. record {
+      (λ b at saw users_saw. record {
         number = j.reads;
         since = let up = one.no_more in omega (arith, up, same);
         read = read_here b at saw users_saw;
         logged_in = refl;
       }),
-      (λ minutes is. let in_time = short minutes is in heard_more silent (300 * minutes + 1) (omega (arith, in_time)) i.heard)))
+      (λ minutes is. let in_time = short minutes is in heard_more silent (300 * minutes + 1) (omega (arith, in_time)) i.heard))
 
     -- a read that brought something and was answered
     pub idles_heard : (user : SessionUser) (made silent next : ℕ) → (told → (x : ℕ) × (rest : List Item) × (j.left ≡ byte x ∷ rest)) → next ≡ 0 → (limited → IsInTime limits now.attending.user silent) → Idles j now.attending.user made silent → Idles m user (made + 1) next
@@ -125,7 +128,7 @@ module _ (limited : Type 0) (limits : IdleLimits) (l : Language Request Moment) 
     many = silent;
     too_long = long;
     silent = elim i.nothing [
-      | inl none ↦ let l = long.2.1 in absurd (omega (arith, l, none))
+      | inl none ↦ let more = long.2 in absurd (omega (arith, more, none))
       | inr nothing ↦ nothing
     ];
   }

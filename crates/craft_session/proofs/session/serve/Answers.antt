@@ -23,6 +23,7 @@ use Rattle.craft_session.specs.Waiting.{waited_after}
 use Rattle.craft_session.proofs.Idling.{awake_behind, byte_came, idle_at, idles_heard, idles_none, idles_silent, some_silent}
 use Rattle.craft_session.specs.Idling.{IsInTime, IsTooLong, silent_after}
 use Rattle.shelf_file.specs.declared.idle.IdleLimits.{IdleLimits}
+use Rattle.shelf_file.specs.Contents.{Contents}
 use Rattle.dxc_outside.specs.Items.{Item, quiet}
 use Rattle.craft_session.proofs.Waiting.{both_no, let_go_behind, let_go_here, some_made, unattended_at, waits_more, waits_none}
 use Rattle.craft_session.proofs.session.serve.Goals as goal
@@ -86,7 +87,7 @@ returns-in-Cut g c =
       idle = λ is. write_no _ is refl;
       endless = λ endless is. write_no _ is refl;
       let_go = λ limits. let_go_behind (c.args.patience ≡ Limited) (language_for c.args.desk.now.attending.user (arc_value c.args.desk.now.shelf)) g.K.Link.begun g.K.Link.told g.C.Timestamps.told (g.K.Link.state c.args.link.now) (g.C.Timestamps.coming c.args.clock.now) c.args.desk.now.seat c.args.desk.now.users.seat (g.K.Link.state c.loop.link) (g.K.Link.state c.serve_piece-progress.new.link) _ (g.C.Timestamps.coming c.loop.clock) (now c.loop.desk) c.loop.desk.reader c.in-Bytes.ensures.begun c.loop.invariant.stands c.in-Bytes.ensures.read.reads c.serve_piece-progress.ensures.link.wrote.reads c.loop.counter c.loop.waited (c.is_over.ensures.lasts c.if-is_over.false) c.loop.invariant.waits limits;
-      awake = λ limits. awake_behind (c.args.patience ≡ Limited) ((arc_value c.args.desk.now.shelf).idle) (language_for c.args.desk.now.attending.user (arc_value c.args.desk.now.shelf)) g.K.Link.begun g.K.Link.told g.C.Timestamps.told (g.K.Link.state c.args.link.now) (g.C.Timestamps.coming c.args.clock.now) c.args.desk.now.seat c.args.desk.now.users.seat (g.K.Link.state c.loop.link) (g.K.Link.state c.serve_piece-progress.new.link) _ (g.C.Timestamps.coming c.loop.clock) (now c.loop.desk) c.loop.desk.reader c.in-Bytes.ensures.begun c.loop.invariant.stands c.in-Bytes.ensures.read.reads c.serve_piece-progress.ensures.link.wrote.reads c.loop.counter c.loop.silent (subst (λ (i : IdleLimits). IsInTime i c.loop.desk.attending.user c.loop.silent) c.idle-limits.ensures (c.is_idle.ensures.awake c.if-is_idle.false limits)) c.loop.invariant.idles;
+      awake = λ limits. awake_behind (c.args.patience ≡ Limited) ((arc_value c.args.desk.now.shelf).idle) (language_for c.args.desk.now.attending.user (arc_value c.args.desk.now.shelf)) g.K.Link.begun g.K.Link.told g.C.Timestamps.told (g.K.Link.state c.args.link.now) (g.C.Timestamps.coming c.args.clock.now) c.args.desk.now.seat c.args.desk.now.users.seat (g.K.Link.state c.loop.link) (g.K.Link.state c.serve_piece-progress.new.link) _ (g.C.Timestamps.coming c.loop.clock) (now c.loop.desk) c.loop.desk.reader c.in-Bytes.ensures.begun c.loop.invariant.stands c.in-Bytes.ensures.read.reads c.serve_piece-progress.ensures.link.wrote.reads c.loop.counter c.loop.silent (subst (λ (i : IdleLimits). IsInTime i c.loop.desk.attending.user c.loop.silent) (c.idle-limits.ensures ∙ ap (λ (s : Contents). s.idle) c.deref.ensures) (c.is_idle.ensures.awake c.if-is_idle.false limits)) c.loop.invariant.idles;
     }
 
 pub returns-in-Stopped : goal.returns-in-Stopped
@@ -126,7 +127,7 @@ returns-in-Stopped g c =
       idle = λ is. stop_no _ is refl;
       endless = λ endless is. stop_no _ is refl;
       let_go = λ limits. let_go_behind (c.args.patience ≡ Limited) (language_for c.args.desk.now.attending.user (arc_value c.args.desk.now.shelf)) g.K.Link.begun g.K.Link.told g.C.Timestamps.told (g.K.Link.state c.args.link.now) (g.C.Timestamps.coming c.args.clock.now) c.args.desk.now.seat c.args.desk.now.users.seat (g.K.Link.state c.loop.link) (g.K.Link.state c.serve_piece-progress.new.link) _ (g.C.Timestamps.coming c.loop.clock) (now c.loop.desk) c.loop.desk.reader c.in-Bytes.ensures.begun c.loop.invariant.stands c.in-Bytes.ensures.read.reads c.serve_piece-progress.ensures.link.wrote.reads c.loop.counter c.loop.waited (c.is_over.ensures.lasts c.if-is_over.false) c.loop.invariant.waits limits;
-      awake = λ limits. awake_behind (c.args.patience ≡ Limited) ((arc_value c.args.desk.now.shelf).idle) (language_for c.args.desk.now.attending.user (arc_value c.args.desk.now.shelf)) g.K.Link.begun g.K.Link.told g.C.Timestamps.told (g.K.Link.state c.args.link.now) (g.C.Timestamps.coming c.args.clock.now) c.args.desk.now.seat c.args.desk.now.users.seat (g.K.Link.state c.loop.link) (g.K.Link.state c.serve_piece-progress.new.link) _ (g.C.Timestamps.coming c.loop.clock) (now c.loop.desk) c.loop.desk.reader c.in-Bytes.ensures.begun c.loop.invariant.stands c.in-Bytes.ensures.read.reads c.serve_piece-progress.ensures.link.wrote.reads c.loop.counter c.loop.silent (subst (λ (i : IdleLimits). IsInTime i c.loop.desk.attending.user c.loop.silent) c.idle-limits.ensures (c.is_idle.ensures.awake c.if-is_idle.false limits)) c.loop.invariant.idles;
+      awake = λ limits. awake_behind (c.args.patience ≡ Limited) ((arc_value c.args.desk.now.shelf).idle) (language_for c.args.desk.now.attending.user (arc_value c.args.desk.now.shelf)) g.K.Link.begun g.K.Link.told g.C.Timestamps.told (g.K.Link.state c.args.link.now) (g.C.Timestamps.coming c.args.clock.now) c.args.desk.now.seat c.args.desk.now.users.seat (g.K.Link.state c.loop.link) (g.K.Link.state c.serve_piece-progress.new.link) _ (g.C.Timestamps.coming c.loop.clock) (now c.loop.desk) c.loop.desk.reader c.in-Bytes.ensures.begun c.loop.invariant.stands c.in-Bytes.ensures.read.reads c.serve_piece-progress.ensures.link.wrote.reads c.loop.counter c.loop.silent (subst (λ (i : IdleLimits). IsInTime i c.loop.desk.attending.user c.loop.silent) (c.idle-limits.ensures ∙ ap (λ (s : Contents). s.idle) c.deref.ensures) (c.is_idle.ensures.awake c.if-is_idle.false limits)) c.loop.invariant.idles;
     }
 
 pub returns-in-End : goal.returns-in-End
@@ -161,7 +162,7 @@ returns-in-End g c =
       idle = λ is. end_no _ is refl;
       endless = λ endless is. end_no _ is refl;
       let_go = λ limits. let_go_behind (c.args.patience ≡ Limited) (language_for c.args.desk.now.attending.user (arc_value c.args.desk.now.shelf)) g.K.Link.begun g.K.Link.told g.C.Timestamps.told (g.K.Link.state c.args.link.now) (g.C.Timestamps.coming c.args.clock.now) c.args.desk.now.seat c.args.desk.now.users.seat (g.K.Link.state c.loop.link) (g.K.Link.state c.read.new.self) _ (g.C.Timestamps.coming c.loop.clock) (now c.loop.desk) c.loop.desk.reader c.in-End.ensures.begun c.loop.invariant.stands c.in-End.ensures.read.reads refl c.loop.counter c.loop.waited (c.is_over.ensures.lasts c.if-is_over.false) c.loop.invariant.waits limits;
-      awake = λ limits. awake_behind (c.args.patience ≡ Limited) ((arc_value c.args.desk.now.shelf).idle) (language_for c.args.desk.now.attending.user (arc_value c.args.desk.now.shelf)) g.K.Link.begun g.K.Link.told g.C.Timestamps.told (g.K.Link.state c.args.link.now) (g.C.Timestamps.coming c.args.clock.now) c.args.desk.now.seat c.args.desk.now.users.seat (g.K.Link.state c.loop.link) (g.K.Link.state c.read.new.self) _ (g.C.Timestamps.coming c.loop.clock) (now c.loop.desk) c.loop.desk.reader c.in-End.ensures.begun c.loop.invariant.stands c.in-End.ensures.read.reads refl c.loop.counter c.loop.silent (subst (λ (i : IdleLimits). IsInTime i c.loop.desk.attending.user c.loop.silent) c.idle-limits.ensures (c.is_idle.ensures.awake c.if-is_idle.false limits)) c.loop.invariant.idles;
+      awake = λ limits. awake_behind (c.args.patience ≡ Limited) ((arc_value c.args.desk.now.shelf).idle) (language_for c.args.desk.now.attending.user (arc_value c.args.desk.now.shelf)) g.K.Link.begun g.K.Link.told g.C.Timestamps.told (g.K.Link.state c.args.link.now) (g.C.Timestamps.coming c.args.clock.now) c.args.desk.now.seat c.args.desk.now.users.seat (g.K.Link.state c.loop.link) (g.K.Link.state c.read.new.self) _ (g.C.Timestamps.coming c.loop.clock) (now c.loop.desk) c.loop.desk.reader c.in-End.ensures.begun c.loop.invariant.stands c.in-End.ensures.read.reads refl c.loop.counter c.loop.silent (subst (λ (i : IdleLimits). IsInTime i c.loop.desk.attending.user c.loop.silent) (c.idle-limits.ensures ∙ ap (λ (s : Contents). s.idle) c.deref.ensures) (c.is_idle.ensures.awake c.if-is_idle.false limits)) c.loop.invariant.idles;
     }
 
 pub returns-in-Failed : goal.returns-in-Failed
@@ -196,7 +197,7 @@ returns-in-Failed g c =
       idle = λ is. read_no _ is refl;
       endless = λ endless is. read_no _ is refl;
       let_go = λ limits. let_go_behind (c.args.patience ≡ Limited) (language_for c.args.desk.now.attending.user (arc_value c.args.desk.now.shelf)) g.K.Link.begun g.K.Link.told g.C.Timestamps.told (g.K.Link.state c.args.link.now) (g.C.Timestamps.coming c.args.clock.now) c.args.desk.now.seat c.args.desk.now.users.seat (g.K.Link.state c.loop.link) (g.K.Link.state c.read.new.self) _ (g.C.Timestamps.coming c.loop.clock) (now c.loop.desk) c.loop.desk.reader c.in-Failed.ensures.begun c.loop.invariant.stands c.in-Failed.ensures.read.reads refl c.loop.counter c.loop.waited (c.is_over.ensures.lasts c.if-is_over.false) c.loop.invariant.waits limits;
-      awake = λ limits. awake_behind (c.args.patience ≡ Limited) ((arc_value c.args.desk.now.shelf).idle) (language_for c.args.desk.now.attending.user (arc_value c.args.desk.now.shelf)) g.K.Link.begun g.K.Link.told g.C.Timestamps.told (g.K.Link.state c.args.link.now) (g.C.Timestamps.coming c.args.clock.now) c.args.desk.now.seat c.args.desk.now.users.seat (g.K.Link.state c.loop.link) (g.K.Link.state c.read.new.self) _ (g.C.Timestamps.coming c.loop.clock) (now c.loop.desk) c.loop.desk.reader c.in-Failed.ensures.begun c.loop.invariant.stands c.in-Failed.ensures.read.reads refl c.loop.counter c.loop.silent (subst (λ (i : IdleLimits). IsInTime i c.loop.desk.attending.user c.loop.silent) c.idle-limits.ensures (c.is_idle.ensures.awake c.if-is_idle.false limits)) c.loop.invariant.idles;
+      awake = λ limits. awake_behind (c.args.patience ≡ Limited) ((arc_value c.args.desk.now.shelf).idle) (language_for c.args.desk.now.attending.user (arc_value c.args.desk.now.shelf)) g.K.Link.begun g.K.Link.told g.C.Timestamps.told (g.K.Link.state c.args.link.now) (g.C.Timestamps.coming c.args.clock.now) c.args.desk.now.seat c.args.desk.now.users.seat (g.K.Link.state c.loop.link) (g.K.Link.state c.read.new.self) _ (g.C.Timestamps.coming c.loop.clock) (now c.loop.desk) c.loop.desk.reader c.in-Failed.ensures.begun c.loop.invariant.stands c.in-Failed.ensures.read.reads refl c.loop.counter c.loop.silent (subst (λ (i : IdleLimits). IsInTime i c.loop.desk.attending.user c.loop.silent) (c.idle-limits.ensures ∙ ap (λ (s : Contents). s.idle) c.deref.ensures) (c.is_idle.ensures.awake c.if-is_idle.false limits)) c.loop.invariant.idles;
     }
 
 pub returns-clause-session : goal.returns-clause-session
@@ -230,7 +231,7 @@ loop-preserved g c =
         asked = are_entered_on g.G.Gate.asked g.G.Gate.asked_on c.args.desk.now.seat c.loop.desk.seat c.args.desk.now.users.seat c.loop.desk.users.seat c.args.gate.now c.loop.gate w.serve_piece-progress.new.gate _ _ c.loop.invariant.asked c.loop.invariant.seat c.loop.invariant.users w.serve_piece-progress.ensures.asked;
         noted = noted_more (arc_value c.args.desk.now.shelf) (telling g.K.Link.told g.C.Timestamps.told g.C.Timestamps.stamped) g.N.Notes.noted g.N.Notes.noted_on c.args.notes.now c.loop.notes w.serve_piece-progress.new.notes (stood (g.K.Link.state c.args.link.now) (g.C.Timestamps.coming c.args.clock.now) c.args.desk.now.seat c.args.desk.now.users.seat c.args.desk.now.attending) (stood _ (g.C.Timestamps.coming c.loop.clock) c.loop.desk.seat c.loop.desk.users.seat c.loop.desk.attending) (stood (g.K.Link.state w.serve_piece-progress.new.link) (g.C.Timestamps.coming w.serve_piece-progress.new.clock) w.serve_piece-progress.new.desk.seat w.serve_piece-progress.new.desk.users.seat w.serve_piece-progress.new.desk.attending) (noted_read (arc_value c.args.desk.now.shelf) (telling g.K.Link.told g.C.Timestamps.told g.C.Timestamps.stamped) (stood (g.K.Link.state c.args.link.now) (g.C.Timestamps.coming c.args.clock.now) c.args.desk.now.seat c.args.desk.now.users.seat c.args.desk.now.attending) (g.K.Link.state c.loop.link) _ (g.C.Timestamps.coming c.loop.clock) c.loop.desk.seat c.loop.desk.users.seat c.loop.desk.attending (g.N.Notes.noted c.args.notes.now c.loop.notes) _ _ c.loop.invariant.noted w.in-Bytes.ensures.read) (noted_moved arc_value (telling g.K.Link.told g.C.Timestamps.told g.C.Timestamps.stamped) (stood _ (g.C.Timestamps.coming c.loop.clock) c.loop.desk.seat c.loop.desk.users.seat c.loop.desk.attending) (stood (g.K.Link.state w.serve_piece-progress.new.link) (g.C.Timestamps.coming w.serve_piece-progress.new.clock) w.serve_piece-progress.new.desk.seat w.serve_piece-progress.new.desk.users.seat w.serve_piece-progress.new.desk.attending) (g.N.Notes.noted c.loop.notes w.serve_piece-progress.new.notes) c.args.desk.now.shelf c.loop.desk.shelf c.loop.invariant.shelf w.serve_piece-progress.ensures.noted);
         waits = waits_more (c.args.patience ≡ Limited) (language_for c.args.desk.now.attending.user (arc_value c.args.desk.now.shelf)) g.K.Link.begun g.K.Link.told g.C.Timestamps.told (g.K.Link.state c.args.link.now) (g.C.Timestamps.coming c.args.clock.now) c.args.desk.now.seat c.args.desk.now.users.seat (g.K.Link.state c.loop.link) (g.K.Link.state w.serve_piece-progress.new.link) _ (g.C.Timestamps.coming c.loop.clock) (now c.loop.desk) c.loop.desk.reader w.in-Bytes.ensures.begun c.loop.invariant.stands w.in-Bytes.ensures.read.reads w.serve_piece-progress.ensures.link.wrote.reads c.loop.counter c.loop.waited 1 c.waited_after-waited.result (c.waited_after-waited.ensures ∙ ap (λ (n : ℕ). waited_after c.loop.desk.attending.user c.loop.waited n) w.read-is) (c.is_over.ensures.lasts c.if-is_over.false) (omega arith) (omega arith) c.loop.invariant.waits;
-        idles = idles_heard (c.args.patience ≡ Limited) ((arc_value c.args.desk.now.shelf).idle) (language_for c.args.desk.now.attending.user (arc_value c.args.desk.now.shelf)) g.K.Link.begun g.K.Link.told g.C.Timestamps.told (g.K.Link.state c.args.link.now) (g.C.Timestamps.coming c.args.clock.now) c.args.desk.now.seat c.args.desk.now.users.seat (g.K.Link.state c.loop.link) (g.K.Link.state w.serve_piece-progress.new.link) _ (g.C.Timestamps.coming c.loop.clock) (now c.loop.desk) c.loop.desk.reader w.in-Bytes.ensures.begun c.loop.invariant.stands w.in-Bytes.ensures.read.reads w.serve_piece-progress.ensures.link.wrote.reads w.serve_piece-progress.new.desk.attending.user c.loop.counter c.loop.silent c.silent_after-silent.result (λ t. byte_came _ _ _ _ w.in-Bytes.ensures.read.fits (w.in-Bytes.ensures.read.left t)) (c.silent_after-silent.ensures ∙ ap (λ (n : ℕ). silent_after c.loop.silent n) w.read-is) (λ limits. subst (λ (i : IdleLimits). IsInTime i c.loop.desk.attending.user c.loop.silent) c.idle-limits.ensures (c.is_idle.ensures.awake c.if-is_idle.false limits)) c.loop.invariant.idles;
+        idles = idles_heard (c.args.patience ≡ Limited) ((arc_value c.args.desk.now.shelf).idle) (language_for c.args.desk.now.attending.user (arc_value c.args.desk.now.shelf)) g.K.Link.begun g.K.Link.told g.C.Timestamps.told (g.K.Link.state c.args.link.now) (g.C.Timestamps.coming c.args.clock.now) c.args.desk.now.seat c.args.desk.now.users.seat (g.K.Link.state c.loop.link) (g.K.Link.state w.serve_piece-progress.new.link) _ (g.C.Timestamps.coming c.loop.clock) (now c.loop.desk) c.loop.desk.reader w.in-Bytes.ensures.begun c.loop.invariant.stands w.in-Bytes.ensures.read.reads w.serve_piece-progress.ensures.link.wrote.reads w.serve_piece-progress.new.desk.attending.user c.loop.counter c.loop.silent c.silent_after-silent.result (λ t. byte_came _ _ _ _ w.in-Bytes.ensures.read.fits (w.in-Bytes.ensures.read.left t)) (c.silent_after-silent.ensures ∙ ap (λ (n : ℕ). silent_after c.loop.silent n) w.read-is) (λ limits. subst (λ (i : IdleLimits). IsInTime i c.loop.desk.attending.user c.loop.silent) (c.idle-limits.ensures ∙ ap (λ (s : Contents). s.idle) c.deref.ensures) (c.is_idle.ensures.awake c.if-is_idle.false limits)) c.loop.invariant.idles;
       })
       | in-Quiet+in-On-report w ↦ rw (w.desk-is, w.link-is, w.clock-is, w.gate-is, w.notes-is) (record {
         shelf = w.report.ensures.shelf ∙ c.loop.invariant.shelf;
@@ -253,7 +254,7 @@ loop-preserved g c =
         asked = are_entered_beside g.G.Gate.asked g.G.Gate.asked_on g.G.Gate.unasked c.args.desk.now.seat c.loop.desk.seat c.args.desk.now.users.seat c.args.gate.now c.loop.gate _ _ _ _ c.loop.invariant.asked refl c.loop.invariant.seat (ap (λ (u : UserDesk g.row.U.Denot). u.seat.seen) w.report.ensures.users) w.report.ensures.entered;
         noted = noted_beside (arc_value c.args.desk.now.shelf) (telling g.K.Link.told g.C.Timestamps.told g.C.Timestamps.stamped) (stood (g.K.Link.state c.args.link.now) (g.C.Timestamps.coming c.args.clock.now) c.args.desk.now.seat c.args.desk.now.users.seat c.args.desk.now.attending) (stood _ (g.C.Timestamps.coming c.loop.clock) c.loop.desk.seat c.loop.desk.users.seat c.loop.desk.attending) (stood (g.K.Link.state w.report.new.link) (g.C.Timestamps.coming w.report.new.clock) w.report.new.desk.seat w.report.new.desk.users.seat w.report.new.desk.attending) (g.N.Notes.noted c.args.notes.now c.loop.notes) (noted_read (arc_value c.args.desk.now.shelf) (telling g.K.Link.told g.C.Timestamps.told g.C.Timestamps.stamped) (stood (g.K.Link.state c.args.link.now) (g.C.Timestamps.coming c.args.clock.now) c.args.desk.now.seat c.args.desk.now.users.seat c.args.desk.now.attending) (g.K.Link.state c.loop.link) _ (g.C.Timestamps.coming c.loop.clock) c.loop.desk.seat c.loop.desk.users.seat c.loop.desk.attending (g.N.Notes.noted c.args.notes.now c.loop.notes) _ _ c.loop.invariant.noted w.in-Quiet.ensures.read) (beside_reports g.K.Link.told (stood _ (g.C.Timestamps.coming c.loop.clock) c.loop.desk.seat c.loop.desk.users.seat c.loop.desk.attending) (stood (g.K.Link.state w.report.new.link) (g.C.Timestamps.coming w.report.new.clock) w.report.new.desk.seat w.report.new.desk.users.seat w.report.new.desk.attending) w.report.ensures.link w.report.ensures.seat (ap (λ (u : UserDesk g.row.U.Denot). u.seat) w.report.ensures.users) w.report.ensures.looked w.report.ensures.user);
         waits = waits_more (c.args.patience ≡ Limited) (language_for c.args.desk.now.attending.user (arc_value c.args.desk.now.shelf)) g.K.Link.begun g.K.Link.told g.C.Timestamps.told (g.K.Link.state c.args.link.now) (g.C.Timestamps.coming c.args.clock.now) c.args.desk.now.seat c.args.desk.now.users.seat (g.K.Link.state c.loop.link) (g.K.Link.state w.report.new.link) _ (g.C.Timestamps.coming c.loop.clock) (now c.loop.desk) c.loop.desk.reader w.in-Quiet.ensures.begun c.loop.invariant.stands w.in-Quiet.ensures.read.reads w.report.ensures.link.wrote.reads c.loop.counter c.loop.waited 16 c.waited_after-waited.result (c.waited_after-waited.ensures ∙ ap (λ (n : ℕ). waited_after c.loop.desk.attending.user c.loop.waited n) w.read-is) (c.is_over.ensures.lasts c.if-is_over.false) (omega arith) (omega arith) c.loop.invariant.waits;
-        idles = idles_silent (c.args.patience ≡ Limited) ((arc_value c.args.desk.now.shelf).idle) (language_for c.args.desk.now.attending.user (arc_value c.args.desk.now.shelf)) g.K.Link.begun g.K.Link.told g.C.Timestamps.told (g.K.Link.state c.args.link.now) (g.C.Timestamps.coming c.args.clock.now) c.args.desk.now.seat c.args.desk.now.users.seat (g.K.Link.state c.loop.link) (g.K.Link.state w.report.new.link) _ (g.C.Timestamps.coming c.loop.clock) (now c.loop.desk) c.loop.desk.reader w.in-Quiet.ensures.begun c.loop.invariant.stands w.in-Quiet.ensures.read.reads w.report.ensures.link.wrote.reads w.report.new.desk.attending.user c.loop.counter c.loop.silent c.silent_after-silent.result w.report.ensures.user (λ t. w.in-Quiet.ensures.read.left t ∙ ap (λ (items : List Item). quiet ∷ items) (sym (w.report.ensures.link.wrote.left t))) (c.silent_after-silent.ensures ∙ ap (λ (n : ℕ). silent_after c.loop.silent n) w.read-is) (λ limits. subst (λ (i : IdleLimits). IsInTime i c.loop.desk.attending.user c.loop.silent) c.idle-limits.ensures (c.is_idle.ensures.awake c.if-is_idle.false limits)) c.loop.invariant.idles;
+        idles = idles_silent (c.args.patience ≡ Limited) ((arc_value c.args.desk.now.shelf).idle) (language_for c.args.desk.now.attending.user (arc_value c.args.desk.now.shelf)) g.K.Link.begun g.K.Link.told g.C.Timestamps.told (g.K.Link.state c.args.link.now) (g.C.Timestamps.coming c.args.clock.now) c.args.desk.now.seat c.args.desk.now.users.seat (g.K.Link.state c.loop.link) (g.K.Link.state w.report.new.link) _ (g.C.Timestamps.coming c.loop.clock) (now c.loop.desk) c.loop.desk.reader w.in-Quiet.ensures.begun c.loop.invariant.stands w.in-Quiet.ensures.read.reads w.report.ensures.link.wrote.reads w.report.new.desk.attending.user c.loop.counter c.loop.silent c.silent_after-silent.result w.report.ensures.user (λ t. w.in-Quiet.ensures.read.left t ∙ ap (λ (items : List Item). quiet ∷ items) (sym (w.report.ensures.link.wrote.left t))) (c.silent_after-silent.ensures ∙ ap (λ (n : ℕ). silent_after c.loop.silent n) w.read-is) (λ limits. subst (λ (i : IdleLimits). IsInTime i c.loop.desk.attending.user c.loop.silent) (c.idle-limits.ensures ∙ ap (λ (s : Contents). s.idle) c.deref.ensures) (c.is_idle.ensures.awake c.if-is_idle.false limits)) c.loop.invariant.idles;
       })
     ]
 
@@ -295,7 +296,7 @@ returns-in-Cut-report g c =
       idle = λ is. write_no _ is refl;
       endless = λ endless is. write_no _ is refl;
       let_go = λ limits. let_go_behind (c.args.patience ≡ Limited) (language_for c.args.desk.now.attending.user (arc_value c.args.desk.now.shelf)) g.K.Link.begun g.K.Link.told g.C.Timestamps.told (g.K.Link.state c.args.link.now) (g.C.Timestamps.coming c.args.clock.now) c.args.desk.now.seat c.args.desk.now.users.seat (g.K.Link.state c.loop.link) (g.K.Link.state c.report.new.link) _ (g.C.Timestamps.coming c.loop.clock) (now c.loop.desk) c.loop.desk.reader c.in-Quiet.ensures.begun c.loop.invariant.stands c.in-Quiet.ensures.read.reads c.report.ensures.link.wrote.reads c.loop.counter c.loop.waited (c.is_over.ensures.lasts c.if-is_over.false) c.loop.invariant.waits limits;
-      awake = λ limits. awake_behind (c.args.patience ≡ Limited) ((arc_value c.args.desk.now.shelf).idle) (language_for c.args.desk.now.attending.user (arc_value c.args.desk.now.shelf)) g.K.Link.begun g.K.Link.told g.C.Timestamps.told (g.K.Link.state c.args.link.now) (g.C.Timestamps.coming c.args.clock.now) c.args.desk.now.seat c.args.desk.now.users.seat (g.K.Link.state c.loop.link) (g.K.Link.state c.report.new.link) _ (g.C.Timestamps.coming c.loop.clock) (now c.loop.desk) c.loop.desk.reader c.in-Quiet.ensures.begun c.loop.invariant.stands c.in-Quiet.ensures.read.reads c.report.ensures.link.wrote.reads c.loop.counter c.loop.silent (subst (λ (i : IdleLimits). IsInTime i c.loop.desk.attending.user c.loop.silent) c.idle-limits.ensures (c.is_idle.ensures.awake c.if-is_idle.false limits)) c.loop.invariant.idles;
+      awake = λ limits. awake_behind (c.args.patience ≡ Limited) ((arc_value c.args.desk.now.shelf).idle) (language_for c.args.desk.now.attending.user (arc_value c.args.desk.now.shelf)) g.K.Link.begun g.K.Link.told g.C.Timestamps.told (g.K.Link.state c.args.link.now) (g.C.Timestamps.coming c.args.clock.now) c.args.desk.now.seat c.args.desk.now.users.seat (g.K.Link.state c.loop.link) (g.K.Link.state c.report.new.link) _ (g.C.Timestamps.coming c.loop.clock) (now c.loop.desk) c.loop.desk.reader c.in-Quiet.ensures.begun c.loop.invariant.stands c.in-Quiet.ensures.read.reads c.report.ensures.link.wrote.reads c.loop.counter c.loop.silent (subst (λ (i : IdleLimits). IsInTime i c.loop.desk.attending.user c.loop.silent) (c.idle-limits.ensures ∙ ap (λ (s : Contents). s.idle) c.deref.ensures) (c.is_idle.ensures.awake c.if-is_idle.false limits)) c.loop.invariant.idles;
     }
 
 pub returns-clause-noted : goal.returns-clause-noted
@@ -357,7 +358,7 @@ returns-then-is_idle g c =
     let b : Beginning = record { opening = seat.opening; users = c.args.desk.now.users.seat.opening; place = seat.place; before = h.0; users_before = p.0 } in
     let i = c.loop.invariant in
     let idle = c.is_idle.ensures.idle c.if-is_idle.true in
-    let long = subst (λ (l : IdleLimits). IsTooLong l c.loop.desk.attending.user c.loop.silent) c.idle-limits.ensures idle.1 in
+    let long = subst (λ (l : IdleLimits). IsTooLong l c.loop.desk.attending.user c.loop.silent) (c.idle-limits.ensures ∙ ap (λ (s : Contents). s.idle) c.deref.ensures) idle.1 in
     record {
       shelf = i.shelf;
       hung_up = i.hung_up;
