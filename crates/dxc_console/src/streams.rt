@@ -7,13 +7,13 @@ use std::os::fd::AsRawFd;
 use std::rt::Files;
 use std::snapshot::Snapshot;
 
-/// The standard streams have the numbers 0, 1 and 2.
+// The standard streams, which have the numbers 0, 1 and 2.
 const STREAMS: usize = 3;
 
 const LAST: i32 = 2;
 
-/// Handles of the null device in the place of standard streams. There is nothing to be read from them, and they can't be written to. They hold as
-/// long as they are kept.
+/// Handles of the null device in the place of standard streams. There is nothing to be read from them, and they can't be written to. The streams
+/// stay closed to others as long as these are kept.
 #[derive(Drop)]
 pub struct Held {
     streams: Vec<File>,
