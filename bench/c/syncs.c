@@ -1,5 +1,5 @@
 /* A library that is loaded before the C library: each fdatasync fails while the file that FAILING names is there, and takes
-   three seconds more while the file that SLOW names is. */
+   longer while the file that SLOW names is: by the seconds that SECONDS has, else by three. */
 #define _GNU_SOURCE
 #include <dlfcn.h>
 #include <errno.h>
@@ -18,7 +18,9 @@ int fdatasync(int file)
         errno = EIO;
         return -1;
     }
-    if (is_there("SLOW"))
-        sleep(3);
+    if (is_there("SLOW")) {
+        const char *seconds = getenv("SECONDS");
+        sleep(seconds ? atoi(seconds) : 3);
+    }
     return ((int (*)(int))dlsym(RTLD_NEXT, "fdatasync"))(file);
 }

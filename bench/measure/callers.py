@@ -7,6 +7,7 @@ said; changes are a tenth of them, and a hundredth on a disk. FOLDER: where the 
 said. The callers are bench/c/callers.c, which needs a C compiler. Calls of futex are counted by perf and all calls of the system by strace, where these
 are there: perf slows nothing down, but strace makes each call so slow that who waits for it sleeps more often.
 """
+import contextlib
 import os
 import re
 import shutil
@@ -44,12 +45,17 @@ def beside(counter, server, called, room):
         return file.read()
 
 
-def counted(server, called, answers, room):
-    """The calls of futex an answer as perf counts them; nothing where it isn't there or may not."""
+def futexes(server, called, answers, room):
+    """The calls of futex an answer as perf counts them; None where it isn't there or may not."""
     if not shutil.which("perf"):
-        return ""
+        return None
     found = COUNT.search(beside(["perf", "stat", "-x", ",", "-e", "syscalls:sys_enter_futex"], server, called, room))
-    return f"; {int(found[1]) / answers:.3f} futex calls an answer" if found else ""
+    return int(found[1]) / answers if found else None
+
+
+def counted(server, called, answers, room):
+    calls = futexes(server, called, answers, room)
+    return "" if calls is None else f"; {calls:.3f} futex calls an answer"
 
 
 def traced(server, called, answers, room):
@@ -60,18 +66,30 @@ def traced(server, called, answers, room):
     return f"; slowed by strace {counts.get('futex', 0) / answers:.2f}, and {counts['total'] / answers:.2f} calls of the system an answer"
 
 
-def measure(callers, place, room, kind, count, units, batch):
-    """Prints a line of figures of so many callers, with the journal in a new folder of this place."""
+@contextlib.contextmanager
+def served(place, **more):
+    """A server whose journal lies in a new folder of this place."""
     with tempfile.TemporaryDirectory(dir=place) as folder:
         write_shelf(folder, 8, 24)
         open(os.path.join(folder, "lines.in"), "wb").close()
-        with Server(folder) as server:
-            words = lambda each: [callers, *map(str, (server.port, count, each, batch, kind))]
-            each = even(units // count)
-            line = subprocess.run(words(each), stdout=subprocess.PIPE, text=True, check=True).stdout.strip()
-            few = even(each // 10)
-            line += counted(server, words(each), count * each, room) + traced(server, words(few), count * few, room)
-            print(f"{kind}, {count} callers, {batch} at a time: {line}", flush=True)
+        with Server(folder, **more) as server:
+            yield server
+
+
+def words_of(callers, server, kind, count, units, batch):
+    """The callers' command line, and how many units each sends; all together these are so many."""
+    each = even(units // count)
+    return [callers, *map(str, (server.port, count, each, batch, kind))], each
+
+
+def measure(callers, place, room, kind, count, units, batch):
+    """Prints a line of figures of so many callers."""
+    with served(place) as server:
+        words, each = words_of(callers, server, kind, count, units, batch)
+        line = subprocess.run(words, stdout=subprocess.PIPE, text=True, check=True).stdout.strip()
+        slowed, few = words_of(callers, server, kind, count, units // 10, batch)
+        line += counted(server, words, count * each, room) + traced(server, slowed, count * few, room)
+        print(f"{kind}, {count} callers, {batch} at a time: {line}", flush=True)
 
 
 def main():

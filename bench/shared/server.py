@@ -63,9 +63,9 @@ def until(fact, seconds):
 class Server:
     """The program as a server in a folder that has its shelf file and lines; `more` goes to its process."""
 
-    def __init__(self, folder, workers=1, journal="j", lines="lines", **more):
+    def __init__(self, folder, workers=1, journal="j", lines="lines", program=PROGRAM, **more):
         self.folder, self.port, self.workers = folder, free_port(), workers
-        words = [PROGRAM, *self.words(journal=journal, lines=lines)]
+        words = [program, *self.words(journal=journal, lines=lines)]
         self.started = time.monotonic()
         self.process = subprocess.Popen(words, cwd=folder, stderr=subprocess.PIPE, **more)
         self.wait_until_open()
