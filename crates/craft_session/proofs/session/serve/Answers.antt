@@ -367,7 +367,7 @@ returns-then-is_idle g c =
       session = record { before = h.0; users_before = p.0; saw = h.1; users_saw = p.1; attending = c.loop.desk.attending; session = served_here _ _ _ _ _ _ _ _ _ _ (i.stands b (refl, refl, refl, c.args.desk.now.same_place) h.1 p.1) };
       prompt = i.prompt;
       timely = i.timely;
-      end = ((λ is. idle_no _ is refl), (λ ended. unheld _ (i.not_ended (some_silent _ _ c.loop.counter c.loop.silent long i.idles.few)) ended));
+      end = ((λ is. idle_no _ is refl), (λ ended. unheld _ (i.not_ended (some_silent ((arc_value c.args.desk.now.shelf).idle) c.loop.desk.attending.user c.loop.counter c.loop.silent long i.idles.few)) ended));
       all_read = λ t is. idle_no _ is refl;
       read_fault = λ is. idle_no _ is refl;
       no_read_fault = λ is. i.faults;
