@@ -70,14 +70,16 @@ module _ (limited : Type 0) (limits : IdleLimits) (l : Language Request Moment) 
 
     -- a read, behind which the session went on or ended
     pub awake_behind : (made silent : ℕ) → IsInTime limits now.attending.user silent → Idles j now.attending.user made silent → WasAwake l begun told clock_told k c old users limits m
-    awake_behind made silent short i = inr (now.attending.user,
+    awake_behind made silent short i = inr (
+      now.attending.user,
       (λ b at saw users_saw. record {
         number = j.reads;
         since = let up = one.no_more in omega (arith, up, same);
         read = read_here b at saw users_saw;
         logged_in = refl;
       }),
-      (λ minutes is. let in_time = short minutes is in heard_more silent (300 * minutes + 1) (omega (arith, in_time)) i.heard))
+      (λ minutes is. let in_time = short minutes is in heard_more silent (300 * minutes + 1) (omega (arith, in_time)) i.heard),
+    )
 
     -- a read that brought something and was answered
     pub idles_heard : (user : SessionUser) (made silent next : ℕ) → (told → (x : ℕ) × (rest : List Item) × (j.left ≡ byte x ∷ rest)) → next ≡ 0 → (limited → IsInTime limits now.attending.user silent) → Idles j now.attending.user made silent → Idles m user (made + 1) next
@@ -103,14 +105,14 @@ module _ (limited : Type 0) (limits : IdleLimits) (l : Language Request Moment) 
       nothing = λ t. left t ∙ ap (λ (n : ℕ). replicate (n + 1) quiet ++ m.left) (sym none);
     }
     silent_more silent left (inr so_far) b at saw users_saw =
-      let s = so_far b at saw users_saw in
-      record {
-        number = s.number;
-        since = λ below. let up = one.no_more in let reached = one.reached in let next : reads ≡ j.reads + 1 = omega (arith, up, reached, same, below) in let since = s.since (omega (arith, below, same, next)) in omega (arith, since, next, same);
-        read = s.read;
-        logged_in = s.logged_in;
-        nothing = λ t. s.nothing t ∙ ap (λ (items : List Item). replicate silent quiet ++ items) (left t) ∙ one_quiet_more silent m.left;
-      }
+        let s = so_far b at saw users_saw in
+        record {
+          number = s.number;
+          since = λ below. let up = one.no_more in let reached = one.reached in let next : reads ≡ j.reads + 1 = omega (arith, up, reached, same, below) in let since = s.since (omega (arith, below, same, next)) in omega (arith, since, next, same);
+          read = s.read;
+          logged_in = s.logged_in;
+          nothing = λ t. s.nothing t ∙ ap (λ (items : List Item). replicate silent quiet ++ items) (left t) ∙ one_quiet_more silent m.left;
+        }
 
     -- a read that brought nothing, behind which reports were written
     pub idles_silent : (user : SessionUser) (made silent next : ℕ) → user ≡ now.attending.user → (told → j.left ≡ quiet ∷ m.left) → next ≡ silent + 1 → (limited → IsInTime limits now.attending.user silent) → Idles j now.attending.user made silent → Idles m user (made + 1) next

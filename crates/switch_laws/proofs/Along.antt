@@ -232,7 +232,7 @@ module _ {U M : Type 0} (l : Language U M) (r : Rules) (excused : Excuse) (past 
       let legal : GoodTable l r excused past n (h ++ e ∷ []) = subst (λ (g : List Entry). GoodTable l r excused past n g) (sym (table_on m e) ∙ there) good.0 in
       let now : At ts (element r.table (h ++ e ∷ []) (placed p w f)) us = on us f x.0 legal (subst (λ (g : List Entry). At x.0 (element r.table g (placed p v f)) us) is x.1) in
       let moved : At ts (element r.table (past ++ at_table (m ++ inl e ∷ [])) (placed p w f)) (users_after o (at_users (m ++ inl e ∷ []))) =
-          subst (λ (y : List Entry × List UserEntry). At ts (element r.table y.0 (placed p w f)) (users_after o y.1)) (λ i. ((sym there ∙ table_on m e) i, users_still m e i)) now in
+      subst (λ (y : List Entry × List UserEntry). At ts (element r.table y.0 (placed p w f)) (users_after o y.1)) (λ i. ((sym there ∙ table_on m e) i, users_still m e i)) now in
       (ts, moved, entered m (inl e) ts (placed p w f) (λ front back split. turned front x.0 turn p v w f begun (x.2 front back split)) moved)
 
   at_user : (p : ℕ) (g : List UserEntry) (e : UserEntry) (v w : Desk) (turn : Turn U M) → AreBegun IsBegun v w → ((h : List Entry) (f : ℕ → Desk) (ts : List (Turn U M)) → GoodUsers l o failing n (g ++ e ∷ []) → At ts (element r.table h (placed p v f)) (users_after o g) → At (turn ∷ ts) (element r.table h (placed p w f)) (users_after o (g ++ e ∷ []))) → Users_step p g e v w
@@ -243,7 +243,7 @@ module _ {U M : Type 0} (l : Language U M) (r : Rules) (excused : Excuse) (past 
       let legal : GoodUsers l o failing n (g ++ e ∷ []) = subst (λ (k : List UserEntry). GoodUsers l o failing n k) (sym (users_on m e) ∙ there) good.1 in
       let now : At ts (element r.table h (placed p w f)) (users_after o (g ++ e ∷ [])) = on h f x.0 legal (subst (λ (k : List UserEntry). At x.0 (element r.table h (placed p v f)) (users_after o k)) is x.1) in
       let moved : At ts (element r.table (past ++ at_table (m ++ inr e ∷ [])) (placed p w f)) (users_after o (at_users (m ++ inr e ∷ []))) =
-          subst (λ (y : List Entry × List UserEntry). At ts (element r.table y.0 (placed p w f)) (users_after o y.1)) (λ i. (table_still m e i, (sym there ∙ users_on m e) i)) now in
+      subst (λ (y : List Entry × List UserEntry). At ts (element r.table y.0 (placed p w f)) (users_after o y.1)) (λ i. (table_still m e i, (sym there ∙ users_on m e) i)) now in
       (ts, moved, entered m (inr e) ts (placed p w f) (λ front back split. turned front x.0 turn p v w f begun (x.2 front back split)) moved)
 
   changes_more : (h : List Entry) (e : Entry) → changes_of (h ++ e ∷ []) ≡ changes_of h ++ option_to_list (made e.outcome)
@@ -362,8 +362,8 @@ module _ {U M : Type 0} (l : Language U M) (r : Rules) (excused : Excuse) (past 
       by_wanted : (h : List Entry) (g us : List UserEntry) (w : List AnyEntry) (want : Wanted) (y : Heard) → want ≡ l.wants s.attending.user u → y ≡ l.heard u → Hears o p g want us y → Serves p r.table h k [] reply → Did p h g w first → Did p h (g ++ us) (w ++ of_users us) (then h)
       by_wanted h g us w nothing y want_is y_is got serves d =
           let tells : (vs : Users) → HearsOf o.shelf.sid failing vs (l.wants s.attending.user u) (l.heard u) vs = λ vs.
-              let here : HearsOf o.shelf.sid failing vs nothing y vs = (got.1, refl) in
-              subst (λ (q : Wanted × Heard). HearsOf o.shelf.sid failing vs q.0 q.1 vs) (λ i. (want_is i, y_is i)) here in
+          let here : HearsOf o.shelf.sid failing vs nothing y vs = (got.1, refl) in
+          subst (λ (q : Wanted × Heard). HearsOf o.shelf.sid failing vs q.0 q.1 vs) (λ i. (want_is i, y_is i)) here in
           let behind : Did p h g w (then h) = does_free h g w first (then h) (anywhere p first (then h) (answer p u m) (goes h) (λ h2 vs f ts c. free h h2 vs vs f ts serves (tells vs) c)) d in
           let users : g ≡ g ++ us = sym (ap (λ (l2 : List UserEntry). g ++ l2) got.0 ∙ append-nil g) in
           let used : w ≡ w ++ of_users us = sym (ap (λ (l2 : List UserEntry). w ++ of_users l2) got.0 ∙ append-nil w) in
@@ -415,8 +415,8 @@ module _ {U M : Type 0} (l : Language U M) (r : Rules) (excused : Excuse) (past 
         let first : Desk = s ∷ ss in
         let then : Desk = unanswered u s ∷ ss in
         let tells : (vs : Users) → HearsOf o.shelf.sid failing vs (l.wants s.attending.user u) (l.heard u) vs = λ vs.
-            let here : HearsOf o.shelf.sid failing vs nothing unasked vs = (refl, refl) in
-            subst (λ (q : Wanted × Heard). HearsOf o.shelf.sid failing vs q.0 q.1 vs) (λ i. (sym wants i, sym heard i)) here in
+        let here : HearsOf o.shelf.sid failing vs nothing unasked vs = (refl, refl) in
+        subst (λ (q : Wanted × Heard). HearsOf o.shelf.sid failing vs q.0 q.1 vs) (λ i. (sym wants i, sym heard i)) here in
         let step : Table_step p now e first then = at_entry p now e first then (stop_turn p u what) (newest_went_on IsBegun stays goes_further s (unanswered u s) ss first refl (unanswered_on u s)) (λ us f ts good c.
         let fits = fits_last r now e good.0 in
         lands (stop_turn p u what ∷ ts) now e p then first f None (what ∷ doubted_in [] now) halted us refl refl refl
@@ -484,7 +484,7 @@ module _ {U M : Type 0} (l : Language U M) (r : Rules) (excused : Excuse) (past 
       → ArePlayedInOrder l r.limit excused start o failing r.table past m h g f
   in_one_order h g used m f pos good users_good acts beyond x =
       let c = in_this_order m used f pos (subst (λ (y : List Entry). GoodTable l r excused past n (past ++ y)) (sym x.table) good, subst (λ (y : List UserEntry). GoodUsers l o failing n y) (sym x.users) users_good)
-          (λ p lt. subst (λ (y : List Entry × List UserEntry). ActsAlong l p r.table o past (past ++ y.0) y.1 (used p) (f p)) (λ i. (sym x.table i, sym x.users i)) (acts p lt)) x.own beyond in
+      (λ p lt. subst (λ (y : List Entry × List UserEntry). ActsAlong l p r.table o past (past ++ y.0) y.1 (used p) (f p)) (λ i. (sym x.table i, sym x.users i)) (acts p lt)) x.own beyond in
       record {
         turns = c.0;
         along = subst (λ (y : List Entry × List UserEntry). At c.0 (element r.table (past ++ y.0) f) (users_after o y.1)) (λ i. (x.table i, x.users i)) c.1;

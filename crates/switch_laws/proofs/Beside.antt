@@ -231,9 +231,11 @@ module _ {U M : Type 0} (l : Language U M) (p : ℕ) (t : Board) (o : UsersOpeni
           let y = nothing_got k us (l.wants w.attending.user u) (l.heard u) is got in
           (used ++ used_of p es, subst (λ (z : List UserEntry). Along (w.history ++ es) z (used ++ used_of p es) (replied ∷ ss)) (sym (ap (λ (z : List UserEntry). k ++ z) y.0 ∙ append-nil k)) (acts_at_table w.history k used ss (session_in w) u m es reply refl none is y.1 serves x))
       by_parts (inr free) =
-          let is = no_entry w.history (l.asks w.attending.user u) es reply free serves in
-          (used ++ of_users us, subst (λ (z : List Entry). Along z (k ++ us) (used ++ of_users us) (replied ∷ ss)) (sym (ap (λ (z : List Entry). w.history ++ z) is ∙ append-nil w.history))
-          (acts_at_users w.history k used ss (session_in w) u m us reply refl none got (subst (λ (z : List Entry). Serves p t w.history (l.asks w.attending.user u) z reply) is serves) x))
+          let is = no_entry w.history (l.asks w.attending.user u) es reply free serves in (
+            used ++ of_users us,
+            subst (λ (z : List Entry). Along z (k ++ us) (used ++ of_users us) (replied ∷ ss)) (sym (ap (λ (z : List Entry). w.history ++ z) is ∙ append-nil w.history))
+                (acts_at_users w.history k used ss (session_in w) u m us reply refl none got (subst (λ (z : List Entry). Serves p t w.history (l.asks w.attending.user u) z reply) is serves) x),
+          )
 
     pub attended : (w : Walk U M) → Run l p t h w → (hs : List (Happening U)) (seen : List UserEntry) (s : SessionUser) → Consults l p o g hs seen s → hs ≡ w.happenings → On w seen s
     attended _ begins hs seen s c is =
