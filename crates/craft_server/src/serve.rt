@@ -268,8 +268,9 @@ where
     <O::Listener as Noted>::Notes: Send + 'static,
     ensures alone { IsServe line.now → peer_of line.now ≡ None → ServedAlone ⟦<(O, G, P) as Ground>⟧
         (named_in line.now) (site_in line.now) (opener, gate, spawner) result }
-    ensures mirrored { IsServe line.now → IsSome (peer_of line.now) → ServedMirrored ⟦<(O, G, P) as Ground>⟧
-        (named_in line.now) (site_in line.now) (opener, gate, spawner) result }
+    ensures mirrored { IsServe line.now → IsSome (peer_of line.now)
+        → ServedMirrored ⟦<(O, G, P) as Ground>⟧ (named_in line.now) (site_in line.now)
+        (opener, gate, spawner) result }
     ensures asked { IsServe line.now
         → AskedFor (O.asked opener.old opener.new) (line_asked line.now) (IsOfNoOpening result) }
 {

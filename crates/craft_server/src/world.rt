@@ -17,7 +17,8 @@ where
 {
     ghost use Rattle.craft_server.specs.Worlds.{grounds};
 
-    ghost ground = { grounds O.Opener O.LetGo O.Journal.Disk O.Lines.Lines O.Listener.Listener O.Listener.Link.Link O.Clock.Timestamps O.Gate.Gate O.Peer.Link G.Gate P.Spawner };
+    ghost ground = { grounds O.Opener O.LetGo O.Journal.Disk O.Lines.Lines O.Listener.Listener
+        O.Listener.Link.Link O.Clock.Timestamps O.Gate.Gate O.Peer.Link G.Gate P.Spawner };
 }
 
 /// Likewise of these, and of a terminal and a clock.
@@ -33,7 +34,10 @@ where
 {
     ghost use Rattle.craft_server.specs.Worlds.{grounds, worlds};
 
-    ghost world = { worlds (grounds O.Opener O.LetGo O.Journal.Disk O.Lines.Lines O.Listener.Listener O.Listener.Link.Link O.Clock.Timestamps O.Gate.Gate O.Peer.Link G.Gate P.Spawner) K.Link C.Clock };
+    ghost world = { worlds
+        (grounds O.Opener O.LetGo O.Journal.Disk O.Lines.Lines O.Listener.Listener
+        O.Listener.Link.Link O.Clock.Timestamps O.Gate.Gate O.Peer.Link G.Gate P.Spawner) K.Link
+        C.Clock };
 }
 
 /// Likewise of what `script` is lent: an opener, a terminal, a clock and a gate.
