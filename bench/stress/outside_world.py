@@ -375,7 +375,7 @@ def idle(folder):
         said = script.communicate(b"RTRV-HDR:::2;", timeout=10)[0].decode()
         expect(said.count("COMPLD") == 2 and script.returncode == 0, f"a script that waited ended with {script.returncode} and {said!r}")
         server.process.kill()
-        noted = server.process.communicate()[1].decode()
+        noted = server.process.stderr.read().decode()
         expect(noted.count("caller gone, nothing came from it for longer than its class may be idle") == 2, f"it noted {noted!r}")
     return f"let go after {soonest:.0f} to {longest:.0f} s"
 

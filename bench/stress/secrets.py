@@ -29,6 +29,8 @@ MODULES, SLOTS = 4, 8
 ANNAS, BENS, NEXT, OWN, WRONG = (f"Zq{at}vK7wJx{at}Uy3" for at in range(5))
 # Between a unit's answer and the look: the thread may still be about to write over what it read.
 REST = 0.3
+# A build that watches its memory keeps a map of it, which is larger than any part of this program's.
+LARGEST = 1 << 30
 
 
 def user(uid, rank, pid):
@@ -43,9 +45,10 @@ def pages(process):
     with open(f"/proc/{process}/mem", "rb", buffering=0) as memory:
         for line in lines:
             first, end, rights, name = re.fullmatch(r"(\w+)-(\w+) (\S+) \S+ \S+ \S+ *(.*)", line).groups()
-            if "w" in rights and not name.startswith("[v"):
+            size = int(end, 16) - int(first, 16)
+            if "w" in rights and not name.startswith("[v") and size < LARGEST:
                 memory.seek(int(first, 16))
-                yield name or "no name", int(first, 16), memory.read(int(end, 16) - int(first, 16))
+                yield name or "no name", int(first, 16), memory.read(size)
 
 
 def found(process, pids):

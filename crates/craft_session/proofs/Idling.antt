@@ -1,5 +1,5 @@
 -- One read more of a session in which nothing may come.
-use Rattle.std.proofs.Common.{◌≡◌, ◌<◌, ◌≤◌, ◌+◌, ◌*◌, ℕ, List, [], ◌∷◌, ◌++◌, zero, suc, Option, Some, None, inl, inr, false, refl, sym, ap, subst, ◌∙◌, arith}
+use Rattle.std.proofs.Common.{◌≡◌, ◌<◌, ◌≤◌, ◌+◌, ◌*◌, ℕ, List, [], ◌∷◌, ◌++◌, zero, suc, inl, inr, refl, sym, ap, subst, ◌∙◌, arith}
 use Rattle.std.specs.Prelude.{◌⊎◌, length, replicate, take}
 use Rattle.dxc_causes.specs.Causes.{Counted, last}
 use Rattle.dxc_outside.specs.declared.clock.Moment.{Moment}
@@ -12,7 +12,7 @@ use Rattle.user_admin.specs.Turns.{Saw as SawUsers}
 use Rattle.xc_core.specs.Seeing.{Saw}
 use Rattle.craft_session.specs.Asks.{Language}
 use Rattle.craft_session.specs.Happenings.{Request}
-use Rattle.craft_session.specs.Idling.{IsHeardBy, IsInTime, IsTooLong, WasAwake, WasHeard, WasIdle, WasLast, WasSilent, limit_of}
+use Rattle.craft_session.specs.Idling.{IsHeardBy, IsInTime, IsTooLong, WasAwake, WasIdle, WasSilent}
 use Rattle.craft_session.specs.Seats.{SeatAt, UserSeatAt}
 use Rattle.craft_session.specs.Sessions.{Beginning, IsAt, Now}
 use Rattle.craft_session.specs.Waiting.{ForEach, Read}

@@ -28,8 +28,13 @@ impl Model for Shelf {
 
     ghost Value = { Contents };
 
-    ghost view = { λ s. record
-        { sid = s.sid; shape = s.shape; equipped = s.equipped; idle = s.idle; users = entries_of s.users.items } };
+    ghost view = { λ s. record {
+      sid = s.sid;
+      shape = s.shape;
+      equipped = s.equipped;
+      idle = s.idle;
+      users = entries_of s.users.items;
+    } };
 
     ghost invariant = { λ s. IsKept (record {
       sid = s.sid;

@@ -1,4 +1,4 @@
-use Rattle.std.proofs.Common.{◌∙◌, ℕ, List, false, [], subst, sym, arith}
+use Rattle.std.proofs.Common.{◌∙◌, ℕ, List, false, subst, arith}
 use Rattle.std.proofs.lemmas.Grind.{common_steps}
 use Rattle.std.specs.Arc.{arc_value}
 use Rattle.tl1_text.specs.declared.reader.UnitKind.TheVariants.{More}
