@@ -100,10 +100,14 @@ fn before_colon(text: &[u8]) -> &[u8]
 {
     let mut quoted = false;
     for at in 0..text.len() {
-        if !quoted && text[at] == b':' {
-            return &text[..at];
+        let b = text[at];
+        if b == b':' {
+            if !quoted {
+                return &text[..at];
+            }
+        } else if b == b'"' {
+            quoted = !quoted;
         }
-        quoted = quoted != (text[at] == b'"');
     }
     text
 }
@@ -114,10 +118,14 @@ fn behind_colon(text: &[u8]) -> Option<&[u8]>
 {
     let mut quoted = false;
     for at in 0..text.len() {
-        if !quoted && text[at] == b':' {
-            return Some(&text[at + 1..]);
+        let b = text[at];
+        if b == b':' {
+            if !quoted {
+                return Some(&text[at + 1..]);
+            }
+        } else if b == b'"' {
+            quoted = !quoted;
         }
-        quoted = quoted != (text[at] == b'"');
     }
     None
 }
