@@ -46,6 +46,20 @@ pub fn take<D: Disk + Drop, R: Wait>(
     let mut turn = turns.enter(pass, rt);
     let took = inside::take(turn.state_mut(), op);
     let place = pass.number();
+    // A denial goes by an exit of its own: where it joins the others, it is copied with room for planned bytes.
+    if let Took::Denied(cause) = took {
+        let outcome = inside::refused(cause);
+        turns.leave(
+            pass,
+            turn,
+            Entry {
+                place,
+                op: *op,
+                outcome,
+            },
+        );
+        return Took::Denied(cause);
+    }
     match inside::outcome_of(&took) {
         Some(outcome) => {
             turns.leave(
