@@ -63,7 +63,8 @@ def ended(process, what, *statuses):
 
 
 def says(told, pattern, what):
-    if not re.search(pattern + rb"\Z", told):
+    # Callers and workers have lines of their own, at any moment.
+    if not re.search(pattern + rb"\Z", b"".join(line for line in told.splitlines(True) if b": standby " in line)):
         sys.exit(f"{what} said {told!r}")
 
 

@@ -3,6 +3,7 @@
 usage: bench/run stress notes [POINT..]     (all of them where none is named)
 
 callers   where it listens, who came to which place, and why each went: who hung up, and one whose connection was reset
+commands  who logged in, a log-in that was denied, and what came of each command that changes something
 worker    the frames of a worker that ended, at the input's end and within a frame
 silent    standard error is a pipe that nobody reads: hundreds of callers are served as ever, and once it is read the count of lost lines is told
 taken     standard error is closed, a full disk, or a pipe whose reader is gone: the server goes on, and its answers are the same
@@ -102,6 +103,27 @@ def callers(folder):
     return "each came and went"
 
 
+def commands(folder):
+    path = os.path.join(folder, "notes")
+    units = b"ACT-USER::ANNA:1::wrong;" + office.LOG_IN.encode() + b"ENT-CRS-T0::DS0-1-1,DS0-2-1:2;ENT-CRS-T0::DS0-1-1,DS0-3-1:3;RTRV-CRS-T0::ALL:4;ED-CRS-T0::DS0-1-1,DS0-2-1:5::2WAY;INIT-SYS:::6;DLT-CRS-T0::DS0-1-1,DS0-2-1:7;CANC-USER::ANNA:8;"
+    with open(path, "wb") as errors, Noted(folder, errors) as server:
+        server.answered(units)
+        told = [line for line in noted(path, 11) if line.startswith("place")]
+    wanted = ["a log-in was denied", "ANNA logged in"] + [
+        "ANNA " + text
+        for text in (
+            "2 ENT-CRS-T0 DS0-1-1,DS0-2-1: done",
+            "3 ENT-CRS-T0 DS0-1-1,DS0-3-1: denied, SNVS SIDE IN USE",
+            "5 ED-CRS-T0 DS0-1-1,DS0-2-1: done",
+            "6 INIT-SYS: done",
+            "7 DLT-CRS-T0 DS0-1-1,DS0-2-1: done",
+        )
+    ]
+    got = [re.sub(r"place \d+: ", "", line) for line in told]
+    expect(got[1:-1] == wanted, f"it noted {got}")
+    return f"{len(wanted)} lines"
+
+
 def worker(folder):
     for more, why in ((0, "its input ended"), (5, "its input ended within a frame")):
         path = os.path.join(folder, f"notes{more}")
@@ -143,8 +165,8 @@ def silent(folder):
     lines = text.decode().splitlines()
     expect(all(map(LINE.fullmatch, lines + more)), "a line was cut")
     expect(count, f"how many were lost isn't told: {more}")
-    # The two ends of each caller, and the server's own first lines; who found all places taken left none.
-    told, all_lines = len(lines) + len(more) - len(count) + sum(count), 2 * (CROWD + 3) + 2
+    # The two ends of each caller, what three of them did, and the server's own first lines; who found all places taken left none.
+    told, all_lines = len(lines) + len(more) - len(count) + sum(count), 2 * (CROWD + 3) + 3 * 3 + 2
     expect(all_lines - CROWD // 10 <= told <= all_lines, f"of {all_lines} lines {told} were told or lost")
     return f"{sum(count)} lines lost, a caller waited {1000 * longest:.0f} ms at most"
 
@@ -179,7 +201,7 @@ def private(folder):
     return "nothing of the kind"
 
 
-POINTS = (callers, worker, silent, taken, private)
+POINTS = (callers, commands, worker, silent, taken, private)
 
 
 def tried(point):

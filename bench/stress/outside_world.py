@@ -10,6 +10,8 @@ guesses      after three denied log-ins in a row each further one takes a second
 dead         callers whose machines are gone are let go within two minutes, silent ones and ones with answers on their way
 unattended   sixteen callers that are silent, or send what is refused, hold no place for more than a minute or so where nobody logs in; who is
              logged in and silent stays, and so does a script that waits for its first unit
+idle         who is logged in and silent is let go by the minutes that the shelf file names for the class, and told in a note; who sends something in
+             time stays, as does one of a class without a limit, and a script
 full         the seventeenth caller is told so and let go, and comes in once a place is free
 slow         a caller that takes nothing is given up after ten seconds
 descriptors  a shortage of descriptors ends no place: after it sixteen callers are served again
@@ -18,7 +20,7 @@ users        a shelf file and a users' journal that disagree are told by the use
 lines        a FIFO without a writer, or whose writer comes again, stops nothing; one program at a time has an output, and keeps its bytes
              where it can't start
 
-Each point prints a line, and ends by itself: `dead` and `unattended` within two minutes, each other one within half of one. The program is the checkout's, or
+Each point prints a line, and ends by itself: `dead`, `unattended` and `idle` within two minutes, each other one within half of one. The program is the checkout's, or
 the one that DXC_PROGRAM names. Nothing leaves the loopback.
 """
 import contextlib
@@ -340,6 +342,44 @@ def unattended(folder):
     return f"let go after {soonest:.0f} to {longest:.0f} s"
 
 
+def ends_of(callers, seconds, attended=None):
+    """After how many seconds each was let go, of those that were; every fifteen of them the attended one sends something."""
+    started, ended, spoke = time.monotonic(), {}, time.monotonic()
+    while time.monotonic() - started < seconds:
+        for caller in select.select([caller for caller in callers if caller not in ended], [], [], 0.2)[0]:
+            if not caller.recv(65536):
+                ended[caller] = time.monotonic() - started
+        if attended and time.monotonic() - spoke > 15:
+            attended.sendall(b"\r\n")
+            spoke = time.monotonic()
+    return ended
+
+
+def idle(folder):
+    shelf = os.path.join(folder, "shelf.toml")
+    users = (("ANNA", "S"), ("BEN", "P"), ("CARA", "R"))
+    top, rest = office.shelf_text(MODULES, SLOTS, users=users).split("[[user]]", 1)
+    write(shelf, f"{top}idle = {{ R = 1, P = 1 }}\n[[user]]{rest}".encode())
+    with Element(folder) as server, contextlib.ExitStack() as held:
+        silent, told, busy, free = (held.enter_context(server.call()) for _ in range(4))
+        for caller, uid, more in ((silent, "CARA", ""), (told, "BEN", "ALW-MSG-ALL:::2;"), (busy, "CARA", ""), (free, "ANNA", "")):
+            expect("DENY" not in answer(caller, f"ACT-USER::{uid}:1::bc;{more}".encode()), f"{uid} didn't log in")
+        words = [PROGRAM, "script", "shelf.toml", "other"]
+        script = held.enter_context(subprocess.Popen(words, cwd=folder, stdin=subprocess.PIPE, stdout=subprocess.PIPE, bufsize=0))
+        script.stdin.write(b"ACT-USER::CARA:1::bc;")
+        ended = ends_of([silent, told, busy, free], LONGEST, attended=busy)
+        expect(set(ended) == {silent, told}, f"{len(ended)} were let go, after {sorted(ended.values())}")
+        soonest, longest = min(ended.values()), max(ended.values())
+        expect(soonest > SOONEST, f"one was let go after {soonest:.0f} s")
+        expect("DENY" not in answer(free, ENTRY) and "DENY" not in answer(busy, b"RTRV-CRS-T0:::3;"), "who is logged in isn't served")
+        said = script.communicate(b"RTRV-HDR:::2;", timeout=10)[0].decode()
+        expect(said.count("COMPLD") == 2 and script.returncode == 0, f"a script that waited ended with {script.returncode} and {said!r}")
+        server.process.kill()
+        noted = server.process.stderr.read().decode()
+        expect(noted.count("caller gone, nothing came from it for longer than its class may be idle") == 2, f"it noted {noted!r}")
+    return f"let go after {soonest:.0f} to {longest:.0f} s"
+
+
 def full(folder):
     with Element(folder) as server, contextlib.ExitStack() as held:
         callers = [held.enter_context(server.call()) for _ in range(PLACES)]
@@ -496,7 +536,7 @@ def users(folder):
     return f"{len(edits)} edits told by name, the way back taken"
 
 
-POINTS = (peer, check, sync, waiting, guesses, dead, unattended, full, slow, descriptors, told, users, lines)
+POINTS = (peer, check, sync, waiting, guesses, dead, unattended, idle, full, slow, descriptors, told, users, lines)
 
 
 def tried(point):

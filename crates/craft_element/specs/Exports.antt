@@ -1,6 +1,5 @@
 -- What an export of a journal writes.
 use Rattle.std.specs.Prelude.{◌≡◌, ◌⊎◌, List, ℕ}
-use Rattle.dxc_disk.specs.Disks.{DiskState}
 use Rattle.dxc_outside.specs.declared.send.Sent.{Sent}
 use Rattle.dxc_outside.specs.Links.{LinkState, IsSent}
 use Rattle.shelf_file.specs.Contents.{Contents}
@@ -10,8 +9,8 @@ use Rattle.xc_core.specs.States.{Opening}
 use Rattle.craft_words.specs.declared.status.Status.{Status}
 use Rattle.craft_words.specs.declared.status.Status.TheVariants.{NoMemory}
 use Rattle.craft_words.specs.Statuses.{status_of_sent}
-use Rattle.dxc_leaving.specs.Values.{AnyValue}
-use Rattle.craft_element.specs.Openings.{Named, Opens, Sources, WasLetGo, opened_on}
+use Rattle.craft_element.specs.Openings.{Named, Opens, WasLetGo, opened_on}
+use Rattle.craft_element.specs.Auditing.{Lent, Told}
 
 -- the commands that come to the opening's table from no connection and what the shelf equips
 abbrev pub script : Contents → Opening → List ℕ
@@ -26,25 +25,6 @@ pub record WroteCommands (told : Type 0) (s : Contents) (o : Opening) (k l : Lin
 -- so they were, or memory was wanting and nothing was written
 abbrev pub IsExport : (told : Type 0) (s : Contents) (o : Opening) (k l : LinkState) (status : Status) → Type 0
 IsExport told s o k l status = WroteCommands told s o k l status ⊎ ((status ≡ NoMemory) × (l ≡ k))
-
--- whether opener, disk and link tell what they hold, what a disk holds, and what was let go
-pub record Told (D : Type 0) : Type 1 where
-  pub opener : Type 0
-  pub disk : Type 0
-  pub state : D → DiskState
-  pub link : Type 0
-  pub gone : AnyValue → Type 0
-
-abbrev pub told_by : {D : Type 0} → (opener disk : Type 0) → (D → DiskState) → Type 0 → (AnyValue → Type 0) → Told D
-told_by opener disk state link gone = record { opener = opener; disk = disk; state = state; link = link; gone = gone }
-
--- what an export is lent, at a moment
-pub record Lent (D : Type 0) : Type 0 where
-  pub sources : Sources D
-  pub terminal : LinkState
-
-abbrev pub lent : {D : Type 0} → Sources D → LinkState → Lent D
-lent sources terminal = record { sources = sources; terminal = terminal }
 
 -- nothing was opened and written, and why; or the commands of what was opened were written, unless memory was wanting, and it was let go as it was opened
 abbrev pub Exports : {D : Type 0} → Told D → Named → (before after : Lent D) → Status → Type 0

@@ -4,4 +4,5 @@ pub mod Peers
 pub mod Loads
 pub mod Listings
 pub mod Stocks
+pub mod Auditing
 pub mod Exports

@@ -10,8 +10,9 @@ ghost use Rattle.dxc_model.specs.declared.op.Selection.TheVariants.{All};
 ghost use Rattle.dxc_model.specs.Tables.{rows};
 ghost use Rattle.xc_core.specs.declared.state.Errand.{Errand};
 ghost use Rattle.xc_core.specs.declared.state.Home.TheVariants.{Out};
-ghost use Rattle.craft_element.specs.Listings.{IsCheck, row_line, count_line, listing, records_at};
-ghost use Rattle.craft_element.specs.Openings.{Opens, WasLetGo, files_asked, named, opened_on, sources};
+ghost use Rattle.craft_element.specs.Auditing.{Checks, lent, told_by};
+ghost use Rattle.craft_element.specs.Listings.{row_line, count_line, listing, records_at};
+ghost use Rattle.craft_element.specs.Openings.{files_asked, named, sources};
 
 use crate::opening::{Element, Names, open};
 use arrayvec::ArrayVec;
@@ -37,14 +38,12 @@ pub fn run_check<O: Opener + LetGo, K: Link, G: Gate>(
     terminal: &mut K,
     gate: &mut G,
 ) -> Status
-    ensures opens { Opens O.told O.Journal.told O.Journal.state O.gone
+    ensures opens { Checks (told_by O.told O.Journal.told O.Journal.state K.told O.gone)
         (named names.entry.shelf.now names.entry.journal.now)
-        (sources (O.state opener.old) (O.journal_at opener.old) (G.stops gate.old))
-        (sources (O.state opener.new) (O.journal_at opener.new) (G.stops gate.new))
-        (K.state terminal.new ≡ K.state terminal.old)
-        (λ f o u. (G.stops gate.new ≡ G.stops gate.old)
-        × IsCheck K.told f.shelf o (K.state terminal.old) (K.state terminal.new) result × WasLetGo
-        O.Journal.told O.Journal.state O.gone (opened_on f.disk u.found.disk f.shelf o)) result }
+        (lent (sources (O.state opener.old) (O.journal_at opener.old) (G.stops gate.old))
+        (K.state terminal.old))
+        (lent (sources (O.state opener.new) (O.journal_at opener.new) (G.stops gate.new))
+        (K.state terminal.new)) result }
     ensures asked { AskedFor (O.asked opener.old opener.new)
         (files_asked (named names.entry.shelf.now names.entry.journal.now)) (IsOfNoOpening result) }
     ensures hung_up { K.hung_up terminal.new ≡ K.hung_up terminal.old }

@@ -6,7 +6,8 @@ ghost use Rattle.dxc_outside.specs.Links.{IsSent};
 ghost use Rattle.craft_jobs.specs.Missing.{IsOfNoOpening};
 ghost use Rattle.tl1_answer.specs.Texts.{IsChangeOf};
 ghost use Rattle.tl1_script.specs.Commands.{lines_from};
-ghost use Rattle.craft_element.specs.Exports.{Exports, lent, told_by};
+ghost use Rattle.craft_element.specs.Auditing.{lent, told_by};
+ghost use Rattle.craft_element.specs.Exports.{Exports};
 ghost use Rattle.craft_element.specs.Openings.{files_asked, named, sources};
 
 use crate::check::WORKERS;

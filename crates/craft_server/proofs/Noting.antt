@@ -3,15 +3,12 @@ use Rattle.std.proofs.Common.{◌≡◌, ◌∙◌, List, [], ◌∷◌, ◌++�
 use Rattle.dxc_notes.specs.declared.note.Note.TheVariants as note
 use Rattle.craft_session.specs.Seats.{PlaceAt}
 use Rattle.craft_server.specs.declared.links.LinksEnd.TheVariants as links
-use Rattle.craft_server.specs.Callers.{ServedCaller, one_more, none_yet}
-use Rattle.craft_server.specs.Notings.{LentTo, Means, NotedAll, NotedSoFar, ending_of, lent_to, standing_in}
+use Rattle.craft_server.specs.Callers.{one_more, none_yet}
+use Rattle.craft_server.specs.Notings.{LentTo, Means, NotedAll, NotedCaller, NotedSoFar, ending_of, lent_to, standing_in}
 
 module _ {L K C G N : Type 0} (m : Means L K C G N) where
   abbrev pub coming : L → List K
   coming listener = (m.hall.listener.state listener).coming
-
-  abbrev pub Served : (old new : LentTo L C G N) → K → Type 0
-  Served old new caller = ServedCaller m.disk_told m.clock m.hall.link m.gate (standing_in m old) (standing_in m new) caller
 
   -- nobody came yet
   pub nothing_noted : (s : LentTo L C G N) → NotedSoFar m s s
@@ -32,14 +29,15 @@ module _ {L K C G N : Type 0} (m : Means L K C G N) where
   }
 
   -- a caller came, and was served
-  pub gone_more : (s t u : LentTo L C G N) (caller : K) → NotedSoFar m s t → (m.hall.listener.told → coming t.listener ≡ caller ∷ coming u.listener) → (one : Served t u caller) → m.notes.noted t.notes u.notes (note.Gone (ending_of one.end) ∷ []) → NotedSoFar m s u
-  gone_more s t u caller past first one noted = record {
+  pub gone_more : (s t u : LentTo L C G N) (between : N) (caller : K) → NotedSoFar m s t → (m.hall.listener.told → coming t.listener ≡ caller ∷ coming u.listener) → (one : NotedCaller m (standing_in m t) (standing_in m u) caller)
+      → m.notes.noted t.notes between one.notes → m.notes.noted between u.notes (note.Gone (ending_of one.served.end) ∷ []) → NotedSoFar m s u
+  gone_more s t u between caller past first one noted gone = record {
     all = record {
       callers = past.all.callers ++ caller ∷ [];
       came = λ t. past.all.came t ∙ ap (λ (l : List K). past.all.callers ++ l) (first t) ∙ sym (append_assoc past.all.callers (caller ∷ []) (coming u.listener));
       served = one_more (standing_in m s) (standing_in m t) (standing_in m u) past.all.callers caller past.all.served one;
     };
-    noted = m.notes.noted_on s.notes t.notes u.notes _ _ past.noted noted;
+    noted = m.notes.noted_on s.notes between u.notes _ _ (m.notes.noted_on s.notes t.notes between _ _ past.noted noted) gone;
   }
 
   -- the listener said End
@@ -49,6 +47,6 @@ module _ {L K C G N : Type 0} (m : Means L K C G N) where
   -- too many accepts in a row failed, which was noted
   pub closed : (s : LentTo L C G N) (place : PlaceAt) (listener : L) (clock : C) (gate : G) (notes later : N) → NotedSoFar m s (lent_to place listener clock gate notes) → m.notes.noted notes later (note.Closed ∷ []) → NotedAll m s (lent_to place listener clock gate later) links.Failed
   closed s place listener clock gate notes later past noted = record {
-    all = past.all;
+    all = record { callers = past.all.callers; came = past.all.came; served = past.all.served };
     noted = m.notes.noted_on s.notes notes later _ _ past.noted noted;
   }

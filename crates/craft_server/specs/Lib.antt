@@ -7,4 +7,7 @@ pub mod Served
 pub mod Serving
 pub mod Scripts
 pub mod Trials
+pub mod Worlds
+pub mod Sites
+pub mod Stations
 pub mod Runs

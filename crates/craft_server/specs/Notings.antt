@@ -1,5 +1,5 @@
 -- What is noted of the callers of a place.
-use Rattle.std.specs.Prelude.{List, [], ◌∷◌, ◌++◌}
+use Rattle.std.specs.Prelude.{◌≡◌, List, [], ◌∷◌, ◌++◌}
 use Rattle.dxc_notes.specs.declared.note.Ending.{Ending}
 use Rattle.dxc_notes.specs.declared.note.Ending.TheVariants as ending
 use Rattle.dxc_notes.specs.declared.note.Note.{Note}
@@ -8,13 +8,18 @@ use Rattle.dxc_notes.specs.declared.notes.Notes.{Ghosts as NotesOf}
 use Rattle.dxc_outside.specs.declared.gate.Gate.{Ghosts as GateOf}
 use Rattle.dxc_outside.specs.declared.link.Link.{Ghosts as LinkOf}
 use Rattle.dxc_outside.specs.declared.listener.Listener.{Ghosts as ListenerOf}
+use Rattle.dxc_model.specs.declared.user.SessionUser.TheVariants.{Nobody}
+use Rattle.craft_session.specs.declared.attending.Attending.{Attending}
 use Rattle.craft_session.specs.declared.end.SessionEnd.{SessionEnd}
 use Rattle.craft_session.specs.declared.end.SessionEnd.TheVariants as end
 use Rattle.craft_session.specs.declared.timestamps.Timestamps.{Ghosts as ClockOf}
+use Rattle.craft_session.specs.Noted.{Notes, stood}
 use Rattle.craft_session.specs.Seats.{PlaceAt}
+use Rattle.craft_session.specs.Timely.{telling}
+use Rattle.craft_session.specs.Walks.{begun_by}
 use Rattle.craft_server.specs.declared.links.LinksEnd.{LinksEnd}
 use Rattle.craft_server.specs.declared.links.LinksEnd.TheVariants as links
-use Rattle.craft_server.specs.Callers.{InTurn, ServedAll, ServedCaller, Standing, none_yet, one_more, standing}
+use Rattle.craft_server.specs.Callers.{InTurn, ServedCaller, Standing, none_yet, one_more, standing}
 
 -- how a session's end is noted
 abbrev pub ending_of : SessionEnd → Ending
@@ -24,12 +29,7 @@ ending_of end.WriteFault = ending.WriteFault
 ending_of end.Stopped = ending.Stopped
 ending_of end.Spent = ending.Spent
 ending_of end.Unattended = ending.Unattended
-
-module _ (disk_told : Type 0) {C K G : Type 0} (clock : ClockOf C) (link : LinkOf K) (gate : GateOf G) where
-  -- of each caller, in their order, how its session ended
-  abbrev pub notes_in : (old : Standing G) (came : List K) (new : Standing G) → InTurn (ServedCaller disk_told clock link gate) old came new → List Note
-  notes_in _ _ _ (none_yet s) = []
-  notes_in _ _ _ (one_more s t u ks k past step) = notes_in s ks t past ++ note.Gone (ending_of step.end) ∷ []
+ending_of end.Idle = ending.Idle
 
 -- behind these, where accepts went on failing, that nobody is let in any more
 abbrev pub to_the_end : List Note → LinksEnd → List Note
@@ -70,13 +70,28 @@ module _ {L K C G N : Type 0} (m : Means L K C G N) where
   abbrev pub standing_in : LentTo L C G N → Standing G
   standing_in s = standing s.place (m.clock.coming s.clock) s.gate
 
-  abbrev pub ServedIn : (old new : LentTo L C G N) → Type 0
-  ServedIn old new = ServedAll m.disk_told m.clock m.hall.link m.gate m.hall.listener.told (m.hall.listener.state old.listener).coming (m.hall.listener.state new.listener).coming (standing_in old) (standing_in new)
+  -- one session over a link that came, and what it noted
+  pub record NotedCaller (old new : Standing G) (came : K) : Type 0 where
+    pub served : ServedCaller m.disk_told m.clock m.hall.link m.gate old new came
+    pub attending : Attending
+    pub notes : List Note
+    pub are : Notes old.place.shelf (telling m.hall.link.told m.clock.told m.clock.stamped) (stood (m.hall.link.state came) old.moments old.place.seat old.place.users (begun_by Nobody)) notes (stood (m.hall.link.state served.left) new.moments new.place.seat new.place.users attending)
+
+  -- callers were served in their order, and they are all that a listener gave that tells the links to come
+  pub record ServedIn (old new : LentTo L C G N) : Type 0 where
+    pub callers : List K
+    pub came : m.hall.listener.told → (m.hall.listener.state old.listener).coming ≡ callers ++ (m.hall.listener.state new.listener).coming
+    pub served : InTurn NotedCaller (standing_in old) callers (standing_in new)
+
+  -- of each of them what its session noted, and how it ended
+  abbrev pub notes_in : (old : Standing G) (came : List K) (new : Standing G) → InTurn NotedCaller old came new → List Note
+  notes_in _ _ _ (none_yet s) = []
+  notes_in _ _ _ (one_more s t u ks k past step) = (notes_in s ks t past ++ step.notes) ++ note.Gone (ending_of step.served.end) ∷ []
 
   abbrev pub notes_of : (old new : LentTo L C G N) → ServedIn old new → List Note
-  notes_of old new all = notes_in m.disk_told m.clock m.hall.link m.gate (standing_in old) all.callers (standing_in new) all.served
+  notes_of old new all = notes_in (standing_in old) all.callers (standing_in new) all.served
 
-  -- callers were served, and of each of them it was noted how its session ended
+  -- callers were served, and that was noted of them
   pub record NotedSoFar (old new : LentTo L C G N) : Type 0 where
     pub all : ServedIn old new
     pub noted : m.notes.noted old.notes new.notes (notes_of old new all)

@@ -28,6 +28,9 @@ use Rattle.craft_server.specs.Scripts.{IsUnplaced, RanAndLeft}
 use Rattle.craft_server.specs.Trials.{IsTrialOn, memory_told, trial_lent}
 use Rattle.craft_server.specs.Serving.{JobsTold, ServedSite, SiteAt, named_in, site_at}
 use Rattle.craft_jobs.specs.Standbys.{StandsBy}
+use Rattle.craft_server.specs.declared.world.World.{Ghosts as WorldOf}
+use Rattle.craft_server.specs.Sites.{asked_after, asked_before, jobs_across}
+use Rattle.craft_server.specs.Worlds.{WorldLent, Worlds}
 
 -- whether opener, disk, terminal, clock, peer, listener and the listener's links tell what they hold, and where reads of terminal and links began
 pub record Told : Type 1 where
@@ -150,3 +153,21 @@ module _ (told : Told) {N L C G : Type 0} (jobs : JobsTold N L C G) {D K J : Typ
   -- what the program did, by its words
   abbrev pub IsRun : List (List ℕ) → (before after : Lent D) → Status → Type 0
   IsRun words before after status = ((after ≡ before) × NoLine words status) ⊎ ((l : Line) × IsLine words l × IsRunOf l before after status)
+
+-- what the program is lent shows at the call, and at the return
+abbrev pub before : (w : Worlds) → WorldLent w → Lent w.ground.Disk
+before w x = lent (asked_before w.ground x.0 x.3) (w.terminal.state x.1.entry.now) (w.clock.coming x.2.entry.now) (w.ground.spawner.state x.4.entry.now)
+
+abbrev pub after : (w : Worlds) → WorldLent w → Lent w.ground.Disk
+after w x = lent (asked_after w.ground x.0 x.3) (w.terminal.state x.1.exit.now) (w.clock.coming x.2.exit.now) (w.ground.spawner.state x.4.exit.now)
+
+abbrev pub told_in : (w : Worlds) → WorldLent w → Told
+told_in w x = let g = w.ground in told_by g.opener.told g.disk.told w.terminal.told w.clock.told g.peer.told g.listener.told g.link.told w.terminal.begun g.link.begun g.leaving.gone (g.opener.asked x.0.entry.now x.0.exit.now)
+
+-- what a line did with what it was lent
+abbrev pub RanLine : {T : Type 0} (g : WorldOf T) → Line → WorldLent g.world → Status → Type 0
+RanLine g line x status = let w = g.world.ground in IsRunOf (told_in g.world x) (jobs_across w x.4) w.disk.state w.peer.state w.listener.state w.link.state w.link.hung_up (w.opener.listener_at x.0.entry.now) line (before g.world x) (after g.world x) status
+
+-- what the program did, by its words
+abbrev pub RanWords : {T : Type 0} (g : WorldOf T) → List (List ℕ) → WorldLent g.world → Status → Type 0
+RanWords g words x status = let w = g.world.ground in IsRun (told_in g.world x) (jobs_across w x.4) w.disk.state w.peer.state w.listener.state w.link.state w.link.hung_up (w.opener.listener_at x.0.entry.now) words (before g.world x) (after g.world x) status

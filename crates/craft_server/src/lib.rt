@@ -10,6 +10,7 @@ mod script;
 mod serve;
 mod sessions;
 mod trial;
+mod world;
 
 pub use craft_jobs::{FrameJob, FramesDone, FramesLeft};
 pub use craft_words::{JournalBad, Line, Status, WordsFault, line_of};
@@ -17,3 +18,4 @@ pub use links::{LinksEnd, serve_links};
 pub use run::dxc_run;
 pub use serve::serve_all;
 pub use sessions::{SessionDone, SessionJob};
+pub use world::{Ground, Station, World};

@@ -82,6 +82,7 @@ fn serve_load<D: Disk + Drop, U: Disk + Drop, G: Gate, R: Wait>(
         SessionEnd::ReadFault => unreachable!(),
         SessionEnd::Spent => unreachable!(),
         SessionEnd::Unattended => unreachable!(),
+        SessionEnd::Idle => unreachable!(),
     }
 }
 

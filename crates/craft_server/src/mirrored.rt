@@ -1,14 +1,14 @@
 //! Sessions and frame workers of a controller whose journal a standby has a copy of.
-ghost use Rattle.std.specs.Prelude.{◌≡◌, ◌≤◌, ◌++◌};
+ghost use Rattle.std.specs.Prelude.{◌≤◌, ◌++◌};
 ghost use Rattle.dxc_outside.specs.Asked.{AskedFor};
-ghost use Rattle.standby_link.specs.declared.mirror_disk.MirrorDisk.{MirrorDisk};
 ghost use Rattle.craft_jobs.specs.Missing.{IsOfNoOpening};
-ghost use Rattle.craft_element.specs.Openings.{named, sources};
-ghost use Rattle.craft_element.specs.Peers.{Mirrors, mirror_asked};
+ghost use Rattle.craft_element.specs.Openings.{named};
+ghost use Rattle.craft_element.specs.Peers.{mirror_asked};
 ghost use Rattle.craft_server.specs.Askings.{site_asked};
-ghost use Rattle.craft_server.specs.Serving.{ServedSite, jobs_told, site_at};
+ghost use Rattle.craft_server.specs.Sites.{ServedMirrored, names_of, site_of};
 
 use crate::serve::{Site, serve_on};
+use crate::world::Ground;
 use craft_element::{Controller, Element, Names, open_mirrored};
 use craft_session::Timestamps;
 use craft_words::Status;
@@ -35,18 +35,8 @@ where
     <O::Listener as Listener>::Link: Send + 'static,
     <O::Listener as Noted>::Notes: Send + 'static,
     requires { (1 ≤ site.workers) × (site.workers ≤ 8) }
-    ensures mirrors { Mirrors O.Journal.told O.Peer.told O.Journal.state O.Peer.state O.told O.gone
-        (named names.entry.shelf.now names.entry.journal.now)
-        (sources (O.state opener.old) (O.journal_at opener.old) (G.stops gate.old))
-        (sources (O.state opener.new) (O.journal_at opener.new) (G.stops gate.new))
-        (P.state spawner.new ≡ P.state spawner.old)
-        (λ f o u. ServedSite (MirrorDisk O.Journal O.Peer) O.Journal
-        (jobs_told O.Journal.told O.Opener O.Lines.Lines O.Listener.Listener O.Listener.Link.Link
-        O.Clock.Timestamps O.Gate.Gate O.gone (P.handed spawner.old spawner.new))
-        (site_at site.entry.address.now site.entry.lines.now site.entry.workers)
-        (sources (O.state opener.old) (O.journal_at opener.old) (G.stops gate.old))
-        (sources (O.state opener.new) (O.journal_at opener.new) (G.stops gate.new))
-        (P.state spawner.old) (P.state spawner.new) f.shelf o u.opening result) result }
+    ensures mirrors { ServedMirrored ⟦<(O, G, P) as Ground>⟧
+        (names_of names.entry) (site_of site.entry) (opener, gate, spawner) result }
     ensures asked { AskedFor (O.asked opener.old opener.new)
         (mirror_asked (named names.entry.shelf.now names.entry.journal.now) peer.now ++ site_asked
         site.entry.lines.now site.entry.address.now site.entry.workers) (IsOfNoOpening result) }

@@ -3,15 +3,15 @@ ghost use Rattle.craft_words.specs.Lines.{IsInRange, IsLine};
 ghost use Rattle.craft_words.specs.declared.line.Line.{Line as ALine};
 ghost use Rattle.dxc_outside.specs.Asked.{AskedFor};
 ghost use Rattle.craft_jobs.specs.Missing.{IsOfNoOpening};
-ghost use Rattle.craft_element.specs.Openings.{named, sources};
+ghost use Rattle.craft_element.specs.Openings.{named};
 ghost use Rattle.craft_server.specs.Askings.{AskedBy, line_asked};
-ghost use Rattle.craft_server.specs.Runs.{IsRun, IsRunOf, lent, told_by};
-ghost use Rattle.craft_server.specs.Serving.{jobs_told};
+ghost use Rattle.craft_server.specs.Runs.{RanLine, RanWords};
 
 use crate::load::run_load;
 use crate::script::run_script;
 use crate::serve::serve_line;
 use crate::trial::run_trial;
+use crate::world::World;
 use craft_element::{Names, run_check, run_export};
 use craft_jobs::run_standby;
 use craft_session::Timestamps;
@@ -50,16 +50,8 @@ where
     <O::Listener as Listener>::Link: Send + 'static,
     <O::Listener as Noted>::Notes: Send + 'static,
     ensures words { result ≡ Status.BadWords → (l : ALine) → IsLine words.now l → ⊥ }
-    ensures run { IsRun (told_by O.told O.Journal.told K.told C.told O.Peer.told O.Listener.told
-        O.Listener.Link.told K.begun O.Listener.Link.begun O.gone (O.asked opener.old opener.new))
-        (jobs_told O.Journal.told O.Opener O.Lines.Lines O.Listener.Listener O.Listener.Link.Link
-        O.Clock.Timestamps O.Gate.Gate O.gone (P.handed spawner.old spawner.new)) O.Journal.state
-        O.Peer.state O.Listener.state O.Listener.Link.state O.Listener.Link.hung_up
-        (O.listener_at opener.old) words.now
-        (lent (sources (O.state opener.old) (O.journal_at opener.old) (G.stops gate.old))
-        (K.state terminal.old) (C.coming clock.old) (P.state spawner.old))
-        (lent (sources (O.state opener.new) (O.journal_at opener.new) (G.stops gate.new))
-        (K.state terminal.new) (C.coming clock.new) (P.state spawner.new)) result }
+    ensures run { RanWords ⟦<(O, K, C, G, P) as World>⟧ words.now
+        (opener, terminal, clock, gate, spawner) result }
     ensures asked { AskedBy (O.asked opener.old opener.new) words.now result }
     ensures hung_up { K.hung_up terminal.new ≡ K.hung_up terminal.old }
 {
@@ -87,17 +79,8 @@ where
     <O::Listener as Listener>::Link: Send + 'static,
     <O::Listener as Noted>::Notes: Send + 'static,
     ensures words { IsInRange line.now → result ≢ Status.BadWords }
-    ensures run { IsInRange line.now
-        → IsRunOf (told_by O.told O.Journal.told K.told C.told O.Peer.told O.Listener.told
-        O.Listener.Link.told K.begun O.Listener.Link.begun O.gone (O.asked opener.old opener.new))
-        (jobs_told O.Journal.told O.Opener O.Lines.Lines O.Listener.Listener O.Listener.Link.Link
-        O.Clock.Timestamps O.Gate.Gate O.gone (P.handed spawner.old spawner.new)) O.Journal.state
-        O.Peer.state O.Listener.state O.Listener.Link.state O.Listener.Link.hung_up
-        (O.listener_at opener.old) line.now
-        (lent (sources (O.state opener.old) (O.journal_at opener.old) (G.stops gate.old))
-        (K.state terminal.old) (C.coming clock.old) (P.state spawner.old))
-        (lent (sources (O.state opener.new) (O.journal_at opener.new) (G.stops gate.new))
-        (K.state terminal.new) (C.coming clock.new) (P.state spawner.new)) result }
+    ensures run { IsInRange line.now → RanLine ⟦<(O, K, C, G, P) as World>⟧ line.now
+        (opener, terminal, clock, gate, spawner) result }
     ensures asked { IsInRange line.now
         → AskedFor (O.asked opener.old opener.new) (line_asked line.now) (IsOfNoOpening result) }
     ensures hung_up { K.hung_up terminal.new ≡ K.hung_up terminal.old }

@@ -1,11 +1,12 @@
-ghost use Rattle.std.specs.Prelude.{◌≡◌, ◌≢◌, ◌⊎◌};
+ghost use Rattle.std.specs.Prelude.{◌≡◌, ◌≢◌};
 ghost use Rattle.dxc_outside.specs.Asked.{AskedFor};
 ghost use Rattle.craft_jobs.specs.Missing.{IsOfNoOpening};
-ghost use Rattle.craft_element.specs.Openings.{Opens, files_asked, named, sources};
-ghost use Rattle.dxc_model.specs.declared.user.SessionUser.{SessionUser};
-ghost use Rattle.craft_server.specs.Scripts.{IsUnplaced, RanAndLeft};
+ghost use Rattle.craft_element.specs.Openings.{files_asked, named};
+ghost use Rattle.craft_server.specs.Sites.{names_of};
+ghost use Rattle.craft_server.specs.Stations.{OpensForScript};
 ghost use Rattle.craft_server.specs.Statuses.{status_of};
 
+use crate::world::Station;
 use craft_element::{Controller, Element, Names, WORKERS, open};
 use craft_session::places::lone_place;
 use craft_session::{SessionEnd, serve_session};
@@ -26,17 +27,8 @@ pub(crate) fn run_script<O: Opener + LetGo, K: Link, C: Clock, G: Gate, R: Wait>
     gate: &mut G,
     rt: &R,
 ) -> Status
-    ensures opens { Opens O.told O.Journal.told O.Journal.state O.gone
-        (named names.entry.shelf.now names.entry.journal.now)
-        (sources (O.state opener.old) (O.journal_at opener.old) (G.stops gate.old))
-        (sources (O.state opener.new) (O.journal_at opener.new) (G.stops gate.new))
-        ((K.state terminal.new ≡ K.state terminal.old) × (C.coming clock.new ≡ C.coming clock.old))
-        (λ f o u. RanAndLeft O.Journal.told K.told C.told K.begun O.gone (O.Journal.state f.disk)
-        (O.Journal.state u.found.disk) SessionUser.Nobody f.shelf o u.opening (K.state terminal.old)
-        (K.state terminal.new) (C.coming clock.old) (C.coming clock.new) (G.stops gate.old)
-        (G.stops gate.new) result ⊎ IsUnplaced (K.state terminal.old) (K.state terminal.new)
-        (C.coming clock.old) (C.coming clock.new) (G.stops gate.old) (G.stops gate.new) result)
-        result }
+    ensures opens { OpensForScript ⟦<(O, K, C, G) as Station>⟧ (names_of names.entry)
+        (opener, terminal, clock, gate) result }
     ensures asked { AskedFor (O.asked opener.old opener.new)
         (files_asked (named names.entry.shelf.now names.entry.journal.now)) (IsOfNoOpening result) }
     ensures hung_up { K.hung_up terminal.new ≡ K.hung_up terminal.old }
@@ -62,6 +54,7 @@ pub(crate) fn run_script<O: Opener + LetGo, K: Link, C: Clock, G: Gate, R: Wait>
 /// The status of a session that ended so.
 pub(crate) fn after_session(end: SessionEnd) -> Status
     requires attended { end ≢ SessionEnd.Unattended }
+    requires endless { end ≢ SessionEnd.Idle }
     ensures { result ≡ status_of end }
 {
     match end {
@@ -70,5 +63,6 @@ pub(crate) fn after_session(end: SessionEnd) -> Status
         SessionEnd::Stopped => Status::Stopped,
         SessionEnd::Spent => Status::Spent,
         SessionEnd::Unattended => unreachable!(),
+        SessionEnd::Idle => unreachable!(),
     }
 }

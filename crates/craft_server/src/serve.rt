@@ -3,7 +3,6 @@ ghost use Rattle.std.specs.Prelude.{◌≡◌, ◌↔◌, ◌≤◌, ◌⊎◌, 
 ghost use Rattle.std.specs.Arc.{arc_value};
 ghost use Rattle.dxc_outside.specs.Asked.{AskedFor};
 ghost use Rattle.dxc_outside.specs.Jobs.{any_jobs};
-ghost use Rattle.standby_link.specs.declared.mirror_disk.MirrorDisk.{MirrorDisk};
 ghost use Rattle.fabric_words.specs.New.{AreNew};
 ghost use Rattle.user_admin.specs.Openings.{Begins as UsersBegin};
 ghost use Rattle.user_admin.specs.States.{opening_of as users_opening};
@@ -13,15 +12,16 @@ ghost use Rattle.craft_session.specs.Places.{IsAtOpening};
 ghost use Rattle.craft_jobs.specs.Framed.{RanFrames};
 ghost use Rattle.craft_jobs.specs.Leaves.{left_by};
 ghost use Rattle.craft_jobs.specs.Missing.{IsOfNoOpening};
-ghost use Rattle.craft_element.specs.Openings.{Opens, files_asked, named, sources};
-ghost use Rattle.craft_element.specs.Peers.{Mirrors};
+ghost use Rattle.craft_element.specs.Openings.{files_asked, named};
 ghost use Rattle.craft_server.specs.Askings.{line_asked, site_asked};
 ghost use Rattle.craft_server.specs.Served.{RanAt};
-ghost use Rattle.craft_server.specs.Serving.{AreLeft, AreLeftTo, CameTo, IsServe, IsServing, LeftPlaces, ServedSite, jobs_told, named_in, peer_of, site_at, site_in};
+ghost use Rattle.craft_server.specs.Serving.{AreLeft, AreLeftTo, CameTo, IsServe, IsServing, LeftPlaces, jobs_told, named_in, peer_of, site_at, site_in};
+ghost use Rattle.craft_server.specs.Sites.{ServedAlone, ServedMirrored, names_of, site_of};
 
 use crate::jobs::session_jobs;
 use crate::mirrored::serve_mirrored;
 use crate::sessions::SessionJob;
+use crate::world::Ground;
 use craft_element::{Controller, Element, Names, open};
 use craft_jobs::{FrameJob, frame_jobs, run_all};
 use craft_session::Timestamps;
@@ -178,17 +178,8 @@ where
     <O::Listener as Listener>::Link: Send + 'static,
     <O::Listener as Noted>::Notes: Send + 'static,
     requires { (1 ≤ site.workers) × (site.workers ≤ 8) }
-    ensures opens { Opens O.told O.Journal.told O.Journal.state O.gone
-        (named names.entry.shelf.now names.entry.journal.now)
-        (sources (O.state opener.old) (O.journal_at opener.old) (G.stops gate.old))
-        (sources (O.state opener.new) (O.journal_at opener.new) (G.stops gate.new))
-        (P.state spawner.new ≡ P.state spawner.old) (λ f o u. ServedSite O.Journal O.Journal
-        (jobs_told O.Journal.told O.Opener O.Lines.Lines O.Listener.Listener O.Listener.Link.Link
-        O.Clock.Timestamps O.Gate.Gate O.gone (P.handed spawner.old spawner.new))
-        (site_at site.entry.address.now site.entry.lines.now site.entry.workers)
-        (sources (O.state opener.old) (O.journal_at opener.old) (G.stops gate.old))
-        (sources (O.state opener.new) (O.journal_at opener.new) (G.stops gate.new))
-        (P.state spawner.old) (P.state spawner.new) f.shelf o u.opening result) result }
+    ensures opens { ServedAlone ⟦<(O, G, P) as Ground>⟧
+        (names_of names.entry) (site_of site.entry) (opener, gate, spawner) result }
     ensures asked { AskedFor (O.asked opener.old opener.new)
         (files_asked (named names.entry.shelf.now names.entry.journal.now) ++ site_asked
         site.entry.lines.now site.entry.address.now site.entry.workers) (IsOfNoOpening result) }
@@ -227,27 +218,10 @@ where
     <O::Listener as Listener>::Link: Send + 'static,
     <O::Listener as Noted>::Notes: Send + 'static,
     requires { IsServe line.now }
-    ensures alone { peer_of line.now ≡ None
-        → Opens O.told O.Journal.told O.Journal.state O.gone (named_in line.now)
-        (sources (O.state opener.old) (O.journal_at opener.old) (G.stops gate.old))
-        (sources (O.state opener.new) (O.journal_at opener.new) (G.stops gate.new))
-        (P.state spawner.new ≡ P.state spawner.old) (λ f o u. ServedSite O.Journal O.Journal
-        (jobs_told O.Journal.told O.Opener O.Lines.Lines O.Listener.Listener O.Listener.Link.Link
-        O.Clock.Timestamps O.Gate.Gate O.gone (P.handed spawner.old spawner.new)) (site_in line.now)
-        (sources (O.state opener.old) (O.journal_at opener.old) (G.stops gate.old))
-        (sources (O.state opener.new) (O.journal_at opener.new) (G.stops gate.new))
-        (P.state spawner.old) (P.state spawner.new) f.shelf o u.opening result) result }
-    ensures mirrored { IsSome (peer_of line.now) → Mirrors O.Journal.told O.Peer.told
-        O.Journal.state O.Peer.state O.told O.gone (named_in line.now)
-        (sources (O.state opener.old) (O.journal_at opener.old) (G.stops gate.old))
-        (sources (O.state opener.new) (O.journal_at opener.new) (G.stops gate.new))
-        (P.state spawner.new ≡ P.state spawner.old)
-        (λ f o u. ServedSite (MirrorDisk O.Journal O.Peer) O.Journal
-        (jobs_told O.Journal.told O.Opener O.Lines.Lines O.Listener.Listener O.Listener.Link.Link
-        O.Clock.Timestamps O.Gate.Gate O.gone (P.handed spawner.old spawner.new)) (site_in line.now)
-        (sources (O.state opener.old) (O.journal_at opener.old) (G.stops gate.old))
-        (sources (O.state opener.new) (O.journal_at opener.new) (G.stops gate.new))
-        (P.state spawner.old) (P.state spawner.new) f.shelf o u.opening result) result }
+    ensures alone { peer_of line.now ≡ None → ServedAlone ⟦<(O, G, P) as Ground>⟧
+        (named_in line.now) (site_in line.now) (opener, gate, spawner) result }
+    ensures mirrored { IsSome (peer_of line.now) → ServedMirrored ⟦<(O, G, P) as Ground>⟧
+        (named_in line.now) (site_in line.now) (opener, gate, spawner) result }
     ensures asked { AskedFor (O.asked opener.old opener.new) (line_asked line.now)
         (IsOfNoOpening result) }
 {
@@ -292,27 +266,11 @@ where
     O::Listener: Noted,
     <O::Listener as Listener>::Link: Send + 'static,
     <O::Listener as Noted>::Notes: Send + 'static,
-    ensures alone { IsServe line.now → peer_of line.now ≡ None
-        → Opens O.told O.Journal.told O.Journal.state O.gone (named_in line.now)
-        (sources (O.state opener.old) (O.journal_at opener.old) (G.stops gate.old))
-        (sources (O.state opener.new) (O.journal_at opener.new) (G.stops gate.new))
-        (P.state spawner.new ≡ P.state spawner.old) (λ f o u. ServedSite O.Journal O.Journal
-        (jobs_told O.Journal.told O.Opener O.Lines.Lines O.Listener.Listener O.Listener.Link.Link
-        O.Clock.Timestamps O.Gate.Gate O.gone (P.handed spawner.old spawner.new)) (site_in line.now)
-        (sources (O.state opener.old) (O.journal_at opener.old) (G.stops gate.old))
-        (sources (O.state opener.new) (O.journal_at opener.new) (G.stops gate.new))
-        (P.state spawner.old) (P.state spawner.new) f.shelf o u.opening result) result }
-    ensures mirrored { IsServe line.now → IsSome (peer_of line.now) → Mirrors O.Journal.told
-        O.Peer.told O.Journal.state O.Peer.state O.told O.gone (named_in line.now)
-        (sources (O.state opener.old) (O.journal_at opener.old) (G.stops gate.old))
-        (sources (O.state opener.new) (O.journal_at opener.new) (G.stops gate.new))
-        (P.state spawner.new ≡ P.state spawner.old)
-        (λ f o u. ServedSite (MirrorDisk O.Journal O.Peer) O.Journal
-        (jobs_told O.Journal.told O.Opener O.Lines.Lines O.Listener.Listener O.Listener.Link.Link
-        O.Clock.Timestamps O.Gate.Gate O.gone (P.handed spawner.old spawner.new)) (site_in line.now)
-        (sources (O.state opener.old) (O.journal_at opener.old) (G.stops gate.old))
-        (sources (O.state opener.new) (O.journal_at opener.new) (G.stops gate.new))
-        (P.state spawner.old) (P.state spawner.new) f.shelf o u.opening result) result }
+    ensures alone { IsServe line.now → peer_of line.now ≡ None → ServedAlone ⟦<(O, G, P) as Ground>⟧
+        (named_in line.now) (site_in line.now) (opener, gate, spawner) result }
+    ensures mirrored { IsServe line.now → IsSome (peer_of line.now)
+        → ServedMirrored ⟦<(O, G, P) as Ground>⟧ (named_in line.now) (site_in line.now)
+        (opener, gate, spawner) result }
     ensures asked { IsServe line.now
         → AskedFor (O.asked opener.old opener.new) (line_asked line.now) (IsOfNoOpening result) }
 {

@@ -19,6 +19,8 @@ pub mod Timely
 pub mod SessionSteps
 pub mod Prompt
 pub mod Waiting
+pub mod Idling
+pub mod Forgetting
 pub mod Answering
 pub mod Telling
 pub mod Playing
@@ -26,3 +28,4 @@ pub mod Meanwhiles
 pub mod Hearings
 pub mod Scripts
 pub mod FreshPlaces
+pub mod Noted

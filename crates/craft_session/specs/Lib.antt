@@ -23,6 +23,9 @@ pub mod Scripts
 pub mod Places
 pub mod Stamps
 pub mod Timely
+pub mod Pieces
 pub mod Lending
+pub mod Noted
 pub mod Waiting
+pub mod Idling
 pub mod Served

@@ -8,7 +8,7 @@ use Rattle.xc_core.specs.Turns.{AreNumbered, SawNoneAstray}
 use Rattle.dxc_model.specs.declared.user.SessionUser.{SessionUser}
 use Rattle.dxc_model.specs.declared.user.SessionUser.TheVariants.{Nobody}
 use Rattle.craft_session.specs.declared.end.SessionEnd.{SessionEnd}
-use Rattle.craft_session.specs.declared.end.SessionEnd.TheVariants.{End, ReadFault, WriteFault, Stopped, Spent, Unattended}
+use Rattle.craft_session.specs.declared.end.SessionEnd.TheVariants.{End, ReadFault, WriteFault, Stopped, Spent, Unattended, Idle}
 use Rattle.craft_session.specs.declared.lent.Lent.{Ghosts as LentOf}
 use Rattle.craft_session.specs.Gated.{AreEntered}
 use Rattle.craft_session.specs.Lending.{Things}
@@ -17,6 +17,7 @@ use Rattle.craft_session.specs.Seats.{IsSameSeat, IsSameUserSeat, PlaceAt}
 use Rattle.craft_session.specs.Sessions.{IsPrompt, IsServed}
 use Rattle.craft_session.specs.Stamps.{stamp_at}
 use Rattle.craft_session.specs.Timely.{WasTimely, reached, telling}
+use Rattle.craft_session.specs.Idling.{IsIdle}
 use Rattle.craft_session.specs.Waiting.{IsUnattended}
 
 -- the same place, and what it has seen are histories
@@ -49,6 +50,7 @@ pub record ServedFor {T : Type 0} (world : LentOf T) (first : SessionUser) (old 
   pub timely : let w = world.lent in WasTimely (language_for first old.0.shelf) (telling w.link.told w.clock.told w.clock.stamped) (stamp_at (w.clock.coming old.2) (w.link.state old.1) old.0.seat old.0.users) (reached (w.link.state new.1).written new.0.seat.seen new.0.users.seen)
   pub asked : AreEntered old.0.seat old.0.users (world.lent.gate.asked old.3 new.3) new.0.seat.seen new.0.users.seen
   pub unattended : end ≡ Unattended → IsUnattended world first old (world.lent.link.state new.1)
+  pub idle : end ≡ Idle → IsIdle world first old (world.lent.link.state new.1)
   pub why : EndedFor world.lent.link.told (world.lent.link.state old.1) (world.lent.link.state new.1) end
   pub hung_up : world.lent.link.hung_up new.1 ≡ world.lent.link.hung_up old.1
   pub stopped : end ≡ Stopped → Rose (world.lent.gate.stops old.3) (world.lent.gate.stops new.3)

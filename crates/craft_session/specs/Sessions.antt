@@ -24,7 +24,7 @@ use Rattle.xc_core.specs.States.{Opening}
 use Rattle.xc_core.specs.Seeing.{IsHistory, Saw}
 use Rattle.craft_session.specs.declared.attending.Attending.{Attending}
 use Rattle.craft_session.specs.declared.end.SessionEnd.{SessionEnd}
-use Rattle.craft_session.specs.declared.end.SessionEnd.TheVariants.{End, ReadFault, WriteFault, Stopped as Session_stopped, Spent, Unattended}
+use Rattle.craft_session.specs.declared.end.SessionEnd.TheVariants.{End, ReadFault, WriteFault, Stopped as Session_stopped, Spent, Unattended, Idle}
 use Rattle.craft_session.specs.declared.end.Progress.{Progress}
 use Rattle.craft_session.specs.declared.end.Progress.TheVariants.{On, Cut, Stopped}
 use Rattle.craft_session.specs.Asks.{Reply, Language, user_after}
@@ -199,6 +199,7 @@ module _ (l : Language Request Moment) where
   IsSession told clock_told k j c d b now End = Served told clock_told k j c d b now
   IsSession told clock_told k j c d b now ReadFault = Served told clock_told k j c d b now
   IsSession told clock_told k j c d b now Spent = Served told clock_told k j c d b now
+  IsSession told clock_told k j c d b now Idle = Served told clock_told k j c d b now
   IsSession told clock_told k j c d b now Unattended = ServedAlone told clock_told k j c d b now
   IsSession told clock_told k j c d b now WriteFault = Breaks told clock_told k j c d b now
   IsSession told clock_told k j c d b now Session_stopped = Halts told clock_told k j c d b now

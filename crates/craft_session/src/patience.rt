@@ -1,10 +1,12 @@
-//! How long a session goes on where nobody logs in.
-ghost use Rattle.std.specs.Prelude.{◌≡◌, ◌≤◌, ◌<◌, true, false};
+//! How long a session goes on where nobody logs in, or nothing comes.
+ghost use Rattle.std.specs.Prelude.{◌≡◌, ◌≤◌, ◌<◌, ◌^◌, true, false};
 ghost use Rattle.dxc_model.specs.declared.user.SessionUser.TheVariants.{Nobody};
+ghost use Rattle.craft_session.specs.Idling.{IsInTime, IsTooLong, silent_after as silence_after};
 ghost use Rattle.craft_session.specs.Waiting.{waited_after as after};
 
 use crate::attending::Attending;
 use dxc_model::SessionUser;
+use shelf_file::IdleLimits;
 
 // A read in which nothing came counts as the fifth of a second that it lasts; one that brought bytes as a sixteenth of that, so that whoever
 // sends something again and again and never logs in is let go too.
@@ -15,12 +17,15 @@ pub(crate) const BYTES: u16 = 1;
 // A minute of silence.
 const LIMIT: u16 = 4800;
 
-/// Whether a session ends where nobody logs in.
+// How many reads a minute has in which nothing comes.
+const READS: u64 = 300;
+
+/// Whether a session ends where nobody logs in, or nothing comes.
 #[derive(Clone, Copy)]
 pub(crate) enum Patience {
     /// It goes on.
     Endless,
-    /// It ends once nobody has been logged in for a minute of silence.
+    /// It ends once nobody has been logged in for a minute of silence, and where one who is logged in has been silent for longer than the class may be.
     Limited,
 }
 
@@ -37,6 +42,22 @@ impl Patience {
             _ => false,
         }
     }
+
+    /// Whether so many reads in a row brought nothing, more than one who is logged in may be silent for.
+    pub fn is_idle(self, limits: IdleLimits, attending: &Attending, silent: u64) -> bool
+        ensures idle { result ≡ true → (self ≡ Patience.Limited)
+            × IsTooLong limits attending.now.user silent }
+        ensures awake { result ≡ false → self ≡ Patience.Limited
+            → IsInTime limits attending.now.user silent }
+    {
+        match (self, attending.user) {
+            (Patience::Limited, SessionUser::User { class, .. }) => match limits.of(class) {
+                Some(minutes) => silent > READS * minutes as u64,
+                None => false,
+            },
+            _ => false,
+        }
+    }
 }
 
 /// How long nobody has been logged in, behind one more read, which counts so much and began with this user logged in.
@@ -47,4 +68,12 @@ pub(crate) fn waited_after(user: SessionUser, waited: u16, read: u16) -> u16
         SessionUser::Nobody => waited.saturating_add(read),
         SessionUser::User { .. } => 0,
     }
+}
+
+/// How many reads in a row brought nothing, behind one more, which counts so much.
+pub(crate) fn silent_after(silent: u64, read: u16) -> u64
+    requires { silent < 2 ^ 32 }
+    ensures { result ≡ silence_after silent read }
+{
+    if read == QUIET { silent + 1 } else { 0 }
 }

@@ -9,6 +9,7 @@ use crate::attending::Attending;
 use crate::desk::Desk;
 use crate::guesses::Guesses;
 use crate::seat::Seat;
+use crate::secrets::Secrets;
 use crate::users::{UserDesk, UserSeat};
 use arrayvec::ArrayVec;
 use dxc_causes::NoMemory;
@@ -99,6 +100,7 @@ impl<D: Disk + Drop, U: Disk + Drop> Place<D, U> {
             seat: UserSeat::new(users_pass, users),
             rows: ArrayVec::new(),
             guesses: Guesses::new(),
+            secrets: Secrets::new(),
         };
         let attending = Attending {
             user: SessionUser::Nobody,

@@ -17,6 +17,7 @@ ghost use Rattle.craft_session.specs.Notices.{change, found_notices, lead, numbe
 ghost use Rattle.craft_session.specs.Responses.{lost_text as text_of_lost};
 ghost use Rattle.craft_session.specs.Desks.{now};
 ghost use Rattle.craft_session.specs.Gated.{Entered, NothingAsked};
+ghost use Rattle.craft_session.specs.Noted.{HasLooked};
 ghost use Rattle.craft_session.specs.Seats.{IsSameSeat};
 ghost use Rattle.craft_session.specs.Sessions.{AreTold, Beginning, IsAt, IsReported, Writes, Stands, Goes};
 ghost use Rattle.craft_session.specs.Stamps.{AreStamped, stamp_at};
@@ -61,6 +62,8 @@ pub fn report<K: Link, C: Timestamps, D: Disk + Drop, U: Disk + Drop, R: Wait>(
     ensures unstopped { result ≢ Progress.Stopped }
     ensures entered { (h : List Entry) → Saw desk.old.seat.opening desk.old.seat.seen h → Entered
         desk.old.seat.opening desk.old.seat.place NothingAsked false false h desk.new.seat.seen }
+    ensures looked { HasLooked desk.old.seat desk.new.seat.seen }
+    ensures user { desk.new.attending.user ≡ desk.old.attending.user }
 {
     match desk.attending.watch {
         Some(cursor) => report_since(desk, link, clock, cursor, rt),
@@ -99,6 +102,8 @@ fn report_since<K: Link, C: Timestamps, D: Disk + Drop, U: Disk + Drop, R: Wait>
     ensures unstopped { result ≢ Progress.Stopped }
     ensures entered { (h : List Entry) → Saw desk.old.seat.opening desk.old.seat.seen h → Entered
         desk.old.seat.opening desk.old.seat.place NothingAsked false false h desk.new.seat.seen }
+    ensures looked { HasLooked desk.old.seat desk.new.seat.seen }
+    ensures user { desk.new.attending.user ≡ desk.old.attending.user }
 {
     let looked = desk.seat.look(cursor, &mut desk.changes, rt);
     desk.attending.watch = Some(looked.newest);

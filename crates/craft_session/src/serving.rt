@@ -1,6 +1,8 @@
 //! The sessions of a place: over a link, for a user that is logged in from the beginning, and for a caller.
 ghost use Rattle.std.specs.Prelude.{◌≡◌, ◌≢◌};
+ghost use Rattle.craft_session.specs.Noted.{NotedFor};
 ghost use Rattle.craft_session.specs.Served.{Served, ServedFor};
+ghost use Rattle.craft_session.specs.Idling.{IsAwake};
 ghost use Rattle.craft_session.specs.Waiting.{IsLetGo};
 
 use crate::end::SessionEnd;
@@ -11,6 +13,7 @@ use crate::session::serve;
 use crate::timestamps::Timestamps;
 use dxc_disk::Disk;
 use dxc_model::SessionUser;
+use dxc_notes::{Notes, Silence};
 use dxc_outside::{Gate, Link};
 use std::sync::Wait;
 
@@ -26,6 +29,7 @@ pub fn serve_session<K: Link, C: Timestamps, G: Gate, D: Disk + Drop, U: Disk + 
     ensures served { Served ⟦<(K, C, G, D) as Lent>⟧ (place.old, link.old, clock.old, gate.old)
         (place.new, link.new, clock.new, gate.new) result }
     ensures attended { result ≢ SessionEnd.Unattended }
+    ensures endless { result ≢ SessionEnd.Idle }
 {
     serve_session_of(place, SessionUser::Nobody, link, clock, gate, rt)
 }
@@ -43,23 +47,48 @@ pub fn serve_session_of<K: Link, C: Timestamps, G: Gate, D: Disk + Drop, U: Disk
         (place.old, link.old, clock.old, gate.old)
         (place.new, link.new, clock.new, gate.new) result }
     ensures attended { result ≢ SessionEnd.Unattended }
+    ensures endless { result ≢ SessionEnd.Idle }
 {
-    serve_at(place, first, Patience::Endless, link, clock, gate, rt)
+    serve_at(
+        place,
+        first,
+        Patience::Endless,
+        link,
+        clock,
+        gate,
+        &mut Silence,
+        rt,
+    )
 }
 
 /// Serves the link as `serve_session` does, and lets it go once nobody has been logged in for a minute of silence: behind 300 reads in which nothing
-/// came, or more where some brought bytes, of which 16 count as one of these.
-pub fn serve_caller<K: Link, C: Timestamps, G: Gate, D: Disk + Drop, U: Disk + Drop, R: Wait>(
+/// came, or more where some brought bytes, of which 16 count as one of these. It also lets go who is logged in and silent for longer than the shelf
+/// allows one of the class. Its log-ins, changes and restarts are noted, and what came of each.
+pub fn serve_caller<
+    K: Link,
+    C: Timestamps,
+    G: Gate,
+    N: Notes,
+    D: Disk + Drop,
+    U: Disk + Drop,
+    R: Wait,
+>(
     place: &mut Place<D, U>,
     link: &mut K,
     clock: &mut C,
     gate: &mut G,
+    notes: &mut N,
     rt: &R,
 ) -> SessionEnd
     ensures served { Served ⟦<(K, C, G, D) as Lent>⟧ (place.old, link.old, clock.old, gate.old)
         (place.new, link.new, clock.new, gate.new) result }
     ensures let_go { IsLetGo ⟦<(K, C, G, D) as Lent>⟧ SessionUser.Nobody
         (place.old, link.old, clock.old, gate.old) (K.state link.new) }
+    ensures awake { IsAwake ⟦<(K, C, G, D) as Lent>⟧ SessionUser.Nobody
+        (place.old, link.old, clock.old, gate.old) (K.state link.new) }
+    ensures noted { NotedFor ⟦<(K, C, G, D) as Lent>⟧ SessionUser.Nobody
+        (place.old, link.old, clock.old, gate.old)
+        (place.new, link.new, clock.new, gate.new) (N.noted notes.old notes.new) }
 {
     serve_at(
         place,
@@ -68,18 +97,20 @@ pub fn serve_caller<K: Link, C: Timestamps, G: Gate, D: Disk + Drop, U: Disk + D
         link,
         clock,
         gate,
+        notes,
         rt,
     )
 }
 
 // Serves the link in a session of the place that begins with this user, and is as patient.
-fn serve_at<K: Link, C: Timestamps, G: Gate, D: Disk + Drop, U: Disk + Drop, R: Wait>(
+fn serve_at<K: Link, C: Timestamps, G: Gate, N: Notes, D: Disk + Drop, U: Disk + Drop, R: Wait>(
     place: &mut Place<D, U>,
     first: SessionUser,
     patience: Patience,
     link: &mut K,
     clock: &mut C,
     gate: &mut G,
+    notes: &mut N,
     rt: &R,
 ) -> SessionEnd
     ensures served { ServedFor ⟦<(K, C, G, D) as Lent>⟧ first
@@ -88,6 +119,12 @@ fn serve_at<K: Link, C: Timestamps, G: Gate, D: Disk + Drop, U: Disk + Drop, R: 
     ensures attended { patience ≡ Patience.Endless → result ≢ SessionEnd.Unattended }
     ensures let_go { patience ≡ Patience.Limited → IsLetGo ⟦<(K, C, G, D) as Lent>⟧ first
         (place.old, link.old, clock.old, gate.old) (K.state link.new) }
+    ensures endless { patience ≡ Patience.Endless → result ≢ SessionEnd.Idle }
+    ensures awake { patience ≡ Patience.Limited → IsAwake ⟦<(K, C, G, D) as Lent>⟧ first
+        (place.old, link.old, clock.old, gate.old) (K.state link.new) }
+    ensures noted { NotedFor ⟦<(K, C, G, D) as Lent>⟧ first
+        (place.old, link.old, clock.old, gate.old)
+        (place.new, link.new, clock.new, gate.new) (N.noted notes.old notes.new) }
 {
     place.desk.begin(first);
     let end = serve(
@@ -97,6 +134,7 @@ fn serve_at<K: Link, C: Timestamps, G: Gate, D: Disk + Drop, U: Disk + Drop, R: 
         link,
         clock,
         gate,
+        notes,
         rt,
     );
     // Their clauses tell whose entries the seats have seen.

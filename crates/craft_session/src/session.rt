@@ -1,4 +1,4 @@
-ghost use Rattle.std.specs.Prelude.{◌≡◌, ◌≢◌, ◌≤◌, ◌<◌, ◌+◌, ◌^◌, ◌↔◌, false, ℕ, List, [], length, IsTrue};
+ghost use Rattle.std.specs.Prelude.{◌≡◌, ◌≢◌, ◌≤◌, ◌<◌, ◌+◌, ◌^◌, ◌↔◌, false, ℕ, List, [], length, take, IsTrue};
 ghost use Rattle.dxc_causes.specs.Causes.{Rose, Counted};
 ghost use Rattle.dxc_outside.specs.declared.clock.Moment.{Moment};
 ghost use Rattle.dxc_model.specs.declared.user.SessionUser.{SessionUser as AUser};
@@ -10,10 +10,13 @@ ghost use Rattle.craft_session.specs.Asks.{IsAptAsk};
 ghost use Rattle.craft_session.specs.Gated.{AreEntered};
 ghost use Rattle.craft_session.specs.Meanings.{language_for};
 ghost use Rattle.craft_session.specs.Desks.{now, place_of, input_of, ConsultedIs, IsAnswered};
+ghost use Rattle.craft_session.specs.Noted.{HasNoted, stood};
+ghost use Rattle.craft_session.specs.Pieces.{GoesOver, desk_at};
 ghost use Rattle.craft_session.specs.Seats.{IsSameSeat, IsSameUserSeat};
 ghost use Rattle.craft_session.specs.Sessions.{Beginning, IsAt, Writes, Stands, Goes, IsPrompt, IsServed};
 ghost use Rattle.craft_session.specs.Stamps.{stamp_at};
 ghost use Rattle.craft_session.specs.Timely.{IsTimelyFrom, WasTimely, in_hand, reached, telling};
+ghost use Rattle.craft_session.specs.Idling.{IsAwake, IsIdle};
 ghost use Rattle.craft_session.specs.Waiting.{IsLetGo, IsUnattended};
 ghost use Rattle.craft_session.specs.Walks.{begun_by};
 
@@ -23,24 +26,68 @@ use crate::desk::Desk;
 use crate::end::{Progress, SessionEnd};
 use crate::lent::Lent;
 use crate::meaning::consult;
-use crate::patience::{BYTES, Patience, QUIET, waited_after};
+use crate::noting::note_unit;
+use crate::patience::{BYTES, Patience, QUIET, silent_after, waited_after};
 use crate::reports::report;
 use crate::say::say;
 use crate::timestamps::Timestamps;
 use dxc_disk::Disk;
 use dxc_model::Cause;
+use dxc_notes::Notes;
 use dxc_outside::{Gate, Got, Link, Pass1};
 use std::sync::Wait;
 use tl1_text::{Ctag, UnitKind};
 
 const READS: u64 = 1 << 32;
 
-/// Answers the units that end in the piece.
-fn serve_piece<K: Link, C: Timestamps, G: Gate, D: Disk + Drop, U: Disk + Drop, R: Wait>(
+/// Answers the units that end in the first bytes of the piece, so many, and writes over a PID in them.
+fn serve_piece<K: Link, C: Timestamps, G: Gate, N: Notes, D: Disk + Drop, U: Disk + Drop, R: Wait>(
     desk: &mut Desk<D, U>,
     link: &mut K,
     clock: &mut C,
     gate: &mut G,
+    notes: &mut N,
+    rt: &R,
+    piece: &mut [u8],
+    count: usize,
+) -> Progress
+    requires within { count ≤ length piece.old }
+    ensures length { length piece.new ≡ length piece.old }
+    ensures shelf { desk.new.shelf ≡ desk.old.shelf }
+    ensures seat { IsSameSeat desk.old.seat desk.new.seat }
+    ensures users { IsSameUserSeat desk.old.users.seat desk.new.users.seat }
+    ensures link { Writes K.told (K.state link.old) (K.state link.new) }
+    ensures hung_up { K.hung_up link.new ≡ K.hung_up link.old }
+    ensures goes { GoesOver (arc_value desk.old.shelf) (telling K.told C.told C.stamped)
+        (desk_at (K.state link.old) (C.coming clock.old) desk.old)
+        (desk_at (K.state link.new) (C.coming clock.new) desk.new)
+        (take count piece.old, result) }
+    ensures timely { IsTimelyFrom (arc_value desk.old.shelf) (telling K.told C.told C.stamped)
+        (stamp_at (C.coming clock.old) (K.state link.old) desk.old.seat desk.old.users.seat)
+        (in_hand desk.old.attending false More desk.old.reader (take count piece.old))
+        (reached (K.state link.new).written desk.new.seat.seen desk.new.users.seat.seen) }
+    ensures stopped { result ≡ Progress.Stopped → Rose (G.stops gate.old) (G.stops gate.new) }
+    ensures unstopped { result ≢ Progress.Stopped → G.stops gate.new ≡ G.stops gate.old }
+    ensures later { G.stops gate.old ≤ G.stops gate.new }
+    ensures asked { AreEntered desk.old.seat desk.old.users.seat (G.asked gate.old gate.new)
+        desk.new.seat.seen desk.new.users.seat.seen }
+    ensures noted { HasNoted (arc_value desk.old.shelf) (telling K.told C.told C.stamped)
+        (stood (K.state link.old) (C.coming clock.old) desk.old.seat desk.old.users.seat
+        desk.old.attending) (stood (K.state link.new) (C.coming clock.new) desk.new.seat
+        desk.new.users.seat desk.new.attending) (N.noted notes.old notes.new) }
+{
+    let progress = serve_units(desk, link, clock, gate, notes, rt, &piece[..count]);
+    desk.forget(piece);
+    progress
+}
+
+/// Answers the units that end in the piece.
+fn serve_units<K: Link, C: Timestamps, G: Gate, N: Notes, D: Disk + Drop, U: Disk + Drop, R: Wait>(
+    desk: &mut Desk<D, U>,
+    link: &mut K,
+    clock: &mut C,
+    gate: &mut G,
+    notes: &mut N,
     rt: &R,
     piece: &[u8],
 ) -> Progress
@@ -64,12 +111,16 @@ fn serve_piece<K: Link, C: Timestamps, G: Gate, D: Disk + Drop, U: Disk + Drop, 
     ensures later { G.stops gate.old ≤ G.stops gate.new }
     ensures asked { AreEntered desk.old.seat desk.old.users.seat (G.asked gate.old gate.new)
         desk.new.seat.seen desk.new.users.seat.seen }
+    ensures noted { HasNoted (arc_value desk.old.shelf) (telling K.told C.told C.stamped)
+        (stood (K.state link.old) (C.coming clock.old) desk.old.seat desk.old.users.seat
+        desk.old.attending) (stood (K.state link.new) (C.coming clock.new) desk.new.seat
+        desk.new.users.seat desk.new.attending) (N.noted notes.old notes.new) }
 {
     let mut at = 0;
     while at < piece.len() {
         let fed = desk.reader.feed(&piece[at..]);
         at += fed.taken;
-        match serve_unit(desk, link, clock, gate, rt, fed.unit) {
+        match serve_unit(desk, link, clock, gate, notes, rt, fed.unit) {
             Progress::On => {}
             end => return end,
         }
@@ -78,11 +129,12 @@ fn serve_piece<K: Link, C: Timestamps, G: Gate, D: Disk + Drop, U: Disk + Drop, 
 }
 
 /// Answers the unit that ended, if one did, and reports what changed.
-fn serve_unit<K: Link, C: Timestamps, G: Gate, D: Disk + Drop, U: Disk + Drop, R: Wait>(
+fn serve_unit<K: Link, C: Timestamps, G: Gate, N: Notes, D: Disk + Drop, U: Disk + Drop, R: Wait>(
     desk: &mut Desk<D, U>,
     link: &mut K,
     clock: &mut C,
     gate: &mut G,
+    notes: &mut N,
     rt: &R,
     kind: UnitKind,
 ) -> Progress
@@ -109,19 +161,24 @@ fn serve_unit<K: Link, C: Timestamps, G: Gate, D: Disk + Drop, U: Disk + Drop, R
     ensures later { G.stops gate.old ≤ G.stops gate.new }
     ensures asked { AreEntered desk.old.seat desk.old.users.seat (G.asked gate.old gate.new)
         desk.new.seat.seen desk.new.users.seat.seen }
+    ensures noted { HasNoted (arc_value desk.old.shelf) (telling K.told C.told C.stamped)
+        (stood (K.state link.old) (C.coming clock.old) desk.old.seat desk.old.users.seat
+        desk.old.attending) (stood (K.state link.new) (C.coming clock.new) desk.new.seat
+        desk.new.users.seat desk.new.attending) (N.noted notes.old notes.new) }
 {
     match kind {
         UnitKind::More => Progress::On,
-        UnitKind::Whole | UnitKind::TooLong => attend(desk, link, clock, gate, rt, kind),
+        UnitKind::Whole | UnitKind::TooLong => attend(desk, link, clock, gate, notes, rt, kind),
     }
 }
 
 /// Does what the unit that ended asks, answers it, and reports what changed.
-fn attend<K: Link, C: Timestamps, G: Gate, D: Disk + Drop, U: Disk + Drop, R: Wait>(
+fn attend<K: Link, C: Timestamps, G: Gate, N: Notes, D: Disk + Drop, U: Disk + Drop, R: Wait>(
     desk: &mut Desk<D, U>,
     link: &mut K,
     clock: &mut C,
     gate: &mut G,
+    notes: &mut N,
     rt: &R,
     kind: UnitKind,
 ) -> Progress
@@ -149,19 +206,24 @@ fn attend<K: Link, C: Timestamps, G: Gate, D: Disk + Drop, U: Disk + Drop, R: Wa
     ensures later { G.stops gate.old ≤ G.stops gate.new }
     ensures asked { AreEntered desk.old.seat desk.old.users.seat (G.asked gate.old gate.new)
         desk.new.seat.seen desk.new.users.seat.seen }
+    ensures noted { HasNoted (arc_value desk.old.shelf) (telling K.told C.told C.stamped)
+        (stood (K.state link.old) (C.coming clock.old) desk.old.seat desk.old.users.seat
+        desk.old.attending) (stood (K.state link.new) (C.coming clock.new) desk.new.seat
+        desk.new.users.seat desk.new.attending) (N.noted notes.old notes.new) }
 {
-    match answer(desk, link, clock, gate, rt, kind) {
+    match answer(desk, link, clock, gate, notes, rt, kind) {
         Progress::On => report(desk, link, clock, rt),
         end => end,
     }
 }
 
 /// Does what the unit that ended asks, and writes the response with the next moment. Where the gate stops there is no response.
-fn answer<K: Link, C: Timestamps, G: Gate, D: Disk + Drop, U: Disk + Drop, R: Wait>(
+fn answer<K: Link, C: Timestamps, G: Gate, N: Notes, D: Disk + Drop, U: Disk + Drop, R: Wait>(
     desk: &mut Desk<D, U>,
     link: &mut K,
     clock: &mut C,
     gate: &mut G,
+    notes: &mut N,
     rt: &R,
     kind: UnitKind,
 ) -> Progress
@@ -182,6 +244,10 @@ fn answer<K: Link, C: Timestamps, G: Gate, D: Disk + Drop, U: Disk + Drop, R: Wa
     ensures later { G.stops gate.old ≤ G.stops gate.new }
     ensures asked { AreEntered desk.old.seat desk.old.users.seat (G.asked gate.old gate.new)
         desk.new.seat.seen desk.new.users.seat.seen }
+    ensures noted { HasNoted (arc_value desk.old.shelf) (telling K.told C.told C.stamped)
+        (stood (K.state link.old) (C.coming clock.old) desk.old.seat desk.old.users.seat
+        desk.old.attending) (stood (K.state link.new) (C.coming clock.new) desk.new.seat
+        desk.new.users.seat desk.new.attending) (N.noted notes.old notes.new) }
 {
     let mut tag = None;
     let mut ask = Ask::Completes;
@@ -198,7 +264,17 @@ fn answer<K: Link, C: Timestamps, G: Gate, D: Disk + Drop, U: Disk + Drop, R: Wa
         rt,
     );
     match acted {
-        Some(acted) => Progress::of(say(desk, link, clock, &tag, acted)),
+        Some(acted) => {
+            note_unit(
+                notes,
+                desk.shelf.shape(),
+                &desk.attending.user,
+                &tag,
+                &ask,
+                &acted,
+            );
+            Progress::of(say(desk, link, clock, &tag, acted))
+        }
         None => Progress::Stopped,
     }
 }
@@ -247,13 +323,22 @@ fn ask_of<G: Gate, D: Disk + Drop, U: Disk + Drop, R: Wait>(
 }
 
 /// Serves the link from a desk that has read nothing yet.
-pub(crate) fn serve<K: Link, C: Timestamps, G: Gate, D: Disk + Drop, U: Disk + Drop, R: Wait>(
+pub(crate) fn serve<
+    K: Link,
+    C: Timestamps,
+    G: Gate,
+    N: Notes,
+    D: Disk + Drop,
+    U: Disk + Drop,
+    R: Wait,
+>(
     desk: &mut Desk<D, U>,
     piece: &mut [u8],
     patience: Patience,
     link: &mut K,
     clock: &mut C,
     gate: &mut G,
+    notes: &mut N,
     rt: &R,
 ) -> SessionEnd
     requires room { 0 < length piece.old }
@@ -287,6 +372,10 @@ pub(crate) fn serve<K: Link, C: Timestamps, G: Gate, D: Disk + Drop, U: Disk + D
     ensures later { G.stops gate.old ≤ G.stops gate.new }
     ensures asked { AreEntered desk.old.seat desk.old.users.seat (G.asked gate.old gate.new)
         desk.new.seat.seen desk.new.users.seat.seen }
+    ensures noted { HasNoted (arc_value desk.old.shelf) (telling K.told C.told C.stamped)
+        (stood (K.state link.old) (C.coming clock.old) desk.old.seat desk.old.users.seat
+        desk.old.attending) (stood (K.state link.new) (C.coming clock.new) desk.new.seat
+        desk.new.users.seat desk.new.attending) (N.noted notes.old notes.new) }
     ensures spent { result ≡ SessionEnd.Spent
         → Counted (K.state link.old).reads (K.state link.new).reads (2 ^ 32) }
     ensures few { (K.state link.new).reads ≤ (K.state link.old).reads + 2 ^ 32 }
@@ -297,19 +386,31 @@ pub(crate) fn serve<K: Link, C: Timestamps, G: Gate, D: Disk + Drop, U: Disk + D
     ensures let_go { patience ≡ Patience.Limited → IsLetGo ⟦<(K, C, G, D) as Lent>⟧
         desk.old.attending.user (place_of desk.old, link.old, clock.old, gate.old)
         (K.state link.new) }
+    ensures idle { result ≡ SessionEnd.Idle → IsIdle ⟦<(K, C, G, D) as Lent>⟧
+        desk.old.attending.user (place_of desk.old, link.old, clock.old, gate.old)
+        (K.state link.new) }
+    ensures endless { patience ≡ Patience.Endless → result ≢ SessionEnd.Idle }
+    ensures awake { patience ≡ Patience.Limited → IsAwake ⟦<(K, C, G, D) as Lent>⟧
+        desk.old.attending.user (place_of desk.old, link.old, clock.old, gate.old)
+        (K.state link.new) }
 {
     // Their clauses tell that the seats have seen histories.
     desk.seat.seen();
     desk.users.seat.seen();
+    let limits = desk.shelf.idle();
     let mut waited = 0;
+    let mut silent = 0;
     for _ in 0..READS {
         if patience.is_over(&desk.attending, waited) {
             return SessionEnd::Unattended;
         }
+        if patience.is_idle(limits, &desk.attending, silent) {
+            return SessionEnd::Idle;
+        }
         let user = desk.attending.user;
         let read = match link.read(piece) {
             Got::Bytes(count) => {
-                let progress = serve_piece(desk, link, clock, gate, rt, &piece[..count]);
+                let progress = serve_piece(desk, link, clock, gate, notes, rt, piece, count);
                 desk.seat.call_next();
                 match progress {
                     Progress::On => BYTES,
@@ -325,6 +426,7 @@ pub(crate) fn serve<K: Link, C: Timestamps, G: Gate, D: Disk + Drop, U: Disk + D
             Got::Failed => return SessionEnd::ReadFault,
         };
         waited = waited_after(user, waited, read);
+        silent = silent_after(silent, read);
     }
     SessionEnd::Spent
 }

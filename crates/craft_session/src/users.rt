@@ -11,6 +11,7 @@ ghost use Rattle.user_admin.specs.Verdicts.{IsChanging};
 ghost use Rattle.craft_session.specs.Seats.{IsSameUserSeat, IsUserSeated, user_seat_at};
 
 use crate::guesses::Guesses;
+use crate::secrets::Secrets;
 use dxc_disk::Disk;
 use dxc_model::{Cause, Class, Uid};
 use dxc_outside::Gate;
@@ -96,10 +97,11 @@ impl<U: Disk + Drop> UserSeat<U> {
     }
 }
 
-/// A seat at the users, the rows that it read last, and how often a log-in was denied there.
+/// A seat at the users, the rows that it read last, how often a log-in was denied there, and whether a PID is to be written over.
 #[derive(Drop)]
 pub struct UserDesk<U: Disk> {
     pub seat: UserSeat<U>,
     pub rows: UserRows,
     pub guesses: Guesses,
+    pub secrets: Secrets,
 }

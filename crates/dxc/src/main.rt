@@ -2,7 +2,9 @@
 #![tactic(auto)]
 
 use craft_server::{Status, dxc_run};
-use dxc_console::{held_streams, help_asked, only_look, tell_standby, tell_status, words_given};
+use dxc_console::{
+    Printing, held_streams, help_asked, only_look, tell_standby, tell_status, words_given,
+};
 use dxc_host::{HostClock, HostOpener, Refusal, TermLink, ThreadSpawner, Utc};
 use dxc_outside::Sent;
 use std::io;
@@ -21,7 +23,7 @@ fn main(rt: HostRuntime) -> ExitCode {
         Status::CannotOpen
     } else if words_given(&rt, &mut words).is_err() {
         Status::NoMemory
-    } else if let Some(status) = help_asked(&rt, &words) {
+    } else if let Some(status) = help_asked(&mut Printing::new(&rt), &words) {
         status
     } else {
         if only_look(&words) {

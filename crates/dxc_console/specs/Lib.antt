@@ -1,1 +1,4 @@
+pub mod Given
+pub mod Streams
+pub mod Telling
 pub mod Words

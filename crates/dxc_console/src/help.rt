@@ -1,7 +1,9 @@
-ghost use Rattle.std.specs.Prelude.{◌≡◌, ◌⊎◌, IfSome, MatchResult, is_some};
+ghost use Rattle.std.specs.Prelude.{◌≡◌, ◌⊎◌, IfSome, IsErr, IsOk, MatchResult, Some, is_some};
+ghost use Rattle.dxc_console.specs.Telling.{IsTold, told_for, version_texts};
 ghost use Rattle.dxc_console.specs.Words.{asks_for_help};
 
 use crate::sources::SOURCES;
+use crate::telling::Telling;
 use craft_words::Status;
 use dxc_outside::Name;
 use std::io;
@@ -64,29 +66,43 @@ Status: 0 done, 2 words not understood, 3 shelf file refused, 4 journal refused,
 ";
 
 // CHANGELOG.md tells what each version changed.
-const VERSION: &str = "1.4.0";
+const VERSION: &str = "1.5.0";
 
-/// Prints what the one word `--help` or `--version` asks for, and gives the status that the program then ends with. None: the words ask for neither.
-pub fn help_asked<R: Print>(rt: &R, words: &[Name]) -> Option<Status>
+/// Tells what the one word `--help` or `--version` asks for, and gives the status that the program then ends with: Done where all of it
+/// was told, Link where a part couldn't be. None: the words ask for neither, and nothing is told.
+pub fn help_asked<T: Telling>(to: &mut T, words: &[Name]) -> Option<Status>
     ensures asked { is_some result ≡ asks_for_help words.now }
     ensures status { IfSome result (λ s. (s ≡ Status.Done) ⊎ (s ≡ Status.Link)) }
+    ensures told { IsTold (T.told to.old to.new) (told_for words.now) (result ≡ Some Status.Done) }
+    ensures failed { result ≡ Some Status.Link → T.failed to.old to.new }
 {
     let [word] = words else {
         return None;
     };
-    let printed = match word.text() {
-        "--help" => print!(rt; "{HELP}"),
-        "--version" => print!(rt; "dxc {VERSION}\nsources {SOURCES}\n"),
-        _ => return None,
-    };
-    Some(status_of(printed))
+    match word.text() {
+        "--help" => Some(status_of(to.tell(HELP))),
+        "--version" => Some(status_of(tell_version(to))),
+        _ => None,
+    }
 }
 
-// How the program ends behind what it printed.
-fn status_of(printed: io::Result<()>) -> Status
-    ensures { MatchResult printed (λ t. result ≡ Status.Done) (λ e. result ≡ Status.Link) }
+// Tells the version, and the sum of its sources.
+fn tell_version<T: Telling>(to: &mut T) -> io::Result<()>
+    ensures told { IsTold (T.told to.old to.new) version_texts (IsOk result) }
+    ensures failed { IsErr result → T.failed to.old to.new }
 {
-    match printed {
+    to.tell("dxc ")?;
+    to.tell(VERSION)?;
+    to.tell("\nsources ")?;
+    to.tell(SOURCES)?;
+    to.tell("\n")
+}
+
+// How the program ends after what it told.
+fn status_of(told: io::Result<()>) -> Status
+    ensures { MatchResult told (λ t. result ≡ Status.Done) (λ e. result ≡ Status.Link) }
+{
+    match told {
         Ok(()) => Status::Done,
         Err(_) => Status::Link,
     }

@@ -4,10 +4,12 @@
 mod help;
 mod sources;
 mod streams;
+mod telling;
 mod why;
 mod words;
 
 pub use help::help_asked;
-pub use streams::held_streams;
+pub use streams::{Held, held_streams};
+pub use telling::{Printing, Telling};
 pub use why::{tell_standby, tell_status};
 pub use words::{only_look, words_given};

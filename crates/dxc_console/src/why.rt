@@ -217,6 +217,7 @@ fn key_name(key: ShelfKey) -> &'static str {
         ShelfKey::Modules => "modules",
         ShelfKey::Slots => "slots",
         ShelfKey::Equipped => "equipped",
+        ShelfKey::Idle => "idle",
         ShelfKey::User => "user",
         ShelfKey::Uid => "uid",
         ShelfKey::Class => "class",

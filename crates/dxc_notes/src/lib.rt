@@ -2,10 +2,16 @@
 //! over standard error.
 #![tactic(auto)]
 
+mod command;
 mod mem_notes;
 mod note;
 mod notes;
+mod silence;
+mod word;
 
+pub use command::{Command, Outcome, PortAt, What};
 pub use mem_notes::MemNotes;
 pub use note::{Ending, Note};
 pub use notes::{Noted, Notes};
+pub use silence::Silence;
+pub use word::Word;

@@ -1,3 +1,5 @@
+use crate::command::{Command, text_of};
+use crate::word::Word;
 use std::fmt::{self, Display, Formatter, Write};
 
 /// Why a caller's session ended.
@@ -15,6 +17,8 @@ pub enum Ending {
     Spent,
     /// The caller didn't log in for a minute.
     Unattended,
+    /// The caller was logged in, and silent for longer than its class may be.
+    Idle,
 }
 
 /// What happens at a place where callers come in.
@@ -24,6 +28,12 @@ pub enum Note {
     Gone(Ending),
     /// Nobody is let in any more, since accepts went on failing.
     Closed,
+    /// The user of this name logged in.
+    LoggedIn(Word),
+    /// A log-in was denied. What was given as name and PID isn't kept.
+    LogInDenied,
+    /// A command that changes something was done, or denied.
+    Asked(Command),
 }
 
 impl Ending {
@@ -35,6 +45,7 @@ impl Ending {
             Ending::Stopped => "the controller was stopped",
             Ending::Spent => "its session made all the reads that it may",
             Ending::Unattended => "nobody was logged in for a minute",
+            Ending::Idle => "nothing came from it for longer than its class may be idle",
         }
     }
 }
@@ -45,6 +56,9 @@ impl Display for Note {
         match self {
             Note::Gone(ending) => write!(f, "caller gone, {}", ending.text()),
             Note::Closed => write!(f, "closed, accepts went on failing"),
+            Note::LoggedIn(user) => write!(f, "{} logged in", text_of(user)),
+            Note::LogInDenied => write!(f, "a log-in was denied"),
+            Note::Asked(command) => write!(f, "{command}"),
         }
     }
 }

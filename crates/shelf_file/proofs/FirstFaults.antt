@@ -7,7 +7,8 @@ use Rattle.dxc_num.specs.Dimensions.{Dimensions}
 use Rattle.shelf_file.specs.declared.fault.ShelfKey.TheVariants as keys
 use Rattle.shelf_file.specs.declared.fault.ShelfFault.{ShelfFault}
 use Rattle.shelf_file.specs.declared.fault.ShelfFault.TheVariants.{NotToml, NoMemory}
-use Rattle.shelf_file.specs.Keys.{sid_of, modules_of, slots_of, equipped_of, users_of, value_at}
+use Rattle.shelf_file.specs.declared.idle.IdleLimits.{IdleLimits}
+use Rattle.shelf_file.specs.Keys.{sid_of, modules_of, slots_of, equipped_of, idle_of, idle_named, users_of, value_at}
 use Rattle.shelf_file.specs.Checks.{fault_of, fault_at, fault_if_there, modules_or_none, module_count, users_or_none, users_at, users_checks, checks, first_some, first_fault, IsDocument, IsFirstFault, most_bytes}
 use Rattle.shelf_file.specs.Checks.IsFirstFault.{no_memory, not_toml, found}
 use Rattle.shelf_file.specs.Contents.{UserEntry, Contents, AreUsers, AreMarked, named_in, Describes, IsShelf}
@@ -37,7 +38,7 @@ shape_fault t sid f s e = inr (first_skips (fault_at keys.Sid 0 (codes "sid") si
 
 -- what comes behind the first three checks
 pub behind_shape : (t : Members) (sid : List ℕ) (d : Dimensions) (o : Option ShelfFault) → TopRead t sid d
-    → first_some (fault_if_there keys.Equipped 0 (option_map (equipped_of (module_count t)) (get_member (codes "equipped") t)) ∷ (fault_at keys.User 0 (codes "user") users_of t ∷ users_checks (users_at t))) ≡ o → first_fault t ≡ o
+    → first_some (fault_if_there keys.Equipped 0 (option_map (equipped_of (module_count t)) (get_member (codes "equipped") t)) ∷ (fault_if_there keys.Idle 0 (option_map idle_of (get_member (codes "idle") t)) ∷ (fault_at keys.User 0 (codes "user") users_of t ∷ users_checks (users_at t)))) ≡ o → first_fault t ≡ o
 behind_shape t sid d o r e =
     first_skips (fault_at keys.Sid 0 (codes "sid") sid_of t) _ o (no_fault keys.Sid 0 (get_member (codes "sid") t) sid_of sid r.sid_is)
     (first_skips (fault_at keys.Modules 0 (codes "modules") modules_of t) _ o (no_fault keys.Modules 0 (get_member (codes "modules") t) modules_of d.modules r.modules_is)
@@ -51,33 +52,46 @@ no_fault_if_there m None ns e = refl
 no_fault_if_there m (Some d) ns e = ap (λ (r : Option (List ℕ)). fault_of keys.Equipped 0 (Some r)) e
 
 pub behind_equipped : (t : Members) (sid : List ℕ) (d : Dimensions) (bits : ℕ) (o : Option ShelfFault) → TopRead t sid d → AreMarked d.modules bits (named_in d.modules (get_member (codes "equipped") t))
-    → first_some (fault_at keys.User 0 (codes "user") users_of t ∷ users_checks (users_at t)) ≡ o → first_fault t ≡ o
+    → first_some (fault_if_there keys.Idle 0 (option_map idle_of (get_member (codes "idle") t)) ∷ (fault_at keys.User 0 (codes "user") users_of t ∷ users_checks (users_at t))) ≡ o → first_fault t ≡ o
 behind_equipped t sid d bits o r a e = behind_shape t sid d o r (first_skips _ _ o
     (ap (λ m. fault_if_there keys.Equipped 0 (option_map (equipped_of m) (get_member (codes "equipped") t))) (count_is t sid d r) ∙ no_fault_if_there d.modules (get_member (codes "equipped") t) a.0 a.1) e)
 
-pub list_fault : (t : Members) (sid : List ℕ) (d : Dimensions) (bits : ℕ) (f : ShelfFault) → TopRead t sid d → AreMarked d.modules bits (named_in d.modules (get_member (codes "equipped") t))
+pub idle_fault : (t : Members) (sid : List ℕ) (d : Dimensions) (bits : ℕ) (f : ShelfFault) → TopRead t sid d → AreMarked d.modules bits (named_in d.modules (get_member (codes "equipped") t))
+    → fault_if_there keys.Idle 0 (option_map idle_of (get_member (codes "idle") t)) ≡ Some f → IsFaultOf (checks t) f
+idle_fault t sid d bits f r a e = inr (behind_equipped t sid d bits (Some f) r a (first_takes _ _ f e))
+
+no_idle_fault : (o : Option Data) (i : IdleLimits) → idle_named o ≡ Some i → fault_if_there keys.Idle 0 (option_map idle_of o) ≡ None
+no_idle_fault None i e = refl
+no_idle_fault (Some d) i e = ap (λ (r : Option IdleLimits). fault_of keys.Idle 0 (Some r)) e
+
+pub behind_idle : (t : Members) (sid : List ℕ) (d : Dimensions) (bits : ℕ) (i : IdleLimits) (o : Option ShelfFault) → TopRead t sid d → AreMarked d.modules bits (named_in d.modules (get_member (codes "equipped") t)) → idle_named (get_member (codes "idle") t) ≡ Some i
+    → first_some (fault_at keys.User 0 (codes "user") users_of t ∷ users_checks (users_at t)) ≡ o → first_fault t ≡ o
+behind_idle t sid d bits i o r a n e = behind_equipped t sid d bits o r a (first_skips _ _ o (no_idle_fault (get_member (codes "idle") t) i n) e)
+
+pub list_fault : (t : Members) (sid : List ℕ) (d : Dimensions) (bits : ℕ) (i : IdleLimits) (f : ShelfFault) → TopRead t sid d → AreMarked d.modules bits (named_in d.modules (get_member (codes "equipped") t)) → idle_named (get_member (codes "idle") t) ≡ Some i
     → fault_at keys.User 0 (codes "user") users_of t ≡ Some f → IsFaultOf (checks t) f
-list_fault t sid d bits f r a e = inr (behind_equipped t sid d bits (Some f) r a (first_takes _ _ f e))
+list_fault t sid d bits i f r a n e = inr (behind_idle t sid d bits i (Some f) r a n (first_takes _ _ f e))
 
-pub behind_list : (t : Members) (sid : List ℕ) (d : Dimensions) (bits : ℕ) (us : List Members) (o : Option ShelfFault) → TopRead t sid d → AreMarked d.modules bits (named_in d.modules (get_member (codes "equipped") t))
+pub behind_list : (t : Members) (sid : List ℕ) (d : Dimensions) (bits : ℕ) (i : IdleLimits) (us : List Members) (o : Option ShelfFault) → TopRead t sid d → AreMarked d.modules bits (named_in d.modules (get_member (codes "equipped") t)) → idle_named (get_member (codes "idle") t) ≡ Some i
     → value_at (codes "user") users_of t ≡ Some us → first_some (users_checks us) ≡ o → first_fault t ≡ o
-behind_list t sid d bits us o r a u e = behind_equipped t sid d bits o r a (first_skips _ _ o (no_fault keys.User 0 (get_member (codes "user") t) users_of us u) (ap (λ (m : Option (List Members)). first_some (users_checks (users_or_none m))) u ∙ e))
+behind_list t sid d bits i us o r a n u e = behind_idle t sid d bits i o r a n (first_skips _ _ o (no_fault keys.User 0 (get_member (codes "user") t) users_of us u) (ap (λ (m : Option (List Members)). first_some (users_checks (users_or_none m))) u ∙ e))
 
-pub users_fault : (t : Members) (sid : List ℕ) (d : Dimensions) (bits : ℕ) (us : List Members) (f : ShelfFault) → TopRead t sid d → AreMarked d.modules bits (named_in d.modules (get_member (codes "equipped") t))
+pub users_fault : (t : Members) (sid : List ℕ) (d : Dimensions) (bits : ℕ) (i : IdleLimits) (us : List Members) (f : ShelfFault) → TopRead t sid d → AreMarked d.modules bits (named_in d.modules (get_member (codes "equipped") t)) → idle_named (get_member (codes "idle") t) ≡ Some i
     → value_at (codes "user") users_of t ≡ Some us → IsFaultOf (users_checks us) f → IsFaultOf (checks t) f
-users_fault t sid d bits us f r a u (inl e) = inl e
-users_fault t sid d bits us f r a u (inr e) = inr (behind_list t sid d bits us (Some f) r a u e)
+users_fault t sid d bits i us f r a n u (inl e) = inl e
+users_fault t sid d bits i us f r a n u (inr e) = inr (behind_list t sid d bits i us (Some f) r a n u e)
 
-pub described : (t : Members) (sid : List ℕ) (d : Dimensions) (bits : ℕ) (us : List Members) (es : List UserEntry) → TopRead t sid d → bits < 2 ^ d.modules → AreMarked d.modules bits (named_in d.modules (get_member (codes "equipped") t))
-    → value_at (codes "user") users_of t ≡ Some us → AreUsers us es → first_some (users_checks us) ≡ None → Describes t (record { sid = sid; shape = d; equipped = bits; users = es })
-described t sid d bits us es r l a u w n = record {
+pub described : (t : Members) (sid : List ℕ) (d : Dimensions) (bits : ℕ) (i : IdleLimits) (us : List Members) (es : List UserEntry) → TopRead t sid d → bits < 2 ^ d.modules → AreMarked d.modules bits (named_in d.modules (get_member (codes "equipped") t)) → idle_named (get_member (codes "idle") t) ≡ Some i
+    → value_at (codes "user") users_of t ≡ Some us → AreUsers us es → first_some (users_checks us) ≡ None → Describes t (record { sid = sid; shape = d; equipped = bits; idle = i; users = es })
+described t sid d bits i us es r l a n u w m = record {
   sid = r.sid_is;
   modules = r.modules_is;
   slots = r.slots_is;
   equipment = l;
   equipped = a;
+  idle = n;
   users = (us, u, w);
-  faultless = behind_list t sid d bits us None r a u n;
+  faultless = behind_list t sid d bits i us None r a n u m;
 }
 
 -- a fault of the checks is the file's first

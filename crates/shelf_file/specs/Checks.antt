@@ -5,10 +5,10 @@ use Rattle.std.specs.Str.{bytes_eq}
 use Rattle.toml.specs.Data.{Data, Members, no_members, get_member}
 use Rattle.toml.specs.Parse.{parse_document}
 use Rattle.shelf_file.specs.declared.fault.ShelfKey.{ShelfKey}
-use Rattle.shelf_file.specs.declared.fault.ShelfKey.TheVariants.{Sid, Modules, Slots, Equipped, User, Uid, Class, Salt, Digest}
+use Rattle.shelf_file.specs.declared.fault.ShelfKey.TheVariants.{Sid, Modules, Slots, Equipped, Idle, User, Uid, Class, Salt, Digest}
 use Rattle.shelf_file.specs.declared.fault.ShelfFault.{ShelfFault}
 use Rattle.shelf_file.specs.declared.fault.ShelfFault.TheVariants.{TooLarge, NotToml, Missing, Bad, TwoUsers, NoMemory}
-use Rattle.shelf_file.specs.Keys.{sid_of, modules_of, slots_of, equipped_of, users_of, uid_of, class_of, salt_of, digest_of, value_at}
+use Rattle.shelf_file.specs.Keys.{sid_of, modules_of, slots_of, equipped_of, idle_of, users_of, uid_of, class_of, salt_of, digest_of, value_at}
 
 -- what is wrong with what was found at a key: nothing was found, or it isn't as it has to be
 abbrev pub fault_of : {X : Type 0} → ShelfKey → ℕ → Option (Option X) → Option ShelfFault
@@ -43,6 +43,7 @@ top_checks t =
     ∷ fault_at Modules 0 (codes "modules") modules_of t
     ∷ fault_at Slots 0 (codes "slots") slots_of t
     ∷ fault_if_there Equipped 0 (option_map (equipped_of (module_count t)) (get_member (codes "equipped") t))
+    ∷ fault_if_there Idle 0 (option_map idle_of (get_member (codes "idle") t))
     ∷ fault_at User 0 (codes "user") users_of t
     ∷ []
 

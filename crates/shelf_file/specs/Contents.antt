@@ -5,7 +5,8 @@ use Rattle.toml.specs.Data.{Data, Members, get_member}
 use Rattle.dxc_num.specs.Dimensions.{Dimensions}
 use Rattle.dxc_model.specs.declared.user.Class.{Class}
 use Rattle.dxc_model.specs.Equipment.{has_bit, IsEquipment}
-use Rattle.shelf_file.specs.Keys.{sid_of, modules_of, slots_of, equipped_of, users_of, uid_of, class_of, salt_of, digest_of, value_at}
+use Rattle.shelf_file.specs.Keys.{sid_of, modules_of, slots_of, equipped_of, idle_named, users_of, uid_of, class_of, salt_of, digest_of, value_at}
+use Rattle.shelf_file.specs.declared.idle.IdleLimits.{IdleLimits}
 use Rattle.shelf_file.specs.Checks.{IsDocument, first_fault, most_bytes}
 
 -- a user: the name in upper case, the class, the salt and the kept digest
@@ -15,11 +16,12 @@ pub record UserEntry : Type 0 where
   pub salt : List ℕ
   pub digest : List ℕ
 
--- a shelf: the identifier, the shape, the equipped modules as bits, and the users in the file's order
+-- a shelf: the identifier, the shape, the equipped modules as bits, how long each class may be idle, and the users in the file's order
 pub record Contents : Type 0 where
   pub sid : List ℕ
   pub shape : Dimensions
   pub equipped : ℕ
+  pub idle : IdleLimits
   pub users : List UserEntry
 
 -- the table describes the user
@@ -56,6 +58,7 @@ pub record Describes (t : Members) (c : Contents) : Type 0 where
   pub slots : value_at (codes "slots") slots_of t ≡ Some c.shape.slots
   pub equipment : IsEquipment c.shape c.equipped
   pub equipped : AreMarked c.shape.modules c.equipped (named_in c.shape.modules (get_member (codes "equipped") t))
+  pub idle : idle_named (get_member (codes "idle") t) ≡ Some c.idle
   pub users : (us : List Members) × (value_at (codes "user") users_of t ≡ Some us) × AreUsers us c.users
   pub faultless : first_fault t ≡ None
 

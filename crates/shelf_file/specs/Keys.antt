@@ -9,6 +9,7 @@ use Rattle.hex.specs.Hex.{decode_of, decode_sized}
 use Rattle.tl1_text.specs.Tags.{as_sid, is_short, is_alphanumeric}
 use Rattle.dxc_model.specs.declared.user.Class.{Class}
 use Rattle.dxc_model.specs.declared.user.Class.TheVariants.{R, P, S}
+use Rattle.shelf_file.specs.declared.idle.IdleLimits.{IdleLimits}
 
 -- the value, where it passes
 abbrev pub checked : {X : Type 0} → (X → Bool) → X → Option X
@@ -61,6 +62,38 @@ are_modules modules ds = list_all (names_module modules) ds && are_different (nu
 -- `equipped`: a list of different module numbers
 abbrev pub equipped_of : ℕ → Data → Option (List ℕ)
 equipped_of modules d = option_map numbers_in (option_and_then (checked (are_modules modules)) (list_of d))
+
+-- minutes: 1 to 1440
+abbrev pub minutes_of : Data → Option ℕ
+minutes_of d = option_and_then (checked (λ n. nat_le 1 n && nat_le n 1440)) (number_of d)
+
+-- what is named at a class of `idle`: minutes, or no limit where it isn't there
+abbrev pub limit_of : Option Data → Option (Option ℕ)
+limit_of None = Some None
+limit_of (Some d) = option_map Some (minutes_of d)
+
+-- no class has a limit
+abbrev pub no_limits : IdleLimits
+no_limits = record { r = None; p = None; s = None }
+
+-- the limits that these are, where each is as it has to be
+abbrev pub limits_of : (r p s : Option (Option ℕ)) → Option IdleLimits
+limits_of None p s = None
+limits_of (Some r) None s = None
+limits_of (Some r) (Some p) None = None
+limits_of (Some r) (Some p) (Some s) = Some (record { r = r; p = p; s = s })
+
+abbrev pub limits_in : Members → Option IdleLimits
+limits_in t = limits_of (limit_of (get_member (codes "R") t)) (limit_of (get_member (codes "P") t)) (limit_of (get_member (codes "S") t))
+
+-- `idle`: a table with the minutes of classes
+abbrev pub idle_of : Data → Option IdleLimits
+idle_of d = option_and_then limits_in (as_table d)
+
+-- the limits that are named; none where the key is left out
+abbrev pub idle_named : Option Data → Option IdleLimits
+idle_named None = Some no_limits
+idle_named (Some d) = idle_of d
 
 -- the tables among some values
 abbrev pub tables_in : List Data → List Members

@@ -1,7 +1,10 @@
 -- What a shelf keeps of its users.
-use Rattle.std.specs.Prelude.{◌≡◌, ℕ, ◌≤◌, true, List, length}
+use Rattle.std.specs.Prelude.{◌≡◌, ℕ, ◌≤◌, true, List, length, Option}
 use Rattle.std.specs.List.{AllByRecursion}
 use Rattle.dxc_model.specs.Equipment.{IsEquipment}
+use Rattle.dxc_model.specs.declared.user.Class.{Class}
+use Rattle.dxc_model.specs.declared.user.Class.TheVariants.{R, P, S}
+use Rattle.shelf_file.specs.declared.idle.IdleLimits.{IdleLimits}
 use Rattle.shelf_file.specs.Keys.{is_uid, upper}
 use Rattle.shelf_file.specs.Contents.{Contents, UserEntry}
 
@@ -12,6 +15,12 @@ pub record IsDescribed (e : UserEntry) : Type 0 where
 
 unfoldable pub AreDescribed : List UserEntry → Type 0
 AreDescribed es = AllByRecursion IsDescribed es
+
+-- the minutes of a class, behind which a session without a byte ends
+abbrev pub limit_for : IdleLimits → Class → Option ℕ
+limit_for i R = i.r
+limit_for i P = i.p
+limit_for i S = i.s
 
 -- equipment of the shape, 1 to 64 users, and no name of more than 10 bytes
 pub record IsKept (c : Contents) : Type 0 where

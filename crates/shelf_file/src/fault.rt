@@ -5,6 +5,7 @@ pub enum ShelfKey {
     Modules,
     Slots,
     Equipped,
+    Idle,
     User,
     Uid,
     Class,

@@ -3,6 +3,7 @@
 
 mod document;
 mod fault;
+mod idle;
 mod keys;
 mod lists;
 mod reading;
@@ -13,6 +14,7 @@ mod users;
 mod values;
 
 pub use fault::{ShelfFault, ShelfKey};
+pub use idle::IdleLimits;
 pub use reading::shelf_of;
 pub use shelf::Shelf;
 pub use trial::trial_shelf;

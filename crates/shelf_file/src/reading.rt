@@ -8,6 +8,7 @@ ghost use Rattle.shelf_file.specs.Users.{IsFaultOf};
 
 use crate::document::read;
 use crate::fault::{ShelfFault, ShelfKey};
+use crate::idle::idle_at;
 use crate::keys::{modules_at, sid_at, slots_at};
 use crate::lists::{equipped_at, user_list_at};
 use crate::shelf::Shelf;
@@ -18,7 +19,7 @@ use toml::Table;
 
 /// The shelf that the bytes of a file describe, else the first fault that its checks find, with its key and its
 /// user's number. The checks stand in this order: the length, the TOML document, the keys `sid`, `modules`, `slots`,
-/// `equipped` and `user`, and then for each user the keys `uid`, `class`, `salt` and `digest` and its name.
+/// `equipped`, `idle` and `user`, and then for each user the keys `uid`, `class`, `salt` and `digest` and its name.
 pub fn shelf_of(alloc: Global, bytes: &[u8]) -> Result<Shelf, ShelfFault>
     ensures { MatchResult result (IsShelf bytes.now) (IsFirstFault bytes.now) }
 {
@@ -39,12 +40,14 @@ fn shelf_in(alloc: Global, table: &Table) -> Result<Shelf, ShelfFault>
     let sid = sid_at(table)?;
     let shape = shape_at(table)?;
     let equipped = equipped_at(table, shape.modules())?;
+    let idle = idle_at(table)?;
     let list = user_list_at(table)?;
     let users = users_in(alloc, list)?;
     Ok(Shelf {
         sid,
         shape,
         equipped,
+        idle,
         users,
     })
 }

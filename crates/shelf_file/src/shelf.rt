@@ -3,19 +3,21 @@ ghost use Rattle.dxc_model.specs.Equipment.{IsEquipment};
 ghost use Rattle.shelf_file.specs.Shelves.{AreDescribed};
 ghost use Rattle.shelf_file.specs.Users.{logged_in as as_logged_in};
 
+use crate::idle::IdleLimits;
 use crate::user::User;
 use dxc_model::{Class, SessionUser, Uid};
 use dxc_num::Shape;
 use std::marker::Model;
 use tl1_text::Sid;
 
-/// What a shelf file describes: the element's identifier, its shape, the modules that are equipped at first, and its
-/// users. Of a PID only the digest is kept, which is SHA-256 (FIPS 180-4) of the user's salt followed by the PID.
+/// What a shelf file describes: the element's identifier, its shape, the modules that are equipped at first, how long each class may be idle, and
+/// its users. Of a PID only the digest is kept, which is SHA-256 (FIPS 180-4) of the user's salt followed by the PID.
 #[derive(Drop)]
 pub struct Shelf {
     pub(crate) sid: Sid,
     pub(crate) shape: Shape,
     pub(crate) equipped: u64,
+    pub(crate) idle: IdleLimits,
     pub(crate) users: Vec<User>,
 }
 
@@ -26,13 +28,19 @@ impl Model for Shelf {
 
     ghost Value = { Contents };
 
-    ghost view = { λ s. record
-        { sid = s.sid; shape = s.shape; equipped = s.equipped; users = entries_of s.users.items } };
+    ghost view = { λ s. record {
+      sid = s.sid;
+      shape = s.shape;
+      equipped = s.equipped;
+      idle = s.idle;
+      users = entries_of s.users.items;
+    } };
 
     ghost invariant = { λ s. IsKept (record {
       sid = s.sid;
       shape = s.shape;
       equipped = s.equipped;
+      idle = s.idle;
       users = entries_of s.users.items;
     }) };
 }
@@ -59,6 +67,13 @@ impl Shelf {
         ensures equipment { IsEquipment self.now.shape result }
     {
         self.equipped
+    }
+
+    /// How long each class may be idle.
+    pub fn idle(&self) -> IdleLimits
+        ensures { result ≡ self.now.idle }
+    {
+        self.idle
     }
 
     /// How many users there are: 1 to 64. Each has a name in upper case, and a digest of 32 bytes.

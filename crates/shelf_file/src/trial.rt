@@ -2,6 +2,7 @@ ghost use Rattle.std.specs.Prelude.{◌≡◌, IfOk};
 ghost use Rattle.shelf_file.specs.Trials.{IsTrialShelf, trial_user as user_of_trials};
 ghost use Rattle.shelf_file.specs.Users.{entry_of};
 
+use crate::idle::IdleLimits;
 use crate::lists::all_marks;
 use crate::shelf::Shelf;
 use crate::user::{Uid, User};
@@ -46,6 +47,7 @@ pub fn trial_shelf(alloc: Global, shape: Shape) -> Result<Shelf, AllocError>
         sid,
         shape,
         equipped: all_marks(shape.modules()),
+        idle: IdleLimits::none(),
         users,
     })
 }

@@ -187,7 +187,7 @@ module _ {U M : Type 0} (l : Language U M) (r : Rules) (excused : Excuse) (past 
     ran h ss _ (looks w cursor ms bytes due watch told run) t = look w cursor ms bytes ss due watch told (ran h ss w run t)
 
     -- what stands in front of a cut
-    in_front : (h : List Entry) (k : Ask) (front : List Entry) → FrontOf p h k front → Mends p h front
+    pub in_front : (h : List Entry) (k : Ask) (front : List Entry) → FrontOf p h k front → Mends p h front
     in_front h (Refused q) front x = absurd x
     in_front h (LogsIn u) front x = absurd x
     in_front h LogsOut front x = absurd x
@@ -199,7 +199,7 @@ module _ {U M : Type 0} (l : Language U M) (r : Rules) (excused : Excuse) (past 
     in_front h Restarts front x = unused_mends p h front x
     in_front h (Changes op) front x = x
 
-    may_cut : (h : List Entry) (k : Ask) (op : Op) → CutsAt h k op → MayCut (standing_in ready h) k op
+    pub may_cut : (h : List Entry) (k : Ask) (op : Op) → CutsAt h k op → MayCut (standing_in ready h) k op
     may_cut h (Refused q) op x = absurd x
     may_cut h (LogsIn u) op x = absurd x
     may_cut h LogsOut op x = absurd x

@@ -55,30 +55,30 @@ module _ {S : Type 0} (goes_on : S → S → Type 0) (stay : (s : S) → goes_on
   all_stay [] = tt
   all_stay (s ∷ older) = ([], s, refl, stay s)
 
-  one_came : (s : S) (ss : List S) → AreBegun goes_on ss (s ∷ ss)
+  pub one_came : (s : S) (ss : List S) → AreBegun goes_on ss (s ∷ ss)
   one_came s [] = tt
   one_came s (t ∷ older) = (s ∷ [], t, refl, stay t)
 
-  newest_went_on : (s t : S) (older ss : List S) → ss ≡ s ∷ older → goes_on s t → AreBegun goes_on ss (t ∷ older)
+  pub newest_went_on : (s t : S) (older ss : List S) → ss ≡ s ∷ older → goes_on s t → AreBegun goes_on ss (t ∷ older)
   newest_went_on s t older ss is x = subst (λ (rs : List S). AreBegun goes_on rs (t ∷ older)) (sym is) ([], t, refl, x)
 
   begun_behind : (s t : S) (newer older us : List S) → goes_on s t → AreBegun goes_on (newer ++ t ∷ older) us → AreBegun goes_on (s ∷ older) us
   begun_behind s t [] older us x (more, u, is, y) = (more, u, is, further s t u x y)
   begun_behind s t (n ∷ newer) older us x (more, u, is, y) = (more ++ u ∷ newer, t, is ∙ sym (append_assoc more (u ∷ newer) (t ∷ older)), x)
 
-  begun_on : (ss ts us : List S) → AreBegun goes_on ss ts → AreBegun goes_on ts us → AreBegun goes_on ss us
+  pub begun_on : (ss ts us : List S) → AreBegun goes_on ss ts → AreBegun goes_on ts us → AreBegun goes_on ss us
   begun_on [] ts us x y = tt
   begun_on (s ∷ older) ts us (newer, t, is, x) y = begun_behind s t newer older us x (subst (λ (rs : List S). AreBegun goes_on rs us) is y)
 
   -- only what one place had went on
-  begun_at : (p : ℕ) (ss : List S) (f : ℕ → List S) → AreBegun goes_on (f p) ss → (k : ℕ) → AreBegun goes_on (f k) (placed p ss f k)
+  pub begun_at : (p : ℕ) (ss : List S) (f : ℕ → List S) → AreBegun goes_on (f p) ss → (k : ℕ) → AreBegun goes_on (f k) (placed p ss f k)
   begun_at p ss f x k = elim (eqb_tells k p) [
     | inl t ↦ subst (λ (n : ℕ). AreBegun goes_on (f n) (placed p ss f n)) (sym t.1) (subst (λ (rs : List S). AreBegun goes_on (f p) rs) (sym (placed_here p ss f)) x)
     | inr t ↦ subst (λ (rs : List S). AreBegun goes_on (f k) rs) (sym (placed_else p k ss f t.1)) (all_stay (f k))
   ]
 
 module _ {U M : Type 0} where
-  stays : (s : Session U M) → IsBegun s s
+  pub stays : (s : Session U M) → IsBegun s s
   stays s = record {
     happenings = [];
     happened = sym (append-nil s.happenings);
@@ -88,7 +88,7 @@ module _ {U M : Type 0} where
     written = sym (append-nil s.said.bytes);
   }
 
-  goes_further : (s t u : Session U M) → IsBegun s t → IsBegun t u → IsBegun s u
+  pub goes_further : (s t u : Session U M) → IsBegun s t → IsBegun t u → IsBegun s u
   goes_further s t u x y = record {
     happenings = x.happenings ++ y.happenings;
     happened = y.happened ∙ ap (λ hs. hs ++ y.happenings) x.happened ∙ append_assoc s.happenings x.happenings y.happenings;
@@ -98,10 +98,10 @@ module _ {U M : Type 0} where
     written = y.written ∙ ap (λ bs. bs ++ y.bytes) x.written ∙ append_assoc s.said.bytes x.bytes y.bytes;
   }
 
-  answered_on : (u : U) (x : Said M) (z : Attending) (s : Session U M) → IsBegun s (answered u x z s)
+  pub answered_on : (u : U) (x : Said M) (z : Attending) (s : Session U M) → IsBegun s (answered u x z s)
   answered_on u x z s = record { happenings = unit u ∷ []; happened = refl; moments = x.moments; took = refl; bytes = x.bytes; written = refl }
 
-  unanswered_on : (u : U) (s : Session U M) → IsBegun s (unanswered u s)
+  pub unanswered_on : (u : U) (s : Session U M) → IsBegun s (unanswered u s)
   unanswered_on u s = record {
     happenings = unit u ∷ [];
     happened = refl;
@@ -111,7 +111,7 @@ module _ {U M : Type 0} where
     written = sym (append-nil s.said.bytes);
   }
 
-  rested_on : (s : Session U M) → IsBegun s (rested s)
+  pub rested_on : (s : Session U M) → IsBegun s (rested s)
   rested_on s = record {
     happenings = quiet ∷ [];
     happened = refl;
@@ -121,7 +121,7 @@ module _ {U M : Type 0} where
     written = sym (append-nil s.said.bytes);
   }
 
-  reported_on : (newest : ℕ) (x : Said M) (s : Session U M) → IsBegun s (reported newest x s)
+  pub reported_on : (newest : ℕ) (x : Said M) (s : Session U M) → IsBegun s (reported newest x s)
   reported_on newest x s = record {
     happenings = [];
     happened = sym (append-nil s.happenings);

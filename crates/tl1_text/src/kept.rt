@@ -58,6 +58,14 @@ impl Kept {
         self.len = 0;
     }
 
+    /// Writes over the bytes that it let go of.
+    pub fn wipe(&mut self)
+        ensures { self.new ≡ self.old }
+    {
+        let free = &mut self.bytes[self.len..];
+        free.fill(0);
+    }
+
     pub fn push(&mut self, b: u8)
         requires { length self.old < 2048 }
         ensures items { self.new ≡ self.old ++ b ∷ [] }

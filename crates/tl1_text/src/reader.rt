@@ -100,6 +100,14 @@ impl UnitReader {
         self.kept.as_slice()
     }
 
+    /// Lets go of a unit that ended, and writes over all that it had kept but the unit in hand: for units that nobody is to find in memory.
+    pub fn wipe(&mut self)
+        ensures { self.new ≡ record { kept = hand self.old; ended = false } }
+    {
+        self.begin();
+        self.kept.wipe();
+    }
+
     /// Takes the bytes in front of the first `;` or quote, and answers how many these are: none before a unit's first byte.
     fn take_run(&mut self, rest: &[u8]) -> usize
         ensures within { result ≤ length rest.now }

@@ -54,3 +54,6 @@ returns-in-Stopped-clause-unstopped g c = c.serve_session-end.ensures.served.lat
 
 pub unreachable-requires-in-Unattended : goal.unreachable-requires-in-Unattended
 unreachable-requires-in-Unattended g c = c.serve_session-end.ensures.attended c.in-Unattended.is
+
+pub unreachable-requires-in-Idle : goal.unreachable-requires-in-Idle
+unreachable-requires-in-Idle g c = c.serve_session-end.ensures.endless c.in-Idle.is

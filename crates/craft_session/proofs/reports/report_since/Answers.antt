@@ -1,10 +1,13 @@
-use Rattle.std.proofs.Common.{false, ℕ, List, [], refl, sym, ◌∙◌, ap, subst}
+use Rattle.std.proofs.Common.{false, ℕ, List, [], inr, refl, sym, ◌∙◌, ap, subst}
 use Rattle.std.specs.Arc.{arc_value}
 use base.Stored.{Gv}
 use Rattle.dxc_model.specs.declared.entry.Entry.{Entry}
+use Rattle.dxc_model.specs.declared.entry.Outcome.TheVariants.{Answered}
+use Rattle.dxc_model.specs.declared.op.Op.TheVariants.{Look}
 use Rattle.xc_core.specs.States.{Opening}
-use Rattle.xc_core.specs.Seeing.{Saw}
+use Rattle.xc_core.specs.Seeing.{Saw, Turned, entry}
 use Rattle.xc_core.specs.Turns.{LookIs}
+use Rattle.craft_session.specs.declared.attending.Attending.{Attending}
 use Rattle.craft_session.specs.Gated.{Entered, NothingAsked, answers}
 use Rattle.craft_session.specs.Meanings.{language_for}
 use Rattle.craft_session.specs.Sessions.{Goes, Now}
@@ -42,4 +45,8 @@ returns g c =
       entered = λ h saw.
           let seat = c.args.desk.now.seat in
           subst (λ (seen : List Gv). Entered seat.opening seat.place NothingAsked false false h seen) (sym (ap (λ (s : SeatAt). s.seen) said.seat)) (entered_at seat.opening seat.place NothingAsked h c.look-looked.new.self.seen false false _ [] (λ k. answers k _) refl (looked.look h saw).0);
+      looked = inr (λ h saw.
+          let seat = c.args.desk.now.seat in
+          (c.args.cursor, subst (λ (seen : List Gv). Turned seat.opening seat.place h (entry seat.place (Look c.args.cursor) Answered) seen) (sym (ap (λ (s : SeatAt). s.seen) said.seat)) (looked.look h saw).0));
+      user = ap (λ (a : Attending). a.user) said.attending;
     }

@@ -8,12 +8,14 @@ use Rattle.craft_session.specs.declared.end.Progress.TheVariants.{On}
 use Rattle.craft_session.specs.declared.users.UserDesk.{UserDesk}
 use Rattle.craft_session.specs.Desks.{now, input_of, IsAnswered}
 use Rattle.craft_session.specs.Meanings.{language_for}
+use Rattle.craft_session.specs.Noted.{stood}
 use Rattle.craft_session.specs.Sessions.{Goes, IsAt, Stands}
 use Rattle.craft_session.specs.Stamps.{stamp_at}
 use Rattle.craft_session.specs.Timely.{IsTimelyFrom, in_hand, reached, starting, telling}
 use Rattle.craft_session.proofs.Answering.{answered, answered_timely, input_ended}
 use Rattle.craft_session.proofs.Ends.{on_goes}
 use Rattle.craft_session.proofs.Gated.{are_entered_beside}
+use Rattle.craft_session.proofs.Noted.{beside_reports, noted_beside}
 use Rattle.craft_session.proofs.SessionSteps.{goes_ended_is, writes_more}
 use Rattle.craft_session.proofs.Timely.{looked_to, timely_more}
 use Rattle.craft_session.proofs.session.attend.Goals as goal
@@ -53,6 +55,8 @@ returns-in-On g c =
       unstopped = λ is. first.unstopped (on_goes _ c.in-On.is);
       later = first.later;
       asked = are_entered_beside g.G.Gate.asked g.G.Gate.asked_on g.G.Gate.unasked c.args.desk.now.seat c.answer.new.desk.seat c.args.desk.now.users.seat c.args.gate.now c.answer.new.gate _ _ _ _ first.asked refl first.seat (ap (λ (u : UserDesk g.row.U.Denot). u.seat.seen) next.users) next.entered;
+      noted = noted_beside (arc_value c.args.desk.now.shelf) (telling g.K.Link.told g.C.Timestamps.told g.C.Timestamps.stamped) (stood (g.K.Link.state c.args.link.now) (g.C.Timestamps.coming c.args.clock.now) c.args.desk.now.seat c.args.desk.now.users.seat c.args.desk.now.attending) (stood (g.K.Link.state c.answer.new.link) (g.C.Timestamps.coming c.answer.new.clock) c.answer.new.desk.seat c.answer.new.desk.users.seat c.answer.new.desk.attending) (stood (g.K.Link.state c.report.new.link) (g.C.Timestamps.coming c.report.new.clock) c.report.new.desk.seat c.report.new.desk.users.seat c.report.new.desk.attending) (g.N.Notes.noted c.args.notes.now c.answer.new.notes) first.noted
+          (beside_reports g.K.Link.told (stood (g.K.Link.state c.answer.new.link) (g.C.Timestamps.coming c.answer.new.clock) c.answer.new.desk.seat c.answer.new.desk.users.seat c.answer.new.desk.attending) (stood (g.K.Link.state c.report.new.link) (g.C.Timestamps.coming c.report.new.clock) c.report.new.desk.seat c.report.new.desk.users.seat c.report.new.desk.attending) next.link next.seat (ap (λ (u : UserDesk g.row.U.Denot). u.seat) next.users) next.looked next.user);
     }
 
 pub returns-in_default : goal.returns-in_default
@@ -79,4 +83,5 @@ returns-in_default g c =
       unstopped = first.unstopped;
       later = first.later;
       asked = first.asked;
+      noted = first.noted;
     }

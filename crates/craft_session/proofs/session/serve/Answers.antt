@@ -1,5 +1,5 @@
 use Rattle.std.specs.Prelude.{is_some}
-use Rattle.std.proofs.Common.{rules, ◌≡◌, ℕ, false, [], refl, sym, ◌∙◌, ap, subst, arith, inl, inr}
+use Rattle.std.proofs.Common.{rules, ◌≡◌, ℕ, List, false, [], ◌∷◌, refl, sym, ◌∙◌, ap, subst, arith, inl, inr}
 use Rattle.std.proofs.lemmas.Grind.{common_steps}
 use Rattle.std.specs.Arc.{arc_value}
 use Rattle.craft_session.specs.Desks.{now}
@@ -8,9 +8,11 @@ use Rattle.craft_session.specs.Meanings.{language_for}
 use Rattle.tl1_text.specs.declared.reader.UnitKind.TheVariants.{More}
 use Rattle.tl1_text.specs.Reading.{Reader}
 use Rattle.craft_session.specs.declared.end.Progress.TheVariants.{Cut}
+use Rattle.craft_session.specs.Noted.{stood}
 use Rattle.craft_session.specs.Sessions.{Beginning, Stands}
-use Rattle.craft_session.proofs.Ends.{bytes_came, counted_none, cut_goes, end_came, end_no, few_here, few_more, later_behind, on_goes, quiet_came, read_no, rose_behind, rose_later, spent_no, stayed, stop_no, unattended_no, unheld, write_no}
+use Rattle.craft_session.proofs.Ends.{bytes_came, counted_none, cut_goes, end_came, end_no, few_here, few_more, idle_no, later_behind, on_goes, quiet_came, read_no, rose_behind, rose_later, spent_no, stayed, stop_no, unattended_no, unheld, write_no}
 use Rattle.craft_session.proofs.Gated.{are_entered_beside, are_entered_none, are_entered_on}
+use Rattle.craft_session.proofs.Noted.{beside_reports, noted_beside, noted_more, noted_moved, noted_none, noted_read}
 use Rattle.craft_session.proofs.Prompt.{prompt_more, prompt_none}
 use Rattle.craft_session.proofs.SessionSteps.{stands_none, stands_piece, stands_quiet, goes_on_is, goes_cut_is, goes_stopped_is, counted_more, served_nothing, served_here}
 use Rattle.craft_session.specs.Timely.{in_hand, starting, telling}
@@ -18,6 +20,11 @@ use Rattle.craft_session.proofs.Answering.{moved_goes}
 use Rattle.craft_session.proofs.Timely.{goes_nowhere, looked_to, timely_moved, timely_none, timely_read, went_to}
 use Rattle.craft_session.specs.declared.patience.Patience.TheVariants.{Limited}
 use Rattle.craft_session.specs.Waiting.{waited_after}
+use Rattle.craft_session.proofs.Idling.{awake_behind, byte_came, idle_at, idles_heard, idles_none, idles_silent, some_silent}
+use Rattle.craft_session.specs.Idling.{IsInTime, IsTooLong, silent_after}
+use Rattle.shelf_file.specs.declared.idle.IdleLimits.{IdleLimits}
+use Rattle.shelf_file.specs.Contents.{Contents}
+use Rattle.dxc_outside.specs.Items.{Item, quiet}
 use Rattle.craft_session.proofs.Waiting.{both_no, let_go_behind, let_go_here, some_made, unattended_at, waits_more, waits_none}
 use Rattle.craft_session.proofs.session.serve.Goals as goal
 use Rattle.craft_session.proofs.session.serve.Goals.{in-Bytes+in-On, in-Quiet+in-On-report}
@@ -37,7 +44,9 @@ loop-init g c = record {
   hung_up = refl;
   room = c.requires.room;
   asked = are_entered_none c.args.desk.now.seat c.args.desk.now.users.seat (g.G.Gate.asked c.args.gate.now c.args.gate.now) (g.G.Gate.unasked c.args.gate.now);
+  noted = noted_none (arc_value c.args.desk.now.shelf) (telling g.K.Link.told g.C.Timestamps.told g.C.Timestamps.stamped) (stood (g.K.Link.state c.args.link.now) (g.C.Timestamps.coming c.args.clock.now) c.args.desk.now.seat c.args.desk.now.users.seat c.args.desk.now.attending) (g.N.Notes.noted c.args.notes.now c.args.notes.now) (g.N.Notes.unnoted c.args.notes.now);
   waits = waits_none (c.args.patience ≡ Limited) (language_for c.args.desk.now.attending.user (arc_value c.args.desk.now.shelf)) g.K.Link.begun g.K.Link.told g.C.Timestamps.told (g.K.Link.state c.args.link.now) (g.C.Timestamps.coming c.args.clock.now) c.args.desk.now.seat c.args.desk.now.users.seat;
+  idles = idles_none (c.args.patience ≡ Limited) ((arc_value c.args.desk.now.shelf).idle) (language_for c.args.desk.now.attending.user (arc_value c.args.desk.now.shelf)) g.K.Link.begun g.K.Link.told g.C.Timestamps.told (g.K.Link.state c.args.link.now) (g.C.Timestamps.coming c.args.clock.now) c.args.desk.now.seat c.args.desk.now.users.seat c.args.desk.now.attending.user;
 }
 
 pub returns-in-Cut : goal.returns-in-Cut
@@ -72,9 +81,13 @@ returns-in-Cut g c =
       spent = λ is. write_no _ is refl;
       few = few_more _ _ _ _ _ _ c.loop.invariant.counted c.in-Bytes.ensures.read.reads s.link.wrote.reads c.loop-test.true;
       asked = are_entered_on g.G.Gate.asked g.G.Gate.asked_on c.args.desk.now.seat c.loop.desk.seat c.args.desk.now.users.seat c.loop.desk.users.seat c.args.gate.now c.loop.gate c.serve_piece-progress.new.gate _ _ c.loop.invariant.asked c.loop.invariant.seat c.loop.invariant.users s.asked;
+      noted = noted_more (arc_value c.args.desk.now.shelf) (telling g.K.Link.told g.C.Timestamps.told g.C.Timestamps.stamped) g.N.Notes.noted g.N.Notes.noted_on c.args.notes.now c.loop.notes c.serve_piece-progress.new.notes (stood (g.K.Link.state c.args.link.now) (g.C.Timestamps.coming c.args.clock.now) c.args.desk.now.seat c.args.desk.now.users.seat c.args.desk.now.attending) (stood _ (g.C.Timestamps.coming c.loop.clock) c.loop.desk.seat c.loop.desk.users.seat c.loop.desk.attending) (stood (g.K.Link.state c.serve_piece-progress.new.link) (g.C.Timestamps.coming c.serve_piece-progress.new.clock) c.serve_piece-progress.new.desk.seat c.serve_piece-progress.new.desk.users.seat c.serve_piece-progress.new.desk.attending) (noted_read (arc_value c.args.desk.now.shelf) (telling g.K.Link.told g.C.Timestamps.told g.C.Timestamps.stamped) (stood (g.K.Link.state c.args.link.now) (g.C.Timestamps.coming c.args.clock.now) c.args.desk.now.seat c.args.desk.now.users.seat c.args.desk.now.attending) (g.K.Link.state c.loop.link) _ (g.C.Timestamps.coming c.loop.clock) c.loop.desk.seat c.loop.desk.users.seat c.loop.desk.attending (g.N.Notes.noted c.args.notes.now c.loop.notes) _ _ c.loop.invariant.noted c.in-Bytes.ensures.read) (noted_moved arc_value (telling g.K.Link.told g.C.Timestamps.told g.C.Timestamps.stamped) (stood _ (g.C.Timestamps.coming c.loop.clock) c.loop.desk.seat c.loop.desk.users.seat c.loop.desk.attending) (stood (g.K.Link.state c.serve_piece-progress.new.link) (g.C.Timestamps.coming c.serve_piece-progress.new.clock) c.serve_piece-progress.new.desk.seat c.serve_piece-progress.new.desk.users.seat c.serve_piece-progress.new.desk.attending) (g.N.Notes.noted c.loop.notes c.serve_piece-progress.new.notes) c.args.desk.now.shelf c.loop.desk.shelf c.loop.invariant.shelf c.serve_piece-progress.ensures.noted);
       unattended = λ is. write_no _ is refl;
       attended = λ endless is. write_no _ is refl;
+      idle = λ is. write_no _ is refl;
+      endless = λ endless is. write_no _ is refl;
       let_go = λ limits. let_go_behind (c.args.patience ≡ Limited) (language_for c.args.desk.now.attending.user (arc_value c.args.desk.now.shelf)) g.K.Link.begun g.K.Link.told g.C.Timestamps.told (g.K.Link.state c.args.link.now) (g.C.Timestamps.coming c.args.clock.now) c.args.desk.now.seat c.args.desk.now.users.seat (g.K.Link.state c.loop.link) (g.K.Link.state c.serve_piece-progress.new.link) _ (g.C.Timestamps.coming c.loop.clock) (now c.loop.desk) c.loop.desk.reader c.in-Bytes.ensures.begun c.loop.invariant.stands c.in-Bytes.ensures.read.reads c.serve_piece-progress.ensures.link.wrote.reads c.loop.counter c.loop.waited (c.is_over.ensures.lasts c.if-is_over.false) c.loop.invariant.waits limits;
+      awake = λ limits. awake_behind (c.args.patience ≡ Limited) ((arc_value c.args.desk.now.shelf).idle) (language_for c.args.desk.now.attending.user (arc_value c.args.desk.now.shelf)) g.K.Link.begun g.K.Link.told g.C.Timestamps.told (g.K.Link.state c.args.link.now) (g.C.Timestamps.coming c.args.clock.now) c.args.desk.now.seat c.args.desk.now.users.seat (g.K.Link.state c.loop.link) (g.K.Link.state c.serve_piece-progress.new.link) _ (g.C.Timestamps.coming c.loop.clock) (now c.loop.desk) c.loop.desk.reader c.in-Bytes.ensures.begun c.loop.invariant.stands c.in-Bytes.ensures.read.reads c.serve_piece-progress.ensures.link.wrote.reads c.loop.counter c.loop.silent (subst (λ (i : IdleLimits). IsInTime i c.loop.desk.attending.user c.loop.silent) (c.idle-limits.ensures ∙ ap (λ (s : Contents). s.idle) c.deref.ensures) (c.is_idle.ensures.awake c.if-is_idle.false limits)) c.loop.invariant.idles;
     }
 
 pub returns-in-Stopped : goal.returns-in-Stopped
@@ -108,9 +121,13 @@ returns-in-Stopped g c =
       spent = λ is. stop_no _ is refl;
       few = few_more _ _ _ _ _ _ c.loop.invariant.counted c.in-Bytes.ensures.read.reads s.link.wrote.reads c.loop-test.true;
       asked = are_entered_on g.G.Gate.asked g.G.Gate.asked_on c.args.desk.now.seat c.loop.desk.seat c.args.desk.now.users.seat c.loop.desk.users.seat c.args.gate.now c.loop.gate c.serve_piece-progress.new.gate _ _ c.loop.invariant.asked c.loop.invariant.seat c.loop.invariant.users s.asked;
+      noted = noted_more (arc_value c.args.desk.now.shelf) (telling g.K.Link.told g.C.Timestamps.told g.C.Timestamps.stamped) g.N.Notes.noted g.N.Notes.noted_on c.args.notes.now c.loop.notes c.serve_piece-progress.new.notes (stood (g.K.Link.state c.args.link.now) (g.C.Timestamps.coming c.args.clock.now) c.args.desk.now.seat c.args.desk.now.users.seat c.args.desk.now.attending) (stood _ (g.C.Timestamps.coming c.loop.clock) c.loop.desk.seat c.loop.desk.users.seat c.loop.desk.attending) (stood (g.K.Link.state c.serve_piece-progress.new.link) (g.C.Timestamps.coming c.serve_piece-progress.new.clock) c.serve_piece-progress.new.desk.seat c.serve_piece-progress.new.desk.users.seat c.serve_piece-progress.new.desk.attending) (noted_read (arc_value c.args.desk.now.shelf) (telling g.K.Link.told g.C.Timestamps.told g.C.Timestamps.stamped) (stood (g.K.Link.state c.args.link.now) (g.C.Timestamps.coming c.args.clock.now) c.args.desk.now.seat c.args.desk.now.users.seat c.args.desk.now.attending) (g.K.Link.state c.loop.link) _ (g.C.Timestamps.coming c.loop.clock) c.loop.desk.seat c.loop.desk.users.seat c.loop.desk.attending (g.N.Notes.noted c.args.notes.now c.loop.notes) _ _ c.loop.invariant.noted c.in-Bytes.ensures.read) (noted_moved arc_value (telling g.K.Link.told g.C.Timestamps.told g.C.Timestamps.stamped) (stood _ (g.C.Timestamps.coming c.loop.clock) c.loop.desk.seat c.loop.desk.users.seat c.loop.desk.attending) (stood (g.K.Link.state c.serve_piece-progress.new.link) (g.C.Timestamps.coming c.serve_piece-progress.new.clock) c.serve_piece-progress.new.desk.seat c.serve_piece-progress.new.desk.users.seat c.serve_piece-progress.new.desk.attending) (g.N.Notes.noted c.loop.notes c.serve_piece-progress.new.notes) c.args.desk.now.shelf c.loop.desk.shelf c.loop.invariant.shelf c.serve_piece-progress.ensures.noted);
       unattended = λ is. stop_no _ is refl;
       attended = λ endless is. stop_no _ is refl;
+      idle = λ is. stop_no _ is refl;
+      endless = λ endless is. stop_no _ is refl;
       let_go = λ limits. let_go_behind (c.args.patience ≡ Limited) (language_for c.args.desk.now.attending.user (arc_value c.args.desk.now.shelf)) g.K.Link.begun g.K.Link.told g.C.Timestamps.told (g.K.Link.state c.args.link.now) (g.C.Timestamps.coming c.args.clock.now) c.args.desk.now.seat c.args.desk.now.users.seat (g.K.Link.state c.loop.link) (g.K.Link.state c.serve_piece-progress.new.link) _ (g.C.Timestamps.coming c.loop.clock) (now c.loop.desk) c.loop.desk.reader c.in-Bytes.ensures.begun c.loop.invariant.stands c.in-Bytes.ensures.read.reads c.serve_piece-progress.ensures.link.wrote.reads c.loop.counter c.loop.waited (c.is_over.ensures.lasts c.if-is_over.false) c.loop.invariant.waits limits;
+      awake = λ limits. awake_behind (c.args.patience ≡ Limited) ((arc_value c.args.desk.now.shelf).idle) (language_for c.args.desk.now.attending.user (arc_value c.args.desk.now.shelf)) g.K.Link.begun g.K.Link.told g.C.Timestamps.told (g.K.Link.state c.args.link.now) (g.C.Timestamps.coming c.args.clock.now) c.args.desk.now.seat c.args.desk.now.users.seat (g.K.Link.state c.loop.link) (g.K.Link.state c.serve_piece-progress.new.link) _ (g.C.Timestamps.coming c.loop.clock) (now c.loop.desk) c.loop.desk.reader c.in-Bytes.ensures.begun c.loop.invariant.stands c.in-Bytes.ensures.read.reads c.serve_piece-progress.ensures.link.wrote.reads c.loop.counter c.loop.silent (subst (λ (i : IdleLimits). IsInTime i c.loop.desk.attending.user c.loop.silent) (c.idle-limits.ensures ∙ ap (λ (s : Contents). s.idle) c.deref.ensures) (c.is_idle.ensures.awake c.if-is_idle.false limits)) c.loop.invariant.idles;
     }
 
 pub returns-in-End : goal.returns-in-End
@@ -139,9 +156,13 @@ returns-in-End g c =
       spent = λ is. end_no _ is refl;
       few = few_more _ _ _ _ _ _ c.loop.invariant.counted c.in-End.ensures.read.reads refl c.loop-test.true;
       asked = c.loop.invariant.asked;
+      noted = (noted_read (arc_value c.args.desk.now.shelf) (telling g.K.Link.told g.C.Timestamps.told g.C.Timestamps.stamped) (stood (g.K.Link.state c.args.link.now) (g.C.Timestamps.coming c.args.clock.now) c.args.desk.now.seat c.args.desk.now.users.seat c.args.desk.now.attending) (g.K.Link.state c.loop.link) _ (g.C.Timestamps.coming c.loop.clock) c.loop.desk.seat c.loop.desk.users.seat c.loop.desk.attending (g.N.Notes.noted c.args.notes.now c.loop.notes) _ _ c.loop.invariant.noted c.in-End.ensures.read);
       unattended = λ is. end_no _ is refl;
       attended = λ endless is. end_no _ is refl;
+      idle = λ is. end_no _ is refl;
+      endless = λ endless is. end_no _ is refl;
       let_go = λ limits. let_go_behind (c.args.patience ≡ Limited) (language_for c.args.desk.now.attending.user (arc_value c.args.desk.now.shelf)) g.K.Link.begun g.K.Link.told g.C.Timestamps.told (g.K.Link.state c.args.link.now) (g.C.Timestamps.coming c.args.clock.now) c.args.desk.now.seat c.args.desk.now.users.seat (g.K.Link.state c.loop.link) (g.K.Link.state c.read.new.self) _ (g.C.Timestamps.coming c.loop.clock) (now c.loop.desk) c.loop.desk.reader c.in-End.ensures.begun c.loop.invariant.stands c.in-End.ensures.read.reads refl c.loop.counter c.loop.waited (c.is_over.ensures.lasts c.if-is_over.false) c.loop.invariant.waits limits;
+      awake = λ limits. awake_behind (c.args.patience ≡ Limited) ((arc_value c.args.desk.now.shelf).idle) (language_for c.args.desk.now.attending.user (arc_value c.args.desk.now.shelf)) g.K.Link.begun g.K.Link.told g.C.Timestamps.told (g.K.Link.state c.args.link.now) (g.C.Timestamps.coming c.args.clock.now) c.args.desk.now.seat c.args.desk.now.users.seat (g.K.Link.state c.loop.link) (g.K.Link.state c.read.new.self) _ (g.C.Timestamps.coming c.loop.clock) (now c.loop.desk) c.loop.desk.reader c.in-End.ensures.begun c.loop.invariant.stands c.in-End.ensures.read.reads refl c.loop.counter c.loop.silent (subst (λ (i : IdleLimits). IsInTime i c.loop.desk.attending.user c.loop.silent) (c.idle-limits.ensures ∙ ap (λ (s : Contents). s.idle) c.deref.ensures) (c.is_idle.ensures.awake c.if-is_idle.false limits)) c.loop.invariant.idles;
     }
 
 pub returns-in-Failed : goal.returns-in-Failed
@@ -170,9 +191,13 @@ returns-in-Failed g c =
       spent = λ is. read_no _ is refl;
       few = few_more _ _ _ _ _ _ c.loop.invariant.counted c.in-Failed.ensures.read.reads refl c.loop-test.true;
       asked = c.loop.invariant.asked;
+      noted = (noted_read (arc_value c.args.desk.now.shelf) (telling g.K.Link.told g.C.Timestamps.told g.C.Timestamps.stamped) (stood (g.K.Link.state c.args.link.now) (g.C.Timestamps.coming c.args.clock.now) c.args.desk.now.seat c.args.desk.now.users.seat c.args.desk.now.attending) (g.K.Link.state c.loop.link) _ (g.C.Timestamps.coming c.loop.clock) c.loop.desk.seat c.loop.desk.users.seat c.loop.desk.attending (g.N.Notes.noted c.args.notes.now c.loop.notes) _ _ c.loop.invariant.noted c.in-Failed.ensures.read);
       unattended = λ is. read_no _ is refl;
       attended = λ endless is. read_no _ is refl;
+      idle = λ is. read_no _ is refl;
+      endless = λ endless is. read_no _ is refl;
       let_go = λ limits. let_go_behind (c.args.patience ≡ Limited) (language_for c.args.desk.now.attending.user (arc_value c.args.desk.now.shelf)) g.K.Link.begun g.K.Link.told g.C.Timestamps.told (g.K.Link.state c.args.link.now) (g.C.Timestamps.coming c.args.clock.now) c.args.desk.now.seat c.args.desk.now.users.seat (g.K.Link.state c.loop.link) (g.K.Link.state c.read.new.self) _ (g.C.Timestamps.coming c.loop.clock) (now c.loop.desk) c.loop.desk.reader c.in-Failed.ensures.begun c.loop.invariant.stands c.in-Failed.ensures.read.reads refl c.loop.counter c.loop.waited (c.is_over.ensures.lasts c.if-is_over.false) c.loop.invariant.waits limits;
+      awake = λ limits. awake_behind (c.args.patience ≡ Limited) ((arc_value c.args.desk.now.shelf).idle) (language_for c.args.desk.now.attending.user (arc_value c.args.desk.now.shelf)) g.K.Link.begun g.K.Link.told g.C.Timestamps.told (g.K.Link.state c.args.link.now) (g.C.Timestamps.coming c.args.clock.now) c.args.desk.now.seat c.args.desk.now.users.seat (g.K.Link.state c.loop.link) (g.K.Link.state c.read.new.self) _ (g.C.Timestamps.coming c.loop.clock) (now c.loop.desk) c.loop.desk.reader c.in-Failed.ensures.begun c.loop.invariant.stands c.in-Failed.ensures.read.reads refl c.loop.counter c.loop.silent (subst (λ (i : IdleLimits). IsInTime i c.loop.desk.attending.user c.loop.silent) (c.idle-limits.ensures ∙ ap (λ (s : Contents). s.idle) c.deref.ensures) (c.is_idle.ensures.awake c.if-is_idle.false limits)) c.loop.invariant.idles;
     }
 
 pub returns-clause-session : goal.returns-clause-session
@@ -186,7 +211,7 @@ returns-clause-session g c =
 pub loop-preserved : goal.loop-preserved
 loop-preserved g c =
     elim c.match-read.branch [
-      | in-Bytes+in-On w ↦ rw (w.desk-is, w.link-is, w.clock-is, w.gate-is) (record {
+      | in-Bytes+in-On w ↦ rw (w.desk-is, w.link-is, w.clock-is, w.gate-is, w.notes-is) (record {
         shelf = w.serve_piece-progress.ensures.shelf ∙ c.loop.invariant.shelf;
         seat = (w.serve_piece-progress.ensures.seat.0 ∙ c.loop.invariant.seat.0, w.serve_piece-progress.ensures.seat.1 ∙ c.loop.invariant.seat.1, w.serve_piece-progress.ensures.seat.2 ∙ c.loop.invariant.seat.2, w.serve_piece-progress.ensures.seat.3 ∙ c.loop.invariant.seat.3);
         users = (w.serve_piece-progress.ensures.users.0 ∙ c.loop.invariant.users.0, w.serve_piece-progress.ensures.users.1 ∙ c.loop.invariant.users.1, w.serve_piece-progress.ensures.users.2 ∙ c.loop.invariant.users.2, w.serve_piece-progress.ensures.users.3 ∙ c.loop.invariant.users.3);
@@ -204,9 +229,11 @@ loop-preserved g c =
         hung_up = w.serve_piece-progress.ensures.hung_up ∙ w.in-Bytes.ensures.hung_up ∙ c.loop.invariant.hung_up;
         room = search rules;
         asked = are_entered_on g.G.Gate.asked g.G.Gate.asked_on c.args.desk.now.seat c.loop.desk.seat c.args.desk.now.users.seat c.loop.desk.users.seat c.args.gate.now c.loop.gate w.serve_piece-progress.new.gate _ _ c.loop.invariant.asked c.loop.invariant.seat c.loop.invariant.users w.serve_piece-progress.ensures.asked;
+        noted = noted_more (arc_value c.args.desk.now.shelf) (telling g.K.Link.told g.C.Timestamps.told g.C.Timestamps.stamped) g.N.Notes.noted g.N.Notes.noted_on c.args.notes.now c.loop.notes w.serve_piece-progress.new.notes (stood (g.K.Link.state c.args.link.now) (g.C.Timestamps.coming c.args.clock.now) c.args.desk.now.seat c.args.desk.now.users.seat c.args.desk.now.attending) (stood _ (g.C.Timestamps.coming c.loop.clock) c.loop.desk.seat c.loop.desk.users.seat c.loop.desk.attending) (stood (g.K.Link.state w.serve_piece-progress.new.link) (g.C.Timestamps.coming w.serve_piece-progress.new.clock) w.serve_piece-progress.new.desk.seat w.serve_piece-progress.new.desk.users.seat w.serve_piece-progress.new.desk.attending) (noted_read (arc_value c.args.desk.now.shelf) (telling g.K.Link.told g.C.Timestamps.told g.C.Timestamps.stamped) (stood (g.K.Link.state c.args.link.now) (g.C.Timestamps.coming c.args.clock.now) c.args.desk.now.seat c.args.desk.now.users.seat c.args.desk.now.attending) (g.K.Link.state c.loop.link) _ (g.C.Timestamps.coming c.loop.clock) c.loop.desk.seat c.loop.desk.users.seat c.loop.desk.attending (g.N.Notes.noted c.args.notes.now c.loop.notes) _ _ c.loop.invariant.noted w.in-Bytes.ensures.read) (noted_moved arc_value (telling g.K.Link.told g.C.Timestamps.told g.C.Timestamps.stamped) (stood _ (g.C.Timestamps.coming c.loop.clock) c.loop.desk.seat c.loop.desk.users.seat c.loop.desk.attending) (stood (g.K.Link.state w.serve_piece-progress.new.link) (g.C.Timestamps.coming w.serve_piece-progress.new.clock) w.serve_piece-progress.new.desk.seat w.serve_piece-progress.new.desk.users.seat w.serve_piece-progress.new.desk.attending) (g.N.Notes.noted c.loop.notes w.serve_piece-progress.new.notes) c.args.desk.now.shelf c.loop.desk.shelf c.loop.invariant.shelf w.serve_piece-progress.ensures.noted);
         waits = waits_more (c.args.patience ≡ Limited) (language_for c.args.desk.now.attending.user (arc_value c.args.desk.now.shelf)) g.K.Link.begun g.K.Link.told g.C.Timestamps.told (g.K.Link.state c.args.link.now) (g.C.Timestamps.coming c.args.clock.now) c.args.desk.now.seat c.args.desk.now.users.seat (g.K.Link.state c.loop.link) (g.K.Link.state w.serve_piece-progress.new.link) _ (g.C.Timestamps.coming c.loop.clock) (now c.loop.desk) c.loop.desk.reader w.in-Bytes.ensures.begun c.loop.invariant.stands w.in-Bytes.ensures.read.reads w.serve_piece-progress.ensures.link.wrote.reads c.loop.counter c.loop.waited 1 c.waited_after-waited.result (c.waited_after-waited.ensures ∙ ap (λ (n : ℕ). waited_after c.loop.desk.attending.user c.loop.waited n) w.read-is) (c.is_over.ensures.lasts c.if-is_over.false) (omega arith) (omega arith) c.loop.invariant.waits;
+        idles = idles_heard (c.args.patience ≡ Limited) ((arc_value c.args.desk.now.shelf).idle) (language_for c.args.desk.now.attending.user (arc_value c.args.desk.now.shelf)) g.K.Link.begun g.K.Link.told g.C.Timestamps.told (g.K.Link.state c.args.link.now) (g.C.Timestamps.coming c.args.clock.now) c.args.desk.now.seat c.args.desk.now.users.seat (g.K.Link.state c.loop.link) (g.K.Link.state w.serve_piece-progress.new.link) _ (g.C.Timestamps.coming c.loop.clock) (now c.loop.desk) c.loop.desk.reader w.in-Bytes.ensures.begun c.loop.invariant.stands w.in-Bytes.ensures.read.reads w.serve_piece-progress.ensures.link.wrote.reads w.serve_piece-progress.new.desk.attending.user c.loop.counter c.loop.silent c.silent_after-silent.result (λ t. byte_came _ _ _ _ w.in-Bytes.ensures.read.fits (w.in-Bytes.ensures.read.left t)) (c.silent_after-silent.ensures ∙ ap (λ (n : ℕ). silent_after c.loop.silent n) w.read-is) (λ limits. subst (λ (i : IdleLimits). IsInTime i c.loop.desk.attending.user c.loop.silent) (c.idle-limits.ensures ∙ ap (λ (s : Contents). s.idle) c.deref.ensures) (c.is_idle.ensures.awake c.if-is_idle.false limits)) c.loop.invariant.idles;
       })
-      | in-Quiet+in-On-report w ↦ rw (w.desk-is, w.link-is, w.clock-is, w.gate-is) (record {
+      | in-Quiet+in-On-report w ↦ rw (w.desk-is, w.link-is, w.clock-is, w.gate-is, w.notes-is) (record {
         shelf = w.report.ensures.shelf ∙ c.loop.invariant.shelf;
         seat = (w.report.ensures.seat.0 ∙ c.loop.invariant.seat.0, w.report.ensures.seat.1 ∙ c.loop.invariant.seat.1, w.report.ensures.seat.2 ∙ c.loop.invariant.seat.2, w.report.ensures.seat.3 ∙ c.loop.invariant.seat.3);
         users = (ap (λ (u : UserDesk g.row.U.Denot). u.seat.opening) w.report.ensures.users ∙ c.loop.invariant.users.0, ap (λ (u : UserDesk g.row.U.Denot). u.seat.place) w.report.ensures.users ∙ c.loop.invariant.users.1, ap (λ (u : UserDesk g.row.U.Denot). u.seat.places) w.report.ensures.users ∙ c.loop.invariant.users.2, ap (λ (u : UserDesk g.row.U.Denot). u.seat.turnstile) w.report.ensures.users ∙ c.loop.invariant.users.3);
@@ -225,7 +252,9 @@ loop-preserved g c =
         hung_up = w.report.ensures.hung_up ∙ w.in-Quiet.ensures.hung_up ∙ c.loop.invariant.hung_up;
         room = search rules;
         asked = are_entered_beside g.G.Gate.asked g.G.Gate.asked_on g.G.Gate.unasked c.args.desk.now.seat c.loop.desk.seat c.args.desk.now.users.seat c.args.gate.now c.loop.gate _ _ _ _ c.loop.invariant.asked refl c.loop.invariant.seat (ap (λ (u : UserDesk g.row.U.Denot). u.seat.seen) w.report.ensures.users) w.report.ensures.entered;
+        noted = noted_beside (arc_value c.args.desk.now.shelf) (telling g.K.Link.told g.C.Timestamps.told g.C.Timestamps.stamped) (stood (g.K.Link.state c.args.link.now) (g.C.Timestamps.coming c.args.clock.now) c.args.desk.now.seat c.args.desk.now.users.seat c.args.desk.now.attending) (stood _ (g.C.Timestamps.coming c.loop.clock) c.loop.desk.seat c.loop.desk.users.seat c.loop.desk.attending) (stood (g.K.Link.state w.report.new.link) (g.C.Timestamps.coming w.report.new.clock) w.report.new.desk.seat w.report.new.desk.users.seat w.report.new.desk.attending) (g.N.Notes.noted c.args.notes.now c.loop.notes) (noted_read (arc_value c.args.desk.now.shelf) (telling g.K.Link.told g.C.Timestamps.told g.C.Timestamps.stamped) (stood (g.K.Link.state c.args.link.now) (g.C.Timestamps.coming c.args.clock.now) c.args.desk.now.seat c.args.desk.now.users.seat c.args.desk.now.attending) (g.K.Link.state c.loop.link) _ (g.C.Timestamps.coming c.loop.clock) c.loop.desk.seat c.loop.desk.users.seat c.loop.desk.attending (g.N.Notes.noted c.args.notes.now c.loop.notes) _ _ c.loop.invariant.noted w.in-Quiet.ensures.read) (beside_reports g.K.Link.told (stood _ (g.C.Timestamps.coming c.loop.clock) c.loop.desk.seat c.loop.desk.users.seat c.loop.desk.attending) (stood (g.K.Link.state w.report.new.link) (g.C.Timestamps.coming w.report.new.clock) w.report.new.desk.seat w.report.new.desk.users.seat w.report.new.desk.attending) w.report.ensures.link w.report.ensures.seat (ap (λ (u : UserDesk g.row.U.Denot). u.seat) w.report.ensures.users) w.report.ensures.looked w.report.ensures.user);
         waits = waits_more (c.args.patience ≡ Limited) (language_for c.args.desk.now.attending.user (arc_value c.args.desk.now.shelf)) g.K.Link.begun g.K.Link.told g.C.Timestamps.told (g.K.Link.state c.args.link.now) (g.C.Timestamps.coming c.args.clock.now) c.args.desk.now.seat c.args.desk.now.users.seat (g.K.Link.state c.loop.link) (g.K.Link.state w.report.new.link) _ (g.C.Timestamps.coming c.loop.clock) (now c.loop.desk) c.loop.desk.reader w.in-Quiet.ensures.begun c.loop.invariant.stands w.in-Quiet.ensures.read.reads w.report.ensures.link.wrote.reads c.loop.counter c.loop.waited 16 c.waited_after-waited.result (c.waited_after-waited.ensures ∙ ap (λ (n : ℕ). waited_after c.loop.desk.attending.user c.loop.waited n) w.read-is) (c.is_over.ensures.lasts c.if-is_over.false) (omega arith) (omega arith) c.loop.invariant.waits;
+        idles = idles_silent (c.args.patience ≡ Limited) ((arc_value c.args.desk.now.shelf).idle) (language_for c.args.desk.now.attending.user (arc_value c.args.desk.now.shelf)) g.K.Link.begun g.K.Link.told g.C.Timestamps.told (g.K.Link.state c.args.link.now) (g.C.Timestamps.coming c.args.clock.now) c.args.desk.now.seat c.args.desk.now.users.seat (g.K.Link.state c.loop.link) (g.K.Link.state w.report.new.link) _ (g.C.Timestamps.coming c.loop.clock) (now c.loop.desk) c.loop.desk.reader w.in-Quiet.ensures.begun c.loop.invariant.stands w.in-Quiet.ensures.read.reads w.report.ensures.link.wrote.reads w.report.new.desk.attending.user c.loop.counter c.loop.silent c.silent_after-silent.result w.report.ensures.user (λ t. w.in-Quiet.ensures.read.left t ∙ ap (λ (items : List Item). quiet ∷ items) (sym (w.report.ensures.link.wrote.left t))) (c.silent_after-silent.ensures ∙ ap (λ (n : ℕ). silent_after c.loop.silent n) w.read-is) (λ limits. subst (λ (i : IdleLimits). IsInTime i c.loop.desk.attending.user c.loop.silent) (c.idle-limits.ensures ∙ ap (λ (s : Contents). s.idle) c.deref.ensures) (c.is_idle.ensures.awake c.if-is_idle.false limits)) c.loop.invariant.idles;
       })
     ]
 
@@ -261,10 +290,17 @@ returns-in-Cut-report g c =
       spent = λ is. write_no _ is refl;
       few = few_more _ _ _ _ _ _ c.loop.invariant.counted c.in-Quiet.ensures.read.reads c.report.ensures.link.wrote.reads c.loop-test.true;
       asked = are_entered_beside g.G.Gate.asked g.G.Gate.asked_on g.G.Gate.unasked c.args.desk.now.seat c.loop.desk.seat c.args.desk.now.users.seat c.args.gate.now c.loop.gate _ _ _ _ c.loop.invariant.asked refl c.loop.invariant.seat (ap (λ (u : UserDesk g.row.U.Denot). u.seat.seen) c.report.ensures.users) c.report.ensures.entered;
+      noted = noted_beside (arc_value c.args.desk.now.shelf) (telling g.K.Link.told g.C.Timestamps.told g.C.Timestamps.stamped) (stood (g.K.Link.state c.args.link.now) (g.C.Timestamps.coming c.args.clock.now) c.args.desk.now.seat c.args.desk.now.users.seat c.args.desk.now.attending) (stood _ (g.C.Timestamps.coming c.loop.clock) c.loop.desk.seat c.loop.desk.users.seat c.loop.desk.attending) (stood (g.K.Link.state c.report.new.link) (g.C.Timestamps.coming c.report.new.clock) c.report.new.desk.seat c.report.new.desk.users.seat c.report.new.desk.attending) (g.N.Notes.noted c.args.notes.now c.loop.notes) (noted_read (arc_value c.args.desk.now.shelf) (telling g.K.Link.told g.C.Timestamps.told g.C.Timestamps.stamped) (stood (g.K.Link.state c.args.link.now) (g.C.Timestamps.coming c.args.clock.now) c.args.desk.now.seat c.args.desk.now.users.seat c.args.desk.now.attending) (g.K.Link.state c.loop.link) _ (g.C.Timestamps.coming c.loop.clock) c.loop.desk.seat c.loop.desk.users.seat c.loop.desk.attending (g.N.Notes.noted c.args.notes.now c.loop.notes) _ _ c.loop.invariant.noted c.in-Quiet.ensures.read) (beside_reports g.K.Link.told (stood _ (g.C.Timestamps.coming c.loop.clock) c.loop.desk.seat c.loop.desk.users.seat c.loop.desk.attending) (stood (g.K.Link.state c.report.new.link) (g.C.Timestamps.coming c.report.new.clock) c.report.new.desk.seat c.report.new.desk.users.seat c.report.new.desk.attending) c.report.ensures.link c.report.ensures.seat (ap (λ (u : UserDesk g.row.U.Denot). u.seat) c.report.ensures.users) c.report.ensures.looked c.report.ensures.user);
       unattended = λ is. write_no _ is refl;
       attended = λ endless is. write_no _ is refl;
+      idle = λ is. write_no _ is refl;
+      endless = λ endless is. write_no _ is refl;
       let_go = λ limits. let_go_behind (c.args.patience ≡ Limited) (language_for c.args.desk.now.attending.user (arc_value c.args.desk.now.shelf)) g.K.Link.begun g.K.Link.told g.C.Timestamps.told (g.K.Link.state c.args.link.now) (g.C.Timestamps.coming c.args.clock.now) c.args.desk.now.seat c.args.desk.now.users.seat (g.K.Link.state c.loop.link) (g.K.Link.state c.report.new.link) _ (g.C.Timestamps.coming c.loop.clock) (now c.loop.desk) c.loop.desk.reader c.in-Quiet.ensures.begun c.loop.invariant.stands c.in-Quiet.ensures.read.reads c.report.ensures.link.wrote.reads c.loop.counter c.loop.waited (c.is_over.ensures.lasts c.if-is_over.false) c.loop.invariant.waits limits;
+      awake = λ limits. awake_behind (c.args.patience ≡ Limited) ((arc_value c.args.desk.now.shelf).idle) (language_for c.args.desk.now.attending.user (arc_value c.args.desk.now.shelf)) g.K.Link.begun g.K.Link.told g.C.Timestamps.told (g.K.Link.state c.args.link.now) (g.C.Timestamps.coming c.args.clock.now) c.args.desk.now.seat c.args.desk.now.users.seat (g.K.Link.state c.loop.link) (g.K.Link.state c.report.new.link) _ (g.C.Timestamps.coming c.loop.clock) (now c.loop.desk) c.loop.desk.reader c.in-Quiet.ensures.begun c.loop.invariant.stands c.in-Quiet.ensures.read.reads c.report.ensures.link.wrote.reads c.loop.counter c.loop.silent (subst (λ (i : IdleLimits). IsInTime i c.loop.desk.attending.user c.loop.silent) (c.idle-limits.ensures ∙ ap (λ (s : Contents). s.idle) c.deref.ensures) (c.is_idle.ensures.awake c.if-is_idle.false limits)) c.loop.invariant.idles;
     }
+
+pub returns-clause-noted : goal.returns-clause-noted
+returns-clause-noted g c = c.loop.invariant.noted
 
 pub returns-clause-asked : goal.returns-clause-asked
 returns-clause-asked g c = c.loop.invariant.asked
@@ -305,8 +341,49 @@ returns-then-is_over g c =
       spent = λ is. unattended_no _ is refl;
       few = few_here _ _ _ _ i.counted c.loop-test.true;
       asked = i.asked;
+      noted = i.noted;
       unattended = λ is. unattended_at (c.args.patience ≡ Limited) (language_for c.args.desk.now.attending.user (arc_value c.args.desk.now.shelf)) g.K.Link.begun g.K.Link.told g.C.Timestamps.told (g.K.Link.state c.args.link.now) (g.C.Timestamps.coming c.args.clock.now) c.args.desk.now.seat c.args.desk.now.users.seat (g.K.Link.state c.loop.link) c.loop.counter c.loop.waited i.counted over.2 i.waits;
       attended = λ endless is. both_no (sym over.0 ∙ endless);
+      idle = λ is. unattended_no _ is refl;
+      endless = λ endless is. unattended_no _ is refl;
+      awake = i.idles.awake;
+      let_go = λ limits. let_go_here (c.args.patience ≡ Limited) (language_for c.args.desk.now.attending.user (arc_value c.args.desk.now.shelf)) g.K.Link.begun g.K.Link.told g.C.Timestamps.told (g.K.Link.state c.args.link.now) (g.C.Timestamps.coming c.args.clock.now) c.args.desk.now.seat c.args.desk.now.users.seat (g.K.Link.state c.loop.link) c.loop.counter c.loop.waited i.waits limits;
+    }
+
+pub returns-then-is_idle : goal.returns-then-is_idle
+returns-then-is_idle g c =
+    let h = c.seen.ensures.history in
+    let p = c.seen-2.ensures.history in
+    let seat = c.args.desk.now.seat in
+    let b : Beginning = record { opening = seat.opening; users = c.args.desk.now.users.seat.opening; place = seat.place; before = h.0; users_before = p.0 } in
+    let i = c.loop.invariant in
+    let idle = c.is_idle.ensures.idle c.if-is_idle.true in
+    let long = subst (λ (l : IdleLimits). IsTooLong l c.loop.desk.attending.user c.loop.silent) (c.idle-limits.ensures ∙ ap (λ (s : Contents). s.idle) c.deref.ensures) idle.1 in
+    record {
+      shelf = i.shelf;
+      hung_up = i.hung_up;
+      seat = i.seat;
+      users = i.users;
+      session = record { before = h.0; users_before = p.0; saw = h.1; users_saw = p.1; attending = c.loop.desk.attending; session = served_here _ _ _ _ _ _ _ _ _ _ (i.stands b (refl, refl, refl, c.args.desk.now.same_place) h.1 p.1) };
+      prompt = i.prompt;
+      timely = i.timely;
+      end = ((λ is. idle_no _ is refl), (λ ended. unheld _ (i.not_ended (some_silent ((arc_value c.args.desk.now.shelf).idle) c.loop.desk.attending.user c.loop.counter c.loop.silent long i.idles.few)) ended));
+      all_read = λ t is. idle_no _ is refl;
+      read_fault = λ is. idle_no _ is refl;
+      no_read_fault = λ is. i.faults;
+      write_fault = λ is. idle_no _ is refl;
+      stopped = λ is. idle_no _ is refl;
+      unstopped = λ is. i.gate;
+      later = stayed _ _ i.gate;
+      spent = λ is. idle_no _ is refl;
+      few = few_here _ _ _ _ i.counted c.loop-test.true;
+      asked = i.asked;
+      noted = i.noted;
+      unattended = λ is. idle_no _ is refl;
+      attended = λ endless is. idle_no _ is refl;
+      idle = λ is. idle_at (c.args.patience ≡ Limited) ((arc_value c.args.desk.now.shelf).idle) (language_for c.args.desk.now.attending.user (arc_value c.args.desk.now.shelf)) g.K.Link.begun g.K.Link.told g.C.Timestamps.told (g.K.Link.state c.args.link.now) (g.C.Timestamps.coming c.args.clock.now) c.args.desk.now.seat c.args.desk.now.users.seat (g.K.Link.state c.loop.link) c.loop.desk.attending.user c.loop.counter c.loop.silent long i.idles;
+      awake = i.idles.awake;
+      endless = λ endless is. both_no (sym idle.0 ∙ endless);
       let_go = λ limits. let_go_here (c.args.patience ≡ Limited) (language_for c.args.desk.now.attending.user (arc_value c.args.desk.now.shelf)) g.K.Link.begun g.K.Link.told g.C.Timestamps.told (g.K.Link.state c.args.link.now) (g.C.Timestamps.coming c.args.clock.now) c.args.desk.now.seat c.args.desk.now.users.seat (g.K.Link.state c.loop.link) c.loop.counter c.loop.waited i.waits limits;
     }
 
@@ -318,3 +395,12 @@ returns-clause-attended g c = λ endless is. spent_no _ is refl
 
 pub returns-clause-let_go : goal.returns-clause-let_go
 returns-clause-let_go g c = λ limits. let_go_here (c.args.patience ≡ Limited) (language_for c.args.desk.now.attending.user (arc_value c.args.desk.now.shelf)) g.K.Link.begun g.K.Link.told g.C.Timestamps.told (g.K.Link.state c.args.link.now) (g.C.Timestamps.coming c.args.clock.now) c.args.desk.now.seat c.args.desk.now.users.seat (g.K.Link.state c.loop.link) c.loop.counter c.loop.waited c.loop.invariant.waits limits
+
+pub returns-clause-idle : goal.returns-clause-idle
+returns-clause-idle g c = λ is. spent_no _ is refl
+
+pub returns-clause-endless : goal.returns-clause-endless
+returns-clause-endless g c = λ endless is. spent_no _ is refl
+
+pub returns-clause-awake : goal.returns-clause-awake
+returns-clause-awake g c = c.loop.invariant.idles.awake

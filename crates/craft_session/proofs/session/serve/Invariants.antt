@@ -7,11 +7,13 @@ use Rattle.xc_core.specs.Seeing.{Saw}
 use Rattle.craft_session.specs.Desks.{now}
 use Rattle.craft_session.specs.Gated.{AreEntered}
 use Rattle.craft_session.specs.Meanings.{language_for}
+use Rattle.craft_session.specs.Noted.{HasNoted, stood}
 use Rattle.craft_session.specs.Seats.{IsSameSeat, IsSameUserSeat}
 use Rattle.craft_session.specs.Sessions.{Beginning, IsAt, IsPrompt, Stands}
 use Rattle.craft_session.specs.Stamps.{stamp_at}
 use Rattle.craft_session.specs.Timely.{WasTimely, reached, telling}
 use Rattle.craft_session.specs.declared.patience.Patience.TheVariants.{Limited}
+use Rattle.craft_session.proofs.Idling.{Idles}
 use Rattle.craft_session.proofs.Waiting.{Waits}
 use Rattle.craft_session.proofs.session.serve.Given as goal
 
@@ -33,5 +35,7 @@ invariant-loop g l =
       hung_up : g.K.Link.hung_up l.link ≡ g.K.Link.hung_up l.fn.link;
       room : 0 < length l.piece;
       asked : AreEntered l.fn.desk.seat l.fn.desk.users.seat (g.G.Gate.asked l.fn.gate l.gate) l.desk.seat.seen l.desk.users.seat.seen;
+      noted : HasNoted (arc_value l.fn.desk.shelf) (telling g.K.Link.told g.C.Timestamps.told g.C.Timestamps.stamped) (stood (state l.fn.link) (coming l.fn.clock) l.fn.desk.seat l.fn.desk.users.seat l.fn.desk.attending) (stood (state l.link) (coming l.clock) l.desk.seat l.desk.users.seat l.desk.attending) (g.N.Notes.noted l.fn.notes l.notes);
       waits : Waits (l.fn.patience ≡ Limited) (language_for l.fn.desk.attending.user (arc_value l.fn.desk.shelf)) g.K.Link.begun g.K.Link.told g.C.Timestamps.told (state l.fn.link) (coming l.fn.clock) l.fn.desk.seat l.fn.desk.users.seat (state l.link) l.counter l.waited;
+      idles : Idles (l.fn.patience ≡ Limited) ((arc_value l.fn.desk.shelf).idle) (language_for l.fn.desk.attending.user (arc_value l.fn.desk.shelf)) g.K.Link.begun g.K.Link.told g.C.Timestamps.told (state l.fn.link) (coming l.fn.clock) l.fn.desk.seat l.fn.desk.users.seat (state l.link) l.desk.attending.user l.counter l.silent;
     }

@@ -1,69 +1,31 @@
-use Rattle.std.proofs.Common.{◌+◌, false, ℕ, List, [], drop, length, length-drop, ap, refl, ◌∙◌, arith, subst}
-use Rattle.std.proofs.lemmas.List.{take_rest}
+use Rattle.std.proofs.Common.{◌∙◌, ℕ, List, false, subst, arith}
+use Rattle.std.proofs.lemmas.Grind.{common_steps}
 use Rattle.std.specs.Arc.{arc_value}
-use Rattle.dxc_outside.specs.declared.clock.Moment.{Moment}
-use Rattle.dxc_outside.specs.Links.{LinkState}
-use Rattle.dxc_model.specs.declared.user.SessionUser.{SessionUser}
-use Rattle.shelf_file.specs.Contents.{Contents}
+use Rattle.tl1_text.specs.declared.reader.UnitKind.TheVariants.{More}
 use Rattle.craft_session.specs.Desks.{now}
 use Rattle.craft_session.specs.Meanings.{language_for}
-use Rattle.craft_session.specs.Sessions.{Beginning, Goes, IsAt, Stands}
-use Rattle.craft_session.specs.Timely.{in_hand, starting, telling}
-use Rattle.craft_session.proofs.Ends.{later_behind, on_goes, rose_behind}
-use Rattle.craft_session.proofs.Gated.{are_entered_none, are_entered_on}
-use Rattle.craft_session.proofs.SessionSteps.{stands_on, goes_on_is, goes_ended_is, writes_none, writes_more}
-use Rattle.craft_session.proofs.Timely.{timely_more, timely_moved, timely_none, went_to}
+use Rattle.craft_session.specs.Sessions.{Stands}
+use Rattle.craft_session.specs.Stamps.{stamp_at}
+use Rattle.craft_session.specs.Timely.{IsTimelyFrom, in_hand, reached, telling}
+use Rattle.craft_session.proofs.Forgetting.{goes_forgot}
 use Rattle.craft_session.proofs.session.serve_piece.Goals as goal
 
-pub loop-at-init : goal.loop-at-init
-loop-at-init g c = record { hung_up = refl; shelf = refl; seat = (refl, refl, refl, refl); users = (refl, refl, refl, refl); link = writes_none _ _; gate = refl; within = omega arith; asked = are_entered_none c.args.desk.now.seat c.args.desk.now.users.seat (g.G.Gate.asked c.args.gate.now c.args.gate.now) (g.G.Gate.unasked c.args.gate.now); stands = λ user k c1 b at s. s; timely = λ user k c1 b at s. timely_none (language_for user (arc_value c.args.desk.now.shelf)) (telling g.K.Link.told g.C.Timestamps.told g.C.Timestamps.stamped) (starting k c1 b) (g.K.Link.state c.args.link.now) _ refl }
-
-pub loop-at-preserved : goal.loop-at-preserved
-loop-at-preserved g c =
-    let piece : List ℕ = c.args.piece.now in
-    let offer = take_rest piece c.loop-at.at in
-    let goes = subst (λ (y : Contents). (user : SessionUser) (k : LinkState) (c2 : List Moment) (b : Beginning) (ahead : List ℕ) → IsAt b c.loop-at.desk.seat c.loop-at.desk.users.seat → Stands (language_for user y) g.K.Link.told g.C.Timestamps.told k (g.K.Link.state c.loop-at.link) c2 (g.C.Timestamps.coming c.loop-at.clock) b (record { seen = c.loop-at.desk.seat.seen; users = c.loop-at.desk.users.seat.seen; attending = c.loop-at.desk.attending }) false c.feed-fed.result.unit c.feed-fed.new.self ahead
-    → Goes (language_for user y) g.K.Link.told g.C.Timestamps.told k (g.K.Link.state c.serve_unit.new.link) c2 (g.C.Timestamps.coming c.serve_unit.new.clock) b (now c.serve_unit.new.desk) c.serve_unit.result false c.feed-fed.new.self ahead) (ap arc_value c.loop-at.invariant.shelf) c.serve_unit.ensures.goes in
-    record {
-      shelf = c.serve_unit.ensures.shelf ∙ c.loop-at.invariant.shelf;
-      seat = (c.serve_unit.ensures.seat.0 ∙ c.loop-at.invariant.seat.0, c.serve_unit.ensures.seat.1 ∙ c.loop-at.invariant.seat.1, c.serve_unit.ensures.seat.2 ∙ c.loop-at.invariant.seat.2, c.serve_unit.ensures.seat.3 ∙ c.loop-at.invariant.seat.3);
-      users = (c.serve_unit.ensures.users.0 ∙ c.loop-at.invariant.users.0, c.serve_unit.ensures.users.1 ∙ c.loop-at.invariant.users.1, c.serve_unit.ensures.users.2 ∙ c.loop-at.invariant.users.2, c.serve_unit.ensures.users.3 ∙ c.loop-at.invariant.users.3);
-      link = writes_more _ _ _ _ c.loop-at.invariant.link c.serve_unit.ensures.link;
-      hung_up = c.serve_unit.ensures.hung_up ∙ c.loop-at.invariant.hung_up;
-      gate = c.serve_unit.ensures.unstopped (on_goes _ c.in-On.is) ∙ c.loop-at.invariant.gate;
-      within = omega (arith, c.feed-fed.ensures.within, ap length offer, length-drop c.loop-at.at piece, c.loop-at.invariant.within);
-      asked = are_entered_on g.G.Gate.asked g.G.Gate.asked_on c.args.desk.now.seat c.loop-at.desk.seat c.args.desk.now.users.seat c.loop-at.desk.users.seat c.args.gate.now c.loop-at.gate c.serve_unit.new.gate _ _ c.loop-at.invariant.asked c.loop-at.invariant.seat c.loop-at.invariant.users c.serve_unit.ensures.asked;
-      timely = λ user k c1 b at s.
-          timely_more (language_for user (arc_value c.args.desk.now.shelf)) (telling g.K.Link.told g.C.Timestamps.told g.C.Timestamps.stamped) (starting k c1 b) (g.K.Link.state c.args.link.now) (g.K.Link.state c.loop-at.link) c.loop-at.desk.seat.seen c.loop-at.desk.users.seat.seen (c.loop-at.invariant.timely user k c1 b at s) _
-          (timely_moved arc_value (telling g.K.Link.told g.C.Timestamps.told g.C.Timestamps.stamped) (g.C.Timestamps.coming c.loop-at.clock) (g.K.Link.state c.loop-at.link) _ (in_hand c.loop-at.desk.attending false c.feed-fed.result.unit c.feed-fed.new.self (drop (c.loop-at.at + c.feed-fed.result.taken) c.args.piece.now)) c.args.desk.now.shelf c.loop-at.desk.shelf c.args.desk.now.seat c.loop-at.desk.seat c.args.desk.now.users.seat c.loop-at.desk.users.seat c.loop-at.invariant.shelf c.loop-at.invariant.seat c.loop-at.invariant.users (c.serve_unit.ensures.timely (drop (c.loop-at.at + c.feed-fed.result.taken) c.args.piece.now)) user k c1 b at
-          (stands_on (language_for user (arc_value c.args.desk.now.shelf)) g.K.Link.told g.C.Timestamps.told k c1 b (g.K.Link.state c.loop-at.link) (g.C.Timestamps.coming c.loop-at.clock) (record { seen = c.loop-at.desk.seat.seen; users = c.loop-at.desk.users.seat.seen; attending = c.loop-at.desk.attending }) c.loop-at.desk.reader c.args.piece.now _ c.loop-at.at c.feed-fed.result c.feed-fed.new.self (c.loop-at.invariant.stands user k c1 b at s) (take_rest c.args.piece.now c.loop-at.at) c.feed-fed.ensures.fed))
-          (went_to g.K.Link.told b (g.K.Link.state c.loop-at.link) (g.K.Link.state c.serve_unit.new.link) c.loop-at.desk.seat c.loop-at.desk.users.seat (c.loop-at.invariant.seat.0 ∙ at.0, c.loop-at.invariant.seat.1 ∙ at.1, c.loop-at.invariant.users.0 ∙ at.2, c.loop-at.invariant.users.1 ∙ at.3) c.serve_unit.ensures.link _ _ _ c.serve_unit.ensures.asked);
-      stands = λ user k c1 b at s. rw c.serve_unit.ensures.reader (goes_on_is (language_for user (arc_value c.args.desk.now.shelf)) g.K.Link.told g.C.Timestamps.told k c1 b (g.K.Link.state c.serve_unit.new.link) (g.C.Timestamps.coming c.serve_unit.new.clock) (now c.serve_unit.new.desk) c.feed-fed.new.self c.serve_unit.result _ c.in-On.is (goes user k c1 b (drop (c.loop-at.at + c.feed-fed.result.taken) c.args.piece.now) (c.loop-at.invariant.seat.0 ∙ at.0, c.loop-at.invariant.seat.1 ∙ at.1, c.loop-at.invariant.users.0 ∙ at.2, c.loop-at.invariant.users.1 ∙ at.3)
-          (stands_on (language_for user (arc_value c.args.desk.now.shelf)) g.K.Link.told g.C.Timestamps.told k c1 b (g.K.Link.state c.loop-at.link) (g.C.Timestamps.coming c.loop-at.clock) (record { seen = c.loop-at.desk.seat.seen; users = c.loop-at.desk.users.seat.seen; attending = c.loop-at.desk.attending }) c.loop-at.desk.reader c.args.piece.now _ c.loop-at.at c.feed-fed.result c.feed-fed.new.self (c.loop-at.invariant.stands user k c1 b at s) (take_rest c.args.piece.now c.loop-at.at) c.feed-fed.ensures.fed)));
-    }
-
-pub returns-in_default : goal.returns-in_default
-returns-in_default g c =
-    let k = c.loop-at.invariant in
-    let u = c.serve_unit.ensures in
-    record {
-      shelf = u.shelf ∙ k.shelf;
-      seat = (u.seat.0 ∙ k.seat.0, u.seat.1 ∙ k.seat.1, u.seat.2 ∙ k.seat.2, u.seat.3 ∙ k.seat.3);
-      users = (u.users.0 ∙ k.users.0, u.users.1 ∙ k.users.1, u.users.2 ∙ k.users.2, u.users.3 ∙ k.users.3);
-      link = writes_more _ _ _ _ k.link u.link;
-      hung_up = u.hung_up ∙ k.hung_up;
-      stopped = λ is. rose_behind _ _ _ k.gate (u.stopped is);
-      unstopped = λ not. u.unstopped not ∙ k.gate;
-      later = later_behind _ _ _ k.gate u.later;
-      asked = are_entered_on g.G.Gate.asked g.G.Gate.asked_on c.args.desk.now.seat c.loop-at.desk.seat c.args.desk.now.users.seat c.loop-at.desk.users.seat c.args.gate.now c.loop-at.gate c.serve_unit.new.gate _ _ c.loop-at.invariant.asked c.loop-at.invariant.seat c.loop-at.invariant.users c.serve_unit.ensures.asked;
-      timely = λ user k c1 b at s.
-          timely_more (language_for user (arc_value c.args.desk.now.shelf)) (telling g.K.Link.told g.C.Timestamps.told g.C.Timestamps.stamped) (starting k c1 b) (g.K.Link.state c.args.link.now) (g.K.Link.state c.loop-at.link) c.loop-at.desk.seat.seen c.loop-at.desk.users.seat.seen (c.loop-at.invariant.timely user k c1 b at s) _
-          (timely_moved arc_value (telling g.K.Link.told g.C.Timestamps.told g.C.Timestamps.stamped) (g.C.Timestamps.coming c.loop-at.clock) (g.K.Link.state c.loop-at.link) _ (in_hand c.loop-at.desk.attending false c.feed-fed.result.unit c.feed-fed.new.self (drop (c.loop-at.at + c.feed-fed.result.taken) c.args.piece.now)) c.args.desk.now.shelf c.loop-at.desk.shelf c.args.desk.now.seat c.loop-at.desk.seat c.args.desk.now.users.seat c.loop-at.desk.users.seat c.loop-at.invariant.shelf c.loop-at.invariant.seat c.loop-at.invariant.users (c.serve_unit.ensures.timely (drop (c.loop-at.at + c.feed-fed.result.taken) c.args.piece.now)) user k c1 b at
-          (stands_on (language_for user (arc_value c.args.desk.now.shelf)) g.K.Link.told g.C.Timestamps.told k c1 b (g.K.Link.state c.loop-at.link) (g.C.Timestamps.coming c.loop-at.clock) (record { seen = c.loop-at.desk.seat.seen; users = c.loop-at.desk.users.seat.seen; attending = c.loop-at.desk.attending }) c.loop-at.desk.reader c.args.piece.now _ c.loop-at.at c.feed-fed.result c.feed-fed.new.self (c.loop-at.invariant.stands user k c1 b at s) (take_rest c.args.piece.now c.loop-at.at) c.feed-fed.ensures.fed))
-          (went_to g.K.Link.told b (g.K.Link.state c.loop-at.link) (g.K.Link.state c.serve_unit.new.link) c.loop-at.desk.seat c.loop-at.desk.users.seat (c.loop-at.invariant.seat.0 ∙ at.0, c.loop-at.invariant.seat.1 ∙ at.1, c.loop-at.invariant.users.0 ∙ at.2, c.loop-at.invariant.users.1 ∙ at.3) c.serve_unit.ensures.link _ _ _ c.serve_unit.ensures.asked);
-      goes = λ user k c1 b at s.
-          let goes = subst (λ (y : Contents). (user : SessionUser) (k : LinkState) (c2 : List Moment) (b : Beginning) (ahead : List ℕ) → IsAt b c.loop-at.desk.seat c.loop-at.desk.users.seat → Stands (language_for user y) g.K.Link.told g.C.Timestamps.told k (g.K.Link.state c.loop-at.link) c2 (g.C.Timestamps.coming c.loop-at.clock) b (record { seen = c.loop-at.desk.seat.seen; users = c.loop-at.desk.users.seat.seen; attending = c.loop-at.desk.attending }) false c.feed-fed.result.unit c.feed-fed.new.self ahead
-          → Goes (language_for user y) g.K.Link.told g.C.Timestamps.told k (g.K.Link.state c.serve_unit.new.link) c2 (g.C.Timestamps.coming c.serve_unit.new.clock) b (now c.serve_unit.new.desk) c.serve_unit.result false c.feed-fed.new.self ahead) (ap arc_value c.loop-at.invariant.shelf) c.serve_unit.ensures.goes in
-          goes_ended_is (language_for user (arc_value c.args.desk.now.shelf)) g.K.Link.told g.C.Timestamps.told k c1 b (g.K.Link.state c.serve_unit.new.link) (g.C.Timestamps.coming c.serve_unit.new.clock) (now c.serve_unit.new.desk) c.feed-fed.new.self c.serve_unit.result false false c.serve_unit.new.desk.reader _ [] (λ is. c.in_default.not-On is) (goes user k c1 b (drop (c.loop-at.at + c.feed-fed.result.taken) c.args.piece.now) (c.loop-at.invariant.seat.0 ∙ at.0, c.loop-at.invariant.seat.1 ∙ at.1, c.loop-at.invariant.users.0 ∙ at.2, c.loop-at.invariant.users.1 ∙ at.3)
-          (stands_on (language_for user (arc_value c.args.desk.now.shelf)) g.K.Link.told g.C.Timestamps.told k c1 b (g.K.Link.state c.loop-at.link) (g.C.Timestamps.coming c.loop-at.clock) (record { seen = c.loop-at.desk.seat.seen; users = c.loop-at.desk.users.seat.seen; attending = c.loop-at.desk.attending }) c.loop-at.desk.reader c.args.piece.now _ c.loop-at.at c.feed-fed.result c.feed-fed.new.self (c.loop-at.invariant.stands user k c1 b at s) (take_rest c.args.piece.now c.loop-at.at) c.feed-fed.ensures.fed));
-    }
+pub returns : goal.returns
+returns g c =
+    let s = c.serve_units-progress.ensures in
+    rw (c.forget.ensures.seat, c.forget.ensures.users, c.forget.ensures.attending) (record {
+      length = c.forget.ensures.length;
+      shelf = c.forget.ensures.shelf ∙ s.shelf;
+      seat = s.seat;
+      users = s.users;
+      link = s.link;
+      hung_up = s.hung_up;
+      goes = λ first k c1 b at stands. goes_forgot _ _ _ _ _ _ _ _ _ _ _ _ _ _ c.forget.ensures.hand (s.goes first k c1 b at
+          (subst (λ (p : List ℕ). Stands (language_for first (arc_value c.args.desk.now.shelf)) g.K.Link.told g.C.Timestamps.told k (g.K.Link.state c.args.link.now) c1 (g.C.Timestamps.coming c.args.clock.now) b (now c.args.desk.now) false More c.args.desk.now.reader p) (grind (arith, common_steps)) stands));
+      timely = subst (λ (p : List ℕ). IsTimelyFrom (arc_value c.args.desk.now.shelf) (telling g.K.Link.told g.C.Timestamps.told g.C.Timestamps.stamped) (stamp_at (g.C.Timestamps.coming c.args.clock.now) (g.K.Link.state c.args.link.now) c.args.desk.now.seat c.args.desk.now.users.seat) (in_hand c.args.desk.now.attending false More c.args.desk.now.reader p) (reached (g.K.Link.state c.serve_units-progress.new.link).written c.serve_units-progress.new.desk.seat.seen c.serve_units-progress.new.desk.users.seat.seen)) (grind (arith, common_steps)) s.timely;
+      stopped = s.stopped;
+      unstopped = s.unstopped;
+      later = s.later;
+      asked = s.asked;
+      noted = s.noted;
+    })

@@ -9,4 +9,4 @@ pub invariant_of-result : goal.invariant_of-result
 invariant_of-result c =
     let user = c.trial_user.result in
     let kept = c.in_ok-push.ensures.items ∙ ap (λ (us : List User). us ++ user ∷ []) c.new-users.ensures.items in
-    trial_kept _ _ _ _ (ap entries_of kept ∙ ap (λ (e : UserEntry). e ∷ []) c.trial_user.ensures) (subst (λ (n : ℕ). c.all_marks.result < 2 ^ n) c.modules.ensures.value c.all_marks.ensures.below)
+    trial_kept _ _ _ _ _ (ap entries_of kept ∙ ap (λ (e : UserEntry). e ∷ []) c.trial_user.ensures) (subst (λ (n : ℕ). c.all_marks.result < 2 ^ n) c.modules.ensures.value c.all_marks.ensures.below)

@@ -1,0 +1,126 @@
+//! What a session notes of a unit, after what came of it.
+ghost use Rattle.std.specs.Prelude.{◌≡◌, List};
+ghost use Rattle.dxc_model.specs.declared.conn.Conn.{Conn};
+ghost use Rattle.craft_session.specs.Asks.{reply_of};
+ghost use Rattle.craft_session.specs.Noted.{command_notes, name_of as user_name, notes_of, port_at as port_in, refusal_notes, what_of as what_is, word_of as word_in};
+
+use crate::ask::{Acted, Ask};
+use dxc_model::{Cause, Op, SessionUser};
+use dxc_notes::{Command, Note, Notes, Outcome, PortAt, What, Word};
+use dxc_num::{Port, Shape};
+use tl1_text::Ctag;
+
+/// Notes what came of what a unit of this user asked, where that is noted. The ports are of this shape.
+#[inline(always)]
+pub(crate) fn note_unit<N: Notes>(
+    notes: &mut N,
+    shape: Shape,
+    user: &SessionUser,
+    tag: &Option<Ctag>,
+    ask: &Ask,
+    acted: &Acted,
+)
+    ensures { (rows : List Conn) → N.noted notes.old notes.new
+        (notes_of shape user.now tag.now ask.now (reply_of acted.now rows)) }
+{
+    match ask {
+        Ask::LogsIn(user) => notes.note(Note::LoggedIn(name_of(user))),
+        Ask::Refused(cause) => note_refusal(notes, *cause),
+        Ask::Restarts => note_command(notes, user, tag, What::Restart, acted),
+        Ask::Changes(op) => note_command(notes, user, tag, what_of(shape, op), acted),
+        Ask::LogsOut => {}
+        Ask::Completes => {}
+        Ask::Allows => {}
+        Ask::Inhibits => {}
+        Ask::Lists(_) => {}
+        Ask::Shows(_) => {}
+    }
+}
+
+// Of units that are refused for what they ask, a log-in's is noted.
+fn note_refusal<N: Notes>(notes: &mut N, cause: Cause)
+    ensures { N.noted notes.old notes.new (refusal_notes cause) }
+{
+    match cause {
+        Cause::BadIdentity => notes.note(Note::LogInDenied),
+        _ => {}
+    }
+}
+
+// A command that changes something, or restarts the controller.
+fn note_command<N: Notes>(
+    notes: &mut N,
+    user: &SessionUser,
+    tag: &Option<Ctag>,
+    what: What,
+    acted: &Acted,
+)
+    ensures { (rows : List Conn) → N.noted notes.old notes.new
+        (command_notes user.now tag.now what (reply_of acted.now rows)) }
+{
+    let outcome = match acted {
+        Acted::Denied(cause) => Outcome::Denied(*cause),
+        Acted::Completed => Outcome::Done,
+        Acted::Listed => Outcome::Done,
+        Acted::Shown(_, _) => Outcome::Done,
+        Acted::Restarted => Outcome::Done,
+    };
+    notes.note(Note::Asked(Command {
+        user: name_of(user),
+        tag: word_of(tag),
+        what,
+        outcome,
+    }));
+}
+
+fn word_of(tag: &Option<Ctag>) -> Word
+    ensures { result ≡ word_in tag.now }
+{
+    match tag {
+        Some(tag) => Word::of(tag.bytes()),
+        None => Word::of(b""),
+    }
+}
+
+fn name_of(user: &SessionUser) -> Word
+    ensures { result ≡ user_name user.now }
+{
+    match user {
+        SessionUser::Nobody => Word::of(b""),
+        SessionUser::User { uid, .. } => Word::of(uid.bytes()),
+    }
+}
+
+fn port_at(shape: Shape, port: Port) -> PortAt
+    ensures { result ≡ port_in shape port }
+{
+    PortAt {
+        module: shape.module_of(port),
+        slot: shape.slot_of(port),
+    }
+}
+
+fn what_of(shape: Shape, op: &Op) -> What
+    ensures { result ≡ what_is shape op.now }
+{
+    match op {
+        Op::Enter(conn) => What::Enter {
+            from: port_at(shape, conn.from),
+            to: port_at(shape, conn.to),
+        },
+        Op::Edit(conn) => What::Edit {
+            from: port_at(shape, conn.from),
+            to: port_at(shape, conn.to),
+        },
+        Op::Delete { from, to, .. } => What::Delete {
+            from: port_at(shape, *from),
+            to: port_at(shape, *to),
+        },
+        Op::EnterModule(module) => What::EnterModule(*module),
+        Op::DeleteModule(module) => What::DeleteModule(*module),
+        Op::TakeOut(middle) => What::TakeOut(middle.0),
+        Op::PutBack(middle) => What::PutBack(middle.0),
+        Op::Rows(_) | Op::Look(_) => What::Nothing,
+        Op::Restart => What::Restart,
+    }
+}
