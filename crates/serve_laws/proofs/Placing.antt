@@ -28,6 +28,8 @@ use Rattle.switch_laws.specs.Element.{ComesTo, Session}
 use Rattle.switch_laws.specs.Laws.{IsExcused, Lives, element}
 use Rattle.switch_laws.specs.Beginnings.{IsPlayedWith}
 use Rattle.switch_laws.specs.Users.{AreHeard, Hearing, Listens}
+use Rattle.switch_laws.specs.Orders.{ActsAlong, AnyEntry, ArePlayedInOrder, IsOrderOf}
+use Rattle.switch_laws.proofs.Along.{in_one_order}
 use Rattle.switch_laws.proofs.Beginning.{played_with}
 use Rattle.switch_laws.proofs.Following.{together}
 use Rattle.switch_laws.specs.Moments.{AreUsersThen}
@@ -40,7 +42,7 @@ use Rattle.serve_laws.specs.Jobs.{Done, IsServedAt, Job, Ran, World, links_of}
 use Rattle.serve_laws.specs.Timing.{MomentAt, WereWrittenThen}
 use Rattle.serve_laws.proofs.Homes.{nobody_holds, fresh_rests, rested_all, rests_along}
 use Rattle.serve_laws.proofs.Keepers.{nobody_keeps, rested_users, same_place, users_rest_along}
-use Rattle.serve_laws.proofs.Serving.{Lived, Step, all_along, heard_along, lived}
+use Rattle.serve_laws.proofs.Serving.{Lived, Step, all_along, both_along, heard_along, lived}
 use Rattle.serve_laws.proofs.Timing.{Allows}
 
 -- what a list has at a place, its image has there
@@ -118,11 +120,18 @@ module _ (w : World) (s : Contents) (o : Opening) (p : UsersOpening) (t : Turnst
     hearings_by k (inl lt) = (place_lived k lt).hearings
     hearings_by k (inr ge) = []
 
+    abbrev used_by : (k : ℕ) → (k < 16) ⊎ (16 ≤ k) → List AnyEntry
+    used_by k (inl lt) = (place_lived k lt).used
+    used_by k (inr ge) = []
+
     pub sessions : ℕ → List (Session Request Moment)
     sessions k = sessions_by k (compared k 16)
 
     pub hearings : ℕ → List (Hearing Request)
     hearings k = hearings_by k (compared k 16)
+
+    pub used : ℕ → List AnyEntry
+    used k = used_by k (compared k 16)
 
     -- what came of a job, and so much its links had been written by a moment
     pub record ServedThen (k : ℕ) (ss : List (Session Request Moment)) (hs : List (Hearing Request)) : Type 1 where
@@ -219,3 +228,20 @@ module _ (w : World) (s : Contents) (o : Opening) (p : UsersOpening) (t : Turnst
           let listens = λ (k : ℕ) (lt : k < 16). subst (λ (g : List UserEntry). Listens (language s) k p g (hearings k)) is (listens_each k lt) in
           let all = subst (λ (g : List UserEntry). AllByRecursion (λ e. e.place < 16) g) is (numbered numbers) in
           users_then (language s) (IsTrue failing) p earlier later 16 hearings listens (subst (λ (g : List UserEntry). AreLegal p g) is legal) (subst (λ (g : List UserEntry). 1 ≤ failures g → IsTrue failing) is fails) (omega arith) all
+
+      -- and both in one order
+      module _ (h : List Entry) (table_seen : (k : ℕ) (q : PlaceAt) → slice_get lefts k ≡ Some q → HasSeen entry_coded.code place_of h k q.seat.seen) where
+        pub acts_each : (k : ℕ) → k < 16 → ActsAlong (language s) k o.first.fold.table p (began o.due) (began o.due ++ h) history (used k) (sessions k)
+        unfolding sessions used
+        acts_each k lt = elim (compared k 16) as (λ d. ActsAlong (language s) k o.first.fold.table p (began o.due) (began o.due ++ h) history (used_by k d) (sessions_by k d)) [
+          | inl below ↦ (let x = ran_at k below in both_along w.disk.told w.uses.clock w.office.link w.uses.gate s o k p (first_at k below) x.ran.served.callers (last_at k below) x.ran.served.served h left (place_lived k below) (table_seen k x.left x.left_is) (seen k x.left x.left_is))
+          | inr ge ↦ absurd (omega (arith, lt, ge))
+        ]
+
+        pub played_in_order : IsLegal (rules_of o) (began o.due ++ h) → Each (λ e. e.place < 16) h → AreLegal p history → Each (λ m. user_place_of m < 16) left
+            → (excused : Cause → Bool) → AllByRecursion (IsExcused (λ q. IsTrue (excused q))) (began o.due ++ h) → (failing : Bool) → (1 ≤ failures history → IsTrue failing)
+            → (order : List AnyEntry) → IsOrderOf h history 16 used order
+            → ArePlayedInOrder (language s) (LimitBehind o.first) (λ q. IsTrue (excused q)) (element o.first.fold.table (began o.due) (λ k. [])) p (IsTrue failing) o.first.fold.table (began o.due) order h history sessions
+        played_in_order legal numbers users_legal users_numbers excused all failing fails order is =
+            in_one_order (language s) (rules_of o) (λ q. IsTrue (excused q)) (began o.due) p (IsTrue failing) 16 h history used order sessions (omega arith)
+            (legal, all, within 16 o.due h (omega arith) numbers) (users_legal, fails, numbered users_numbers) acts_each none_beyond is

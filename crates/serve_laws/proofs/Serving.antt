@@ -31,6 +31,8 @@ use Rattle.craft_session.specs.Happenings.{Request, unit}
 use Rattle.craft_session.specs.Meanings.{language}
 use Rattle.craft_session.specs.Sessions.{Beginning, Breaks, Halts, IsSession, Now, Served}
 use Rattle.switch_laws.specs.Element.{Session, unanswered}
+use Rattle.switch_laws.specs.Orders.{ActsAlong, AnyEntry, nobody_acts, table_goes_on}
+use Rattle.switch_laws.proofs.Beside.{Parts, attended, cut_before, cut_short, parts, users_on_all}
 use Rattle.switch_laws.specs.Laws.{Lives, nobody_came, passed_on, served, session_in, stopped, stopped_at_users}
 use Rattle.craft_server.specs.Callers.{InTurn, ServedCaller, Standing, none_yet, one_more}
 use Rattle.turnstile.specs.Laws.{HasSeen}
@@ -57,14 +59,17 @@ record Came (l : Language Request Moment) (o : Opening) (own : ℕ) (told : Type
   pub listens : Listens l own us users_history (hearing ∷ hs)
   pub heard_in : IsHeardIn session hearing
   pub users_saw : Sees users_seen users_history
+  pub used : List AnyEntry
+  pub along : ActsAlong l own o.first.fold.table us (began o.due) history users_history used (session ∷ ss)
 
-module _ (l : Language Request Moment) (told clock_told : Type 0) (k j : LinkState) (c d : List Moment) (b : Beginning) (now : Now) (ss : List (Session Request Moment)) (lives : Lives l b.place b.opening.first.fold.table (began b.opening.due) b.before ss) (hs : List (Hearing Request)) (listens : Listens l b.place b.users b.users_before hs) where
+module _ (l : Language Request Moment) (told clock_told : Type 0) (k j : LinkState) (c d : List Moment) (b : Beginning) (now : Now) (ss : List (Session Request Moment)) (lives : Lives l b.place b.opening.first.fold.table (began b.opening.due) b.before ss) (hs : List (Hearing Request)) (listens : Listens l b.place b.users b.users_before hs) (used : List AnyEntry) (along : ActsAlong l b.place b.opening.first.fold.table b.users (began b.opening.due) b.before b.users_before used ss) (apart : Parts l) where
   abbrev Gone : Type 0
   Gone = Came l b.opening b.place told k j now.seen ss b.users now.users hs
 
   whole : Served l told clock_told k j c d b now → Gone
   whole x =
       let p = x.past in
+      let a = attended l b.place b.opening.first.fold.table b.users (began b.opening.due) apart b.before b.users_before used ss along p.walk p.run p.walk.happenings p.consulted.history p.walk.attending.user p.consulted.heard refl in
       record {
         history = p.walk.history;
         session = session_in p.walk;
@@ -86,11 +91,14 @@ module _ (l : Language Request Moment) (told clock_told : Type 0) (k j : LinkSta
         listens = consulted_on b.users_before p.consulted.history hs p.walk.happenings p.walk.attending.user p.consulted.heard listens;
         heard_in = inl refl;
         users_saw = (p.consulted.saw.marks, p.consulted.saw.codes_are, p.consulted.saw.entries_are);
+        used = a.used;
+        along = a.along;
       }
 
   broken : Breaks l told clock_told k j c d b now → Gone
   broken x =
       let p = x.past in
+      let a = attended l b.place b.opening.first.fold.table b.users (began b.opening.due) apart b.before b.users_before used ss along p.walk p.run p.walk.happenings p.consulted.history p.walk.attending.user p.consulted.heard refl in
       record {
         history = p.walk.history;
         session = session_in p.walk;
@@ -112,6 +120,8 @@ module _ (l : Language Request Moment) (told clock_told : Type 0) (k j : LinkSta
         listens = consulted_on b.users_before p.consulted.history hs p.walk.happenings p.walk.attending.user p.consulted.heard listens;
         heard_in = inl refl;
         users_saw = (p.consulted.saw.marks, p.consulted.saw.codes_are, p.consulted.saw.entries_are);
+        used = a.used;
+        along = a.along;
       }
 
   halted : Halts l told clock_told k j c d b now → Gone
@@ -130,7 +140,7 @@ module _ (l : Language Request Moment) (told clock_told : Type 0) (k j : LinkSta
         cut = inl refl;
       } in
       elim p.stopped [
-        | inl t ↦ record {
+        | inl t ↦ (let a = cut_short l b.place b.opening.first.fold.table b.users (began b.opening.due) apart b.before b.users_before used ss along w p.run p.looked p.last (w.happenings ++ unit p.last ∷ []) t.consulted.history (user_after w.attending.user (l.asks w.attending.user p.last)) t.consulted.heard refl t.stops.front t.stops.op t.stops.stands t.stops.cuts in record {
           history = _;
           session = unanswered p.last (session_in w);
           lives = stopped b.before ss w p.last t.stops.front t.stops.op p.run p.looked t.stops.stands t.stops.cuts lives;
@@ -141,8 +151,10 @@ module _ (l : Language Request Moment) (told clock_told : Type 0) (k j : LinkSta
           listens = consulted_on b.users_before t.consulted.history hs (w.happenings ++ unit p.last ∷ []) (user_after w.attending.user (l.asks w.attending.user p.last)) t.consulted.heard listens;
           heard_in = inl refl;
           users_saw = (t.consulted.saw.marks, t.consulted.saw.codes_are, t.consulted.saw.entries_are);
-        }
-        | inr t ↦ record {
+          used = a.0;
+          along = a.1;
+        })
+        | inr t ↦ (let a = cut_before l b.place b.opening.first.fold.table b.users (began b.opening.due) apart b.before b.users_before used ss along w p.run p.looked p.last t.consulted.history w.attending.user t.consulted.heard t.op t.wanted t.changing in record {
           history = w.history;
           session = unanswered p.last (session_in w);
           lives = stopped_at_users b.before ss w p.last t.op p.run p.looked t.wanted t.changing lives;
@@ -153,7 +165,9 @@ module _ (l : Language Request Moment) (told clock_told : Type 0) (k j : LinkSta
           listens = consulted_on b.users_before t.consulted.history hs w.happenings w.attending.user t.consulted.heard listens;
           heard_in = inr (p.last, refl);
           users_saw = (t.consulted.saw.marks, t.consulted.saw.codes_are, t.consulted.saw.entries_are);
-        }
+          used = a.0;
+          along = a.1;
+        })
       ]
 
   gone : (end : SessionEnd) → IsSession l told clock_told k j c d b now end → Gone
@@ -189,28 +203,35 @@ module _ (disk_told : Type 0) {C K G : Type 0} (clock : ClockOf C) (link : LinkO
     pub listens : Listens (language s) own us users_history hearings
     pub heard_in : AreHeardIn sessions hearings
     pub users_saw : Sees t.place.users.seen users_history
+    -- both in one, with the entries that they used
+    pub used : List AnyEntry
+    pub along : ActsAlong (language s) own o.first.fold.table us (began o.due) history users_history used sessions
     -- so much each link had been written by a moment, when the place had seen a beginning of this
     pub written_then : (m : MomentAt) → Allows link.told clock.stamped (language s) o own m → (rest more : List Gv) → t.place.seat.seen ++ rest ≡ m.seen ++ more → WereWrittenThen m link.state (links_in disk_told clock link gate first came t turns) sessions
 
   -- one caller more
   called : (t u : Standing G) (c : K) (x : Step t u c) (h : List Entry) (ss : List (Session Request Moment)) (g : List UserEntry) (hs : List (Hearing Request)) → Lives (language t.place.shelf) t.place.seat.place t.place.seat.opening.first.fold.table (began t.place.seat.opening.due) h ss
       → codes (began t.place.seat.opening.due) ++ t.place.seat.seen ≡ codes h → Listens (language t.place.shelf) t.place.seat.place t.place.users.opening g hs → Sees t.place.users.seen g
+      → (used : List AnyEntry) → ActsAlong (language t.place.shelf) t.place.seat.place t.place.seat.opening.first.fold.table t.place.users.opening (began t.place.seat.opening.due) h g used ss
       → Came (language t.place.shelf) t.place.seat.opening t.place.seat.place link.told (link.state c) (link.state x.left) u.place.seat.seen ss t.place.users.opening u.place.users.seen hs
-  called t u c x h ss g hs lives saw listens users_saw =
+  called t u c x h ss g hs lives saw listens users_saw used along =
       let v = x.session in
       let same : h ≡ v.before = same_codes h v.before (sym saw ∙ v.saw.codes_are) in
       let users_same : g ≡ v.users_before = sees_once t.place.users.seen g v.users_before users_saw (v.users_saw.marks, v.users_saw.codes_are, v.users_saw.entries_are) in
       let l = language t.place.shelf in
       let there : Lives l t.place.seat.place t.place.seat.opening.first.fold.table (began t.place.seat.opening.due) v.before ss = subst (λ (k : List Entry). Lives l t.place.seat.place t.place.seat.opening.first.fold.table (began t.place.seat.opening.due) k ss) same lives in
       let heard : Listens l t.place.seat.place t.place.users.opening v.users_before hs = subst (λ (k : List UserEntry). Listens l t.place.seat.place t.place.users.opening k hs) users_same listens in
+      let along_so : ActsAlong l t.place.seat.place t.place.seat.opening.first.fold.table t.place.users.opening (began t.place.seat.opening.due) v.before v.users_before used ss = subst (λ (k : List Entry × List UserEntry). ActsAlong l t.place.seat.place t.place.seat.opening.first.fold.table t.place.users.opening (began t.place.seat.opening.due) k.0 k.1 used ss) (λ i. (same i, users_same i)) along in
       gone l link.told clock.told (link.state c) (link.state x.left) t.moments u.moments (record { opening = t.place.seat.opening; users = t.place.users.opening; place = t.place.seat.place; before = v.before; users_before = v.users_before })
-      (record { seen = u.place.seat.seen; users = u.place.users.seen; attending = v.attending }) ss there hs heard x.end v.session
+      (record { seen = u.place.seat.seen; users = u.place.users.seen; attending = v.attending }) ss there hs heard used along_so (parts t.place.shelf) x.end v.session
 
   called_as : (s : Contents) (o : Opening) (own : ℕ) (us : UsersOpening) (t u : Standing G) (c : K) (x : Step t u c) (h : List Entry) (ss : List (Session Request Moment)) (g : List UserEntry) (hs : List (Hearing Request)) → IsOf s o own us t
       → Lives (language s) own o.first.fold.table (began o.due) h ss → codes (began o.due) ++ t.place.seat.seen ≡ codes h → Listens (language s) own us g hs → Sees t.place.users.seen g
+      → (used : List AnyEntry) → ActsAlong (language s) own o.first.fold.table us (began o.due) h g used ss
       → Came (language s) o own link.told (link.state c) (link.state x.left) u.place.seat.seen ss us u.place.users.seen hs
   called_as s o own us t u c x h ss g hs is =
       subst (λ (y : Contents × Opening × ℕ × UsersOpening). Lives (language y.0) y.2 y.1.first.fold.table (began y.1.due) h ss → codes (began y.1.due) ++ t.place.seat.seen ≡ codes h → Listens (language y.0) y.2 y.3 g hs → Sees t.place.users.seen g
+      → (used : List AnyEntry) → ActsAlong (language y.0) y.2 y.1.first.fold.table y.3 (began y.1.due) h g used ss
       → Came (language y.0) y.1 y.2 link.told (link.state c) (link.state x.left) u.place.seat.seen ss y.3 u.place.users.seen hs)
       (λ i. (is.0 i, is.1 i, is.2 i, is.3 i)) (called t u c x h ss g hs)
 
@@ -246,11 +267,13 @@ module _ (disk_told : Type 0) {C K G : Type 0} (clock : ClockOf C) (link : LinkO
     listens = nobody_asked;
     heard_in = tt;
     users_saw = ([], users_none, refl);
+    used = [];
+    along = nobody_acts;
     written_then = λ m a rest more ends. tt;
   }
   lived s o own us _ _ _ (one_more t m u ks c turns x) is none users_none =
       let so_far = lived s o own us t m ks turns is none users_none in
-      let now = called_as s o own us m u c x so_far.history so_far.sessions so_far.users_history so_far.hearings so_far.is so_far.lives so_far.saw so_far.listens so_far.users_saw in
+      let now = called_as s o own us m u c x so_far.history so_far.sessions so_far.users_history so_far.hearings so_far.is so_far.lives so_far.saw so_far.listens so_far.users_saw so_far.used so_far.along in
       record {
         history = now.history;
         sessions = now.session ∷ so_far.sessions;
@@ -263,6 +286,8 @@ module _ (disk_told : Type 0) {C K G : Type 0} (clock : ClockOf C) (link : LinkO
         listens = now.listens;
         heard_in = (now.heard_in, so_far.heard_in);
         users_saw = now.users_saw;
+        used = now.used;
+        along = now.along;
         written_then = λ w a rest more ends.
             let entered = x.gated x.session.before x.session.users_before x.session.saw x.session.users_saw in
             let on = saw_on m.place.seat.opening m.place.seat.seen u.place.seat.seen x.session.before entered.entries x.session.saw entered.saw in (
@@ -292,3 +317,22 @@ module _ (disk_told : Type 0) {C K G : Type 0} (clock : ClockOf C) (link : LinkO
       let here : x.users_history ≡ entries_of seen.begun = sees_once t.place.users.seen x.users_history (entries_of seen.begun) x.users_saw (seen.begun, seen.codes, refl) in
       let whole : x.users_history ++ entries_of seen.later ≡ entries_of left = ap (λ (g : List UserEntry). g ++ entries_of seen.later) here ∙ sym (entries_append seen.begun seen.later) ∙ ap entries_of seen.whole in
       subst (λ (g : List UserEntry). Listens (language s) own us g x.hearings) whole (others_asked_on (language s) own us x.users_history (entries_of seen.later) x.hearings x.listens (others_entries own seen.later seen.others))
+
+  table_on_all : (l : Language Request Moment) (own : ℕ) (t : Board) (us : UsersOpening) (past h more : List Entry) (g : List UserEntry) (used : List AnyEntry) (ss : List (Session Request Moment)) → ActsAlong l own t us past h g used ss → Each (λ e. e.place ≢ own) more → ActsAlong l own t us past (h ++ more) g used ss
+  table_on_all l own t us past h [] g used ss x others = subst (λ (k : List Entry). ActsAlong l own t us past k g used ss) (sym (append-nil h)) x
+  table_on_all l own t us past h (e ∷ es) g used ss x others = subst (λ (k : List Entry). ActsAlong l own t us past k g used ss) (append_assoc h (e ∷ []) es) (table_on_all l own t us past (h ++ e ∷ []) es g used ss (table_goes_on h g used ss e (inl others.0) x) others.1)
+
+  -- and both along the whole histories
+  pub both_along : (s : Contents) (o : Opening) (own : ℕ) (us : UsersOpening) (first : Standing G) (came : List K) (t : Standing G) (turns : InTurn Step first came t) (history : List Entry) (left : List UserMark) → (x : Lived s o own us first came t turns)
+      → HasSeen entry_coded.code place_of history own t.place.seat.seen → HasSeen user_coded.code user_place_of left own t.place.users.seen → ActsAlong (language s) own o.first.fold.table us (began o.due) (began o.due ++ history) (entries_of left) x.used x.sessions
+  both_along s o own us first came t turns history left x seen users_seen =
+      let past = began o.due in
+      let l = language s in
+      let board = o.first.fold.table in
+      let here : x.history ≡ past ++ seen.begun = same_codes x.history (past ++ seen.begun) (sym x.saw ∙ ap (λ (g : List Gv). codes past ++ g) seen.codes ∙ sym (map-append entry_coded.code past seen.begun)) in
+      let whole : x.history ++ seen.later ≡ past ++ history = ap (λ (g : List Entry). g ++ seen.later) here ∙ append_assoc past seen.begun seen.later ∙ ap (λ (g : List Entry). past ++ g) seen.whole in
+      let users_here : x.users_history ≡ entries_of users_seen.begun = sees_once t.place.users.seen x.users_history (entries_of users_seen.begun) x.users_saw (users_seen.begun, users_seen.codes, refl) in
+      let users_whole : x.users_history ++ entries_of users_seen.later ≡ entries_of left = ap (λ (g : List UserEntry). g ++ entries_of users_seen.later) users_here ∙ sym (entries_append users_seen.begun users_seen.later) ∙ ap entries_of users_seen.whole in
+      let on = table_on_all l own board us past x.history seen.later x.users_history x.used x.sessions x.along seen.others in
+      let both = users_on_all l own board us past (x.history ++ seen.later) x.users_history (entries_of users_seen.later) x.used x.sessions (others_entries own users_seen.later users_seen.others) on in
+      subst (λ (k : List Entry × List UserEntry). ActsAlong l own board us past k.0 k.1 x.used x.sessions) (λ i. (whole i, users_whole i)) both

@@ -49,7 +49,7 @@ use Rattle.serve_laws.proofs.Earlier.{SeesOn, earlier}
 use Rattle.serve_laws.proofs.Keepers.{keeper_home}
 use Rattle.serve_laws.proofs.Leaving.{brought_home, leaves_changes}
 use Rattle.serve_laws.proofs.Owning.{all_own, core_of}
-use Rattle.serve_laws.proofs.Placing.{get_map, heard_as_one, heard_then, hearings, map_length, nobody_has, nobody_keeps_it, played_as_one, played_then, ran_length, served_then, sessions}
+use Rattle.serve_laws.proofs.Placing.{get_map, heard_as_one, heard_then, hearings, map_length, nobody_has, nobody_keeps_it, acts_each, played_as_one, played_in_order, played_then, ran_length, served_then, sessions, used}
 use Rattle.serve_laws.proofs.Timing.{Allows}
 use Rattle.serve_laws.proofs.Resting.{at_home, begun, count, get_below, history, lying, numbers, opening_is, seen_at, stand}
 
@@ -205,6 +205,11 @@ module _ (w : World) (synced : SyncedAreMirrored w.disk.told w.disk.state) (adop
         each = λ k lt. (served_then w s o p has.turnstiles jobs lefts sixteen has.each ran k lt).served;
         played = λ excused all. one_order excused ss (played_as_one w s o p has.turnstiles jobs lefts sixteen has.each ran h seen stands.legal few excused all);
         written_before = λ told excused all z m k lt v at. links_then z m excused all k lt v at told;
+        used = used w s o p has.turnstiles jobs lefts sixteen has.each ran;
+        acted = acts_each w s o p has.turnstiles jobs lefts sixteen has.each ran g users_seen h seen;
+        together = λ excused all failing fails order is.
+            let c = played_in_order w s o p has.turnstiles jobs lefts sixteen has.each ran g users_seen h seen stands.legal few users_stand.legal users_few excused all failing fails order is in
+            (c, record { turns = c.turns; played = c.along.0; moments = λ z m. was_then z m excused ss c.turns c.along.0 }, refl);
         heard = heard_as_one w s o p has.turnstiles jobs lefts sixteen has.each ran g users_seen users_stand.legal users_few;
         heard_before = heard_then w s o p has.turnstiles jobs lefts sixteen has.each ran g users_seen users_stand.legal users_few;
       }

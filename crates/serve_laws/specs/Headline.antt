@@ -1,5 +1,5 @@
 -- The headline: what a server's jobs did, at the moments of its turnstiles and of its fabric.
-use Rattle.std.specs.Prelude.{◌≡◌, ◌≢◌, ◌+◌, ◌≤◌, ◌<◌, ℕ, Bool, IsTrue, List, [], ◌∷◌, ◌++◌, length, map, slice_get, Option, Some, Box}
+use Rattle.std.specs.Prelude.{◌≡◌, ◌≢◌, ◌+◌, ◌≤◌, ◌<◌, ℕ, Bool, IsTrue, List, [], ◌∷◌, ◌++◌, map, slice_get, Option, Some, Box}
 use Rattle.std.specs.List.{AllByRecursion}
 use Rattle.std.specs.declared.alloc.Global.{Global}
 use base.Stored.{Gv}
@@ -39,6 +39,7 @@ use Rattle.craft_session.specs.Seats.{PlaceAt}
 use Rattle.switch_laws.specs.Element.{ComesTo, Element, IsPlayed, Session, Turn}
 use Rattle.switch_laws.specs.Laws.{IsExcused, element}
 use Rattle.switch_laws.specs.Moments.{AreUsersThen, IsMoment}
+use Rattle.switch_laws.specs.Orders.{ActsAlong, AnyEntry, ArePlayedInOrder, IsOrderOf}
 use Rattle.switch_laws.specs.Users.{AreHeard, Hearing}
 use Rattle.craft_jobs.specs.declared.frames_left.FramesLeft.{FramesLeft}
 use Rattle.craft_jobs.specs.Begun.{AreRan}
@@ -168,6 +169,15 @@ module _ (w : World) where
     pub written_before : w.office.link.told → (excused : Cause → Bool) → AllByRecursion (IsExcused (λ q. IsTrue (excused q))) (began o.due ++ history)
         → (z : TableState (Option Lying) View) → IsEarlier key lefts z → (k : ℕ) → (lt : k < 16) → (v : View) → get_elem? z.views (k + 1) ≡ some v
         → let x = each k lt in LinksThen s o excused history z k v (links_of w x.job x.done x.left x.ran) (sessions k)
+    -- of each place the entries of both that it used, as it took them
+    pub used : ℕ → List AnyEntry
+    pub acted : (k : ℕ) → k < 16 → ActsAlong (language s) k o.first.fold.table p (began o.due) (began o.due ++ history) users_history (used k) (sessions k)
+    -- Whatever one order the entries of both histories have in which each place's own come as it took them: one order of turns plays both, the element to the
+    -- table's history, and along the same turns the list of users to theirs, and passes each beginning of that order; it is an order as `played` has one.
+    pub together : (excused : Cause → Bool) → AllByRecursion (IsExcused (λ q. IsTrue (excused q))) (began o.due ++ history) → (failing : Bool) → (1 ≤ failures users_history → IsTrue failing)
+        → (order : List AnyEntry) → IsOrderOf history users_history 16 used order
+        → (x : ArePlayedInOrder (language s) (LimitBehind o.first) (λ q. IsTrue (excused q)) (opened s o) p (IsTrue failing) o.first.fold.table (began o.due) order history users_history sessions)
+        × (y : IsOneOrder s o excused key lefts history sessions) × (y.turns ≡ x.turns)
     pub heard : (failing : Bool) → (1 ≤ failures users_history → IsTrue failing)
         → AreHeard (language s) p.shelf.sid (IsTrue failing) (record { users = p.users; sessions = λ k. [] }) (record { users = users_after p users_history; sessions = hearings })
     -- so it was at each beginning of their history
