@@ -70,7 +70,7 @@ class Change:
     sent: float
     # When its answer was here, if one came.
     answered: float | None = None
-    # Whether it was made, once that is known.
+    # Whether it was made, by its answer; none where that didn't come.
     is_made: bool | None = None
     # Whether the server hadn't said yet, once the answer was here, that it lost its standby.
     is_joined: bool = False
@@ -143,8 +143,6 @@ class Technician(threading.Thread):
         """Goes on from what a server lists, which has the journal, or the copy, of a server (`of`); notes what is wrong with it."""
         found = self.compare(rows, of, is_copy)
         self.found.append(found)
-        for change in self.changes:
-            change.is_made = bool(change.is_made)
         self.table = rows
         self.changes.append(Change("", rows, server, time.time(), is_made=True, is_joined=server.is_mirrored))
         return found
@@ -168,7 +166,7 @@ class Technician(threading.Thread):
 
     def answered(self):
         """How many changes were answered as made."""
-        return sum(change.is_made and change.answered is not None for change in self.changes)
+        return sum(change.is_made is True and change.answered is not None for change in self.changes)
 
     def longest_wait(self):
         """Of all changes that were answered, in seconds."""

@@ -1,7 +1,7 @@
 #!/usr/bin/env python3
 """Lets something go wrong in an office of two machines, takes over as OPERATING says, and compares with what was answered.
 
-usage: bench/run stress takeover [TRIALS [SEED]]     (200 trials, seed 1, where nothing is given)
+usage: bench/run stress takeover [TRIALS [SEED [OFFICES]]]     (200 trials, seed 1, four offices side by side, where nothing is given)
 
 Each trial has a server and a standby, two technicians who change circuits and one who changes users. At a random moment, in front of the
 joining, within it or behind it, one of these befalls them: the server or the standby is killed, or stopped for some seconds; the link between
@@ -25,9 +25,14 @@ can't be had it leaves out cut links and full disks, and says so. Status 1: a ci
 import collections
 import contextlib
 import dataclasses
+import json
+import os
+import queue
 import random
+import subprocess
 import sys
 import tempfile
+import threading
 import time
 
 from bench import Wrong
@@ -41,6 +46,8 @@ from bench.shared.troubles import KINDS, Kind
 
 # Seconds for which the office goes on where nothing ended.
 REST = 1.5
+# Names the part of the trials that a run has to do.
+PART = "BENCH_TAKEOVER_PART"
 
 
 @dataclasses.dataclass
@@ -273,29 +280,59 @@ def line_of(number, trial):
 
 
 def summary(trials):
-    """A line for each kind, and how many failed."""
+    """A line for each kind, and how many failed, of the trials' kinds, failures and counts."""
     for kind in KINDS:
-        some = [trial for trial in trials if trial.kind is kind]
-        total = sum((trial.counts for trial in some), collections.Counter())
+        some = [trial for trial in trials if trial["kind"] == kind.name]
+        total = sum((collections.Counter(trial["counts"]) for trial in some), collections.Counter())
         if some:
-            failed = sum(bool(trial.failures) for trial in some)
+            failed = sum(trial["failed"] for trial in some)
             yield f"{kind.name}: {len(some)} trials, {failed} failed; " + ", ".join(f"{what} {total[what]}" for what in sorted(total))
-    yield f"{len(trials)} trials, {sum(bool(trial.failures) for trial in trials)} failed"
+    yield f"{len(trials)} trials, {sum(trial['failed'] for trial in trials)} failed"
+
+
+def do_part(part, parts, count_of, seed):
+    """Does the trials of this part, one behind the other, and writes what came of each."""
+    is_apart = set_apart()
+    kinds = [kind for kind in KINDS if is_apart or not kind.is_apart]
+    if not is_apart and part == 0:
+        print("no namespaces are to be had here: cut links and full disks are left out", flush=True)
+    for number in range(part, count_of, parts):
+        trial = trial_of(kinds[number % len(kinds)], random.Random(1_000_003 * seed + number), is_apart)
+        came = {"kind": trial.kind.name, "failed": bool(trial.failures), "counts": trial.counts, "line": line_of(number, trial)}
+        print(json.dumps(came), flush=True)
+
+
+def came_of(parts):
+    """What came of the trials of all parts, as it comes."""
+    lines = queue.Queue()
+
+    def pass_on(part):
+        for line in part.stdout:
+            lines.put(line)
+        lines.put(None)
+
+    for part in parts:
+        threading.Thread(target=pass_on, args=(part,), daemon=True).start()
+    for _ in parts:
+        yield from iter(lines.get, None)
 
 
 def main():
-    is_apart = set_apart()
+    if PART in os.environ:
+        do_part(*json.loads(os.environ[PART]))
+        return
     count_of, seed = counted(200)
-    kinds = [kind for kind in KINDS if is_apart or not kind.is_apart]
-    if not is_apart:
-        print("no namespaces are to be had here: cut links and full disks are left out", flush=True)
+    offices = int(sys.argv[3]) if len(sys.argv) > 3 else 4
+    environments = [os.environ | {PART: json.dumps([part, offices, count_of, seed])} for part in range(offices)]
+    parts = [subprocess.Popen([sys.executable, *sys.orig_argv[1:]], env=one, stdout=subprocess.PIPE, text=True) for one in environments]
     trials = []
-    for number in range(count_of):
-        rng = random.Random(1_000_003 * seed + number)
-        trials.append(trial_of(kinds[number % len(kinds)], rng, is_apart))
-        print(line_of(number, trials[-1]), flush=True)
+    for line in came_of(parts):
+        if line.startswith("{"):
+            trials.append(json.loads(line))
+            line = trials[-1]["line"] + "\n"
+        print(line, end="", flush=True)
     print("\n".join(summary(trials)))
-    sys.exit(any(trial.failures for trial in trials))
+    sys.exit(len(trials) < count_of or any(trial["failed"] for trial in trials))
 
 
 if __name__ == "__main__":
