@@ -47,6 +47,6 @@ module _ {L K C G N : Type 0} (m : Means L K C G N) where
   -- too many accepts in a row failed, which was noted
   pub closed : (s : LentTo L C G N) (place : PlaceAt) (listener : L) (clock : C) (gate : G) (notes later : N) → NotedSoFar m s (lent_to place listener clock gate notes) → m.notes.noted notes later (note.Closed ∷ []) → NotedAll m s (lent_to place listener clock gate later) links.Failed
   closed s place listener clock gate notes later past noted = record {
-    all = past.all;
+    all = record { callers = past.all.callers; came = past.all.came; served = past.all.served };
     noted = m.notes.noted_on s.notes notes later _ _ past.noted noted;
   }
