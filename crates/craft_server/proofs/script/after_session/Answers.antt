@@ -1,7 +1,7 @@
 use Rattle.craft_server.proofs.script.after_session.Goals as goal
 
-pub unreachable-requires-in-Unattended : goal.unreachable-requires-in-Unattended
-unreachable-requires-in-Unattended c = c.requires.attended c.in-Unattended.is
+pub unreachable-requires : goal.unreachable-requires
+unreachable-requires c = c.requires.attended c.in-Unattended.is
 
 pub unreachable-requires-in-Idle : goal.unreachable-requires-in-Idle
 unreachable-requires-in-Idle c = c.requires.endless c.in-Idle.is
