@@ -1,4 +1,4 @@
-//! Sessions and frame workers of a controller whose journal a standby has a copy of.
+//! Sessions and frame workers of a controller whose journals a standby has copies of.
 ghost use Rattle.std.specs.Prelude.{◌≡◌, ◌≤◌, ◌++◌};
 ghost use Rattle.dxc_outside.specs.Asked.{AskedFor};
 ghost use Rattle.standby_link.specs.declared.mirror_disk.MirrorDisk.{MirrorDisk};
@@ -18,7 +18,7 @@ use dxc_outside::{Gate, Listener, Opener, Spawner};
 use std::alloc::Global;
 use std::sync::Wait;
 
-/// Serves the site with the controller that is opened on these names, its journal mirrored to the standby at the peer, and with its users.
+/// Serves the site with the controller that is opened on these names, and with its users, both journals mirrored to the standby at the peer.
 pub(crate) fn serve_mirrored<O: Opener + LetGo, G: Gate, P: Spawner, R: Wait>(
     alloc: Global,
     opener: &mut O,
@@ -40,7 +40,7 @@ where
         (sources (O.state opener.old) (O.journal_at opener.old) (G.stops gate.old))
         (sources (O.state opener.new) (O.journal_at opener.new) (G.stops gate.new))
         (P.state spawner.new ≡ P.state spawner.old)
-        (λ f o u. ServedSite (MirrorDisk O.Journal O.Peer) O.Journal
+        (λ f o u. ServedSite (MirrorDisk O.Journal O.Peer) (MirrorDisk O.Journal O.Peer)
         (jobs_told O.Journal.told O.Opener O.Lines.Lines O.Listener.Listener O.Listener.Link.Link
         O.Clock.Timestamps O.Gate.Gate O.gone (P.handed spawner.old spawner.new))
         (site_at site.entry.address.now site.entry.lines.now site.entry.workers)

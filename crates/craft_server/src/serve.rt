@@ -242,7 +242,7 @@ where
         (sources (O.state opener.old) (O.journal_at opener.old) (G.stops gate.old))
         (sources (O.state opener.new) (O.journal_at opener.new) (G.stops gate.new))
         (P.state spawner.new ≡ P.state spawner.old)
-        (λ f o u. ServedSite (MirrorDisk O.Journal O.Peer) O.Journal
+        (λ f o u. ServedSite (MirrorDisk O.Journal O.Peer) (MirrorDisk O.Journal O.Peer)
         (jobs_told O.Journal.told O.Opener O.Lines.Lines O.Listener.Listener O.Listener.Link.Link
         O.Clock.Timestamps O.Gate.Gate O.gone (P.handed spawner.old spawner.new)) (site_in line.now)
         (sources (O.state opener.old) (O.journal_at opener.old) (G.stops gate.old))
@@ -307,7 +307,7 @@ where
         (sources (O.state opener.old) (O.journal_at opener.old) (G.stops gate.old))
         (sources (O.state opener.new) (O.journal_at opener.new) (G.stops gate.new))
         (P.state spawner.new ≡ P.state spawner.old)
-        (λ f o u. ServedSite (MirrorDisk O.Journal O.Peer) O.Journal
+        (λ f o u. ServedSite (MirrorDisk O.Journal O.Peer) (MirrorDisk O.Journal O.Peer)
         (jobs_told O.Journal.told O.Opener O.Lines.Lines O.Listener.Listener O.Listener.Link.Link
         O.Clock.Timestamps O.Gate.Gate O.gone (P.handed spawner.old spawner.new)) (site_in line.now)
         (sources (O.state opener.old) (O.journal_at opener.old) (G.stops gate.old))

@@ -76,18 +76,19 @@ impl Entrance {
         let Some(standby) = &self.hall.standby else {
             return poll(&mut [listener], -1);
         };
-        let mut asked = [listener, standby.asked()];
+        let [journal, users] = standby.asked();
+        let mut asked = [listener, journal, users];
         poll(&mut asked, -1)?;
-        standby.answered(&asked[1]);
+        standby.answered(&asked[1..]);
         Ok(())
     }
 
     /// Looks after the standby's connection without waiting.
     fn look(&self) {
         if let Some(standby) = &self.hall.standby {
-            let mut asked = [standby.asked()];
+            let mut asked = standby.asked();
             if poll(&mut asked, 0).is_ok() {
-                standby.answered(&asked[0]);
+                standby.answered(&asked);
             }
         }
     }

@@ -18,12 +18,14 @@ use dxc_outside::{Opened, Opener, most_shelf_bytes};
 use std::alloc::{AllocError, Global};
 use std::fs::File;
 use std::io::{self, ErrorKind, Read};
-use std::net::{Net, TcpListener, TcpStream, ToSocketAddrs};
+use std::net::{Net, SocketAddr, TcpListener, TcpStream, ToSocketAddrs};
 use std::rt::{Clock as SystemClock, Files};
 use std::time::Duration;
 
 /// How long a peer's machine has to answer a call.
 const CALL_SECONDS: u64 = 5;
+
+const NO_USERS: &str = "nobody answers at the port behind it, where the users' journal is copied";
 
 /// Opens files of the operating system by their paths, and TCP listeners and connections by their addresses. It tells nothing of what they hold.
 #[derive(Drop)]
@@ -41,8 +43,10 @@ pub struct HostOpener<T> {
     refusal: Option<Refusal>,
     /// The copy of a journal that was to be made last.
     copied: Option<Copied>,
-    /// The connection to a standby, for those who wait for callers.
+    /// The connections to a standby, for those who wait for callers.
     standby: Option<PeerWatch>,
+    /// The one for the users' journal, which is called together with the other.
+    users_peer: Option<PeerLink>,
 }
 
 impl<T: Drop> HostOpener<T> {
@@ -61,6 +65,7 @@ impl<T: Drop> HostOpener<T> {
             refusal: None,
             copied: None,
             standby: None,
+            users_peer: None,
         }
     }
 
@@ -181,33 +186,63 @@ fn share_lines(alloc: Global, lines: &mut Option<ErrorLines>) -> ErrorLines {
     shared
 }
 
-// A link to whoever listens at the address, which is tried in each form that its name has.
+// Links to a standby's copies, of the journal and of the users', at an address that is tried in each form that its name has.
 fn call<T: Net<Listener = TcpListener, Stream = TcpStream>>(
     alloc: Global,
     net: &T,
     address: &str,
     lines: &ErrorLines,
-) -> io::Result<PeerLink> {
+) -> io::Result<(PeerLink, PeerLink)> {
     let mut last = io::Error::new(ErrorKind::InvalidInput, "the name has no address");
     for at in address.to_socket_addrs(net)? {
-        match TcpStream::connect_timeout(net, &at, Duration::from_secs(CALL_SECONDS)) {
-            Ok(stream) => return peer_link(alloc, stream, lines.shared()),
+        match call_both(alloc, net, at, lines) {
+            Ok(links) => return Ok(links),
             Err(error) => last = error,
         }
     }
     Err(last)
 }
 
+// The users' copy is called at the port behind the journal's.
+fn call_both<T: Net<Listener = TcpListener, Stream = TcpStream>>(
+    alloc: Global,
+    net: &T,
+    at: SocketAddr,
+    lines: &ErrorLines,
+) -> io::Result<(PeerLink, PeerLink)> {
+    let limit = Duration::from_secs(CALL_SECONDS);
+    let journal = TcpStream::connect_timeout(net, &at, limit)?;
+    let users = match TcpStream::connect_timeout(net, &port_behind(at)?, limit) {
+        Ok(users) => users,
+        Err(error) => return Err(io::Error::new(error.kind(), NO_USERS)),
+    };
+    let streams = [journal.try_clone()?, users.try_clone()?];
+    let watch = PeerWatch::new(alloc, streams, lines.shared())?;
+    let shared = watch.shared()?;
+    Ok((
+        peer_link(alloc, journal, watch)?,
+        peer_link(alloc, users, shared)?,
+    ))
+}
+
+fn port_behind(at: SocketAddr) -> io::Result<SocketAddr> {
+    let Some(port) = at.port().checked_add(1) else {
+        return Err(io::Error::new(ErrorKind::InvalidInput, NO_USERS));
+    };
+    let mut behind = at;
+    behind.set_port(port);
+    Ok(behind)
+}
+
 // No gate is asked for what it is sent.
-fn peer_link(alloc: Global, stream: TcpStream, lines: ErrorLines) -> io::Result<PeerLink> {
-    let watch = PeerWatch::new(alloc, stream.try_clone()?, lines)?;
+fn peer_link(alloc: Global, stream: TcpStream, watch: PeerWatch) -> io::Result<PeerLink> {
     let link = TcpLink::new(alloc, stream, None, FarEnd::Peer, Changes::new(alloc)?)?;
     Ok(PeerLink::new(link, watch))
 }
 
 fn tell_called(alloc: Global, lines: &ErrorLines, address: &str) {
     if let Ok(what) = format!(in alloc;
-        "standby at {address}: called, the journal is copied to it"
+        "standby at {address}: called, the journals are copied to it"
     ) {
         lines.tell(&what.as_str());
     }
@@ -371,17 +406,26 @@ impl<
         }
     }
 
+    /// ADDRESS`.users` is where the users' journal is copied: at the port behind ADDRESS's. Both are called together, so that a standby is there for
+    /// both or for none; where the one link ends, the other is hung up too.
     fn peer(&mut self, alloc: Global, address: &str) -> Opened<PeerLink>
         ensures aside { StaysAside self.old self.new }
         ensures cause { HasCause self.old.faults self.new.faults (result ≡ Opened.Failed) }
         ensures no_fault { result ≢ Opened.Failed → self.new.faults ≡ self.old.faults }
         ensures looks { self.new.only_looks ≡ self.old.only_looks }
     {
+        if address.ends_with(".users") {
+            return match self.users_peer.take() {
+                Some(link) => Opened::Open(link),
+                None => self.not_opened(alloc, address, &ErrorKind::NotConnected.into()),
+            };
+        }
         let lines = share_lines(alloc, &mut self.lines);
         match call(alloc, &self.system, address, &lines) {
-            Ok(link) => {
+            Ok((link, users)) => {
                 tell_called(alloc, &lines, address);
                 self.standby = link.watch();
+                self.users_peer = Some(users);
                 Opened::Open(link)
             }
             Err(error) => self.not_opened(alloc, address, &error),
