@@ -70,7 +70,7 @@ class Change:
     sent: float
     # When its answer was here, if one came.
     answered: float | None = None
-    # Whether it was made, once that is known.
+    # Whether it was made, by its answer; none where that didn't come.
     is_made: bool | None = None
     # Once the answer was here: how often the server had called a standby, and whether it was joined, by its own lines.
     call: int = 0
@@ -151,8 +151,6 @@ class Technician(threading.Thread):
         """Goes on from what a server lists, which has the journal of a server (`of`), or a standby's copy of it; notes what is wrong with it."""
         found = self.compare(rows, of, copy)
         self.found.append(found)
-        for change in self.changes:
-            change.is_made = bool(change.is_made)
         self.table = rows
         self.changes.append(Change("", rows, server, time.time(), is_made=True))
         return found
@@ -176,7 +174,7 @@ class Technician(threading.Thread):
 
     def answered(self):
         """How many changes were answered as made."""
-        return sum(change.is_made and change.answered is not None for change in self.changes)
+        return sum(change.is_made is True and change.answered is not None for change in self.changes)
 
     def longest_wait(self):
         """Of all changes that were answered, in seconds."""
