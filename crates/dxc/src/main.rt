@@ -52,7 +52,9 @@ fn main(rt: HostRuntime) -> ExitCode {
     let refusal = no_stream.as_ref().or(opener.refusal());
     let mut looking = HostOpener::new(rt, Vec::new(alloc));
     looking.only_look();
-    let user = user_at_odds(alloc, &mut looking, &words, status);
+    let user = user_at_odds(alloc, &mut looking, &words, status)
+        .ok()
+        .flatten();
     tell_status(&rt, status, &words, refusal, user);
     if let Some(copied) = opener.copied() {
         tell_standby(&rt, status, &Utc::now(), copied);

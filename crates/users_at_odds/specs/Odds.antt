@@ -1,5 +1,5 @@
 -- Whom a refused record of the users' journal is about.
-use Rattle.std.specs.Prelude.{◌≡◌, ◌⊎◌, ◌≤◌, ◌<◌, ◌++◌, ◌∷◌, [], ℕ, List, Option, Some, codes, drop, get_or, length, slice_index, take}
+use Rattle.std.specs.Prelude.{◌≡◌, ◌≢◌, ◌⊎◌, ◌≤◌, ◌<◌, ◌++◌, ◌∷◌, [], ℕ, List, Option, Some, Result, IsOkAnd, IsSome, codes, drop, get_or, length, slice_index, take}
 use Rattle.craft_words.specs.declared.status.JournalBad.TheVariants.{UsersRecord}
 use Rattle.craft_words.specs.declared.status.Status.{Status}
 use Rattle.craft_words.specs.declared.status.Status.TheVariants.{BadJournal}
@@ -12,6 +12,9 @@ use Rattle.journal_core.specs.declared.half.Half.{Half}
 use Rattle.journal_core.specs.declared.head.Head.{Head}
 use Rattle.journal_core.specs.Books.{padding}
 use Rattle.journal_core.specs.Headers.{IsCurrent, IsNew, Stands}
+use Rattle.shelf_file.specs.declared.fault.ShelfFault.{ShelfFault}
+use Rattle.shelf_file.specs.declared.fault.ShelfFault.TheVariants.{NoMemory}
+use Rattle.shelf_file.specs.Checks.{IsFirstFault}
 use Rattle.shelf_file.specs.Contents.{Contents, IsShelf}
 
 -- the name of the users' journal beside a journal of this name
@@ -107,13 +110,28 @@ module _ {D : Type 0} (told : Type 0) (state : D → DiskState) (shape : Dimensi
   IsUnnamed number = ((later : D) × Rose (state disk).faults (state later).faults)
       ⊎ ((told → IsRefused) ⊎ ((told → (IsNew (state disk).reads_as → ⊥) → HasFewer number) ⊎ HasNoName number))
 
--- what was done by an opener: what it was asked for, and what it would hand out at the end
+-- what was done by an opener: what it was asked for, and what it would hand out at the end, with the count of its faults then
 pub record Done (D : Type 0) : Type 1 where
   pub asked : List Asking → Type 0
   pub journal_at : List ℕ → Option D
+  pub faults : ℕ
 
-abbrev pub done : {D : Type 0} → (List Asking → Type 0) → (List ℕ → Option D) → Done D
-done asked at = record { asked = asked; journal_at = at }
+abbrev pub done : {D : Type 0} → (List Asking → Type 0) → (List ℕ → Option D) → ℕ → Done D
+done asked at faults = record { asked = asked; journal_at = at; faults = faults }
+
+-- these bytes describe no shelf: a check of them found this fault
+abbrev pub IsNoShelf : List ℕ → Type 0
+IsNoShelf file = (fault : ShelfFault) × (fault ≢ NoMemory) × IsFirstFault file fault
+
+-- the file of that name describes no shelf
+pub record IsBadShelf {D : Type 0} (h : Held D) (name : List ℕ) : Type 0 where
+  pub file : List ℕ
+  pub file_is : h.opener_told → IsShelfPart h.opener name file
+  pub bad : IsNoShelf file
+
+-- why no shelf was read by that name: the opener failed, or the file describes none
+abbrev pub IsUnread : {D : Type 0} → Held D → (later : ℕ) → (name : List ℕ) → Type 0
+IsUnread h later name = Rose h.opener.faults later ⊎ IsBadShelf h name
 
 -- the disk of that name was handed out, and no name was read of it, by the shelf
 pub record WasUnnamed {D : Type 0} (h : Held D) (shelf journal : List ℕ) (number : ℕ) : Type 0 where
@@ -123,11 +141,20 @@ pub record WasUnnamed {D : Type 0} (h : Held D) (shelf journal : List ℕ) (numb
   pub handed : h.opener_told → h.journal_at (users_name journal) ≡ Some disk
   pub unnamed : IsUnnamed h.disk_told h.disk contents.shape disk number
 
--- Why there is no name: nothing was asked for but the shelf file, or the journal wasn't handed out, or no name was read of it.
+-- the opener failed to hand out the journal of that name
+pub record IsUnopened {D : Type 0} (h : Held D) (d : Done D) (name : List ℕ) : Type 0 where
+  pub kept : h.opener_told → d.journal_at name ≡ h.journal_at name
+  pub failed : Rose h.opener.faults d.faults
+
+-- Why there is no name: the shelf file couldn't be read, and nothing else was asked for; or the journal wasn't handed out, or no name was read of it.
 abbrev pub NoUser : {D : Type 0} → Held D → Done D → (shelf journal : List ℕ) → ℕ → Type 0
-NoUser h d shelf journal number = d.asked (shelf_named shelf ∷ [])
+NoUser h d shelf journal number = (d.asked (shelf_named shelf ∷ []) × IsUnread h d.faults shelf)
     ⊎ (d.asked (shelf_named shelf ∷ journal_named (users_name journal) ∷ [])
-    × ((h.opener_told → d.journal_at (users_name journal) ≡ h.journal_at (users_name journal)) ⊎ WasUnnamed h shelf journal number))
+    × (IsUnopened h d (users_name journal) ⊎ WasUnnamed h shelf journal number))
+
+-- a name was answered
+abbrev pub WasNamed : {X E : Type 0} → Result (Option X) E → Type 0
+WasNamed r = IsOkAnd r (λ name. IsSome name)
 
 -- Where the program refused that record, and the words name the files, this is why.
 abbrev pub NotAtOdds : {D : Type 0} → Held D → Done D → List (List ℕ) → Status → Type 0

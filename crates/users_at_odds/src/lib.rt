@@ -1,9 +1,10 @@
 //! Whom the shelf file and the users' journal are at odds about, where the program didn't start for that.
 #![tactic(auto)]
 
-ghost use Rattle.std.specs.Prelude.{◌≡◌, ◌≢◌, ◌≤◌, ◌<◌, ◌∷◌, [], ℕ, IfNone, IfOk, IfSome, IsSome, List, slice_index};
+ghost use Rattle.std.specs.Prelude.{◌≡◌, ◌≢◌, ◌≤◌, ◌<◌, ◌∷◌, [], ℕ, IfNone, IfOk, IfSome, List, slice_index};
 ghost use Rattle.dxc_outside.specs.Asked.{AskedFor, journal_named, shelf_named};
-ghost use Rattle.users_at_odds.specs.Odds.{HasName, HasShelf, IsAtOdds, IsUnnamed, IsUserOf, NoUser, NotAtOdds, done, held, most_bytes, name_in as in_record, odds_asked, users_name as beside};
+ghost use Rattle.shelf_file.specs.Contents.{IsShelf};
+ghost use Rattle.users_at_odds.specs.Odds.{HasName, HasShelf, IsAtOdds, IsNoShelf, IsUnnamed, IsUnread, IsUserOf, NoUser, NotAtOdds, WasNamed, done, held, most_bytes, name_in as in_record, odds_asked, users_name as beside};
 
 use craft_words::{JournalBad, Status};
 use dxc_causes::NoMemory;
@@ -11,35 +12,36 @@ use dxc_disk::Disk;
 use dxc_model::Uid;
 use dxc_outside::{Name, Opened, Opener};
 use journal_core::Journal;
-use shelf_file::{Shelf, shelf_of};
+use shelf_file::{Shelf, ShelfFault, shelf_of};
 use std::alloc::Global;
 
-/// The user whom the record names that the program refused, by its status and its words. None: it ended otherwise, or the record can't be
-/// read again, or memory is wanting. The opener is to change no file; where the program ended otherwise it is asked for nothing.
+/// The user whom the record names that the program refused, by its status and its words. None: it ended otherwise, or the shelf file or the record
+/// can't be read again. An error: memory is wanting. The opener is to change no file; where the program ended otherwise it is asked for nothing.
 pub fn user_at_odds<O: Opener>(
     alloc: Global,
     opener: &mut O,
     words: &[Name],
     status: Status,
-) -> Option<Uid>
-    ensures named { IfSome result (IsAtOdds (held O.told O.Journal.told O.Journal.state
-        (O.state opener.old) (O.journal_at opener.old)) words.now status) }
-    ensures unnamed { IfNone result (NotAtOdds (held O.told O.Journal.told O.Journal.state
-        (O.state opener.old) (O.journal_at opener.old))
-        (done (O.asked opener.old opener.new) (O.journal_at opener.new)) words.now status) }
+) -> Result<Option<Uid>, NoMemory>
+    ensures named { IfOk result (λ user. IfSome user (IsAtOdds (held O.told O.Journal.told
+        O.Journal.state (O.state opener.old) (O.journal_at opener.old)) words.now status)) }
+    ensures unnamed { IfOk result (λ user. IfNone user (NotAtOdds (held O.told O.Journal.told
+        O.Journal.state (O.state opener.old) (O.journal_at opener.old)) (done
+        (O.asked opener.old opener.new) (O.journal_at opener.new) (O.state opener.new).faults)
+        words.now status)) }
     ensures asked { AskedFor (O.asked opener.old opener.new) (odds_asked words.now)
-        (IsSome result) }
+        (WasNamed result) }
     ensures unasked { ((n : ℕ) → status ≢ Status.BadJournal (JournalBad.UsersRecord n))
         → O.asked opener.old opener.new [] }
 {
     let Status::BadJournal(bad) = status else {
-        return None;
+        return Ok(None);
     };
     let JournalBad::UsersRecord(number) = bad else {
-        return None;
+        return Ok(None);
     };
     let [_, shelf, journal, ..] = words else {
-        return None;
+        return Ok(None);
     };
     user_in(alloc, opener, shelf.text(), journal.text(), number)
 }
@@ -51,42 +53,57 @@ fn user_in<O: Opener>(
     shelf: &str,
     journal: &str,
     number: u32,
-) -> Option<Uid>
-    ensures named { IfSome result (IsUserOf (held O.told O.Journal.told O.Journal.state
-        (O.state opener.old) (O.journal_at opener.old)) shelf.now journal.now number) }
-    ensures unnamed { IfNone result (NoUser (held O.told O.Journal.told O.Journal.state
-        (O.state opener.old) (O.journal_at opener.old))
-        (done (O.asked opener.old opener.new) (O.journal_at opener.new)) shelf.now journal.now
-        number) }
+) -> Result<Option<Uid>, NoMemory>
+    ensures named { IfOk result (λ user. IfSome user (IsUserOf (held O.told O.Journal.told
+        O.Journal.state (O.state opener.old) (O.journal_at opener.old)) shelf.now journal.now
+        number)) }
+    ensures unnamed { IfOk result (λ user. IfNone user (NoUser (held O.told O.Journal.told
+        O.Journal.state (O.state opener.old) (O.journal_at opener.old)) (done
+        (O.asked opener.old opener.new) (O.journal_at opener.new) (O.state opener.new).faults)
+        shelf.now journal.now number)) }
     ensures asked { AskedFor (O.asked opener.old opener.new)
-        (shelf_named shelf.now ∷ journal_named (beside journal.now) ∷ []) (IsSome result) }
+        (shelf_named shelf.now ∷ journal_named (beside journal.now) ∷ []) (WasNamed result) }
 {
-    let shelf = shelf_in(alloc, opener, shelf)?;
-    let Ok(users) = users_name(alloc, journal) else {
-        return None;
+    let Some(shelf) = shelf_in(alloc, opener, shelf)? else {
+        return Ok(None);
     };
+    let users = users_name(alloc, journal)?;
     match opener.journal(alloc, users.text()) {
-        Opened::Open(disk) => name_at(disk, &shelf, number),
-        Opened::Failed => None,
-        Opened::NoMemory => None,
+        Opened::Open(disk) => Ok(name_at(disk, &shelf, number)),
+        Opened::Failed => Ok(None),
+        Opened::NoMemory => Err(NoMemory),
     }
 }
 
-// The shelf that the file of that name describes.
-fn shelf_in<O: Opener>(alloc: Global, opener: &mut O, name: &str) -> Option<Shelf>
-    ensures shelf { IfSome result (HasShelf (held O.told O.Journal.told O.Journal.state
-        (O.state opener.old) (O.journal_at opener.old)) name.now) }
+// The shelf that the file of that name describes. None: it can't be opened, or describes none.
+fn shelf_in<O: Opener>(alloc: Global, opener: &mut O, name: &str) -> Result<Option<Shelf>, NoMemory>
+    ensures shelf { IfOk result (λ shelf. IfSome shelf (HasShelf (held O.told O.Journal.told
+        O.Journal.state (O.state opener.old) (O.journal_at opener.old)) name.now)) }
+    ensures unread { IfOk result (λ shelf. IfNone shelf (IsUnread (held O.told O.Journal.told
+        O.Journal.state (O.state opener.old) (O.journal_at opener.old))
+        (O.state opener.new).faults name.now)) }
     ensures journals { O.told → (n : List ℕ)
         → O.journal_at opener.new n ≡ O.journal_at opener.old n }
+    ensures later { (O.state opener.old).faults ≤ (O.state opener.new).faults }
     ensures asked { O.asked opener.old opener.new (shelf_named name.now ∷ []) }
 {
     let mut file = Vec::new(alloc);
     match opener.shelf(alloc, name, &mut file) {
-        Opened::Open(()) => match shelf_of(alloc, &file) {
-            Ok(shelf) => Some(shelf),
-            Err(_) => None,
-        },
-        Opened::Failed | Opened::NoMemory => None,
+        Opened::Open(()) => described(alloc, &file),
+        Opened::Failed => Ok(None),
+        Opened::NoMemory => Err(NoMemory),
+    }
+}
+
+// The shelf that these bytes describe. None: they describe none.
+fn described(alloc: Global, file: &[u8]) -> Result<Option<Shelf>, NoMemory>
+    ensures shelf { IfOk result (λ shelf. IfSome shelf (IsShelf file.now)) }
+    ensures none { IfOk result (λ shelf. IfNone shelf (IsNoShelf file.now)) }
+{
+    match shelf_of(alloc, file) {
+        Ok(shelf) => Ok(Some(shelf)),
+        Err(ShelfFault::NoMemory) => Err(NoMemory),
+        Err(_) => Ok(None),
     }
 }
 
