@@ -26,6 +26,7 @@ pub trait Telling {
 }
 
 /// Tells by printing to standard output.
+#[derive(Drop)]
 pub struct Printing<'a, R> {
     rt: &'a R,
 }
