@@ -137,8 +137,9 @@ impl<D: Disk + Drop> SharedUsers<D> {
 
     /// Puts down who is where behind an operation of the place that is answered.
     pub(crate) fn answer(&mut self, place: u16, op: &UserOp)
-        ensures { self.new ≡ record self.old
+        ensures put_down { self.new ≡ record self.old
             { occupants = answered place op.now self.old.occupants } }
+        ensures first { self.new.first ≡ self.old.first }
     {
         answer(&mut self.occupants, place, op);
     }

@@ -17,7 +17,7 @@ use Rattle.user_admin.proofs.turns.login.Goals as goal
 pub leave-requires-clause-stands : goal.leave-requires-clause-stands
 leave-requires-clause-stands g c =
     ends g.D.Disk.told g.D.Disk.state (opening_at g.D.Disk.state c.args.turns.now.first) c.args.pass.now.number c.enter-turn.result.own c.args.turns.now.passes c.args.pass.now.seen c.enter-turn.result.seen c.enter-turn.result.state c.enter-turn.ensures.turn.1 c.enter-turn.ensures.found
-    (c.requires.seen.1.marks, c.requires.seen.1.codes_are) c.answer.new.self (Entered c.number-place.result c.of-op.result Answered) (ap (λ (s : SharedUsers g.row.D.Denot). s.first) c.answer.ensures ∙ ap (λ (s : SharedUsers g.row.D.Denot). s.first) c.state_mut.ensures.value) (λ l st. shared_answered g.D.Disk.told g.D.Disk.state (λ d told. g.met.D.Disk.is_disk d told) (λ d. g.met.D.Disk.counts_on d) (opening_at g.D.Disk.state c.args.turns.now.first) l c.enter-turn.result.state c.answer.new.self c.number-place.result c.of-op.result (c.login_op-done.result) c.of-op.ensures (c.answer.ensures ∙ ap (λ (s : SharedUsers g.row.D.Denot). record s { occupants = answered c.number-place.result (c.login_op-done.result) s.occupants }) c.state_mut.ensures.value) (subst IsReading (sym c.login_op-done.ensures) (login_reads c.args.vacant c.args.uid c.login_now-class.result)) (λ users. subst (λ (x : UserOp). refusal x users ≡ None) (sym c.login_op-done.ensures) (login_allowed c.args.vacant c.args.uid c.login_now-class.result users)) st)
+    (c.requires.seen.1.marks, c.requires.seen.1.codes_are) c.answer.new.self (Entered c.number-place.result c.of-op.result Answered) (c.answer.ensures.first ∙ ap (λ (s : SharedUsers g.row.D.Denot). s.first) c.state_mut.ensures.value) (λ l st. shared_answered g.D.Disk.told g.D.Disk.state (λ d told. g.met.D.Disk.is_disk d told) (λ d. g.met.D.Disk.counts_on d) (opening_at g.D.Disk.state c.args.turns.now.first) l c.enter-turn.result.state c.answer.new.self c.number-place.result c.of-op.result (c.login_op-done.result) c.of-op.ensures (c.answer.ensures.put_down ∙ ap (λ (s : SharedUsers g.row.D.Denot). record s { occupants = answered c.number-place.result (c.login_op-done.result) s.occupants }) c.state_mut.ensures.value) (subst IsReading (sym c.login_op-done.ensures) (login_reads c.args.vacant c.args.uid c.login_now-class.result)) (λ users. subst (λ (x : UserOp). refusal x users ≡ None) (sym c.login_op-done.ensures) (login_allowed c.args.vacant c.args.uid c.login_now-class.result users)) st)
 
 pub returns-clause-pass : goal.returns-clause-pass
 returns-clause-pass g c =
@@ -32,6 +32,6 @@ returns-clause-rests g c =
 pub returns-clause-logged : goal.returns-clause-logged
 returns-clause-logged g c = λ h saw. (
   ended g.D.Disk.told g.D.Disk.state (opening_at g.D.Disk.state c.args.turns.now.first) c.args.pass.now.number c.enter-turn.result.own c.args.turns.now.passes c.args.pass.now.seen c.enter-turn.result.seen c.enter-turn.result.state c.enter-turn.ensures.turn.1 c.enter-turn.ensures.found
-      h saw c.answer.new.self c.number-place.result c.of-op.result (login_op c.args.vacant c.args.uid c.login_now-class.result) Answered c.leave.new.pass.seen (c.number-place.ensures ∙ c.enter-turn.ensures.out.0) (c.of-op.ensures ∙ c.login_op-done.ensures) (λ l st. shared_answered g.D.Disk.told g.D.Disk.state (λ d told. g.met.D.Disk.is_disk d told) (λ d. g.met.D.Disk.counts_on d) (opening_at g.D.Disk.state c.args.turns.now.first) l c.enter-turn.result.state c.answer.new.self c.number-place.result c.of-op.result (c.login_op-done.result) c.of-op.ensures (c.answer.ensures ∙ ap (λ (s : SharedUsers g.row.D.Denot). record s { occupants = answered c.number-place.result (c.login_op-done.result) s.occupants }) c.state_mut.ensures.value) (subst IsReading (sym c.login_op-done.ensures) (login_reads c.args.vacant c.args.uid c.login_now-class.result)) (λ users. subst (λ (x : UserOp). refusal x users ≡ None) (sym c.login_op-done.ensures) (login_allowed c.args.vacant c.args.uid c.login_now-class.result users)) st) c.leave.ensures.seen,
+      h saw c.answer.new.self c.number-place.result c.of-op.result (login_op c.args.vacant c.args.uid c.login_now-class.result) Answered c.leave.new.pass.seen (c.number-place.ensures ∙ c.enter-turn.ensures.out.0) (c.of-op.ensures ∙ c.login_op-done.ensures) (λ l st. shared_answered g.D.Disk.told g.D.Disk.state (λ d told. g.met.D.Disk.is_disk d told) (λ d. g.met.D.Disk.counts_on d) (opening_at g.D.Disk.state c.args.turns.now.first) l c.enter-turn.result.state c.answer.new.self c.number-place.result c.of-op.result (c.login_op-done.result) c.of-op.ensures (c.answer.ensures.put_down ∙ ap (λ (s : SharedUsers g.row.D.Denot). record s { occupants = answered c.number-place.result (c.login_op-done.result) s.occupants }) c.state_mut.ensures.value) (subst IsReading (sym c.login_op-done.ensures) (login_reads c.args.vacant c.args.uid c.login_now-class.result)) (λ users. subst (λ (x : UserOp). refusal x users ≡ None) (sym c.login_op-done.ensures) (login_allowed c.args.vacant c.args.uid c.login_now-class.result users)) st) c.leave.ensures.seen,
   c.login_now-class.ensures ∙ ap (λ (m : Users). login c.args.uid c.args.pid.now m) (ap (λ (s : SharedUsers g.row.D.Denot). s.list) c.state.ensures ∙ listed_at g.D.Disk.told g.D.Disk.state (opening_at g.D.Disk.state c.args.turns.now.first) c.args.pass.now.number c.enter-turn.result.own c.args.turns.now.passes c.args.pass.now.seen c.enter-turn.result.seen c.enter-turn.result.state c.enter-turn.ensures.turn.1 c.enter-turn.ensures.found h saw),
 )
