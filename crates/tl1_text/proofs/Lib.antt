@@ -4,6 +4,7 @@ pub mod Looks
 pub mod Once
 pub mod Walks
 pub mod Finds
+pub mod Fronts
 pub mod WordFacts
 pub mod BlockFacts
 pub mod CutSteps

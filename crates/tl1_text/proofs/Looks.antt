@@ -27,7 +27,7 @@ run_is p v n long few =
 
 -- the bytes in front of the first at which a test stops are a run
 module _ (stops : ℕ → Bool) (semicolon : stops 59 ≡ true) (quote : stops 34 ≡ true) where
-  not_stopped : (x b : ℕ) → stops b ≡ true → stops x ≡ false → x ≢ b
+  pub not_stopped : (x b : ℕ) → stops b ≡ true → stops x ≡ false → x ≢ b
   not_stopped x b stop on same = no_both (stops b) stop (subst (λ (n : ℕ). stops n ≡ false) same on)
     where
       no_both : (c : Bool) → c ≡ true → c ≡ false → ⊥
@@ -46,7 +46,7 @@ module _ (stops : ℕ → Bool) (semicolon : stops 59 ≡ true) (quote : stops 3
   prefix_run (x ∷ v) = prefix_by x v (stops x) refl (prefix_run v)
 
 -- a run in the front of a text is one of the text
-front_of_front : (k n : ℕ) (text : List ℕ) → k ≤ n → take k (take n text) ≡ take k text
+pub front_of_front : (k n : ℕ) (text : List ℕ) → k ≤ n → take k (take n text) ≡ take k text
 front_of_front zero n text le = refl
 front_of_front (suc k) zero text le = absurd (omega (arith, le))
 front_of_front (suc k) (suc n) [] le = refl
@@ -60,7 +60,7 @@ module _ (text : List ℕ) (at r : ℕ) (z : List ℕ) (room : at + 16 ≤ lengt
   long : length (chunk at 16 text) ≡ 16
   long = length-chunk at 16 text room
 
-  counted : r ≡ prefix_len (λ x. not (stops x)) (chunk at 16 text)
+  pub counted : r ≡ prefix_len (λ x. not (stops x)) (chunk at 16 text)
   counted =
       let v = chunk at 16 text in
       let mask = ap (λ (l : List Bool). mask_l l % 2 ^ 64) (ap (map (top 7)) lanes ∙ map-map (top 7) f v) ∙ mask_l-mod (map stops v) 64 (omega (arith, length-map v stops, long)) in

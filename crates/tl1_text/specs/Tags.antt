@@ -1,5 +1,5 @@
 -- Correlation tags and source identifiers.
-use Rattle.std.specs.Prelude.{ℕ, Bool, false, List, [], ◌∷◌, length, nat_lt, not, ◌&&◌, ◌||◌, ◌==◌, if◌then◌else◌, Option, Some, None}
+use Rattle.std.specs.Prelude.{◌≢◌, ℕ, Bool, false, List, [], ◌∷◌, length, nat_lt, not, ◌&&◌, ◌||◌, ◌==◌, if◌then◌else◌, Option, Some, None}
 use Rattle.std.specs.Option.{option_map, option_and_then}
 use Rattle.std.specs.List.{list_all}
 use Rattle.std.specs.Char.{is_ascii_alphabetic, is_ascii_alphanumeric}
@@ -59,3 +59,8 @@ is_sid (b ∷ bs) = is_short 20 (b ∷ bs) && (is_ascii_alphabetic b && are_name
 -- the text, where it is a SID
 abbrev pub as_sid : List ℕ → Option (List ℕ)
 as_sid text = if is_sid text then Some text else None
+
+-- none of these bytes is a colon or a quote
+abbrev pub IsUnparted : List ℕ → Type 0
+IsUnparted [] = Unit {0}
+IsUnparted (b ∷ bs) = (b ≢ 58) × (b ≢ 34) × IsUnparted bs

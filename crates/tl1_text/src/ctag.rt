@@ -2,6 +2,7 @@ ghost use Rattle.std.specs.Prelude.{◌≡◌, ◌≤◌, true, false, length, o
 ghost use Rattle.tl1_text.specs.Tags.{is_ctag as reads_as_ctag, is_short as short, is_zeros, as_ctag, ctag_of as tag_in, before_colon as front, behind_colon as back};
 ghost use Rattle.tl1_text.specs.Spans.{AreBlocksOf};
 
+use crate::front::front_of;
 use crate::letter::is_letter_or_digit;
 use crate::span::Blocks;
 use arrayvec::ArrayVec;
@@ -99,7 +100,7 @@ fn before_colon(text: &[u8]) -> &[u8]
     ensures { result.now ≡ front false text.now }
 {
     let mut quoted = false;
-    for at in 0..text.len() {
+    for at in front_of(text)..text.len() {
         let b = text[at];
         if b == b':' {
             if !quoted {
@@ -117,7 +118,7 @@ fn behind_colon(text: &[u8]) -> Option<&[u8]>
     ensures { option_map (λ t. t.now) result ≡ back false text.now }
 {
     let mut quoted = false;
-    for at in 0..text.len() {
+    for at in front_of(text)..text.len() {
         let b = text[at];
         if b == b':' {
             if !quoted {

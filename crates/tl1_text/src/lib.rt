@@ -3,6 +3,7 @@
 
 mod ctag;
 mod cutting;
+mod front;
 pub mod grammar;
 mod kept;
 pub mod laws;

@@ -68,7 +68,7 @@ fn run_at(text: &[u8], at: usize) -> usize
 }
 
 /// The place of the lowest bit that is set, or sixteen.
-fn first_set(mask: u64) -> usize
+pub fn first_set(mask: u64) -> usize
     ensures { result ≡ lowest mask 16 }
 {
     if mask == 0 {
