@@ -11,7 +11,7 @@ import threading
 import time
 
 from bench.shared.program import PROGRAM
-from bench.shared.server import await_listening, free_port
+from bench.shared.server import await_listening, free_pair, free_port
 
 # Names the run that has been set apart.
 APART = "BENCH_SET_APART"
@@ -58,8 +58,8 @@ class Machine:
     def __init__(self, name, folder, address, is_apart):
         self.name, self.folder = name, folder
         self.address = address if is_apart else "127.0.0.1"
-        # Of its server, and of its standby.
-        self.port, self.peer = free_port(), free_port()
+        # Of its server, and of its standby, whose copy of the users' journal has the port behind that.
+        self.port, self.peer = free_port(), free_pair()
         self.network = f"/run/netns/{name}" if is_apart else None
         os.mkdir(folder)
         if is_apart:
@@ -169,10 +169,11 @@ class Program:
 
 
 class Standby(Program):
-    """Makes a copy of a name that is new."""
+    """Makes a copy of a name that is new, and one of the users' journal beside it, by a program of its own."""
 
     def __init__(self, machine, copy):
         super().__init__(machine, machine.peer, "standby", copy, f"{machine.address}:{machine.peer}")
+        self.users = Program(machine, machine.peer + 1, "standby", f"{copy}.users", f"{machine.address}:{machine.peer + 1}")
         self.copy = copy
         # The server that joined it.
         self.primary = None
@@ -185,7 +186,26 @@ class Standby(Program):
             return True
 
     def is_joined(self):
-        return self.told("standby joined")
+        return self.told("standby joined") and self.users.told("standby joined")
+
+    def listens(self):
+        return super().listens() and self.users.listens()
+
+    def stop(self):
+        super().stop()
+        self.users.stop()
+
+    def go_on(self):
+        self.users.go_on()
+        super().go_on()
+
+    def kill(self):
+        super().kill()
+        self.users.kill()
+
+    def close(self):
+        super().close()
+        self.users.close()
 
     def synced(self):
         """The moment that its last line names, in seconds since 1970; None where it names none."""

@@ -80,6 +80,8 @@ class Office:
         """What the units of a server and a standby do: each is started again where it ended, the one under its name, the other with a new copy."""
         server, standby = self.servers[-1], self.standby
         if not standby.runs() and time.monotonic() - standby.started > AGAIN:
+            # The unit ends with its first program.
+            standby.users.kill()
             self.start_standby(standby.machine)
         if not server.runs() and time.monotonic() - server.started > AGAIN:
             self.start_server(server.machine, server.journal, self.standby.machine)

@@ -10,17 +10,18 @@ units do. In one trial of four nobody changes anything meanwhile, and in half of
 seconds later. Then the office looks at the last lines of both and does what they say (OPERATING, "A standby"): it goes on with the server,
 starts it again from its own journal, or takes over on the standby's copy. At last the other machine comes back as a standby.
 
-- Every circuit that was answered is there, and nothing that nobody commanded; of a copy, every one that was answered while its standby was
-  joined, which is until the server said that it lost it. Each copy that is whole is audited so, also where nobody takes over on it.
+- Every circuit and every user that was answered is there, and nothing that nobody commanded; of a copy, every one that was answered while its
+  standby was joined, which is until the server said that it lost it. Each copy of circuits that is whole is audited so, also where nobody takes
+  over on it.
 - Each end that runs says within ten seconds that the joining is over, by the moment in its own line. Those begin with the trouble where that
   ends the joining at once, else with the first such line; for who was stopped, once it is let go on. So a slow machine changes little.
 - The moment in the standby's last line isn't before the last change that was answered while it was joined, nor behind the line in which the
   server says that it goes on alone: by these two moments an office knows which journal is the newer.
 - Who comes back has what the server has.
 
-Users that are lost in a takeover, and sessions that end as a standby comes back, are counted, and fail nothing: the program has no copy of the
-users' journal, and joins at its start alone. It takes Linux with namespaces (as root, or where users may have their own) and ip; where they
-can't be had it leaves out cut links and full disks, and says so. Status 1: a circuit was lost, or the end of a joining wasn't told, or not in time, or with a wrong moment.
+Sessions that end as a standby comes back are counted, and fail nothing: the program joins at its start alone. It takes Linux with namespaces
+(as root, or where users may have their own) and ip; where they can't be had it leaves out cut links and full disks, and says so. Status 1: a
+circuit or a user was lost, or the end of a joining wasn't told, or not in time, or with a wrong moment.
 """
 import collections
 import contextlib
@@ -187,8 +188,7 @@ def judge(office, trial):
     found = {one: one.take_up(rows, server, of, is_copy) for one, rows in zip(office.technicians, office.listed(server))}
     circuits, users = circuits_of(office), [one for one in office.technicians if not isinstance(one.work, Circuits)]
     count(trial, [found[one] for one in circuits] + [past for one in circuits for past in one.found[:-1]], "the server")
-    if not is_copy:
-        count(trial, [past for one in users for past in one.found], "the server's users")
+    count(trial, [past for one in users for past in one.found], "the server's users")
     answered, lost = sum(one.answered() for one in circuits), sum(len(found[one].lost) for one in users)
     trial.counts.update({"changes of circuits": answered, "changes of users": sum(one.answered() for one in users), "users lost": lost})
     must, gone = (sum(number) for number in zip(*((found[one].must, len(found[one].lost)) for one in circuits)))
