@@ -36,14 +36,12 @@ module _ (told : Type 0) (s t : DiskState) where
 
 -- a line that stays lost is hung up as it was
 pub stays_hung_up : (old new before now : Option Lost) → IsSome old → new ≡ old → now ≡ before → IsHungUp old new before now
-stays_hung_up None new before now some same hung = record { over = λ is is_some. cc; same = λ none. cc }
-stays_hung_up (Some why) new before now some same hung = record {
-  over = λ is is_some. hung ∙ is refl ∙ sym same;
-  same = λ none. cc;
-}
+stays_hung_up None new before now some same hung = record { over = λ is is_some. cc; same = λ none. hung }
+stays_hung_up (Some why) new before now some same hung = record { over = λ is is_some. hung ∙ is refl ∙ sym same; same = λ none. hung }
 
 lost_here : (o : Option Lost) → o ≡ None → IsSome o → ⊥
-lost_here o none some = cc
+lost_here None none some = cc
+lost_here (Some why) none some = cc
 
 module _ {D K : Type 0} (w : Means D K) (d mid e : D) (l m : Line K) where
   -- what was told over the line of a sync that was made
