@@ -56,15 +56,15 @@ module _ {D K : Type 0} (w : Means D K) (d mid e : D) (l m : Line K) where
   }
 
   told_on : {T E : Type 0} (x : T) → (w.disk.told → Looks (w.disk.state d) (w.disk.state mid)) → Continues w mid e l m → SyncsTold w {T = T} {E = E} d e l m (Ok x)
-  told_on x looks goes = record {
-    tells = tells_on x goes;
-    steps = steps_by_sync w.disk.told w.link.told (w.disk.state d) (w.disk.state e) (at w l) (at w m) (Ok x) (λ k. subst (λ (y : D). Looks (w.disk.state d) (w.disk.state y)) (sym goes.same) (looks k)) (tells_on x goes);
+  told_on {T} {E} x looks goes = record {
+    tells = tells_on {T = T} {E = E} x goes;
+    steps = steps_by_sync w.disk.told w.link.told (w.disk.state d) (w.disk.state e) (at w l) (at w m) (Ok x) (λ k. subst (λ (y : D). Looks (w.disk.state d) (w.disk.state y)) (sym goes.same) (looks k)) (tells_on {T = T} {E = E} x goes);
     hung_up = goes.hung_up;
     stays = goes.stays;
   }
 
   pub syncs_made : {T E : Type 0} (x : T) → (w.disk.told → Looks (w.disk.state d) (w.disk.state mid)) → TellsOrJoins w (mid, l) (e, m) → SyncsOn w {T = T} {E = E} (d, l) (e, m) (Ok x)
-  syncs_made x looks came = ⊎_elim (λ goes. inl (told_on x looks goes)) (λ rejoins. inr (tt, record { synced = mid; looks = looks; rejoins = rejoins })) came
+  syncs_made {T} {E} x looks came = ⊎_elim (λ goes. inl (told_on {T = T} {E = E} x looks goes)) (λ rejoins. inr (refl, record { synced = mid; looks = looks; rejoins = rejoins })) came
 
 module _ {D K : Type 0} (w : Means D K) where
   -- a line that is there is told
