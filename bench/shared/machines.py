@@ -11,7 +11,7 @@ import threading
 import time
 
 from bench.shared.program import PROGRAM
-from bench.shared.server import await_listening, free_port
+from bench.shared.server import await_listening, free_pair, free_port
 
 # Names the run that has been set apart.
 APART = "BENCH_SET_APART"
@@ -58,8 +58,8 @@ class Machine:
     def __init__(self, name, folder, address, is_apart):
         self.name, self.folder = name, folder
         self.address = address if is_apart else "127.0.0.1"
-        # Of its server, and of its standby.
-        self.port, self.peer = free_port(), free_port()
+        # Of its server, and of its standby, whose copy of the users' journal has the port behind that.
+        self.port, self.peer = free_port(), free_pair()
         self.network = f"/run/netns/{name}" if is_apart else None
         os.mkdir(folder)
         if is_apart:
@@ -169,13 +169,14 @@ class Program:
 
 
 class Standby(Program):
-    """Makes a copy of a name that is new."""
+    """Makes a copy of a name that is new, and one of the users' journal beside it, by a program of its own."""
 
     def __init__(self, machine, copy):
         super().__init__(machine, machine.peer, "standby", copy, f"{machine.address}:{machine.peer}")
+        self.users = Program(machine, machine.peer + 1, "standby", f"{copy}.users", f"{machine.address}:{machine.peer + 1}")
         self.copy = copy
-        # The server that joined it.
-        self.primary = None
+        # The server that joined it, and by which of its calls.
+        self.primary = self.call = None
 
     def is_begun(self):
         """Whether something of a server's journal has come, or all of it."""
@@ -185,7 +186,26 @@ class Standby(Program):
             return True
 
     def is_joined(self):
-        return self.told("standby joined")
+        return self.told("standby joined") and self.users.told("standby joined")
+
+    def listens(self):
+        return super().listens() and self.users.listens()
+
+    def stop(self):
+        super().stop()
+        self.users.stop()
+
+    def go_on(self):
+        self.users.go_on()
+        super().go_on()
+
+    def kill(self):
+        super().kill()
+        self.users.kill()
+
+    def close(self):
+        super().close()
+        self.users.close()
 
     def synced(self):
         """The moment that its last line names, in seconds since 1970; None where it names none."""
@@ -199,10 +219,24 @@ class Server(Program):
     def __init__(self, machine, journal, at=None):
         peer = [f"{at.address}:{at.peer}"] if at else []
         super().__init__(machine, machine.port, "serve", "shelf.toml", journal, f"127.0.0.1:{machine.port}", "lines", "1", *peer)
-        self.journal, self.is_mirrored = journal, bool(peer)
+        self.journal = journal
 
-    def lost(self):
-        return self.told("standby lost")
+    def standby_lines(self):
+        """What it said of standbys: the number of its call, the moment and the text of each line."""
+        found = re.findall(rf"^dxc: ({MOMENT}): (standby (?:at .*: called|joined|lost).*)$", self.said(), re.MULTILINE)
+        call = 0
+        for moment, text in found:
+            call += "called" in text
+            yield call, second_of(moment), text
+
+    def joined_by(self):
+        """How often it had called a standby, and whether it is joined now, by its own lines."""
+        lines = list(self.standby_lines())
+        return (lines[-1][0], lines[-1][2] == "standby joined") if lines else (0, False)
+
+    def lost(self, call):
+        """The moment and the text in which it says that it lost the standby of that call; None where it doesn't."""
+        return next(((moment, text) for number, moment, text in self.standby_lines() if number == call and text.startswith("standby lost")), None)
 
 
 def second_of(moment):

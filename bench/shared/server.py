@@ -23,6 +23,16 @@ def free_port():
         return some.getsockname()[1]
 
 
+def free_pair():
+    """A port that is free, as is the one behind it: of a standby's copies, of the journal and of the users'."""
+    while True:
+        with socket.socket() as one, socket.socket() as other, contextlib.suppress(OSError, OverflowError):
+            one.bind(("127.0.0.1", 0))
+            port = one.getsockname()[1]
+            other.bind(("127.0.0.1", port + 1))
+            return port
+
+
 def ends_at(port, process="self"):
     """The system's end of each connection at this port of the network that a process is in: the other port, the state, and how many bytes wait
     to be sent."""

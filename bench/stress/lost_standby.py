@@ -27,7 +27,7 @@ import time
 from bench.shared.changes import MODULES, SLOTS
 from bench.shared.office import write_shelf
 from bench.shared.program import PROGRAM
-from bench.stress.standby import LOG_IN, Listener, WAIT, await_listening, call, checked, free_port, run_alone, start, start_pair
+from bench.stress.standby import LOG_IN, Listener, WAIT, await_listening, call, checked, free_port, run_alone, start, start_pair, start_standby
 
 MOMENT = rb"\d{4}-\d\d-\d\d \d\d:\d\d:\d\d UTC"
 # A wait of 25 reads of a fifth of a second, and what a busy machine adds.
@@ -155,10 +155,7 @@ def cut(folder):
 
 
 def scanned(folder):
-    copy, peer = os.path.join(folder, "standby.journal"), free_port()
-    standby = start("standby", copy, f"127.0.0.1:{peer}")
-    if not await_listening(peer, standby):
-        sys.exit("the standby doesn't listen")
+    standby, peer = start_standby(os.path.join(folder, "standby.journal"))
     for abort in (False, True, False):
         with socket.create_connection(("127.0.0.1", peer), timeout=WAIT) as scan:
             if abort:

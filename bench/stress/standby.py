@@ -2,13 +2,15 @@
 
 usage: bench/run stress standby [RUNS [SEED]]     (100 runs, seed 1, where nothing is given)
 
-A standby and a server that has it as its peer run on the loopback. A caller sends changes one behind the other, and the server is killed by
-signal 9 at a random moment: while it joins, or while changes come. Each change that was acknowledged, by a response that ended,
-must be in the standby's journal, and at most the one behind them besides: `dxc check` has the rows of a plain table after so many changes. The
-standby ends by itself. Every few runs a server takes over on the standby's journal, and lists the same rows to a caller. And every few
-runs the standby is killed instead: the server goes on alone, and its own journal has every change. Behind one entry the standby's file is the
-primary's byte for byte; a standby on a journal that holds bytes, one that is sent something else, and an address in use end with their statuses.
+A standby and a server that has it as its peer run on the loopback. A caller sends changes of circuits one behind the other, another one changes
+of users, and the server is killed by signal 9 at a random moment: while it joins, or while changes come. Each change that was acknowledged, by a
+response that ended, must be in the standby's journal, and at most the one behind them besides: `dxc check` has the rows of a plain table after so
+many changes. The standby ends by itself. Every few runs a server takes over on the standby's journals, and lists the same rows to a caller, and the
+users behind the changes of them that were acknowledged, or behind one more. And every few runs the standby is killed instead: the server goes on
+alone, and its own journal has every change. Behind one entry the standby's file is the primary's byte for byte; a standby on a journal that holds
+bytes, one that is sent something else, and an address in use end with their statuses.
 """
+import atexit
 import os
 import random
 import re
@@ -22,11 +24,20 @@ import time
 from bench.shared.changes import MODULES, SLOTS, commands, listing
 from bench.shared.office import LOG_IN, write_shelf
 from bench.shared.program import PROGRAM, counted
-from bench.shared.server import await_listening, free_port
+from bench.shared.server import await_listening, free_pair, free_port
+from bench.shared.technicians import Users
 
 # More than a run comes to before it is killed, on most disks.
 CHANGES = 600
 WAIT = 20
+
+
+def user_commands(rng, count):
+    """Changes of users beside the shelf file's, each with the table after it."""
+    work, table = Users(), frozenset()
+    for _ in range(count):
+        text, table = work.change(rng, table)
+        yield text, table
 
 
 def start(*words):
@@ -58,32 +69,44 @@ class Listener(threading.Thread):
         return max(self.text.count(b"\r\n;") - 1, 0)
 
 
+def start_standby(copy):
+    """A standby, which has the one of the users' journal beside it, and its port."""
+    peer = free_pair()
+    standby = start("standby", copy, f"127.0.0.1:{peer}")
+    standby.users = start("standby", f"{copy}.users", f"127.0.0.1:{peer + 1}")
+    atexit.register(standby.users.kill)
+    for program, at in ((standby, peer), (standby.users, peer + 1)):
+        if not await_listening(at, program):
+            sys.exit(f"the standby doesn't listen: {program.poll()}")
+    return standby, peer
+
+
 def start_pair(shelf, journal, copy, lines):
     """A standby, a server that has it as its peer, and the server's port."""
-    port, peer = free_port(), free_port()
-    standby = start("standby", copy, f"127.0.0.1:{peer}")
-    if not await_listening(peer, standby):
-        sys.exit(f"the standby doesn't listen: {standby.poll()}")
+    port = free_port()
+    standby, peer = start_standby(copy)
     return standby, start("serve", shelf, journal, f"127.0.0.1:{port}", lines, "1", f"127.0.0.1:{peer}"), port
 
 
-def sent_changes(port, server, texts, rest):
-    """How many changes were acknowledged to a caller that sends them, where `rest` ends it."""
+def sent_changes(port, server, lists, rest):
+    """How many changes of each list were acknowledged to a caller that sends them, where `rest` ends it."""
     if not await_listening(port, server):
         rest()
-        return 0
-    caller = call(port)
-    heard = Listener(caller)
-    try:
-        caller.sendall("".join(texts).encode())
-    except OSError:
-        pass
+        return [0 for _ in lists]
+    callers = [call(port) for _ in lists]
+    heard = [Listener(caller) for caller in callers]
+    for caller, texts in zip(callers, lists):
+        try:
+            caller.sendall("".join(texts).encode())
+        except OSError:
+            pass
     rest()
-    heard.join(WAIT)
-    caller.close()
-    if b"DENY" in heard.text:
-        sys.exit(f"a change was denied: {heard.text[-200:]}")
-    return heard.responses()
+    for caller, one in zip(callers, heard):
+        one.join(WAIT)
+        caller.close()
+        if b"DENY" in one.text:
+            sys.exit(f"a change was denied: {one.text[-200:]}")
+    return [one.responses() for one in heard]
 
 
 def checked(shelf, journal):
@@ -102,17 +125,17 @@ def stands(shelf, journal, tables, records, acknowledged, least=0):
     sys.exit(f"{journal} behind {acknowledged} acknowledged changes:\n{listed}")
 
 
-def takes_over(shelf, copy, lines, table):
-    """A server on the standby's journal lists the rows that stand in it."""
+def takes_over(shelf, copy, lines, table, users):
+    """A server on the standby's journals lists the rows that stand in it, and one of these tables of users."""
     port = free_port()
     server = start("serve", shelf, copy, f"127.0.0.1:{port}", lines, "1")
     if not await_listening(port, server):
         sys.exit("no takeover: the server doesn't listen")
     caller = call(port)
     heard = Listener(caller)
-    caller.sendall(b"RTRV-CRS-T0::ALL:2;")
+    caller.sendall(b"RTRV-CRS-T0::ALL:2;RTRV-USER-SECU:::3;")
     end = time.monotonic() + WAIT
-    while heard.responses() < 1 and time.monotonic() < end:
+    while heard.responses() < 2 and time.monotonic() < end:
         time.sleep(0.005)
     server.kill()
     server.wait()
@@ -121,6 +144,8 @@ def takes_over(shelf, copy, lines, table):
     rows = re.findall(rb'"(DS0-\d+-\d+),(DS0-\d+-\d+):1WAY"', heard.text)
     if {(a.decode(), b.decode()) for a, b in rows} != set(table):
         sys.exit(f"after the takeover a caller was listed {heard.text!r}")
+    if Users().rows(heard.text.decode()) not in users:
+        sys.exit(f"after the takeover a caller was listed the users {heard.text!r}, none of {users}")
 
 
 def primary_killed(rng, folder, number):
@@ -128,6 +153,8 @@ def primary_killed(rng, folder, number):
     journal, copy = os.path.join(folder, "primary.journal"), os.path.join(folder, "standby.journal")
     made = list(commands(rng, frozenset(), CHANGES))
     tables = [frozenset()] + [table for _, table in made]
+    of_users = list(user_commands(rng, CHANGES))
+    users = [frozenset()] + [table for _, table in of_users]
     before = rng.choice([0, 0, rng.randrange(1, 40)])
     records = run_alone(shelf, journal, [text for text, _ in made[:before]])
     standby, server, port = start_pair(shelf, journal, copy, lines)
@@ -136,22 +163,23 @@ def primary_killed(rng, folder, number):
         time.sleep(rng.uniform(0, 0.6))
         server.kill()
 
-    done = sent_changes(port, server, [text for text, _ in made[before:]], rest)
+    done, users_done = sent_changes(port, server, [[text for text, _ in made[before:]], [text for text, _ in of_users]], rest)
     server.wait()
     # A killed process's connection is closed, or reset where a Have had come to it that it hadn't read.
     if standby.wait(WAIT) not in (0, 9):
         sys.exit(f"the standby ended with status {standby.returncode}: {standby.stderr.read()}")
     own = stands(shelf, journal, tables[before:], records, done)
     if b"holds nothing" in standby.stderr.read():
-        if done > 0 or subprocess.run([PROGRAM, "check", shelf, copy], capture_output=True, timeout=WAIT).returncode != 6:
+        if done > 0 or users_done > 0 or subprocess.run([PROGRAM, "check", shelf, copy], capture_output=True, timeout=WAIT).returncode != 6:
             sys.exit(f"{done} changes were acknowledged, and the copy holds nothing; or it is a journal")
         return done
     kept = stands(shelf, copy, tables[before:], records, done)
     if kept > own:
         sys.exit(f"the standby has {kept} changes, the primary {own}")
-    if number % 10 == 1:
-        takes_over(shelf, copy, lines, tables[before + kept])
-    return done
+    if number % 5 == 1:
+        standby.users.wait(WAIT)
+        takes_over(shelf, copy, lines, tables[before + kept], users[users_done : users_done + 2])
+    return done + users_done
 
 
 def joining_killed(rng, folder):
@@ -251,7 +279,8 @@ def entered_once(folder):
         taken.bind(("127.0.0.1", 0))
         taken.listen()
         refuses(["standby", os.path.join(folder, "other.journal"), f"127.0.0.1:{taken.getsockname()[1]}"], None, 6, b"dxc: cannot open\n")
-    refuses(["serve", shelf, journal, f"127.0.0.1:{free_port()}", lines, "1", f"127.0.0.1:{free_port()}"], None, 6, b"dxc: cannot open\n")
+    # A name that has no address: one at which nobody answers is called again.
+    refuses(["serve", shelf, journal, f"127.0.0.1:{free_port()}", lines, "1", "127.0.0.1"], None, 6, b"dxc: cannot open\n")
 
 
 def refuses(words, sent, status, text):

@@ -32,7 +32,7 @@ use Rattle.craft_jobs.proofs.Counting.{rose_behind}
 use Rattle.craft_element.specs.Openings.{AreUsersNotStarted, AreUsersStarted, Began, Found, HasController, HasOpening, HasUsers, IsKept, IsStarted, IsTaken, IsUnopened, Named, NoController, NoUsers, NotStarted, Opens, Sources, StartFails, users_name}
 
 -- the name of a users' journal isn't that of the journal beside it
-users_apart : (n : List ℕ) → users_name n ≢ n
+pub users_apart : (n : List ℕ) → users_name n ≢ n
 users_apart n is = let longer = length-append n (codes ".users") in let same = ap length is in absurd (omega (arith, longer, same))
 
 -- nothing was handed out of the users' journal where nothing was of another name than the journal's

@@ -22,7 +22,7 @@ use Rattle.craft_jobs.specs.Missing.{IsOfNoOpening}
 use Rattle.craft_element.specs.Exports.{IsExport}
 use Rattle.craft_element.specs.Listings.{IsCheck}
 use Rattle.craft_element.specs.Openings.{Began, Found, IsUnopened, Named, NoShelf, NotOpened, NoUsers, Opens, Sources}
-use Rattle.craft_element.specs.Peers.{Mirrors, NotMirrored}
+use Rattle.craft_element.specs.Peers.{Mirrors, NoMirroredUsers, NotMirrored}
 use Rattle.craft_element.specs.Statuses.{status_of_fault, status_of_users_fault, status_of_users_why, status_of_why}
 
 why_ends : (w : JournalWhy) → IsOfNoOpening (status_of_why w) → ⊥
@@ -83,6 +83,12 @@ not_opened_ends opener_told told state gone names before after status not is = e
   | inr no_users ↦ no_users_ends opener_told told state gone names before after no_users.0.shelf status no_users.3 is
 ]
 
+no_mirrored_users_ends : {D K : Type 0} (told link_told : Type 0) (state : D → DiskState) (link : K → LinkState) (opener_told : Type 0) (gone : AnyValue → Type 0) (names : Named) (before after : Sources D) (s : Contents) (status : Status) → NoMirroredUsers told link_told state link opener_told gone names before after s status → IsOfNoOpening status → ⊥
+no_mirrored_users_ends told link_told state link opener_told gone names before after s status none is = elim none [
+  | inl no_mirror ↦ unopened_ends _ _ status no_mirror.0 is
+  | inr not ↦ users_fault_ends not.1.fault (subst IsOfNoOpening not.1.is is)
+]
+
 -- nor what wasn't mirrored
 pub not_mirrored_ends : {D K : Type 0} (told link_told : Type 0) (state : D → DiskState) (link : K → LinkState) (opener_told : Type 0) (gone : AnyValue → Type 0) (names : Named) (before after : Sources D) (status : Status) → NotMirrored told link_told state link opener_told gone names before after status → IsOfNoOpening status → ⊥
 not_mirrored_ends told link_told state link opener_told gone names before after status not is = elim not [
@@ -93,7 +99,7 @@ not_mirrored_ends told link_told state link opener_told gone names before after 
       | inr not_on ↦ fault_ends not_on.1.fault (subst IsOfNoOpening not_on.1.is is)
     ])
   ])
-  | inr no_users ↦ no_users_ends opener_told told state gone names before after no_users.0.shelf status no_users.3 is
+  | inr no_users ↦ no_mirrored_users_ends told link_told state link opener_told gone names before after no_users.0.shelf status no_users.3 is
 ]
 
 -- none of lines that were written ends as words that are no line

@@ -209,8 +209,8 @@ pub(crate) fn not_started<D: Disk>(fault: &OpenFault<D>) -> Status
     }
 }
 
-// The name of the users' journal beside a journal of this name.
-fn users_name(alloc: Global, journal: &str) -> Result<Name, NoMemory>
+/// The name of the users' journal beside a journal of this name.
+pub(crate) fn users_name(alloc: Global, journal: &str) -> Result<Name, NoMemory>
     ensures { IfOk result (λ n. n ≡ name_of_users journal.now) }
 {
     let mut name = String::new(alloc);
@@ -249,8 +249,8 @@ pub(crate) fn open_users<O: Opener + LetGo>(
     }
 }
 
-// The same as `start_users_on`. Where they aren't taken up, what is left is let go.
-fn start_users<O: LetGo, D: Disk + Drop>(
+/// The same as `start_users_on`. Where they aren't taken up, what is left is let go.
+pub(crate) fn start_users<O: LetGo, D: Disk + Drop>(
     alloc: Global,
     opener: &O,
     shelf: &Shelf,

@@ -1,23 +1,25 @@
-//! A controller whose journal a standby has a copy of.
+//! A controller whose journals a standby has copies of.
 ghost use Rattle.std.specs.Prelude.{◌≡◌, ◌≢◌, ◌⊎◌, ◌≤◌, ◌<◌, ◌∷◌, [], ℕ, IsOk, List, MatchResult};
 ghost use Rattle.dxc_causes.specs.Causes.{Rose};
 ghost use Rattle.dxc_outside.specs.Asked.{AskedFor, shelf_named, journal_named, peer_named};
-ghost use Rattle.craft_element.specs.Openings.{IsUnopened, named, sources};
-ghost use Rattle.craft_element.specs.Peers.{HasMirrored, IsMirrorOf, IsOpenedOn, IsUnused, NoMirrored, NotMirrored, mirror_asked};
+ghost use Rattle.craft_element.specs.Openings.{IsUnopened, named, sources, users_name as name_of_users};
+ghost use Rattle.craft_element.specs.Peers.{HasMirrored, IsMirrorOf, IsOpenedOn, IsUnused, NoMirrored, NotMirrored, TookUsers, mirror_asked, peering, users_peer};
 
-use crate::opening::{Controller, Element, Names, open_users, shelf_of_file, start};
+use crate::opening::{Controller, Element, Names, shelf_of_file, start, start_users, users_name};
 use craft_words::Status;
 use dxc_leaving::LetGo;
 use dxc_outside::{Gate, Opened, Opener};
+use shelf_file::Shelf;
 use standby_link::MirrorDisk;
 use std::alloc::Global;
+use user_admin::UserState;
 
 /// The disk of an opener's journals, mirrored to a peer.
 pub type Mirror<O> = MirrorDisk<<O as Opener>::Journal, <O as Opener>::Peer>;
 
 /// Opens the shelf file and the journal of these names, joins the standby at the peer, and starts the controller with so many
-/// workers on what the journal came to; then the users' journal beside it, which isn't mirrored. Where the joining is lost the
-/// journal is served alone. Where the element doesn't start, what is left of it is let go as it was handed back.
+/// workers on what the journal came to; then the users' journal beside it, over a link of its own to the peer's copy of it. Where a joining is lost that
+/// journal is served alone until somebody stands by anew. Where the element doesn't start, what is left of it is let go as it was handed back.
 pub fn open_mirrored<O: Opener + LetGo, G: Gate>(
     alloc: Global,
     opener: &mut O,
@@ -25,7 +27,7 @@ pub fn open_mirrored<O: Opener + LetGo, G: Gate>(
     peer: &str,
     workers: u16,
     gate: &mut G,
-) -> Result<Element<Mirror<O>, O::Journal>, Status>
+) -> Result<Element<Mirror<O>, Mirror<O>>, Status>
     requires workers { (0 < workers) × (workers ≤ 8) }
     ensures opened { MatchResult result (IsOpenedOn O.Journal.told O.Peer.told O.Journal.state
         O.Peer.state O.told (named names.entry.shelf.now names.entry.journal.now) workers
@@ -42,7 +44,7 @@ pub fn open_mirrored<O: Opener + LetGo, G: Gate>(
         (IsOk result) }
 {
     let controller = mirrored_controller(alloc, opener, names, peer, workers, gate)?;
-    match open_users(alloc, opener, names.journal, &controller.shelf) {
+    match mirrored_users(alloc, opener, names.journal, peer, &controller.shelf) {
         Ok(users) => Ok(Element { controller, users }),
         Err(status) => {
             opener.let_go(controller);
@@ -79,6 +81,30 @@ fn mirrored_controller<O: Opener + LetGo, G: Gate>(
     let shelf = shelf_of_file(alloc, opener, names.shelf)?;
     let mirror = mirror_of(alloc, opener, names.journal, peer)?;
     start(alloc, opener, shelf, mirror, workers, gate)
+}
+
+// The users that the journal came to that stands beside a journal of this name, mirrored over a link of its own to the peer's copy of it.
+fn mirrored_users<O: Opener + LetGo>(
+    alloc: Global,
+    opener: &mut O,
+    journal: &str,
+    peer: &str,
+    shelf: &Shelf,
+) -> Result<UserState<Mirror<O>>, Status>
+    ensures users { TookUsers (peering O.Opener O.Journal.Disk O.Peer.Link O.gone) opener
+        journal.now shelf.now result }
+    ensures later { (O.state opener.old).faults ≤ (O.state opener.new).faults }
+    ensures asked { AskedFor (O.asked opener.old opener.new) (journal_named
+        (name_of_users journal.now) ∷ peer_named (users_peer peer.now) ∷ []) (IsOk result) }
+{
+    let Ok(name) = users_name(alloc, journal) else {
+        return Err(Status::NoMemory);
+    };
+    let Ok(address) = users_name(alloc, peer) else {
+        return Err(Status::NoMemory);
+    };
+    let mirror = mirror_of(alloc, opener, name.text(), address.text())?;
+    start_users(alloc, opener, shelf, mirror)
 }
 
 // The disk of the journal of that name, mirrored to the standby at the peer. Where the peer can't be called the disk is let go as it was handed out.

@@ -78,11 +78,12 @@ module _ (D U : Type 0) {N L C G : Type 0} (told : JobsTold N L C G) where
     closed = λ none. subst (λ (r : Contents). LeftPlaces told.gone r o p) same (closed none);
   }
 
+module _ (E : Type 0) {N L C G : Type 0} (told : JobsTold N L C G) where
   -- with terminal and clock as they were, at the site that a line names
-  pub ran_serve : (site other : SiteAt) → site ≡ other → (before after : Lent U) → after.terminal ≡ before.terminal → after.clock ≡ before.clock → (s : Contents) (o : Opening) (p : UsersOpening) (status : Status)
-      → ServedSite D U told site before.sources after.sources before.spawner after.spawner s o p status → RanServe D told other before after s o p status
+  pub ran_serve : {J : Type 0} (site other : SiteAt) → site ≡ other → (before after : Lent J) → after.terminal ≡ before.terminal → after.clock ≡ before.clock → (s : Contents) (o : Opening) (p : UsersOpening) (status : Status)
+      → ServedSite E E told site before.sources after.sources before.spawner after.spawner s o p status → RanServe E told other before after s o p status
   ran_serve site other same before after terminal clock s o p status served = record {
-    served = subst (λ (x : SiteAt). ServedSite D U told x before.sources after.sources before.spawner after.spawner s o p status) same served;
+    served = subst (λ (x : SiteAt). ServedSite E E told x before.sources after.sources before.spawner after.spawner s o p status) same served;
     terminal = terminal;
     clock = clock;
   }

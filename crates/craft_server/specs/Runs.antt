@@ -103,9 +103,9 @@ module _ (told : Told) {D : Type 0} (state : D → DiskState) where
     pub journal_at : after.sources.journal_at ≡ before.sources.journal_at
     pub spawner : after.spawner ≡ before.spawner
 
--- sessions at a state on a disk of type E, and frame workers, were started, with terminal and clock untouched
+-- sessions at a state and at users on disks of type E, and frame workers, were started, with terminal and clock untouched
 pub record RanServe (E : Type 0) {N L C G : Type 0} (jobs : JobsTold N L C G) {D : Type 0} (site : SiteAt) (before after : Lent D) (s : Contents) (o : Opening) (p : UsersOpening) (status : Status) : Type 0 where
-  pub served : ServedSite E D jobs site before.sources after.sources before.spawner after.spawner s o p status
+  pub served : ServedSite E E jobs site before.sources after.sources before.spawner after.spawner s o p status
   pub terminal : after.terminal ≡ before.terminal
   pub clock : after.clock ≡ before.clock
 

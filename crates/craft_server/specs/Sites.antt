@@ -47,4 +47,4 @@ ServedMirrored g names site x status =
     let after = asked_after w x.0 x.1 in
     let old = w.spawner.state x.2.entry.now in
     let new = w.spawner.state x.2.exit.now in
-    Mirrors w.disk.told w.peer.told w.disk.state w.peer.state w.opener.told w.leaving.gone names before after (new ≡ old) (λ f o u. ServedSite (MirrorDisk w.Disk w.Peer) w.Disk (jobs_across w x.2) site before after old new f.shelf o u.opening status) status
+    Mirrors w.disk.told w.peer.told w.disk.state w.peer.state w.opener.told w.leaving.gone names before after (new ≡ old) (λ f o u. ServedSite (MirrorDisk w.Disk w.Peer) (MirrorDisk w.Disk w.Peer) (jobs_across w x.2) site before after old new f.shelf o u.opening status) status

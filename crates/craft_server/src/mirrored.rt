@@ -1,4 +1,4 @@
-//! Sessions and frame workers of a controller whose journal a standby has a copy of.
+//! Sessions and frame workers of a controller whose journals a standby has copies of.
 ghost use Rattle.std.specs.Prelude.{◌≤◌, ◌++◌};
 ghost use Rattle.dxc_outside.specs.Asked.{AskedFor};
 ghost use Rattle.craft_jobs.specs.Missing.{IsOfNoOpening};
@@ -18,7 +18,7 @@ use dxc_outside::{Gate, Listener, Opener, Spawner};
 use std::alloc::Global;
 use std::sync::Wait;
 
-/// Serves the site with the controller that is opened on these names, its journal mirrored to the standby at the peer, and with its users.
+/// Serves the site with the controller that is opened on these names, and with its users, both journals mirrored to the standby at the peer.
 pub(crate) fn serve_mirrored<O: Opener + LetGo, G: Gate, P: Spawner, R: Wait>(
     alloc: Global,
     opener: &mut O,

@@ -17,8 +17,8 @@ const HELP: &str = "dxc: the controller of a digital cross-connect
   dxc serve SHELF JOURNAL ADDRESS LINES WORKERS
                               sessions over TCP, 16 at a time, and 1 to 8 workers that carry frames
   dxc serve SHELF JOURNAL ADDRESS LINES WORKERS PEER
-                              the same, with a copy of the journal at the standby that PEER is the address of
-  dxc standby JOURNAL ADDRESS the copy: waits at the address for a serve that has it as PEER, and ends as that ends
+                              the same, with copies of both journals at the standby that PEER is the address of
+  dxc standby JOURNAL ADDRESS a copy: waits at the address for a serve that has it as PEER, and ends as that ends
   dxc load NUMBER             10,000 commands drawn from the number, on a journal in memory, and what they came to
   dxc --help                  this text
   dxc --version               the version, and SHA-256 of the sources that it was proved from
@@ -28,7 +28,7 @@ All is forgotten at the end. Files of such names are named with ./ in front of t
 
 JOURNAL is the name of the journal, which is made where there is none. Every change is in it before it is answered, and a
 start takes it up again; changes of users are in JOURNAL.users beside it. One program at a time has them. That of a standby is
-to be new: no file, or an empty one; it gets no copy of JOURNAL.users.
+to be new: no file, or an empty one. The copy of JOURNAL.users is made by a standby of its own, at the port behind the other's.
 
 ADDRESS is where TCP callers come in, such as 127.0.0.1:3083 or [::1]:3083. Each gets a session of its own, in plain bytes.
 LINES names files: worker W reads the frames of LINES.in, a byte for each port, and writes those of LINES.W.out, from 0 on.
@@ -40,6 +40,7 @@ PEER is an address too. A change is answered once the standby there has it; wher
   dxc export office.toml office.journal >office.tl1
   dxc serve office.toml office.journal 127.0.0.1:3083 office 2
   dxc standby copy.journal 127.0.0.1:3084
+  dxc standby copy.journal.users 127.0.0.1:3085
   dxc serve office.toml office.journal 127.0.0.1:3083 office 2 127.0.0.1:3084
   dxc load 0
 

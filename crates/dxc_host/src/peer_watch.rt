@@ -3,15 +3,14 @@ use dxc_outside::Lost;
 use libc::net::{POLLERR, POLLRDHUP};
 use libc::types::pollfd;
 use std::alloc::{AllocError, Global};
-use std::net::TcpStream;
-use std::os::fd::AsRawFd;
 use std::sync::Arc;
 use std::sync::atomic::{AtomicU64, Ordering};
 
-/// A handle of a standby's connection, and whether its end was told: 1, or 0.
+/// The connections to a standby, counted from 1: which one is there, its descriptor, and the last whose end was told.
 #[derive(Drop)]
 struct Watched {
-    stream: TcpStream,
+    current: AtomicU64,
+    descriptor: AtomicU64,
     told: AtomicU64,
 }
 
@@ -24,14 +23,11 @@ pub(crate) struct PeerWatch {
 }
 
 impl PeerWatch {
-    /// Of another handle of the connection.
-    pub(crate) fn new(
-        alloc: Global,
-        stream: TcpStream,
-        lines: ErrorLines,
-    ) -> Result<PeerWatch, AllocError> {
+    /// Of no connection yet.
+    pub(crate) fn new(alloc: Global, lines: ErrorLines) -> Result<PeerWatch, AllocError> {
         let watched = Watched {
-            stream,
+            current: AtomicU64::new(0),
+            descriptor: AtomicU64::new(0),
             told: AtomicU64::new(0),
         };
         let watched = Arc::new(alloc, watched)?;
@@ -45,32 +41,52 @@ impl PeerWatch {
         Ok(PeerWatch { watched, lines })
     }
 
-    /// What `poll` is asked: for the end of the connection. Once that was told, for nothing.
-    pub(crate) fn asked(&self) -> pollfd {
-        let is_told = self.watched.told.load(Ordering::SeqCst) > 0;
-        pollfd {
-            fd: if is_told {
-                -1
-            } else {
-                self.watched.stream.as_raw_fd()
-            },
-            events: POLLRDHUP,
-            revents: 0,
-        }
+    /// A new connection is there, of that descriptor.
+    pub(crate) fn begin(&self, descriptor: i32) {
+        let before = self.watched.current.load(Ordering::SeqCst);
+        let descriptor = u64::from(descriptor.unsigned_abs());
+        self.watched.descriptor.store(descriptor, Ordering::SeqCst);
+        let now = before.saturating_add(1);
+        self.watched.current.store(now, Ordering::SeqCst);
     }
 
-    /// Tells standard error where that is what `poll` answered.
-    pub(crate) fn answered(&self, asked: &pollfd) {
+    /// What `poll` is asked, and of which connection: for its end. Once that was told, for nothing.
+    // A descriptor may be another file's by the time that `poll` is called: the connection was told then, and what is answered says nothing.
+    pub(crate) fn asked(&self) -> (pollfd, u64) {
+        let current = self.watched.current.load(Ordering::SeqCst);
+        let descriptor = self.watched.descriptor.load(Ordering::SeqCst);
+        let is_told = self.watched.told.load(Ordering::SeqCst) == current;
+        let asked = pollfd {
+            fd: if is_told { -1 } else { descriptor as i32 },
+            events: POLLRDHUP,
+            revents: 0,
+        };
+        (asked, current)
+    }
+
+    /// Tells standard error where that is what `poll` answered of the connection.
+    pub(crate) fn answered(&self, asked: &pollfd, of: u64) {
         if asked.revents & POLLERR != 0 {
-            self.tell(Lost::Link);
+            self.tell_of(of, Lost::Link);
         } else if asked.revents != 0 {
-            self.tell(Lost::End);
+            self.tell_of(of, Lost::End);
         }
     }
 
     /// Tells standard error why the standby is lost, where nobody told that before.
     pub(crate) fn tell(&self, why: Lost) {
-        if self.watched.told.swap(1, Ordering::SeqCst) == 0 {
+        self.tell_of(self.watched.current.load(Ordering::SeqCst), why);
+    }
+
+    // The end of each connection is told before the next one begins.
+    fn tell_of(&self, connection: u64, why: Lost) {
+        let before = connection.saturating_sub(1);
+        let told = &self.watched.told;
+        if before < connection
+            && told
+                .compare_exchange(before, connection, Ordering::SeqCst, Ordering::SeqCst)
+                .is_ok()
+        {
             self.lines.tell(&lost_text(why));
         }
     }

@@ -13,12 +13,13 @@ use Rattle.user_admin.specs.declared.shared.SharedUsers.{SharedUsers}
 use Rattle.user_admin.specs.declared.state.UserState.{UserState}
 use Rattle.user_admin.specs.Coding.{mark_coded}
 use Rattle.user_admin.specs.Histories.{Opening}
-use Rattle.user_admin.specs.Marks.{holder, holder_after, holder_by, place_of}
+use Rattle.user_admin.specs.Marks.{entries_of, holder, holder_after, holder_by, place_of}
 use Rattle.user_admin.specs.Resting.{Rests, SawRest}
 use Rattle.user_admin.specs.Shared.{KeeperIs, SharedFor}
 use Rattle.user_admin.proofs.Resting.{rests_behind}
 use Rattle.craft_session.specs.Seats.{UserSeatAt}
 use Rattle.craft_server.specs.Callers.{InTurn, none_yet, one_more}
+use Rattle.user_laws.specs.Mirrorings.{StandbysStandSince}
 use Rattle.serve_laws.specs.Keepers.{IsKeeperHome}
 
 -- so it is of the place at the users
@@ -61,9 +62,14 @@ nobody_keeps n ms few rests = held (holder None ms) refl
     held None is = refl
     held (Some k) is = absurd (rests k (keeper_each (λ j. j < n) None ms (λ j none. absurd (let no : None ≡ Some j = none in cc)) few k is) is)
 
-module _ {D : Type 0} (told : Type 0) (state : D → DiskState) (o : Opening) (ms : List UserMark) (nobody : holder None ms ≡ None) where
+module _ {D : Type 0} (told : Type 0) (state : D → DiskState) (since : StandbysStandSince told state) (o : Opening) (ms : List UserMark) (nobody : holder None ms ≡ None) where
   keeper_by : (k : Option (Box (UserState D) Global)) → KeeperIs told state o ms k → IsKeeperHome told state o ms k
-  keeper_by (Some k) x = record { users = k; is = refl; stands = x.1 }
+  keeper_by (Some k) x = record {
+    users = k;
+    is = refl;
+    stands = x.1;
+    standby = λ t cs u are. since t o k.value.journal.0 (entries_of ms) cs u are;
+  }
   keeper_by None x = absurd (let no : None ≡ Some x.0 = sym nobody ∙ x.1 in cc)
 
   pub keeper_home : (s : SharedUsers D) → SharedFor told state o s ms → IsKeeperHome told state o ms s.keeper

@@ -18,6 +18,7 @@ use Rattle.dxc_model.specs.Histories.{changes_of, table_after}
 use Rattle.dxc_model.proofs.Growth.{changes_append, table_append}
 use Rattle.core_laws.specs.Laws.{StandbysAreAdopted, SyncedAreMirrored}
 use Rattle.core_laws.specs.Mirrorings.{StandbysStandSince}
+use Rattle.user_laws.specs.Mirrorings.{StandbysStandSince as UsersStandSince}
 use Rattle.frame_worker.specs.Laws.{AreOwnBytes}
 use Rattle.shelf_file.specs.Contents.{Contents}
 use Rattle.user_admin.specs.declared.op.UserMark.{UserMark}
@@ -53,7 +54,7 @@ use Rattle.serve_laws.proofs.Placing.{get_map, heard_as_one, heard_then, hearing
 use Rattle.serve_laws.proofs.Timing.{Allows}
 use Rattle.serve_laws.proofs.Resting.{at_home, begun, count, get_below, history, lying, numbers, opening_is, seen_at, stand}
 
-module _ (w : World) (synced : SyncedAreMirrored w.disk.told w.disk.state) (adopted : StandbysAreAdopted w.disk.told w.disk.state) (since : StandbysStandSince w.disk.told w.disk.state) (s : Contents) (o : Opening) (p : UsersOpening) (jobs : List (Job w)) (lefts : List PlaceAt) (seats : List FramesLeft) (sixteen : length jobs ≡ 16) (has : HasPlaces s o p 16 (map (λ (j : Job w). j.place) jobs)) (ran : AreRan (left_by (Ran w)) jobs lefts) (e : IsEnd w o p has.turnstiles lefts seats) where
+module _ (w : World) (synced : SyncedAreMirrored w.disk.told w.disk.state) (adopted : StandbysAreAdopted w.disk.told w.disk.state) (since : StandbysStandSince w.disk.told w.disk.state) (users_since : UsersStandSince w.disk.told w.disk.state) (s : Contents) (o : Opening) (p : UsersOpening) (jobs : List (Job w)) (lefts : List PlaceAt) (seats : List FramesLeft) (sixteen : length jobs ≡ 16) (has : HasPlaces s o p 16 (map (λ (j : Job w). j.place) jobs)) (ran : AreRan (left_by (Ran w)) jobs lefts) (e : IsEnd w o p has.turnstiles lefts seats) where
   many : {X : Type 0} (f : PlaceAt → X) → length (map f lefts) ≡ 16
   many f = map_length f lefts ∙ ran_length (left_by (Ran w)) jobs lefts ran ∙ sixteen
 
@@ -93,8 +94,8 @@ module _ (w : World) (synced : SyncedAreMirrored w.disk.told w.disk.state) (adop
   abbrev users_lie : UsersLying w
   users_lie = lying _ _ _ _ _ _ _ _ _ e.of_users users_coded.inj p 16 has.users_made users_many some
 
-  users_stand : UsersStandFor w.office.disk.told w.office.disk.state p users_lie.state.value g
-  users_stand = subst (λ (y : UsersOpening). UsersStandFor w.office.disk.told w.office.disk.state y users_lie.state.value g) (opening_is _ _ _ _ _ _ _ _ _ e.of_users users_coded.inj p 16 has.users_made users_many some) (stand _ _ _ _ _ _ _ _ _ e.of_users users_coded.inj p 16 has.users_made users_many some)
+  users_stand : UsersStandFor w.disk.told w.disk.state p users_lie.state.value g
+  users_stand = subst (λ (y : UsersOpening). UsersStandFor w.disk.told w.disk.state y users_lie.state.value g) (opening_is _ _ _ _ _ _ _ _ _ e.of_users users_coded.inj p 16 has.users_made users_many some) (stand _ _ _ _ _ _ _ _ _ e.of_users users_coded.inj p 16 has.users_made users_many some)
 
   made_for : opening_of w.disk.state e.key.first.value.value ≡ o
   made_for = begun _ _ _ _ _ _ _ _ _ e.of_state opening_coded.inj o 16 has.state_made seen_many some
@@ -199,7 +200,7 @@ module _ (w : World) (synced : SyncedAreMirrored w.disk.told w.disk.state) (adop
         users_lying = users_lie;
         users_at_home = at_home _ _ _ _ _ _ _ _ _ e.of_users users_coded.inj p 16 has.users_made users_many some;
         users_stand = users_stand;
-        users_home = keeper_home w.office.disk.told w.office.disk.state p g (nobody_keeps_it w s o p has.turnstiles jobs lefts sixteen has.each ran g users_seen users_few) users_lie.state.value users_stand;
+        users_home = keeper_home w.disk.told w.disk.state users_since p g (nobody_keeps_it w s o p has.turnstiles jobs lefts sixteen has.each ran g users_seen users_few) users_lie.state.value users_stand;
         sessions = ss;
         hearings = hearings w s o p has.turnstiles jobs lefts sixteen has.each ran;
         each = λ k lt. (served_then w s o p has.turnstiles jobs lefts sixteen has.each ran k lt).served;
@@ -214,9 +215,9 @@ module _ (w : World) (synced : SyncedAreMirrored w.disk.told w.disk.state) (adop
         heard_before = heard_then w s o p has.turnstiles jobs lefts sixteen has.each ran g users_seen users_stand.legal users_few;
       }
 
-pub headline : AreOwnBytes → (w : World) → SyncedAreMirrored w.disk.told w.disk.state → StandbysAreAdopted w.disk.told w.disk.state → StandbysStandSince w.disk.told w.disk.state → (handed : List AnyJob → Type 0) (site : SiteAt) (s : Contents) (o : Opening) (p : UsersOpening) (j : Jobs w handed site s o p) (e : IsEnd w o p j.places.turnstiles j.left.left.sessions.items j.left.left.workers.items)
+pub headline : AreOwnBytes → (w : World) → SyncedAreMirrored w.disk.told w.disk.state → StandbysAreAdopted w.disk.told w.disk.state → StandbysStandSince w.disk.told w.disk.state → UsersStandSince w.disk.told w.disk.state → (handed : List AnyJob → Type 0) (site : SiteAt) (s : Contents) (o : Opening) (p : UsersOpening) (j : Jobs w handed site s o p) (e : IsEnd w o p j.places.turnstiles j.left.left.sessions.items j.left.left.workers.items)
     → IsOneElement w s o p j.sessions j.left.left.sessions.items e.key e.state e.users × IsHitlessFabric w o j.workers j.left.left.workers.items e.fabric
-headline own_bytes w synced adopted since handed site s o p j e = (
-  one_element w synced adopted since s o p j.sessions j.left.left.sessions.items j.left.left.workers.items j.sixteen j.places j.left.of_sessions e,
+headline own_bytes w synced adopted since users_since handed site s o p j e = (
+  one_element w synced adopted since users_since s o p j.sessions j.left.left.sessions.items j.left.left.workers.items j.sixteen j.places j.left.of_sessions e,
   record { core = core_of o.site.fabric.size e.fabric e.of_fabric; always = core_of o.site.fabric.size; frames = all_own own_bytes w.uses.lines w.uses.gate w.office.opener.lines_for o.site.fabric site.lines e.fabric e.of_fabric 0 j.workers j.left.left.workers.items j.seats j.left.of_workers e.of_seats },
 )

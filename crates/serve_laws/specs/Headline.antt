@@ -63,7 +63,7 @@ module _ (w : World) where
   Lying = Held (Box (State w.Disk) Global) Entry
 
   abbrev pub UsersLying : Type 0
-  UsersLying = Held (Box (SharedUsers w.office.Disk) Global) UserMark
+  UsersLying = Held (Box (SharedUsers w.Disk) Global) UserMark
 
   -- the rule of the state's turnstile
   abbrev pub IsAllowed : Opened (Box (State w.Disk) Global) → TableState (Option Lying) View → Type 0
@@ -75,9 +75,9 @@ module _ (w : World) where
     pub key : Opened (Box (State w.Disk) Global)
     pub state : TableState (Option Lying) View
     pub of_state : IsRestOf opening_coded.code entry_coded.code (opening_in (opening_of w.disk.state)) place_of (stands_in (Stands w.disk.told w.disk.state)) t.state (seen_by lefts) key state
-    pub users_key : Opened (Box (SharedUsers w.office.Disk) Global)
+    pub users_key : Opened (Box (SharedUsers w.Disk) Global)
     pub users : TableState (Option UsersLying) View
-    pub of_users : IsRestOf users_coded.code user_coded.code (opening_in (users_opening w.office.disk.state)) user_place_of (stands_in (UsersStand w.office.disk.told w.office.disk.state)) t.users (users_seen_by lefts) users_key users
+    pub of_users : IsRestOf users_coded.code user_coded.code (opening_in (users_opening w.disk.state)) user_place_of (stands_in (UsersStand w.disk.told w.disk.state)) t.users (users_seen_by lefts) users_key users
     pub fabric : TableState Aim FabricView
     pub of_fabric : Tied o.site.fabric.size fabric
     pub of_seats : AreSeatsIn fabric o.site.fabric.size seats
@@ -158,8 +158,8 @@ module _ (w : World) where
     -- the entries among what turns left with their turnstile
     pub users_left : List UserMark
     pub users_entered : entries_of users_left ≡ users_history
-    pub users_stand : UsersStandFor w.office.disk.told w.office.disk.state p users_lying.state.value users_left
-    pub users_home : IsKeeperHome w.office.disk.told w.office.disk.state p users_left users_lying.state.value.keeper
+    pub users_stand : UsersStandFor w.disk.told w.disk.state p users_lying.state.value users_left
+    pub users_home : IsKeeperHome w.disk.told w.disk.state p users_left users_lying.state.value.keeper
     -- of each place the sessions on the element, and what they heard of the users, the newest first
     pub sessions : Sessions
     pub hearings : ℕ → List (Hearing Request)

@@ -32,7 +32,7 @@ pub record Means (N C G : Type 0) : Type 1 where
 abbrev pub means : {N C G : Type 0} → LinesOf N → ClockOf C → GateOf G → Means N C G
 means n c g = record { lines = n; clock = c; gate = g }
 
--- What a server is over: an opener and what that hands out, the disk of the journal, which may be a mirror of the opener's, and what was let go.
+-- What a server is over: an opener and what that hands out, the disk of the journals, which may be a mirror of the opener's, and what was let go.
 pub record World : Type 1 where
   pub Opener : Type 0
   pub Disk : Type 0
@@ -46,7 +46,7 @@ world {O} {D} w d m gone = record { Opener = O; Disk = D; office = w; disk = d; 
 
 module _ (w : World) where
   abbrev pub Job : Type 0
-  Job = SessionJob w.Disk w.office.Disk w.office.Listener w.office.Clock w.office.Gate
+  Job = SessionJob w.Disk w.Disk w.office.Listener w.office.Clock w.office.Gate
 
   abbrev pub Done : Type 0
   Done = SessionDone w.office.Listener w.office.Clock w.office.Gate
@@ -63,7 +63,7 @@ module _ (w : World) where
 
   -- the jobs that `dxc_run` handed to the spawner and to no one else, each of which has run, for a line that ended with Done
   abbrev pub Jobs : (List AnyJob → Type 0) → SiteAt → Contents → Opening → UsersOpening → Type 0
-  Jobs handed site s o p = HandedJobs w.Disk w.office.Disk (told_of handed) site s o p
+  Jobs handed site s o p = HandedJobs w.Disk w.Disk (told_of handed) site s o p
 
   -- the links that came to a place, as they came and as they were left, the newest first
   abbrev pub links_of : (job : Job) (done : Done) (left : PlaceAt) → Ran job done left → List (w.office.Link × w.office.Link)

@@ -11,6 +11,7 @@ use dxc_disk::Disk;
 use dxc_leaving::LetGo;
 use dxc_outside::{Gate, Lines, Link, Listener, Opener, Spawner};
 use frame_worker::laws::own_bytes;
+use user_laws::standbys_stand_for_users;
 
 /// The headline of the README as one law, of a server whose line ended with Done, at any states of its two turnstiles and of its fabric that their rules
 /// allow and in which passes and workers know what the places and seats know that jobs left.
@@ -34,4 +35,5 @@ where
     own_bytes();
     standbys_are_adopted::<D>();
     standbys_stand_for_commands::<D>();
+    standbys_stand_for_users::<D>();
 }

@@ -1,8 +1,9 @@
-ghost use Rattle.std.specs.Prelude.{◌≡◌, ◌+◌, ◌^◌, ◌≤◌, ◌<◌, length, None, MatchOption, IsSomeAnd};
+ghost use Rattle.std.specs.Prelude.{◌≡◌, ◌+◌, ◌^◌, ◌≤◌, ◌<◌, length, None, IsSome, MatchOption, IsSomeAnd};
 ghost use Rattle.dxc_disk.specs.Disks.{IsLength, IsRead, IsWrite, IsSync, Looks, Spends};
 ghost use Rattle.standby_link.specs.Lines.{line_at, IsHungUp};
-ghost use Rattle.standby_link.specs.Moves.{Both, mirrored, first_line, TellsWrite, TellsSync, StepsByWrite, StepsBySync, SendsFile, Joins, TookHaves, IsSmall, mirror_of};
+ghost use Rattle.standby_link.specs.Moves.{Both, mirrored, first_line, TellsWrite, StepsByWrite, SendsFile, Joins, TookHaves, IsSmall, mirror_of};
 ghost use Rattle.standby_link.specs.Acts.{pieces};
+ghost use Rattle.standby_link.specs.Joinings.{JoinsOver, SyncsOn, TellsOrJoins, over, roomless};
 ghost use Rattle.standby_link.specs.Mirrors.{joining};
 
 use crate::line::{Line, MOST};
@@ -10,8 +11,8 @@ use crate::mirror::Mirror;
 use dxc_disk::{Disk, DiskFault};
 use dxc_outside::Link;
 
-/// A disk that tells a standby over a link what is written to it and when it is synced. To contracts it is the disk below;
-/// what is lost of the mirror doesn't fail a call.
+/// A disk that tells a standby over a link what is written to it and when it is synced. To contracts it is the disk below, but that it
+/// tells no room; what is lost of the mirror doesn't fail a call.
 #[derive(Drop)]
 pub struct MirrorDisk<D: Disk, K: Link> {
     disk: D,
@@ -28,8 +29,8 @@ impl<D: Disk, K: Link> MirrorDisk<D, K> {
     }
 
     /// Sends the disk's file and a sync to the standby, and waits for its Have. Where that comes the mirror is Joined, else it
-    /// is Lost for good; the disk serves in either case. It makes one call on the disk and one for each piece, so a disk that was sound for
-    /// one more than its bytes stays sound for the rest.
+    /// is Lost until somebody stands by anew; the disk serves in either case. It makes one call on the disk and one for each piece, so a disk that
+    /// was sound for one more than its bytes stays sound for the rest.
     pub fn join(disk: D, link: K) -> MirrorDisk<D, K>
         ensures looks { D.told → Looks (D.state disk) (D.state result.disk) }
         ensures faults { (D.state disk).faults ≤ (D.state result.disk).faults }
@@ -47,8 +48,7 @@ impl<D: Disk, K: Link> MirrorDisk<D, K> {
     {
         let mut disk = disk;
         let mut line = Line::new(link);
-        send_file(&mut disk, &mut line);
-        line.sync();
+        join_file(&mut disk, &mut line);
         MirrorDisk {
             disk,
             line: Some(line),
@@ -80,16 +80,20 @@ impl<D: Disk, K: Link> MirrorDisk<D, K> {
 }
 
 impl<D: Disk, K: Link> Disk for MirrorDisk<D, K> {
+    ghost use Rattle.dxc_disk.specs.ReplayLaws.{no_room};
+    ghost use Rattle.standby_link.specs.Joinings.{disk_roomless};
+
     ghost told = { D.told };
 
-    ghost state = { λ m. D.state m.disk };
+    ghost state = { λ m. roomless (D.state m.disk) };
 
-    ghost is_disk = { λ m told. D.is_disk m.disk told };
+    ghost is_disk = { λ m told. disk_roomless (D.state m.disk) (D.is_disk m.disk told) };
 
-    ghost counts_on = { λ m. D.counts_on m.disk };
+    ghost counts_on = { λ m. no_room (D.state m.disk).faults };
 
     fn length(&mut self) -> Result<u64, DiskFault>
-        ensures length { IsLength D.told (D.state self.old.disk) (D.state self.new.disk) result }
+        ensures length { IsLength D.told (roomless (D.state self.old.disk))
+            (roomless (D.state self.new.disk)) result }
         ensures line { self.new.line ≡ self.old.line }
     {
         self.disk.length()
@@ -97,8 +101,8 @@ impl<D: Disk, K: Link> Disk for MirrorDisk<D, K> {
 
     fn read(&mut self, at: u64, into: &mut [u8]) -> Result<(), DiskFault>
         requires { D.told → at + length into.old ≤ length (D.state self.old.disk).reads_as }
-        ensures read { IsRead D.told (D.state self.old.disk) (D.state self.new.disk) result at
-            into.new }
+        ensures read { IsRead D.told (roomless (D.state self.old.disk))
+            (roomless (D.state self.new.disk)) result at into.new }
         ensures line { self.new.line ≡ self.old.line }
     {
         self.disk.read(at, into)
@@ -107,8 +111,8 @@ impl<D: Disk, K: Link> Disk for MirrorDisk<D, K> {
     fn write_at(&mut self, at: u64, from: &[u8]) -> Result<(), DiskFault>
         requires within { D.told → at ≤ length (D.state self.old.disk).reads_as }
         requires short { length from.now ≤ 4096 }
-        ensures write { IsWrite D.told (D.state self.old.disk) (D.state self.new.disk) result at
-            from.now }
+        ensures write { IsWrite D.told (roomless (D.state self.old.disk))
+            (roomless (D.state self.new.disk)) result at from.now }
         ensures tells { Both self.old.line self.new.line
             (λ l m. TellsWrite K.told (line_at K.state l) (line_at K.state m) at from.now result) }
         ensures steps { Both self.old.line self.new.line
@@ -122,20 +126,85 @@ impl<D: Disk, K: Link> Disk for MirrorDisk<D, K> {
         written
     }
 
+    /// Where the line is lost and somebody stands by anew, that one is joined behind the sync.
     fn sync(&mut self) -> Result<(), DiskFault>
-        ensures sync { IsSync D.told (D.state self.old.disk) (D.state self.new.disk) result }
-        ensures tells { Both self.old.line self.new.line
-            (λ l m. TellsSync K.told (line_at K.state l) (line_at K.state m) result) }
-        ensures steps { Both self.old.line self.new.line
-            (λ l m. StepsBySync D.told K.told (mirrored (D.state self.old.disk) (line_at K.state l))
-            (mirrored (D.state self.new.disk) (line_at K.state m)) result) }
-        ensures hung_up { Both self.old.line self.new.line
-            (λ l m. IsHungUp l.lost m.lost (K.hung_up l.link) (K.hung_up m.link)) }
+        ensures sync { IsSync D.told (roomless (D.state self.old.disk))
+            (roomless (D.state self.new.disk)) result }
+        ensures syncs { Both self.old.line self.new.line
+            (λ l m. SyncsOn (over D.Disk K.Link) (self.old.disk, l) (self.new.disk, m)
+            result) }
     {
-        let synced = self.disk.sync();
-        tell_sync(&mut self.line, synced);
-        synced
+        match &mut self.line {
+            None => self.disk.sync(),
+            Some(line) => sync_on(&mut self.disk, line),
+        }
     }
+}
+
+// Syncs the disk, and lets the standby have that. Where none is joined, and somebody stands by anew, that one is joined.
+fn sync_on<D: Disk, K: Link>(disk: &mut D, line: &mut Line<K>) -> Result<(), DiskFault>
+    ensures sync { IsSync D.told (roomless (D.state disk.old)) (roomless (D.state disk.new))
+        result }
+    ensures syncs { SyncsOn (over D.Disk K.Link) (disk.old, line.old)
+        (disk.new, line.new) result }
+{
+    match disk.sync() {
+        Ok(()) => {
+            tell_sync(disk, line);
+            Ok(())
+        }
+        Err(DiskFault) => {
+            line.end();
+            Err(DiskFault)
+        }
+    }
+}
+
+// A sync was made: it is told over the line, or somebody new is joined.
+fn tell_sync<D: Disk, K: Link>(disk: &mut D, line: &mut Line<K>)
+    ensures looks { D.told → Looks (D.state disk.old) (D.state disk.new) }
+    ensures faults { (D.state disk.old).faults ≤ (D.state disk.new).faults }
+    ensures told { TellsOrJoins (over D.Disk K.Link) (disk.old, line.old)
+        (disk.new, line.new) }
+{
+    match line.lost {
+        None => line.sync(),
+        Some(_) => join_anew(disk, line),
+    }
+}
+
+// Joins somebody who stands by anew, if anybody does.
+fn join_anew<D: Disk, K: Link>(disk: &mut D, line: &mut Line<K>)
+    requires { IsSome line.old.lost }
+    ensures looks { D.told → Looks (D.state disk.old) (D.state disk.new) }
+    ensures faults { (D.state disk.old).faults ≤ (D.state disk.new).faults }
+    ensures told { TellsOrJoins (over D.Disk K.Link) (disk.old, line.old) (disk.new, line.new) }
+{
+    if line.begins_anew() {
+        join_file(disk, line);
+    }
+}
+
+// Sends the file and a sync over a new line, and waits for its Have.
+fn join_file<D: Disk, K: Link>(disk: &mut D, line: &mut Line<K>)
+    requires here { line.old.lost ≡ None }
+    requires first { line.old.number ≡ 0 }
+    requires none_held { line.old.ear.held ≡ 0 }
+    ensures looks { D.told → Looks (D.state disk.old) (D.state disk.new) }
+    ensures faults { (D.state disk.old).faults ≤ (D.state disk.new).faults }
+    ensures room { D.told → Spends (1 + length (D.state disk.old).reads_as)
+        (D.state disk.old) (D.state disk.new) }
+    ensures line { JoinsOver (over D.Disk K.Link) disk.old disk.new line.old line.new }
+    ensures step { D.told → IsSmall 0 0 (D.state disk.old).reads_as
+        → length (pieces 0 (D.state disk.old).reads_as) + 1 < 2 ^ 64
+        → TookHaves D.told K.told (first_line (K.state line.old.link))
+        (mirrored (D.state disk.new) (line_at K.state line.new))
+        (joining (D.state disk.old).reads_as) }
+    ensures hung_up { IsHungUp None line.new.lost (K.hung_up line.old.link)
+        (K.hung_up line.new.link) }
+{
+    send_file(disk, line);
+    line.sync();
 }
 
 // Sends what was written, if there is a standby.
@@ -153,20 +222,6 @@ fn tell_write<K: Link>(
     let Some(line) = line else { return };
     match written {
         Ok(()) => line.write(at, from),
-        Err(_) => line.end(),
-    }
-}
-
-// Sends a sync and waits for its Have, if there is a standby.
-fn tell_sync<K: Link>(line: &mut Option<Line<K>>, synced: Result<(), DiskFault>)
-    ensures tells { Both line.old line.new
-        (λ l m. TellsSync K.told (line_at K.state l) (line_at K.state m) synced) }
-    ensures hung_up { Both line.old line.new
-        (λ l m. IsHungUp l.lost m.lost (K.hung_up l.link) (K.hung_up m.link)) }
-{
-    let Some(line) = line else { return };
-    match synced {
-        Ok(()) => line.sync(),
         Err(_) => line.end(),
     }
 }

@@ -129,7 +129,10 @@ fn hold_parts(
         match head.word {
             "lines" => hold_worker(alloc, *part, head.rest, holding, due)?,
             "place" => hold_place(alloc, sid, *part, holding, due)?,
-            _ => holding.peer = Some(link_of(alloc, sid, *part, "the standby", due)?),
+            _ if holding.peer.is_none() => {
+                holding.peer = Some(link_of(alloc, sid, *part, "the standby", due)?);
+            }
+            _ => holding.users_peer = Some(link_of(alloc, sid, *part, "its users", due)?),
         }
     }
     Ok(())

@@ -27,6 +27,8 @@ pub struct Holding {
     pub gates: Vec<MemGate>,
     /// The link to a standby.
     pub peer: Option<RowLink>,
+    /// The link to its copy of the users' journal.
+    pub users_peer: Option<RowLink>,
 }
 
 impl Holding {
@@ -40,6 +42,7 @@ impl Holding {
             listeners: Vec::new(alloc),
             gates: Vec::new(alloc),
             peer: None,
+            users_peer: None,
         }
     }
 }
@@ -150,8 +153,12 @@ impl Opener for RowOpener {
         self.opened(listener)
     }
 
-    fn peer(&mut self, _alloc: Global, _address: &str) -> Opened<RowLink> {
-        let peer = self.holding.peer.take();
+    fn peer(&mut self, _alloc: Global, address: &str) -> Opened<RowLink> {
+        let peer = if address.ends_with(".users") {
+            self.holding.users_peer.take()
+        } else {
+            self.holding.peer.take()
+        };
         self.opened(peer)
     }
 

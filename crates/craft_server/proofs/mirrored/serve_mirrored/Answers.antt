@@ -45,9 +45,9 @@ returns-clause-mirrors g c =
     let site = site_at c.args.site.address.now c.args.site.lines.now c.args.site.workers in
     let jobs = jobs_told g.O.Journal.Disk.told g.O.Opener g.O.Lines.Lines g.O.Listener.Listener g.O.Listener.Link.Link g.O.Clock.Timestamps g.O.Gate.Gate g.O.LetGo.gone (g.P.Spawner.handed c.args.spawner.now c.serve_on.new.spawner) in
     let h = c.in-Ok.ensures.opened.0 in
-    let Served : Contents → Opening → UsersOpening → Type 0 = λ s o u. ServedSite mirror g.row.O-Journal.Denot jobs site before after p q s o u c.serve_on.result in
+    let Served : Contents → Opening → UsersOpening → Type 0 = λ s o u. ServedSite mirror mirror jobs site before after p q s o u c.serve_on.result in
     serves g.O.Journal.Disk.told g.O.Peer.Link.told g.O.Journal.Disk.state g.O.Peer.Link.state g.O.Opener.told g.O.LetGo.gone (named c.args.names.shelf.now c.args.names.journal.now) c.args.site.workers before after (q ≡ p) Served c.serve_on.result c.in-Ok.element c.in-Ok.ensures.opened
-    (served_on mirror g.row.O-Journal.Denot jobs site before after _ p q h.0.shelf _ _ _ c.serve_on.result c.in-Ok.ensures.unstopped c.in-Ok.ensures.later h.1.shelf c.serve_on.ensures.serving c.serve_on.ensures.jobs c.serve_on.ensures.closed)
+    (served_on mirror mirror jobs site before after _ p q h.0.shelf _ _ _ c.serve_on.result c.in-Ok.ensures.unstopped c.in-Ok.ensures.later h.1.shelf c.serve_on.ensures.serving c.serve_on.ensures.jobs c.serve_on.ensures.closed)
 
 pub returns-in-Err-clause-asked : goal.returns-in-Err-clause-asked
 returns-in-Err-clause-asked g c =

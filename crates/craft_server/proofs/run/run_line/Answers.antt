@@ -100,15 +100,15 @@ returns-in-Serve-clause-run g c = λ fit.
     let keep : after.spawner ≡ before.spawner → IsUntouched before after = λ u. record { terminal = refl; clock = refl; spawner = u } in
     let P : Contents → disk → Opening → disk → UsersOpening → Type 0 = λ s d o e u. ServedSite disk disk jobs (site_in line) before.sources after.sources before.spawner after.spawner s o u status in
     let Q : Contents → disk → Opening → disk → UsersOpening → Type 0 = λ s d o e u. RanServe disk jobs site before after s o u status in
-    let M : Contents → Opening → UsersOpening → Type 0 = λ s o u. ServedSite mirror disk jobs (site_in line) before.sources after.sources before.spawner after.spawner s o u status in
+    let M : Contents → Opening → UsersOpening → Type 0 = λ s o u. ServedSite mirror mirror jobs (site_in line) before.sources after.sources before.spawner after.spawner s o u status in
     let W : Contents → Opening → UsersOpening → Type 0 = λ s o u. RanServe mirror jobs site before after s o u status in
     subst (λ (l : Line). IsRunOf told jobs state peer_state g.O.Listener.Listener.state g.O.Listener.Link.Link.state g.O.Listener.Link.Link.hung_up (g.O.Opener.listener_at c.args.opener.now) l before after status) (sym c.in-Serve.is)
     (serves_for told jobs state peer_state g.O.Listener.Listener.state g.O.Listener.Link.Link.state g.O.Listener.Link.Link.hung_up (g.O.Opener.listener_at c.args.opener.now) c.in-Serve.shelf c.in-Serve.journal c.in-Serve.address c.in-Serve.lines c.in-Serve.workers before after status c.in-Serve.peer
     (λ none. opens_for told.disk state told.opener told.gone (named_in line) names (ap named_in c.in-Serve.is) before.sources after.sources (after.spawner ≡ before.spawner) (IsUntouched before after) P Q status keep
-    (λ s d o e u one. ran_serve disk disk jobs (site_in line) site here before after refl refl s o u status one)
+    (λ s d o e u one. ran_serve disk jobs (site_in line) site here before after refl refl s o u status one)
     (c.serve_line.ensures.alone (subst IsServe (sym c.in-Serve.is) (subst IsInRange c.in-Serve.is fit)) (ap peer_of c.in-Serve.is ∙ none)))
     (λ some. mirrors_for told.disk told.peer state peer_state told.opener told.gone (named_in line) names (ap named_in c.in-Serve.is) before.sources after.sources (after.spawner ≡ before.spawner) (IsUntouched before after) M W status keep
-    (λ s o u one. ran_serve mirror disk jobs (site_in line) site here before after refl refl s o u status one)
+    (λ s o u one. ran_serve mirror jobs (site_in line) site here before after refl refl s o u status one)
     (c.serve_line.ensures.mirrored (subst IsServe (sym c.in-Serve.is) (subst IsInRange c.in-Serve.is fit)) (subst IsSome (sym (ap peer_of c.in-Serve.is)) some))))
 
 pub returns-in-Standby-clause-run : goal.returns-in-Standby-clause-run
@@ -158,7 +158,7 @@ returns-in-Serve-clause-words g c = λ fit bad.
     let disk : Type 0 = g.row.O-Journal.Denot in
     let mirror : Type 0 = MirrorDisk disk g.row.O-Peer.Denot in
     let S : Contents → Opening → UsersOpening → Type 0 = λ s o u. ServedSite disk disk jobs (site_in line) before after p q s o u status in
-    let M : Contents → Opening → UsersOpening → Type 0 = λ s o u. ServedSite mirror disk jobs (site_in line) before after p q s o u status in
+    let M : Contents → Opening → UsersOpening → Type 0 = λ s o u. ServedSite mirror mirror jobs (site_in line) before after p q s o u status in
     let other = serving_words ((site_in line).workers + 16) before.opener.faults after.opener.faults p q status in
     serve_words c.in-Serve.peer
     (λ none. opens_words g.O.Opener.told g.O.Journal.Disk.told g.O.Journal.Disk.state g.O.LetGo.gone (named_in line) before after (q ≡ p) (λ f o u. S f.shelf o u.opening) status (λ f o u ran. other ran.serving) (c.serve_line.ensures.alone (subst IsServe (sym c.in-Serve.is) (subst IsInRange c.in-Serve.is fit)) (ap peer_of c.in-Serve.is ∙ none)) bad)

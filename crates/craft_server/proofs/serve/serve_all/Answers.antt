@@ -48,7 +48,7 @@ returns-in-Some-clause-mirrored g c = λ some.
     let jobs = jobs_told g.O.Journal.Disk.told g.O.Opener g.O.Lines.Lines g.O.Listener.Listener g.O.Listener.Link.Link g.O.Clock.Timestamps g.O.Gate.Gate g.O.LetGo.gone (g.P.Spawner.handed c.args.spawner.now c.serve_mirrored.new.spawner) in
     let site = site_at c.text-3.result.now c.text-4.result.now c.in-Serve.workers in
     let here : site ≡ site_in line = (λ i. site_at (c.text-3.ensures i) (c.text-4.ensures i) c.in-Serve.workers) ∙ sym (ap site_in c.in-Serve.is) in
-    let Served : SiteAt → Contents → Opening → UsersOpening → Type 0 = λ t s o u. ServedSite (MirrorDisk g.row.O-Journal.Denot g.row.O-Peer.Denot) g.row.O-Journal.Denot jobs t before after p q s o u c.serve_mirrored.result in
+    let Served : SiteAt → Contents → Opening → UsersOpening → Type 0 = λ t s o u. ServedSite (MirrorDisk g.row.O-Journal.Denot g.row.O-Peer.Denot) (MirrorDisk g.row.O-Journal.Denot g.row.O-Peer.Denot) jobs t before after p q s o u c.serve_mirrored.result in
     mirrors_for g.O.Journal.Disk.told g.O.Peer.Link.told g.O.Journal.Disk.state g.O.Peer.Link.state g.O.Opener.told g.O.LetGo.gone _ _ same before after (q ≡ p) (q ≡ p) (Served site) (Served (site_in line)) c.serve_mirrored.result (λ u. u) (λ s o u ran. subst (λ (t : SiteAt). Served t s o u) here ran) c.serve_mirrored.ensures.mirrors
 
 pub returns-in-None-clause-asked : goal.returns-in-None-clause-asked

@@ -1,6 +1,7 @@
 use Rattle.standby_link.specs.declared.line.Line.{Line}
 use Rattle.standby_link.specs.Lines.{line_at}
 use Rattle.standby_link.specs.Moves.{mirrored, TellsWrite, StepsByWrite}
+use Rattle.standby_link.proofs.JoinSteps.{write_roomless}
 use Rattle.standby_link.proofs.MoveSteps.{both_then, steps_by_write}
 use Rattle.standby_link.proofs.mirror_disk.MirrorDiskDisk.write_at.Goals as goal
 
@@ -14,3 +15,6 @@ returns-clause-steps g c =
     (λ (l : Line g.row.K.Denot) (m : Line g.row.K.Denot). StepsByWrite g.D.Disk.told (mirrored old (at l)) (mirrored new (at m)) c.args.at c.args.from.now c.write_at-written.result)
     (λ l m tells. steps_by_write g.D.Disk.told g.K.Link.told old new (at l) (at m) c.args.at c.args.from.now c.write_at-written.result c.write_at-written.ensures.writes tells)
     c.tell_write.ensures.tells
+
+pub returns-clause-write : goal.returns-clause-write
+returns-clause-write g c = write_roomless _ _ _ _ _ _ c.write_at-written.ensures
