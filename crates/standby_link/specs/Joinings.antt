@@ -25,9 +25,13 @@ module _ {D K : Type 0} (w : Means D K) where
   abbrev pub state : Known D → DiskState
   state k = w.disk.state k.disk
 
+  -- the file was sent over a line, as the disk read it, and a sync, whose Have was waited for
+  abbrev pub JoinsOver : (d e : D) (l m : Line K) → Type 0
+  JoinsOver d e l m = Joins w.disk.told w.link.told (w.disk.state d) (w.disk.state e) (w.link.state l.link) (at m)
+
   -- A joining of whoever is at the other end of a new line: the file was sent, and a sync, and its Have waited for. The disk isn't called.
   pub record IsJoining (k : Known D) (l m : Line K) : Type 0 where
-    pub joins : Joins w.disk.told w.link.told (state k) (state k) (w.link.state l.link) (at m)
+    pub joins : JoinsOver k.disk k.disk l m
     pub step : w.disk.told → IsSmall 0 0 (state k).reads_as → length (pieces 0 (state k).reads_as) + 1 < 2 ^ 64
         → TookHaves w.disk.told w.link.told (first_line (w.link.state l.link)) (mirrored (state k) (at m)) (joining (state k).reads_as)
     pub hung_up : IsHungUp None m.lost (w.link.hung_up l.link) (w.link.hung_up m.link)

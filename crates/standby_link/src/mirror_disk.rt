@@ -4,7 +4,7 @@ ghost use Rattle.standby_link.specs.Lines.{line_at, IsHungUp};
 ghost use Rattle.standby_link.specs.Moves.{Both, mirrored, first_line, TellsWrite, StepsByWrite, SendsFile, Joins, TookHaves, IsSmall, mirror_of};
 ghost use Rattle.standby_link.specs.Acts.{pieces};
 ghost use Rattle.standby_link.specs.Fronts.{IsWhole};
-ghost use Rattle.standby_link.specs.Joinings.{SyncsOn, TellsOrJoins, over};
+ghost use Rattle.standby_link.specs.Joinings.{JoinsOver, SyncsOn, TellsOrJoins, over};
 ghost use Rattle.standby_link.specs.Mirrors.{joining};
 
 use crate::known_disk::KnownDisk;
@@ -195,8 +195,8 @@ fn join_known<D: Disk, K: Link>(disk: &KnownDisk<D>, new_line: &mut Line<K>)
     requires here { new_line.old.lost ≡ None }
     requires first { new_line.old.number ≡ 0 }
     requires none_held { new_line.old.ear.held ≡ 0 }
-    ensures line { Joins D.told K.told (D.state disk.now.disk) (D.state disk.now.disk)
-        (K.state new_line.old.link) (line_at K.state new_line.new) }
+    ensures line { JoinsOver (over D.Disk K.Link) disk.now.disk disk.now.disk new_line.old
+        new_line.new }
     ensures step { D.told → IsSmall 0 0 (D.state disk.now.disk).reads_as
         → length (pieces 0 (D.state disk.now.disk).reads_as) + 1 < 2 ^ 64
         → TookHaves D.told K.told (first_line (K.state new_line.old.link))
@@ -218,8 +218,7 @@ fn join_file<D: Disk, K: Link>(disk: &mut D, line: &mut Line<K>)
     ensures faults { (D.state disk.old).faults ≤ (D.state disk.new).faults }
     ensures room { D.told → Spends (1 + length (D.state disk.old).reads_as)
         (D.state disk.old) (D.state disk.new) }
-    ensures line { Joins D.told K.told (D.state disk.old) (D.state disk.new)
-        (K.state line.old.link) (line_at K.state line.new) }
+    ensures line { JoinsOver (over D.Disk K.Link) disk.old disk.new line.old line.new }
     ensures step { D.told → IsSmall 0 0 (D.state disk.old).reads_as
         → length (pieces 0 (D.state disk.old).reads_as) + 1 < 2 ^ 64
         → TookHaves D.told K.told (first_line (K.state line.old.link))
