@@ -12,7 +12,6 @@ use Rattle.dxc_outside.specs.Links.{LinkState}
 use Rattle.dxc_leaving.specs.Values.{AnyValue, any_value}
 use Rattle.shelf_file.specs.Contents.{Contents}
 use Rattle.standby_link.specs.declared.mirror_disk.MirrorDisk.{MirrorDisk}
-use Rattle.standby_link.specs.Joinings.{roomless}
 use Rattle.standby_link.specs.Lines.{line_at}
 use Rattle.standby_link.specs.Moves.{Joins}
 use Rattle.user_admin.specs.declared.state.UserState.{UserState}
@@ -46,17 +45,17 @@ IsUnused opener_told gone name before after = IsKept opener_told name before aft
 abbrev pub NoMirror : (opener_told : Type 0) {D : Type 0} (gone : AnyValue → Type 0) (name : List ℕ) → Sources D → Sources D → Status → Type 0
 NoMirror opener_told gone name before after status = IsUnopened before.opener.faults after.opener.faults status × IsUnused opener_told gone name before.journal_at after.journal_at
 
--- what a mirrored disk shows is what the disk below shows, but for its room
+-- what a mirrored disk shows is what the disk below shows
 abbrev pub mirror_state : {D K : Type 0} → (D → DiskState) → MirrorDisk D K → DiskState
-mirror_state state m = roomless (state m.disk)
+mirror_state state m = state m.disk.disk
 
 module _ {D K : Type 0} (disk_told link_told : Type 0) (state : D → DiskState) (link : K → LinkState) where
   -- The disk is mirrored, behind a joining over some link. That changed nothing on it.
   pub record IsMirror (disk : D) (m : MirrorDisk D K) : Type 0 where
-    pub looks : disk_told → Looks (state disk) (state m.disk)
-    pub later : (state disk).faults ≤ (state m.disk).faults
+    pub looks : disk_told → Looks (state disk) (state m.disk.disk)
+    pub later : (state disk).faults ≤ (state m.disk.disk).faults
     pub peer : K
-    pub joins : IsSomeAnd m.line (λ l. Joins disk_told link_told (state disk) (state m.disk) (link peer) (line_at link l))
+    pub joins : IsSomeAnd m.line (λ l. Joins disk_told link_told (state disk) (state m.disk.disk) (link peer) (line_at link l))
 
   module _ (opener_told : Type 0) where
     -- the mirror of the disk that was handed out for a journal

@@ -130,7 +130,7 @@ fn mirror_of<O: Opener + LetGo>(
         Opened::NoMemory => return Err(Status::NoMemory),
     };
     match opener.peer(alloc, peer) {
-        Opened::Open(link) => Ok(MirrorDisk::join(disk, link)),
+        Opened::Open(link) => Ok(MirrorDisk::join(alloc, disk, link)),
         Opened::Failed => {
             opener.let_go(disk);
             Err(Status::CannotOpen)

@@ -32,11 +32,20 @@ pub(crate) struct Dialer<T> {
 }
 
 impl<T: Net<Listener = TcpListener, Stream = TcpStream> + SystemClock + Drop> Dialer<T> {
-    /// An error: the name has no address.
-    pub(crate) fn new(alloc: Global, system: T, name: &str) -> io::Result<Dialer<T>> {
+    /// Of the port that the name has, or of the one behind it. An error: the name has no address, or no such port.
+    pub(crate) fn new(
+        alloc: Global,
+        system: T,
+        name: &str,
+        is_behind: bool,
+    ) -> io::Result<Dialer<T>> {
         let mut addresses = Vec::new(alloc);
         for address in name.to_socket_addrs(&system)? {
-            addresses.push(address)?;
+            if is_behind {
+                addresses.push(port_behind(address)?)?;
+            } else {
+                addresses.push(address)?;
+            }
         }
         Ok(Dialer {
             system,
@@ -79,4 +88,13 @@ impl<T: Net<Listener = TcpListener, Stream = TcpStream> + SystemClock + Drop> Di
         }
         Err(last)
     }
+}
+
+fn port_behind(at: SocketAddr) -> io::Result<SocketAddr> {
+    let Some(port) = at.port().checked_add(1) else {
+        return Err(io::Error::new(ErrorKind::InvalidInput, "there is no port behind it"));
+    };
+    let mut behind = at;
+    behind.set_port(port);
+    Ok(behind)
 }

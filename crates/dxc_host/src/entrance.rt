@@ -80,20 +80,22 @@ impl Entrance {
         let Some(standby) = &self.hall.standby else {
             return poll(&mut [listener], -1);
         };
-        let (connection, of) = standby.asked();
-        let mut asked = [listener, connection];
+        let [(journal, journal_time), (users, users_time)] = standby.asked();
+        let mut asked = [listener, journal, users];
         poll(&mut asked, LOOK_MILLIS)?;
-        standby.answered(&asked[1], of);
+        standby.answered(&asked[1], journal_time);
+        standby.answered(&asked[2], users_time);
         Ok(())
     }
 
     /// Looks after the standby's connection without waiting.
     fn look(&self) {
         if let Some(standby) = &self.hall.standby {
-            let (connection, of) = standby.asked();
-            let mut asked = [connection];
+            let [(journal, journal_time), (users, users_time)] = standby.asked();
+            let mut asked = [journal, users];
             if poll(&mut asked, 0).is_ok() {
-                standby.answered(&asked[0], of);
+                standby.answered(&asked[0], journal_time);
+                standby.answered(&asked[1], users_time);
             }
         }
     }

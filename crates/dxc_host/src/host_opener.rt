@@ -37,7 +37,7 @@ pub struct HostOpener<T> {
     refusal: Option<Refusal>,
     /// The copy of a journal that was to be made last.
     copied: Option<Copied>,
-    /// The connection to a standby, for those who wait for callers.
+    /// The connections to a standby, for those who wait for callers.
     standby: Option<PeerWatch>,
 }
 
@@ -335,7 +335,7 @@ impl<
         }
     }
 
-    /// Also where nobody answers there: the link calls again then.
+    /// Also where nobody answers there: the link calls again then. ADDRESS`.users` is where the users' journal is copied: at the port behind ADDRESS's.
     fn peer(&mut self, alloc: Global, address: &str) -> Opened<PeerLink<T>>
         ensures aside { StaysAside self.old self.new }
         ensures cause { HasCause self.old.faults self.new.faults (result ≡ Opened.Failed) }
@@ -343,7 +343,13 @@ impl<
         ensures looks { self.new.only_looks ≡ self.old.only_looks }
     {
         let lines = share_lines(alloc, &mut self.lines);
-        match PeerLink::new(alloc, self.system, address, lines) {
+        let opened = match (&self.standby, address.strip_suffix(".users")) {
+            (Some(standby), Some(name)) => {
+                PeerLink::of_users(alloc, self.system, name, lines, standby)
+            }
+            _ => PeerLink::new(alloc, self.system, address, lines),
+        };
+        match opened {
             Ok(link) => {
                 self.standby = link.watch();
                 Opened::Open(link)

@@ -8,7 +8,7 @@ use crate::dialer::Dialer;
 use crate::error_lines::ErrorLines;
 use crate::keepalive::{self, FarEnd};
 use crate::outbox::Outbox;
-use crate::peer_watch::PeerWatch;
+use crate::peer_watch::{CopyOf, PeerWatch};
 use dxc_outside::{Got, Link, Lost, Put};
 use std::alloc::Global;
 use std::io::{self, ErrorKind, Read};
@@ -17,14 +17,18 @@ use std::os::fd::AsRawFd;
 use std::rt::Clock as SystemClock;
 
 /// A TCP link to a standby. Where it ends, or is hung up, standard error is told when and why, since the sessions go on without it. Once it was hung up a
-/// read calls the standby again, and is Quiet where somebody answers: the link is over a new connection then. It tells nothing of its content.
+/// read calls the standby again, and is Quiet where somebody answers: the link is over a new connection then. Where the other link to the same standby
+/// has ended, this one has too. It tells nothing of its content.
 #[derive(Drop)]
 pub struct PeerLink<T> {
     alloc: Global,
     name: String,
     lines: ErrorLines,
     dialer: Dialer<T>,
+    of: CopyOf,
     watch: PeerWatch,
+    /// Which time of the standby its connection is of; 0: of none.
+    time: u64,
     /// None while there is no connection.
     line: Option<Caller>,
     outbox: Outbox,
@@ -45,11 +49,56 @@ impl<T: Net<Listener = TcpListener, Stream = TcpStream> + SystemClock + Copy + D
         name: &str,
         lines: ErrorLines,
     ) -> io::Result<PeerLink<T>> {
-        let mut link = PeerLink {
+        let watch = PeerWatch::new(alloc, lines.shared())?;
+        let mut link = PeerLink::uncalled(alloc, system, name, CopyOf::Journal, lines, watch)?;
+        match link.dialer.call_first() {
+            Ok(stream) => link.take_up(stream)?,
+            Err(error) => link.tell_unanswered(&error),
+        }
+        Ok(link)
+    }
+
+    /// Calls the same standby at the port behind that name's, if it is there: it has both copies, or is lost.
+    pub(crate) fn of_users(
+        alloc: Global,
+        system: T,
+        name: &str,
+        lines: ErrorLines,
+        watch: &PeerWatch,
+    ) -> io::Result<PeerLink<T>> {
+        let watch = watch.shared()?;
+        let mut link = PeerLink::uncalled(alloc, system, name, CopyOf::Users, lines, watch)?;
+        if let Some(time) = link.watch.journal_time() {
+            match link.dialer.call_first() {
+                Ok(stream) => link.take_up(stream)?,
+                Err(error) => {
+                    link.tell_unanswered(&error);
+                    link.watch.tell(time, Lost::Link);
+                }
+            }
+        }
+        Ok(link)
+    }
+
+    fn uncalled(
+        alloc: Global,
+        system: T,
+        name: &str,
+        of: CopyOf,
+        lines: ErrorLines,
+        watch: PeerWatch,
+    ) -> io::Result<PeerLink<T>> {
+        let is_behind = match of {
+            CopyOf::Journal => false,
+            CopyOf::Users => true,
+        };
+        Ok(PeerLink {
             alloc,
             name: name.to_string(alloc)?,
-            dialer: Dialer::new(alloc, system, name)?,
-            watch: PeerWatch::new(alloc, lines.shared())?,
+            dialer: Dialer::new(alloc, system, name, is_behind)?,
+            of,
+            watch,
+            time: 0,
             lines,
             line: None,
             // No gate is asked for what it is sent.
@@ -60,12 +109,7 @@ impl<T: Net<Listener = TcpListener, Stream = TcpStream> + SystemClock + Copy + D
             reads: 0,
             read_faults: 0,
             write_faults: 0,
-        };
-        match link.dialer.call_first() {
-            Ok(stream) => link.take_up(stream)?,
-            Err(error) => link.tell_unanswered(&error),
-        }
-        Ok(link)
+        })
     }
 
     /// What those see of its end who wait for callers; none where memory is wanting.
@@ -85,7 +129,7 @@ impl<T: Net<Listener = TcpListener, Stream = TcpStream> + SystemClock + Copy + D
         self.line = Some(Caller::new(stream, None, FarEnd::Peer)?);
         self.outbox = Outbox::new(self.alloc, Changes::new(self.alloc)?)?;
         self.is_heard = false;
-        self.watch.begin(number);
+        self.time = self.watch.begin(self.of, number);
         self.tell_called();
         Ok(())
     }
@@ -118,6 +162,9 @@ impl<T: Net<Listener = TcpListener, Stream = TcpStream> + SystemClock + Copy + D
         let Some(line) = &mut self.line else {
             return self.call_again();
         };
+        if self.watch.is_over(self.time) {
+            return Got::End;
+        }
         if !self.outbox.empty(line) {
             return Got::Failed;
         }
@@ -140,15 +187,20 @@ impl<T: Net<Listener = TcpListener, Stream = TcpStream> + SystemClock + Copy + D
     {
         if !self.is_heard {
             self.is_heard = true;
-            self.lines.tell(&"standby joined");
+            self.lines.tell(&match self.of {
+                CopyOf::Journal => "standby joined",
+                CopyOf::Users => "standby joined, for the users",
+            });
         }
     }
 
     fn tell_called(&self) {
         let name = self.name.as_str();
-        if let Ok(what) = format!(in self.alloc;
-            "standby at {name}: called, the journal is copied to it"
-        ) {
+        let what = match self.of {
+            CopyOf::Journal => "the journal is",
+            CopyOf::Users => "the users are",
+        };
+        if let Ok(what) = format!(in self.alloc; "standby at {name}: called, {what} copied to it") {
             self.lines.tell(&what.as_str());
         }
     }
@@ -175,8 +227,8 @@ impl<T: Net<Listener = TcpListener, Stream = TcpStream> + SystemClock + Copy + D
 
     fn read(&mut self, into: &mut [u8]) -> Got {
         self.reads = self.reads.saturating_add(1);
-        self.ended = false;
         let got = self.hear(into);
+        self.ended = false;
         match got {
             Got::End => self.ended = true,
             Got::Failed => self.read_faults = self.read_faults.saturating_add(1),
@@ -187,8 +239,16 @@ impl<T: Net<Listener = TcpListener, Stream = TcpStream> + SystemClock + Copy + D
 
     fn write(&mut self, from: &[u8]) -> Put {
         let may_wait = self.is_heard;
+        // A change that meets the loss with its first write joins with its sync who stands by anew.
+        let is_over = self.watch.is_over(self.time);
         let taken = match &mut self.line {
-            Some(line) => self.outbox.write(line, from, may_wait),
+            Some(line) => {
+                if is_over {
+                    None
+                } else {
+                    self.outbox.write(line, from, may_wait)
+                }
+            }
             None => None,
         };
         match taken {
@@ -203,7 +263,7 @@ impl<T: Net<Listener = TcpListener, Stream = TcpStream> + SystemClock + Copy + D
     /// What the standby hasn't got yet it won't get any more, as far as that lies with this end.
     fn hang_up(&mut self, why: Lost) {
         // First: whoever waits for callers meets the end that is made here.
-        self.watch.tell(why);
+        self.watch.tell(self.time, why);
         if let Some(line) = &self.line {
             line.give_up();
         }

@@ -6,16 +6,30 @@ use std::alloc::{AllocError, Global};
 use std::sync::Arc;
 use std::sync::atomic::{AtomicU64, Ordering};
 
-/// The connections to a standby, counted from 1: which one is there, its descriptor, and the last whose end was told.
-#[derive(Drop)]
-struct Watched {
-    current: AtomicU64,
-    descriptor: AtomicU64,
-    told: AtomicU64,
+/// Which of the two journals a connection copies.
+#[derive(Clone, Copy)]
+pub(crate) enum CopyOf {
+    Journal,
+    Users,
 }
 
-/// The connection to a standby, as all who wait for callers see it: the first of them that meets its end tells standard error, so that it is told
-/// at once, and not only where somebody changes something. It is told once, whoever meets it.
+/// A connection to a standby's copy: its descriptor, and which time it is that the standby is there, counted from 1; 0: there was none yet.
+#[derive(Drop)]
+struct Seen {
+    descriptor: AtomicU64,
+    time: AtomicU64,
+}
+
+/// The connections for the journal and for the users' journal, and how often the standby was lost.
+#[derive(Drop)]
+struct Watched {
+    journal: Seen,
+    users: Seen,
+    lost: AtomicU64,
+}
+
+/// The connections to a standby, as all who wait for callers see them: the first of them that meets the end of one tells standard error, so that it is told
+/// at once, and not only where somebody changes something. It is told once, whoever meets it, and both connections have ended by it.
 #[derive(Drop)]
 pub(crate) struct PeerWatch {
     watched: Arc<Watched>,
@@ -26,9 +40,9 @@ impl PeerWatch {
     /// Of no connection yet.
     pub(crate) fn new(alloc: Global, lines: ErrorLines) -> Result<PeerWatch, AllocError> {
         let watched = Watched {
-            current: AtomicU64::new(0),
-            descriptor: AtomicU64::new(0),
-            told: AtomicU64::new(0),
+            journal: none_seen(),
+            users: none_seen(),
+            lost: AtomicU64::new(0),
         };
         let watched = Arc::new(alloc, watched)?;
         Ok(PeerWatch { watched, lines })
@@ -41,54 +55,85 @@ impl PeerWatch {
         Ok(PeerWatch { watched, lines })
     }
 
-    /// A new connection is there, of that descriptor.
-    pub(crate) fn begin(&self, descriptor: i32) {
-        let before = self.watched.current.load(Ordering::SeqCst);
+    /// A new connection is there, of that descriptor; which time this is.
+    pub(crate) fn begin(&self, of: CopyOf, descriptor: i32) -> u64 {
+        let time = self.watched.lost.load(Ordering::SeqCst).saturating_add(1);
+        let seen = self.seen(of);
         let descriptor = u64::from(descriptor.unsigned_abs());
-        self.watched.descriptor.store(descriptor, Ordering::SeqCst);
-        let now = before.saturating_add(1);
-        self.watched.current.store(now, Ordering::SeqCst);
+        seen.descriptor.store(descriptor, Ordering::SeqCst);
+        seen.time.store(time, Ordering::SeqCst);
+        time
     }
 
-    /// What `poll` is asked, and of which connection: for its end. Once that was told, for nothing.
-    // A descriptor may be another file's by the time that `poll` is called: the connection was told then, and what is answered says nothing.
-    pub(crate) fn asked(&self) -> (pollfd, u64) {
-        let current = self.watched.current.load(Ordering::SeqCst);
-        let descriptor = self.watched.descriptor.load(Ordering::SeqCst);
-        let is_told = self.watched.told.load(Ordering::SeqCst) == current;
+    /// Whether the standby of that time was lost, by this connection or by the other one.
+    pub(crate) fn is_over(&self, time: u64) -> bool {
+        self.watched.lost.load(Ordering::SeqCst) >= time
+    }
+
+    /// The time of the journal's connection, if it is there.
+    pub(crate) fn journal_time(&self) -> Option<u64> {
+        let time = self.watched.journal.time.load(Ordering::SeqCst);
+        if self.is_over(time) { None } else { Some(time) }
+    }
+
+    /// What `poll` is asked, and of which times: for the ends of the connections. Of those of a time that is over, for nothing.
+    // A descriptor may be another file's by the time that `poll` is called: that time was over then, and what is answered says nothing.
+    pub(crate) fn asked(&self) -> [(pollfd, u64); 2] {
+        [
+            self.asked_of(&self.watched.journal),
+            self.asked_of(&self.watched.users),
+        ]
+    }
+
+    fn asked_of(&self, seen: &Seen) -> (pollfd, u64) {
+        let time = seen.time.load(Ordering::SeqCst);
+        let descriptor = seen.descriptor.load(Ordering::SeqCst);
         let asked = pollfd {
-            fd: if is_told { -1 } else { descriptor as i32 },
+            fd: if self.is_over(time) {
+                -1
+            } else {
+                i32::try_from(descriptor).unwrap_or(-1)
+            },
             events: POLLRDHUP,
             revents: 0,
         };
-        (asked, current)
+        (asked, time)
     }
 
-    /// Tells standard error where that is what `poll` answered of the connection.
-    pub(crate) fn answered(&self, asked: &pollfd, of: u64) {
+    /// Tells standard error where that is what `poll` answered of a connection.
+    pub(crate) fn answered(&self, asked: &pollfd, time: u64) {
         if asked.revents & POLLERR != 0 {
-            self.tell_of(of, Lost::Link);
+            self.tell(time, Lost::Link);
         } else if asked.revents != 0 {
-            self.tell_of(of, Lost::End);
+            self.tell(time, Lost::End);
         }
     }
 
-    /// Tells standard error why the standby is lost, where nobody told that before.
-    pub(crate) fn tell(&self, why: Lost) {
-        self.tell_of(self.watched.current.load(Ordering::SeqCst), why);
-    }
-
-    // The end of each connection is told before the next one begins.
-    fn tell_of(&self, connection: u64, why: Lost) {
-        let before = connection.saturating_sub(1);
-        let told = &self.watched.told;
-        if before < connection
-            && told
-                .compare_exchange(before, connection, Ordering::SeqCst, Ordering::SeqCst)
+    /// Tells standard error why the standby of that time is lost, where nobody told that before.
+    pub(crate) fn tell(&self, time: u64, why: Lost) {
+        let before = time.saturating_sub(1);
+        let lost = &self.watched.lost;
+        if before < time
+            && lost
+                .compare_exchange(before, time, Ordering::SeqCst, Ordering::SeqCst)
                 .is_ok()
         {
             self.lines.tell(&lost_text(why));
         }
+    }
+
+    fn seen(&self, of: CopyOf) -> &Seen {
+        match of {
+            CopyOf::Journal => &self.watched.journal,
+            CopyOf::Users => &self.watched.users,
+        }
+    }
+}
+
+fn none_seen() -> Seen {
+    Seen {
+        descriptor: AtomicU64::new(0),
+        time: AtomicU64::new(0),
     }
 }
 
