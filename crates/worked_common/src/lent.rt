@@ -129,10 +129,11 @@ fn hold_parts(
         match head.word {
             "lines" => hold_worker(alloc, *part, head.rest, holding, due)?,
             "place" => hold_place(alloc, sid, *part, holding, due)?,
-            _ if holding.peer.is_none() => {
+            // The last one comes first: where there are two, that is the one of the users.
+            _ => {
+                holding.users_peer = holding.peer.take();
                 holding.peer = Some(link_of(alloc, sid, *part, "the standby", due)?);
             }
-            _ => holding.users_peer = Some(link_of(alloc, sid, *part, "its users", due)?),
         }
     }
     Ok(())
