@@ -10,5 +10,9 @@ pub returns-in-Rows-clause-asked : goal.returns-in-Rows-clause-asked
 returns-in-Rows-clause-asked g c = asked_beside c.args.users.now.seat (op_wants c.args.op) heard_ask c.list_users.result c.list_users.new.users.rows.items c.list_users.new.users.seat.seen (g.G.Gate.asked c.args.gate.now c.args.gate.now) (g.G.Gate.unasked c.args.gate.now)
     (subst (λ (w : Wanted). IsAsked c.args.users.now.seat w heard_ask c.list_users.result c.list_users.new.users.rows.items c.list_users.new.users.seat.seen NothingAsked) (sym (ap op_wants c.in-Rows.is)) c.list_users.ensures.asked)
 
+pub returns-in-Cancel-clause-asked : goal.returns-in-Cancel-clause-asked
+returns-in-Cancel-clause-asked g c = asked_beside c.args.users.now.seat (op_wants c.args.op) heard_ask c.cancel_user.result c.cancel_user.new.users.rows.items c.cancel_user.new.users.seat.seen (g.G.Gate.asked c.args.gate.now c.args.gate.now) (g.G.Gate.unasked c.args.gate.now)
+    (subst (λ (w : Wanted). IsAsked c.args.users.now.seat w heard_ask c.cancel_user.result c.cancel_user.new.users.rows.items c.cancel_user.new.users.seat.seen NothingAsked) (sym (ap op_wants c.in-Cancel.is)) c.cancel_user.ensures.asked)
+
 pub returns-in-Look-clause-asked : goal.returns-in-Look-clause-asked
 returns-in-Look-clause-asked g c = asked_nothing _ _ _ _ _ (g.G.Gate.asked c.args.gate.now c.args.gate.now) (g.G.Gate.unasked c.args.gate.now) (ap op_wants c.in-Look.is) refl c.requires.no_rows
