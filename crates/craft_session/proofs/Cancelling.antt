@@ -1,19 +1,19 @@
 -- How a session stands that looked whether its user's sessions were ended.
-use Rattle.std.proofs.Common.{◌≡◌, ◌≤◌, ◌<◌, ◌++◌, ◌∷◌, ℕ, zero, suc, Bool, true, false, List, [], append-nil, append_assoc, inl, inr, refl, sym, ◌∙◌, ap, subst, arith}
+use Rattle.std.proofs.Common.{◌≡◌, ◌≤◌, ◌<◌, ◌++◌, ℕ, zero, suc, Bool, true, false, List, [], append-nil, inl, inr, refl, sym, ◌∙◌, ap, subst, arith}
 use Rattle.std.proofs.Math.Nat.{eq-or-lt_of_le}
 use base.Stored.{Gv}
-use Rattle.turnstile.specs.Turning.{Each}
 use Rattle.dxc_causes.specs.Causes.{Counted}
 use Rattle.dxc_outside.specs.declared.clock.Moment.{Moment}
 use Rattle.dxc_outside.specs.declared.gate.GatePlace.{GatePlace}
 use Rattle.dxc_outside.specs.Links.{LinkState}
 use Rattle.dxc_model.specs.declared.entry.Entry.{Entry}
 use Rattle.dxc_model.specs.declared.user.SessionUser.{SessionUser}
-use Rattle.dxc_model.specs.declared.user.SessionUser.TheVariants.{Nobody}
+use Rattle.dxc_model.specs.declared.user.SessionUser.TheVariants.{Nobody, User}
 use Rattle.tl1_text.specs.declared.reader.UnitKind.TheVariants.{More}
 use Rattle.tl1_text.specs.Reading.{Reader}
 use Rattle.user_admin.specs.declared.op.UserEntry.{UserEntry}
 use Rattle.user_admin.specs.Histories.{Opening as UsersOpening}
+use Rattle.user_admin.specs.Occupants.{is_cancelled}
 use Rattle.user_admin.specs.Turns.{Saw as SawUsers}
 use Rattle.xc_core.specs.Seeing.{Saw}
 use Rattle.craft_session.specs.declared.attending.Attending.{Attending}
@@ -44,9 +44,25 @@ module _ (patience : Patience) (user : SessionUser) (was : SeatAt) (seat : UserS
     heeded_at = subst (λ (w : UsersOpening × ℕ). (h : List UserEntry) → SawUsers w.0 seat.seen h → Heeded (looking patience user (record seat { opening = w.0; place = w.1 })) h then_seen cancelled) (λ i. (at.2 i, at.3 i)) heeded
 
     module _ (l : Language Request Moment) (told clock_told : Type 0) (k j : LinkState) (c d : List Moment) (now : Now) (seen_is : now.users ≡ seat.seen) (r : Reader) where
-      pub looked_stands : Stands l told clock_told k j c d b now false More r [] → Stands l told clock_told k j c d b (record now { users = then_seen }) false More r []
-      looked_stands s = record s {
-        past = record s.past { consulted = consulted_back l b now.users then_seen s.past.walk.happenings s.past.walk.attending.user s.past.consulted (λ h saw. (heeded_at h (subst (λ (v : List Gv). SawUsers b.users v h) seen_is saw)).back) };
+      abbrev pub looked_stands : Stands l told clock_told k j c d b now false More r [] → Stands l told clock_told k j c d b (record now { users = then_seen }) false More r []
+      looked_stands s = let p = s.past in record {
+        items = s.items;
+        rest = s.rest;
+        out = s.out;
+        exchanged = s.exchanged;
+        no_fault = s.no_fault;
+        made = s.made;
+        past = record {
+          walk = p.walk;
+          happened = p.happened;
+          gave = p.gave;
+          run = p.run;
+          saw = p.saw;
+          consulted = consulted_back l b now.users then_seen p.walk.happenings p.walk.attending.user p.consulted (λ h saw. (heeded_at h (subst (λ (v : List Gv). SawUsers b.users v h) seen_is saw)).back);
+          attending = p.attending;
+          looked = p.looked;
+          written = p.written;
+        };
       }
 
       told_of : (s : Stands l told clock_told k j c d b now false More r []) → Heeded (looking patience user (record seat { opening = b.users; place = b.place })) s.past.consulted.history then_seen cancelled
@@ -92,6 +108,21 @@ beside_look told link coming patience cancelled seat seat_then users then attend
   users = inr (λ h saw. (heeded h saw).back);
   user = ap (λ (a : Attending). a.user) attends_is;
 }
+
+-- what a look tells of who is logged in
+pub never_ended : {X : Type 0} → false ≡ true → X
+never_ended is = absurd cc
+
+pub nobody_unended : (place : ℕ) (user : SessionUser) (h : List UserEntry) → user ≡ Nobody → IsUnended place user h
+nobody_unended place user h is = subst (λ (u : SessionUser). IsUnended place u h) (sym is) tt
+
+pub ended_by : (place : ℕ) (user : SessionUser) (h : List UserEntry) → (user ≡ Nobody → ⊥) → is_cancelled place h ≡ true → IsEnded place user h
+ended_by place Nobody h some is = absurd (some refl)
+ended_by place (User uid class) h some is = is
+
+pub unended_by : (place : ℕ) (user : SessionUser) (h : List UserEntry) → is_cancelled place h ≡ false → IsUnended place user h
+unended_by place Nobody h is = tt
+unended_by place (User uid class) h is = is
 
 -- somebody was logged in
 pub somebody_ended : (place : ℕ) (user : SessionUser) (h : List UserEntry) → IsEnded place user h → user ≡ Nobody → ⊥

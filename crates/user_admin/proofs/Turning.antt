@@ -93,7 +93,7 @@ module _ {D : Type 0} (told : Type 0) (state : D → DiskState) where
             };
           }
 
-      pub turned_back_at : (y : SharedUsers D) (then_seen : List Gv) → SharedFor told state o y (ms ++ f.later) → then_seen ≡ in_turn → TurnedBack o own h then_seen
+      abbrev pub turned_back_at : (y : SharedUsers D) (then_seen : List Gv) → SharedFor told state o y (ms ++ f.later) → then_seen ≡ in_turn → TurnedBack o own h then_seen
       turned_back_at y then_seen st is = record {
         later = entries_of f.later;
         others = others_entries own f.later f.others;
