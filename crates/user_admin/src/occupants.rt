@@ -35,9 +35,16 @@ pub(crate) fn nobody_yet() -> Occupants
 fn without(name: Uid, occupant: Occupant) -> Occupant
     ensures { result ≡ left_without name occupant }
 {
-    match occupant {
-        Occupant::User(uid) if uid.bytes() == name.bytes() => Occupant::Cancelled,
-        other => other,
+    match &occupant {
+        Occupant::Nobody => Occupant::Nobody,
+        Occupant::User(uid) => {
+            if uid.bytes() == name.bytes() {
+                Occupant::Cancelled
+            } else {
+                Occupant::User(*uid)
+            }
+        }
+        Occupant::Cancelled => Occupant::Cancelled,
     }
 }
 

@@ -14,5 +14,5 @@ loop-place-preserved c =
     let inv = c.loop-place.invariant in
     let long : length xs ≡ 64 = search rules in
     let low : at < length xs = let below = c.loop-place-test.true in omega (arith, long, below) in
-    let one = c.without.ensures ∙ ap f c.index-occupants-place.is ∙ ap (λ (os : List Occupant). f (slice_index_or os at d)) inv in
+    let one = c.without.ensures ∙ ap (λ (os : List Occupant). f (slice_index_or os at d)) inv in
     (λ i. slice_set (inv i) at (one i)) ∙ done_next f d xs at low
