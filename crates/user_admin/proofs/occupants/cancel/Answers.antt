@@ -1,4 +1,4 @@
-use Rattle.std.proofs.Common.{◌≡◌, ◌<◌, ℕ, List, ◌∙◌, arith, rules, ap, length, map, take, slice_set}
+use Rattle.std.proofs.Common.{◌≡◌, ◌<◌, List, ◌∙◌, arith, rules, ap, length, slice_set}
 use Rattle.std.specs.Prelude.{slice_index_or}
 use Rattle.user_admin.specs.declared.occupants.Occupant.{Occupant}
 use Rattle.user_admin.specs.Occupants.{without}
