@@ -329,7 +329,7 @@ fn ask_users<U: Disk + Drop, G: Gate, R: Wait>(
     }
 }
 
-/// Does an operation on the users. A command never asks for a look or a log-in.
+/// Does an operation on the users; one that ends sessions ends this one too where it is that user's. A command never asks for a look or a log-in.
 fn on_users<U: Disk + Drop, G: Gate, R: Wait>(
     users: &mut UserDesk<U>,
     op: UserOp,
@@ -348,22 +348,13 @@ fn on_users<U: Disk + Drop, G: Gate, R: Wait>(
 {
     match op {
         UserOp::Rows(which) => Some(list_users(users, which, rt)),
-        UserOp::Cancel(uid) => Some(cancel_user(users, uid, rt)),
+        UserOp::Cancel(uid) => {
+            users.seat.cancel(uid, rt);
+            Some(Ask::Completes)
+        }
         UserOp::Look(_) | UserOp::LogIn(_) => Some(Ask::Refused(Cause::UnknownCommand)),
         op => change_users(users, op, gate, rt),
     }
-}
-
-/// Ends the sessions of a user, and this one too where it is that user's.
-fn cancel_user<U: Disk + Drop, R: Wait>(users: &mut UserDesk<U>, uid: Uid, rt: &R) -> Ask
-    requires no_rows { users.old.rows.items ≡ [] }
-    ensures same { IsSameUserSeat users.old.seat users.new.seat }
-    ensures asked { IsAsked users.old.seat (to_do (UserOp.Cancel uid)) heard_ask result
-        users.new.rows.items users.new.seat.seen NothingAsked }
-    ensures apt { (d : Dimensions) → IsAptAsk d result }
-{
-    users.seat.cancel(uid, rt);
-    Ask::Completes
 }
 
 /// Reads the rows of one user, or of all.
