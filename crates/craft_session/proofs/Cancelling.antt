@@ -40,7 +40,7 @@ HeededBy patience user seat then_seen cancelled = (h : List UserEntry) → SawUs
 module _ (patience : Patience) (user : SessionUser) (was : SeatAt) (seat : UserSeatAt) (then_seen : List Gv) (cancelled : Bool) (heeded : HeededBy patience user seat then_seen cancelled) where
   -- of a beginning whose openings and place are the seat's
   module _ (b : Beginning) (at : IsAt b was seat) where
-    heeded_at : (h : List UserEntry) → SawUsers b.users seat.seen h → Heeded (looking patience user (record seat { opening = b.users; place = b.place })) h then_seen cancelled
+    pub heeded_at : (h : List UserEntry) → SawUsers b.users seat.seen h → Heeded (looking patience user (record seat { opening = b.users; place = b.place })) h then_seen cancelled
     heeded_at = subst (λ (w : UsersOpening × ℕ). (h : List UserEntry) → SawUsers w.0 seat.seen h → Heeded (looking patience user (record seat { opening = w.0; place = w.1 })) h then_seen cancelled) (λ i. (at.2 i, at.3 i)) heeded
 
     module _ (l : Language Request Moment) (told clock_told : Type 0) (k j : LinkState) (c d : List Moment) (now : Now) (seen_is : now.users ≡ seat.seen) (r : Reader) where
@@ -70,10 +70,12 @@ module _ (patience : Patience) (user : SessionUser) (was : SeatAt) (seat : UserS
 
       -- its user's sessions were ended
       pub ended_stands : cancelled ≡ true → (s : Stands l told clock_told k j c d b now false More r []) → IsEnded b.place user (looked_stands s).past.consulted.history
+      unfolding heeded_at told_of
       ended_stands is s = (told_of s).ended is
 
       -- or go on
       pub unended_stands : cancelled ≡ false → patience ≡ Limited → (s : Stands l told clock_told k j c d b now false More r []) → IsUnended b.place user (looked_stands s).past.consulted.history
+      unfolding heeded_at told_of
       unended_stands is limits s = (told_of s).goes_on is limits
 
     pub looked_on : (told : Type 0) (written : List ℕ) (seen : List Gv) → GoesOn told b (reached written seen seat.seen) (reached written seen then_seen)

@@ -1,4 +1,4 @@
-use Rattle.std.proofs.Common.{refl, ap, sym, subst}
+use Rattle.std.proofs.Common.{refl, ap, sym, subst, inl, inr}
 use Rattle.craft_session.specs.declared.ask.Ask.TheVariants.{Completes}
 use Rattle.craft_session.specs.Gated.{NothingAsked}
 use Rattle.craft_session.specs.Hearing.{IsAsked, Wanted}
@@ -16,4 +16,4 @@ returns-in-Cancel-clause-asked g c = asked_beside c.args.users.now.seat (op_want
     (subst (λ (w : Wanted). IsAsked c.args.users.now.seat w heard_ask Completes c.args.users.now.rows.items c.cancel.new.self.seen NothingAsked) (sym (ap op_wants c.in-Cancel.is)) (asked_cancelled c.args.users.now.seat c.cancel.new.self.seen _ _ c.requires.no_rows c.cancel.ensures.cancelled))
 
 pub returns-in-Look-clause-asked : goal.returns-in-Look-clause-asked
-returns-in-Look-clause-asked g c = asked_nothing _ _ _ _ _ (g.G.Gate.asked c.args.gate.now c.args.gate.now) (g.G.Gate.unasked c.args.gate.now) (ap op_wants c.in-Look.is) refl c.requires.no_rows
+returns-in-Look-clause-asked g c = asked_nothing _ _ _ _ _ (g.G.Gate.asked c.args.gate.now c.args.gate.now) (g.G.Gate.unasked c.args.gate.now) (elim c.in-Look.is [ inl look ↦ ap op_wants look.1 | inr log_in ↦ ap op_wants log_in.1 ]) refl c.requires.no_rows
