@@ -131,6 +131,7 @@ def of_users(tag):
             f"ED-USER-SECU::{uid}:{tag}::{pid}{random.choice(('', ',' + rank))}",
             f"DLT-USER-SECU::{uid}:{tag}",
             f"RTRV-USER-SECU::{random.choice(('', uid, 'anna'))}:{tag}",
+            f"CANC-USER-SECU::{random.choice(('NOBODY', '1BEN', ''))}:{tag}",
             f"ED-PID::{random.choice((uid, 'fay', 'HAL'))}:{tag}::{random.choice(('bc', 'cb'))},{random.choice(('bc', 'cb'))}",
         )
     )

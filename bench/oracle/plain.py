@@ -33,6 +33,7 @@ COMMANDS = {  # code: classes, parameters of the AID block, of the first payload
     b"DLT-USER-SECU": ("S", (True,), ()),
     b"RTRV-USER-SECU": ("S", (False,), ()),
     b"ED-PID": ("RPS", (True,), (True, True)),
+    b"CANC-USER-SECU": ("S", (True,), ()),
 }
 CAUSES = {
     "TooLong": ("IISP", "UNIT LONGER THAN 2048 BYTES"),
@@ -445,6 +446,8 @@ class Session:
             raise Denied("BadValue")
         if (op != "RTRV" or uid) and not UID.match(uid):
             raise Denied("BadAid")
+        if op == "CANC":
+            return []  # a session that is alone goes on
         if op != "RTRV":
             self.people = self.element.granted(op, uid, pid, rank.decode())
             return []

@@ -15,7 +15,7 @@ use Rattle.user_admin.specs.Turns.{AreNumbered as AreUsersNumbered}
 use Rattle.xc_core.specs.States.{Opening, opening_of}
 use Rattle.xc_core.specs.Turns.{AreNumbered, SawNoneAstray}
 use Rattle.craft_session.specs.declared.end.SessionEnd.{SessionEnd}
-use Rattle.craft_session.specs.declared.end.SessionEnd.TheVariants.{End, ReadFault, WriteFault, Stopped, Spent, Unattended, Idle}
+use Rattle.craft_session.specs.declared.end.SessionEnd.TheVariants.{End, ReadFault, WriteFault, Stopped, Spent, Unattended, Idle, Cancelled}
 use Rattle.craft_session.specs.Meanings.{language_for}
 use Rattle.craft_session.specs.Seats.{IsSameSeat, IsSameUserSeat, PlaceAt}
 use Rattle.craft_session.specs.Sessions.{IsPrompt, IsServed}
@@ -39,6 +39,7 @@ pub record IsEnd (k l : LinkState) (stops later : ℕ) (end : SessionEnd) : Type
   pub spent : end ≡ Spent → Counted k.reads l.reads (2 ^ 32)
   pub attended : end ≢ Unattended
   pub endless : end ≢ Idle
+  pub alone : end ≢ Cancelled
 
 done_at : (end : SessionEnd) → status_of end ≡ Done → end ≡ End
 done_at End is = refl
@@ -48,12 +49,14 @@ done_at Stopped is = cc
 done_at Spent is = cc
 done_at Unattended is = cc
 done_at Idle is = cc
+done_at Cancelled is = cc
 
 link_at : (k l : LinkState) (stops later : ℕ) (end : SessionEnd) → IsEnd k l stops later end → status_of end ≡ Link → Rose k.read_faults l.read_faults ⊎ Rose k.write_faults l.write_faults
 link_at k l stops later End e is = cc
 link_at k l stops later Spent e is = cc
 link_at k l stops later Unattended e is = cc
 link_at k l stops later Idle e is = cc
+link_at k l stops later Cancelled e is = cc
 link_at k l stops later Stopped e is = cc
 link_at k l stops later ReadFault e is = inl (e.read_fault refl)
 link_at k l stops later WriteFault e is = inr (e.write_fault refl)
@@ -66,15 +69,17 @@ stopped_at Stopped is = refl
 stopped_at Spent is = cc
 stopped_at Unattended is = cc
 stopped_at Idle is = cc
+stopped_at Cancelled is = cc
 
-spent_at : (end : SessionEnd) → end ≢ Unattended → end ≢ Idle → status_of end ≡ Ran_out → end ≡ Spent
-spent_at End attended endless is = cc
-spent_at ReadFault attended endless is = cc
-spent_at WriteFault attended endless is = cc
-spent_at Stopped attended endless is = cc
-spent_at Spent attended endless is = refl
-spent_at Unattended attended endless is = absurd (attended refl)
-spent_at Idle attended endless is = absurd (endless refl)
+spent_at : (end : SessionEnd) → end ≢ Unattended → end ≢ Idle → end ≢ Cancelled → status_of end ≡ Ran_out → end ≡ Spent
+spent_at End attended endless alone is = cc
+spent_at ReadFault attended endless alone is = cc
+spent_at WriteFault attended endless alone is = cc
+spent_at Stopped attended endless alone is = cc
+spent_at Spent attended endless alone is = refl
+spent_at Unattended attended endless alone is = absurd (attended refl)
+spent_at Idle attended endless alone is = absurd (endless refl)
+spent_at Cancelled attended endless alone is = absurd (alone refl)
 
 module _ {D : Type 0} (disk_told : Type 0) (state : D → DiskState) (told clock_told : Type 0) (begun : LinkState → Type 0) (k l : LinkState) (c d : List Moment) (stops later : ℕ) (first : SessionUser) (s : Contents) (disk users_disk : D) where
   -- what the session at its one place did, and that the place was let go as it left it
@@ -101,7 +106,7 @@ module _ {D : Type 0} (disk_told : Type 0) (state : D → DiskState) (told clock
           cause = λ link. link_at k l stops later end e (sym status_is ∙ link);
           stopped = λ was. e.stopped (stopped_at end (sym status_is ∙ was));
           unstopped = λ not. e.unstopped (λ was. not (status_is ∙ ap status_of was));
-          spent = λ was. e.spent (spent_at end e.attended e.endless (sym status_is ∙ was));
+          spent = λ was. e.spent (spent_at end e.attended e.endless e.alone (sym status_is ∙ was));
         };
         left = new;
         let_go = let_go;

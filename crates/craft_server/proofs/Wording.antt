@@ -23,6 +23,7 @@ end_words session.Stopped is = cc
 end_words session.Spent is = cc
 end_words session.Unattended is = cc
 end_words session.Idle is = cc
+end_words session.Cancelled is = cc
 
 -- serving, without a peer and with one
 pub serve_words : {P : Type 0} (peer : Option (List ℕ)) → (peer ≡ None → P) → (IsSome peer → P) → P

@@ -30,6 +30,7 @@ ending_of end.Stopped = ending.Stopped
 ending_of end.Spent = ending.Spent
 ending_of end.Unattended = ending.Unattended
 ending_of end.Idle = ending.Idle
+ending_of end.Cancelled = ending.Cancelled
 
 -- behind these, where accepts went on failing, that nobody is let in any more
 abbrev pub to_the_end : List Note → LinksEnd → List Note

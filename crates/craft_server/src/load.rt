@@ -83,6 +83,7 @@ fn serve_load<D: Disk + Drop, U: Disk + Drop, G: Gate, R: Wait>(
         SessionEnd::Spent => unreachable!(),
         SessionEnd::Unattended => unreachable!(),
         SessionEnd::Idle => unreachable!(),
+        SessionEnd::Cancelled => unreachable!(),
     }
 }
 

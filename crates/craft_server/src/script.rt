@@ -55,6 +55,7 @@ pub(crate) fn run_script<O: Opener + LetGo, K: Link, C: Clock, G: Gate, R: Wait>
 pub(crate) fn after_session(end: SessionEnd) -> Status
     requires attended { end ≢ SessionEnd.Unattended }
     requires endless { end ≢ SessionEnd.Idle }
+    requires alone { end ≢ SessionEnd.Cancelled }
     ensures { result ≡ status_of end }
 {
     match end {
@@ -64,5 +65,6 @@ pub(crate) fn after_session(end: SessionEnd) -> Status
         SessionEnd::Spent => Status::Spent,
         SessionEnd::Unattended => unreachable!(),
         SessionEnd::Idle => unreachable!(),
+        SessionEnd::Cancelled => unreachable!(),
     }
 }

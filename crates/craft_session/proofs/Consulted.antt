@@ -44,7 +44,7 @@ module _ (l : Language Request Moment) (b : Beginning) (seen then_seen : List Gv
       }
 
   -- a turn was given back
-  pub consulted_back : ((h : List UserEntry) → Saw b.users seen h → TurnedBack b.users b.place h then_seen) → Consulted l b then_seen hs s
+  abbrev pub consulted_back : ((h : List UserEntry) → Saw b.users seen h → TurnedBack b.users b.place h then_seen) → Consulted l b then_seen hs s
   consulted_back back =
       let x = back c.history c.saw in
       record { history = c.history ++ x.later; heard = consults_past l b.place b.users b.users_before hs c.history s x.later x.others c.heard; saw = x.saw }

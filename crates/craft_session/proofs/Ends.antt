@@ -111,6 +111,10 @@ abbrev is_unattended : SessionEnd → Bool
 is_unattended session.Unattended = true
 is_unattended _ = false
 
+abbrev is_cancelled : SessionEnd → Bool
+is_cancelled session.Cancelled = true
+is_cancelled _ = false
+
 abbrev is_idle : SessionEnd → Bool
 is_idle session.Idle = true
 is_idle _ = false
@@ -133,6 +137,9 @@ module _ {X : Type 0} (e : SessionEnd) where
 
   pub unattended_no : session.Unattended ≡ e → is_unattended e ≡ false → X
   unattended_no is other = absurd (apart is_unattended session.Unattended session.Unattended e refl refl other is)
+
+  pub cancelled_no : session.Cancelled ≡ e → is_cancelled e ≡ false → X
+  cancelled_no is other = absurd (apart is_cancelled session.Cancelled session.Cancelled e refl refl other is)
 
   pub idle_no : session.Idle ≡ e → is_idle e ≡ false → X
   idle_no is other = absurd (apart is_idle session.Idle session.Idle e refl refl other is)
@@ -182,6 +189,7 @@ unfailed l told clock_told k j c d b now session.ReadFault x other = x.no_fault
 unfailed l told clock_told k j c d b now session.Spent x other = x.no_fault
 unfailed l told clock_told k j c d b now session.Unattended x other = x.served.no_fault
 unfailed l told clock_told k j c d b now session.Idle x other = x.no_fault
+unfailed l told clock_told k j c d b now session.Cancelled x other = x.served.no_fault
 unfailed l told clock_told k j c d b now session.Stopped x other = x.no_fault
 unfailed l told clock_told k j c d b now session.WriteFault x other = absurd (other refl)
 

@@ -4,11 +4,12 @@ use Rattle.std.proofs.Common.{◌≡◌, ◌≤◌, ◌<◌, ◌+◌, ◌*◌, �
 use Rattle.dxc_disk.specs.Disks.{DiskState}
 use Rattle.dxc_model.specs.declared.user.SessionUser.{SessionUser}
 use Rattle.user_admin.specs.declared.op.UserEntry.{UserEntry}
-use Rattle.user_admin.specs.declared.op.UserOp.TheVariants as op
 use Rattle.user_admin.specs.declared.op.UserOutcome.{UserOutcome}
 use Rattle.user_admin.specs.declared.op.UserOutcome.TheVariants.{Done, Denied, Failed, Answered}
 use Rattle.user_admin.specs.Changes.{after}
 use Rattle.user_admin.specs.Histories.{IsLegal, IsLegalFrom, MayCome, Opening, change_in, changes_of, failures, failure_in, users_after}
+use Rattle.user_admin.specs.Occupants.{login_op}
+use Rattle.user_admin.specs.Verdicts.{login}
 use Rattle.user_admin.specs.States.{cost, entry, most_room, room_in}
 use Rattle.user_admin.specs.Turns.{IsHistory}
 use Rattle.user_admin.specs.Users.{Users}
@@ -45,7 +46,7 @@ one_cost e es is = subst (λ (x : List UserEntry). room_in x ≤ most_room) (sym
 
 hears_cost : (o : Opening) (place : ℕ) (g es : List UserEntry) (w : Wanted) (x : Heard) → Hears o place g w es x → room_in es ≤ most_room
 hears_cost o place g es nothing x h = subst (λ (l : List UserEntry). room_in l ≤ most_room) (sym h.0) (omega arith)
-hears_cost o place g es (to_look uid pid) x h = one_cost (entry place (op.Look uid) Answered) es h.0
+hears_cost o place g es (to_look vacant uid pid) x h = one_cost (entry place (login_op vacant uid (login uid pid (users_after o g))) Answered) es h.0
 hears_cost o place g es (to_do what) x h = one_cost (entry place what h.0) es h.1
 
 module _ {U M : Type 0} (l : Language U M) (place : ℕ) (o : Opening) where
@@ -102,7 +103,7 @@ module _ {U M : Type 0} (l : Language U M) (place : ℕ) (o : Opening) (excused 
   -- what is heard of the place's entry is what the users before it tell
   heard_alone : (g es : List UserEntry) (w : Wanted) (x : Heard) → Hears o place g w es x → IsLegal o (g ++ es) → (1 ≤ failures es → excused) → HearsOf o.shelf.sid excused (users_after o g) w x (users_after o (g ++ es))
   heard_alone g es nothing x h legal fails = (h.1, ap (λ (k : List UserEntry). users_after o (g ++ k)) h.0 ∙ ap (users_after o) (append-nil g))
-  heard_alone g es (to_look uid pid) x h legal fails = (h.1, ap (λ (k : List UserEntry). users_after o (g ++ k)) h.0 ∙ users_more o g (entry place (op.Look uid) Answered))
+  heard_alone g es (to_look vacant uid pid) x h legal fails = (h.1, ap (λ (k : List UserEntry). users_after o (g ++ k)) h.0 ∙ users_more o g (entry place (login_op vacant uid (login uid pid (users_after o g))) Answered))
   heard_alone g es (to_do what) x h legal fails =
       let e = entry place what h.0 in (
         h.0,

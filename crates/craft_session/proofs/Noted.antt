@@ -87,7 +87,7 @@ beside_reports told b c w seat users looked user = record {
   seat = seat;
   same = (ap (λ (u : UserSeatAt). u.opening) users, ap (λ (u : UserSeatAt). u.place) users, ap (λ (u : UserSeatAt). u.places) users, ap (λ (u : UserSeatAt). u.turnstile) users);
   looked = looked;
-  users = ap (λ (u : UserSeatAt). u.seen) users;
+  users = inl (ap (λ (u : UserSeatAt). u.seen) users);
   user = user;
 }
 
@@ -99,7 +99,7 @@ noted_read s t a k j coming seat users attending noted got buffer x read =
       seat = (refl, refl, refl, refl);
       same = (refl, refl, refl, refl);
       looked = inl refl;
-      users = refl;
+      users = inl refl;
       user = refl;
     })
 

@@ -394,7 +394,7 @@ module _ (l : Language Request Moment) (told clock_told : Type 0) (k : LinkState
     goes_ended_is Stopped due due2 r2 ahead more not goes = goes
 
     -- the session ended here
-    pub served_here : Stands l told clock_told k j c d b now false More r [] → Served l told clock_told k j c d b now
+    abbrev pub served_here : Stands l told clock_told k j c d b now false More r [] → Served l told clock_told k j c d b now
     served_here s = record {
       items = s.items;
       rest = s.rest;

@@ -1,5 +1,5 @@
 -- What a session wants of the users, and what it hears of them.
-use Rattle.std.specs.Prelude.{◌≡◌, ◌≢◌, ℕ, List, [], ◌∷◌, ◌++◌, Option, Some, None}
+use Rattle.std.specs.Prelude.{◌≡◌, ◌≢◌, ℕ, Bool, List, [], ◌∷◌, ◌++◌, Option, Some, None}
 use base.Stored.{Gv}
 use Rattle.turnstile.specs.Turning.{Each}
 use Rattle.dxc_outside.specs.declared.gate.GatePlace.{GatePlace}
@@ -12,6 +12,7 @@ use Rattle.user_admin.specs.declared.op.UserOp.TheVariants as op
 use Rattle.user_admin.specs.declared.op.UserOutcome.{UserOutcome}
 use Rattle.user_admin.specs.declared.op.UserOutcome.TheVariants.{Done, Denied, Failed, Answered}
 use Rattle.user_admin.specs.Histories.{Opening, users_after}
+use Rattle.user_admin.specs.Occupants.{login_op}
 use Rattle.user_admin.specs.States.{entry}
 use Rattle.user_admin.specs.Turns.{Saw, TurnedBack}
 use Rattle.user_admin.specs.Users.{Users}
@@ -20,10 +21,10 @@ use Rattle.craft_session.specs.declared.ask.Ask.{Ask}
 use Rattle.craft_session.specs.Gated.{AreUsersEntered}
 use Rattle.craft_session.specs.Seats.{UserSeatAt}
 
--- nothing; a look at them, for a log-in with this name and PID; or an operation of a users' command
+-- nothing; a look at them, for a log-in with this name and PID where nobody is logged in or somebody is; or an operation of a users' command
 pub data Wanted : Type 0 where
   nothing : Wanted
-  to_look : (uid pid : List ℕ) → Wanted
+  to_look : (vacant : Bool) (uid pid : List ℕ) → Wanted
   to_do : UserOp → Wanted
 
 -- They weren't asked; the class of whom name and PID log in; the cause that denied an operation; or that it was done, with the rows of one that read.
@@ -48,6 +49,8 @@ rows_of (op.Delete uid) users = []
 rows_of (op.EditPid uid old new) users = []
 rows_of (op.Rows which) users = rows_in users which
 rows_of (op.Look uid) users = []
+rows_of (op.LogIn uid) users = []
+rows_of (op.Cancel uid) users = []
 
 -- what is heard of an operation by its outcome, which found these users
 abbrev pub heard_of : UserOp → Users → UserOutcome → Heard
@@ -60,7 +63,7 @@ heard_of o users Answered = done_with (rows_of o users)
 -- before the place's look at them; of an operation, its outcome.
 abbrev pub Hears : Opening → ℕ → List UserEntry → Wanted → List UserEntry → Heard → Type 0
 Hears o place h nothing es x = (es ≡ []) × (x ≡ unasked)
-Hears o place h (to_look uid pid) es x = (es ≡ entry place (op.Look uid) Answered ∷ []) × (x ≡ found (login uid pid (users_after o h)))
+Hears o place h (to_look vacant uid pid) es x = (es ≡ entry place (login_op vacant uid (login uid pid (users_after o h))) Answered ∷ []) × (x ≡ found (login uid pid (users_after o h)))
 Hears o place h (to_do what) es x = (outcome : UserOutcome) × (es ≡ entry place what outcome ∷ []) × (x ≡ heard_of what (users_after o h) outcome)
 
 -- behind the users' history stand others' entries, and then those of what is wanted, of which this was heard

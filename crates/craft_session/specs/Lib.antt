@@ -27,5 +27,6 @@ pub mod Pieces
 pub mod Lending
 pub mod Noted
 pub mod Waiting
+pub mod Cancelling
 pub mod Idling
 pub mod Served

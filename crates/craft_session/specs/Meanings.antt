@@ -18,7 +18,7 @@ use Rattle.shelf_file.specs.Contents.{Contents}
 use Rattle.shelf_file.specs.Keys.{upper}
 use Rattle.user_admin.specs.declared.op.UserOp.{UserOp}
 use Rattle.user_admin.specs.declared.op.UserOp.TheVariants as user
-use Rattle.user_admin.specs.Commands.{user_meaning}
+use Rattle.user_admin.specs.Commands.{is_not_logged_in, user_meaning}
 use Rattle.craft_session.specs.declared.ask.Ask.{Ask}
 use Rattle.craft_session.specs.declared.ask.Ask.TheVariants.{Refused, LogsIn, LogsOut, Completes, Allows, Inhibits, Lists, Shows, Restarts, Changes}
 use Rattle.craft_session.specs.Asks.{Language}
@@ -99,19 +99,19 @@ asks s user x too_long = Refused TooLong
 asks s user x (whole text) = text_ask s user x (blocks_of text)
 
 -- a log-in wants a look at the users, where its name may be that of one
-abbrev pub login_wants : List ℕ → List ℕ → Wanted
-login_wants uid pid = if nat_lt 10 (length uid) then nothing else to_look uid pid
+abbrev pub login_wants : SessionUser → List ℕ → List ℕ → Wanted
+login_wants user uid pid = if nat_lt 10 (length uid) then nothing else to_look (is_not_logged_in user) uid pid
 
-abbrev pub session_wants : Asked → Wanted
-session_wants (acts uid pid) = login_wants uid pid
-session_wants (cancels uid) = nothing
-session_wants header = nothing
-session_wants allows = nothing
-session_wants inhibits = nothing
-session_wants (shows what) = nothing
-session_wants (asks_table o) = nothing
+abbrev pub session_wants : SessionUser → Asked → Wanted
+session_wants user (acts uid pid) = login_wants user uid pid
+session_wants user (cancels uid) = nothing
+session_wants user header = nothing
+session_wants user allows = nothing
+session_wants user inhibits = nothing
+session_wants user (shows what) = nothing
+session_wants user (asks_table o) = nothing
 
--- a users' command wants its operation; none is a look by itself
+-- a users' command wants its operation; none is a look or a log-in by itself
 abbrev pub op_wants : UserOp → Wanted
 op_wants (user.Enter uid pid class) = to_do (user.Enter uid pid class)
 op_wants (user.Edit uid pid class) = to_do (user.Edit uid pid class)
@@ -119,13 +119,15 @@ op_wants (user.Delete uid) = to_do (user.Delete uid)
 op_wants (user.EditPid uid old new) = to_do (user.EditPid uid old new)
 op_wants (user.Rows which) = to_do (user.Rows which)
 op_wants (user.Look uid) = nothing
+op_wants (user.LogIn uid) = nothing
+op_wants (user.Cancel uid) = to_do (user.Cancel uid)
 
 abbrev pub users_want : Result UserOp Cause → Wanted
 users_want (Err q) = nothing
 users_want (Ok o) = op_wants o
 
 abbrev pub command_wants : Contents → SessionUser → List Block → Result Asked Cause → Wanted
-command_wants s user bs (Ok a) = session_wants a
+command_wants s user bs (Ok a) = session_wants user a
 command_wants s user bs (Err UnknownCommand) = users_want (user_meaning s.sid user bs)
 command_wants s user bs (Err q) = nothing
 

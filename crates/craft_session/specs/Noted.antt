@@ -24,6 +24,8 @@ use Rattle.dxc_notes.specs.declared.note.Note.{Note}
 use Rattle.dxc_notes.specs.declared.note.Note.TheVariants as note
 use Rattle.tl1_text.specs.Units.{Input}
 use Rattle.shelf_file.specs.Contents.{Contents}
+use Rattle.user_admin.specs.declared.op.UserEntry.{UserEntry}
+use Rattle.user_admin.specs.Turns.{Saw as SawUsers, TurnedBack}
 use Rattle.xc_core.specs.Seeing.{Saw, Turned, entry}
 use Rattle.craft_session.specs.declared.ask.Ask.{Ask}
 use Rattle.craft_session.specs.declared.ask.Ask.TheVariants.{Refused, LogsIn, LogsOut, Completes, Allows, Inhibits, Lists, Shows, Restarts, Changes}
@@ -114,13 +116,13 @@ now_in x = record { seen = x.seat.seen; users = x.users.seen; attending = x.atte
 abbrev pub HasLooked : SeatAt → List Gv → Type 0
 HasLooked s seen = (seen ≡ s.seen) ⊎ ((h : List Entry) → Saw s.opening s.seen h → (n : ℕ) × Turned s.opening s.place h (entry s.place (op.Look n) Answered) seen)
 
--- a read, or reports
+-- a read, reports, or a look at the users that nothing is entered of
 pub record IsBeside (told : Type 0) (b c : Stood) : Type 0 where
   pub wrote : told → (out : List ℕ) × (c.link.written ≡ b.link.written ++ out)
   pub seat : IsSameSeat b.seat c.seat
   pub same : IsSameUserSeat b.users c.users
   pub looked : HasLooked b.seat c.seat.seen
-  pub users : c.users.seen ≡ b.users.seen
+  pub users : (c.users.seen ≡ b.users.seen) ⊎ ((h : List UserEntry) → SawUsers b.users.opening b.users.seen h → TurnedBack b.users.opening b.users.place h c.users.seen)
   pub user : c.attending.user ≡ b.attending.user
 
 module _ (s : Contents) (t : Telling) where

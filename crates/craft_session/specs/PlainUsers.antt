@@ -29,7 +29,7 @@ IsExcusedBy excused Answered = Unit {0}
 -- that has an excuse.
 abbrev pub HearsOf : List ℕ → Type 0 → Users → Wanted → Heard → Users → Type 0
 HearsOf sid excused users nothing x next = (x ≡ unasked) × (next ≡ users)
-HearsOf sid excused users (to_look uid pid) x next = (x ≡ found (login uid pid users)) × (next ≡ users)
+HearsOf sid excused users (to_look vacant uid pid) x next = (x ≡ found (login uid pid users)) × (next ≡ users)
 HearsOf sid excused users (to_do o) x next = (outcome : UserOutcome) × MayCome sid o users outcome × IsExcusedBy excused outcome × (x ≡ heard_of o users outcome) × (next ≡ after (change_in outcome) users)
 
 -- what was heard while this happened, from these users and this session's user on, to those

@@ -22,7 +22,7 @@ use Rattle.user_admin.specs.Verdicts.{IsChanging}
 use Rattle.xc_core.specs.Seeing.{entry}
 use Rattle.xc_core.specs.States.{LimitBehind, Opening, faults_in, most_room, rules_of}
 use Rattle.craft_session.specs.declared.end.SessionEnd.{SessionEnd}
-use Rattle.craft_session.specs.declared.end.SessionEnd.TheVariants.{End, ReadFault, WriteFault, Stopped, Spent, Unattended, Idle}
+use Rattle.craft_session.specs.declared.end.SessionEnd.TheVariants.{End, ReadFault, WriteFault, Stopped, Spent, Unattended, Idle, Cancelled}
 use Rattle.craft_session.specs.Asks.{Language, user_after}
 use Rattle.craft_session.specs.Happenings.{Happening, Happens, Request, bytes_in, inputs_in, unit, units_in}
 use Rattle.craft_session.specs.Hearing.{to_do}
@@ -203,5 +203,6 @@ module _ (disk_told : Type 0) (disk users_disk : DiskState) (place : ℕ) (o : O
       IsScript Spent = WroteAll
       IsScript Unattended = WroteAll
       IsScript Idle = WroteAll
+      IsScript Cancelled = WroteAll
       IsScript WriteFault = WroteInPart
       IsScript Stopped = WroteToStop

@@ -1,5 +1,5 @@
 -- How a session stands over its link, and how it ends.
-use Rattle.std.specs.Prelude.{◌≡◌, ◌≢◌, ◌⊎◌, ◌≤◌, ◌<◌, ℕ, Bool, false, List, [], ◌∷◌, ◌++◌}
+use Rattle.std.specs.Prelude.{◌≡◌, ◌≢◌, ◌⊎◌, ◌≤◌, ◌<◌, ℕ, Bool, true, false, List, [], ◌∷◌, ◌++◌}
 use base.Stored.{Gv}
 use Rattle.dxc_causes.specs.Causes.{Rose}
 use Rattle.dxc_outside.specs.declared.send.Sent.{Sent}
@@ -16,15 +16,16 @@ use Rattle.tl1_text.specs.Reading.{Reader, Made}
 use Rattle.user_admin.specs.declared.op.UserEntry.{UserEntry}
 use Rattle.user_admin.specs.declared.op.UserOp.{UserOp}
 use Rattle.user_admin.specs.Histories.{Opening as UsersOpening}
+use Rattle.user_admin.specs.Occupants.{is_cancelled}
 use Rattle.user_admin.specs.Turns.{Saw as SawUsers}
 use Rattle.user_admin.specs.Verdicts.{IsChanging}
 use Rattle.dxc_model.specs.declared.user.SessionUser.{SessionUser}
-use Rattle.dxc_model.specs.declared.user.SessionUser.TheVariants.{Nobody}
+use Rattle.dxc_model.specs.declared.user.SessionUser.TheVariants.{Nobody, User}
 use Rattle.xc_core.specs.States.{Opening}
 use Rattle.xc_core.specs.Seeing.{IsHistory, Saw}
 use Rattle.craft_session.specs.declared.attending.Attending.{Attending}
 use Rattle.craft_session.specs.declared.end.SessionEnd.{SessionEnd}
-use Rattle.craft_session.specs.declared.end.SessionEnd.TheVariants.{End, ReadFault, WriteFault, Stopped as Session_stopped, Spent, Unattended, Idle}
+use Rattle.craft_session.specs.declared.end.SessionEnd.TheVariants.{End, ReadFault, WriteFault, Stopped as Session_stopped, Spent, Unattended, Idle, Cancelled}
 use Rattle.craft_session.specs.declared.end.Progress.{Progress}
 use Rattle.craft_session.specs.declared.end.Progress.TheVariants.{On, Cut, Stopped}
 use Rattle.craft_session.specs.Asks.{Reply, Language, user_after}
@@ -54,6 +55,11 @@ pub record Beginning : Type 0 where
 -- seats begin there
 abbrev pub IsAt : Beginning → SeatAt → UserSeatAt → Type 0
 IsAt b s u = (s.opening ≡ b.opening) × (s.place ≡ b.place) × (u.opening ≡ b.users) × (u.place ≡ b.place)
+
+-- somebody is logged in, and by the users' history others ended the sessions of who logged in at the place last
+abbrev pub IsEnded : ℕ → SessionUser → List UserEntry → Type 0
+IsEnded place Nobody h = ⊥
+IsEnded place (User uid class) h = is_cancelled place h ≡ true
 
 -- one message was written, or a part of it, with the next moment
 pub record IsReported (told clock_told : Type 0) (k j : LinkState) (c d : List Moment) (sent : Sent) (message : Moment → List ℕ) : Type 0 where
@@ -194,12 +200,18 @@ module _ (l : Language Request Moment) where
     pub served : Served told clock_told k j c d b now
     pub nobody : now.attending.user ≡ Nobody
 
+  -- the same where by the users' history others ended the sessions of who is logged in
+  pub record ServedToItsEnd (told clock_told : Type 0) (k j : LinkState) (c d : List Moment) (b : Beginning) (now : Now) : Type 0 where
+    pub served : Served told clock_told k j c d b now
+    pub ended : IsEnded b.place now.attending.user served.past.consulted.history
+
   -- what a session did, by its end
   abbrev pub IsSession : (told clock_told : Type 0) (k j : LinkState) (c d : List Moment) (b : Beginning) (now : Now) (end : SessionEnd) → Type 0
   IsSession told clock_told k j c d b now End = Served told clock_told k j c d b now
   IsSession told clock_told k j c d b now ReadFault = Served told clock_told k j c d b now
   IsSession told clock_told k j c d b now Spent = Served told clock_told k j c d b now
   IsSession told clock_told k j c d b now Idle = Served told clock_told k j c d b now
+  IsSession told clock_told k j c d b now Cancelled = ServedToItsEnd told clock_told k j c d b now
   IsSession told clock_told k j c d b now Unattended = ServedAlone told clock_told k j c d b now
   IsSession told clock_told k j c d b now WriteFault = Breaks told clock_told k j c d b now
   IsSession told clock_told k j c d b now Session_stopped = Halts told clock_told k j c d b now

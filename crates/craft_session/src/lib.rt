@@ -4,6 +4,7 @@
 mod act;
 mod ask;
 mod attending;
+mod cancelled;
 mod change;
 mod desk;
 mod end;

@@ -15,7 +15,7 @@ ghost use Rattle.craft_session.specs.Desks.{ConsultedIs, put_down};
 ghost use Rattle.craft_session.specs.Gated.{NothingAsked};
 ghost use Rattle.craft_session.specs.Hearing.{AskedIs, Heard, IsAsked, nothing, to_do};
 ghost use Rattle.tl1_command.specs.Meanings.{meaning};
-ghost use Rattle.user_admin.specs.Commands.{code_named, user_meaning};
+ghost use Rattle.user_admin.specs.Commands.{code_named, is_not_logged_in, user_meaning};
 ghost use Rattle.craft_session.specs.Meanings.{command_ask, command_wants, heard_ask, is_other_user as other_user, log_in, login_wants, named_by, op_wants, session_ask, session_wants, table_ask, users_ask, users_want};
 ghost use Rattle.craft_session.specs.Seats.{IsSameUserSeat};
 
@@ -129,7 +129,8 @@ fn served<U: Disk + Drop, R: Wait>(
     requires within { (d : Dimensions) × IsAptCommand d unit.now command.now }
     requires no_rows { users.old.rows.items ≡ [] }
     ensures same { IsSameUserSeat users.old.seat users.new.seat }
-    ensures asked { IsAsked users.old.seat (session_wants (asked_by unit.now command.now))
+    ensures asked { IsAsked users.old.seat (session_wants user.now
+        (asked_by unit.now command.now))
         (λ x. session_ask user.now x (asked_by unit.now command.now)) ask.new users.new.rows.items
         users.new.seat.seen NothingAsked }
     ensures apt { (d : Dimensions) → IsAptCommand d unit.now command.now → IsAptAsk d ask.new }
@@ -166,7 +167,7 @@ fn act_user<U: Disk + Drop, R: Wait>(
 )
     requires no_rows { users.old.rows.items ≡ [] }
     ensures same { IsSameUserSeat users.old.seat users.new.seat }
-    ensures asked { IsAsked users.old.seat (login_wants uid.now pid.now)
+    ensures asked { IsAsked users.old.seat (login_wants user.now uid.now pid.now)
         (λ x. log_in user.now (named_by uid.now x)) ask.new users.new.rows.items users.new.seat.seen
         NothingAsked }
     ensures apt { (d : Dimensions) → IsAptAsk d ask.new }
@@ -177,7 +178,7 @@ fn act_user<U: Disk + Drop, R: Wait>(
         return;
     };
     users.guesses.rest(rt);
-    match users.seat.login(uid, pid, rt) {
+    match users.seat.login(is_vacant(user), uid, pid, rt) {
         Some(class) => {
             users.guesses.right();
             *ask = log_in_as(user, upper(uid), class);
@@ -187,6 +188,13 @@ fn act_user<U: Disk + Drop, R: Wait>(
             *ask = Ask::Refused(Cause::BadIdentity);
         }
     }
+}
+
+/// Nobody is logged in.
+fn is_vacant(user: &SessionUser) -> bool
+    ensures { result ≡ is_not_logged_in user.now }
+{
+    matches!(user, SessionUser::Nobody)
 }
 
 /// Where nobody is logged in, the user logs in.
@@ -217,7 +225,7 @@ fn is_other_user(user: &SessionUser, name: &[u8]) -> bool
 fn on_frequent(often: Frequent, ask: &mut Ask)
     ensures asked { (user : AUser) (x : Heard)
         → session_ask user x (asked_often often) ≡ ask.new }
-    ensures unasked { session_wants (asked_often often) ≡ nothing }
+    ensures unasked { (user : AUser) → session_wants user (asked_often often) ≡ nothing }
     ensures apt { (d : Dimensions) → IsAptOften d often → IsAptAsk d ask.new }
 {
     match often {
@@ -321,7 +329,7 @@ fn ask_users<U: Disk + Drop, G: Gate, R: Wait>(
     }
 }
 
-/// Does an operation on the users. A command never asks for a look.
+/// Does an operation on the users; one that ends sessions ends this one too where it is that user's. A command never asks for a look or a log-in.
 fn on_users<U: Disk + Drop, G: Gate, R: Wait>(
     users: &mut UserDesk<U>,
     op: UserOp,
@@ -340,7 +348,11 @@ fn on_users<U: Disk + Drop, G: Gate, R: Wait>(
 {
     match op {
         UserOp::Rows(which) => Some(list_users(users, which, rt)),
-        UserOp::Look(_) => Some(Ask::Refused(Cause::UnknownCommand)),
+        UserOp::Cancel(uid) => {
+            users.seat.cancel(uid, rt);
+            Some(Ask::Completes)
+        }
+        UserOp::Look(_) | UserOp::LogIn(_) => Some(Ask::Refused(Cause::UnknownCommand)),
         op => change_users(users, op, gate, rt),
     }
 }

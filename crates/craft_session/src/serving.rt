@@ -1,6 +1,7 @@
 //! The sessions of a place: over a link, for a user that is logged in from the beginning, and for a caller.
 ghost use Rattle.std.specs.Prelude.{◌≡◌, ◌≢◌};
 ghost use Rattle.craft_session.specs.Noted.{NotedFor};
+ghost use Rattle.craft_session.specs.Cancelling.{IsHeeding};
 ghost use Rattle.craft_session.specs.Served.{Served, ServedFor};
 ghost use Rattle.craft_session.specs.Idling.{IsAwake};
 ghost use Rattle.craft_session.specs.Waiting.{IsLetGo};
@@ -29,6 +30,7 @@ pub fn serve_session<K: Link, C: Timestamps, G: Gate, D: Disk + Drop, U: Disk + 
     ensures served { Served ⟦<(K, C, G, D) as Lent>⟧ (place.old, link.old, clock.old, gate.old)
         (place.new, link.new, clock.new, gate.new) result }
     ensures attended { result ≢ SessionEnd.Unattended }
+    ensures alone { result ≢ SessionEnd.Cancelled }
     ensures endless { result ≢ SessionEnd.Idle }
 {
     serve_session_of(place, SessionUser::Nobody, link, clock, gate, rt)
@@ -47,6 +49,7 @@ pub fn serve_session_of<K: Link, C: Timestamps, G: Gate, D: Disk + Drop, U: Disk
         (place.old, link.old, clock.old, gate.old)
         (place.new, link.new, clock.new, gate.new) result }
     ensures attended { result ≢ SessionEnd.Unattended }
+    ensures alone { result ≢ SessionEnd.Cancelled }
     ensures endless { result ≢ SessionEnd.Idle }
 {
     serve_at(
@@ -84,6 +87,8 @@ pub fn serve_caller<
         (place.new, link.new, clock.new, gate.new) result }
     ensures let_go { IsLetGo ⟦<(K, C, G, D) as Lent>⟧ SessionUser.Nobody
         (place.old, link.old, clock.old, gate.old) (K.state link.new) }
+    ensures heeds { IsHeeding ⟦<(K, C, G, D) as Lent>⟧ SessionUser.Nobody
+        (place.old, link.old, clock.old, gate.old) (K.state link.new) }
     ensures awake { IsAwake ⟦<(K, C, G, D) as Lent>⟧ SessionUser.Nobody
         (place.old, link.old, clock.old, gate.old) (K.state link.new) }
     ensures noted { NotedFor ⟦<(K, C, G, D) as Lent>⟧ SessionUser.Nobody
@@ -113,11 +118,15 @@ fn serve_at<K: Link, C: Timestamps, G: Gate, N: Notes, D: Disk + Drop, U: Disk +
     notes: &mut N,
     rt: &R,
 ) -> SessionEnd
+    requires vacant { patience ≡ Patience.Limited → first ≡ SessionUser.Nobody }
     ensures served { ServedFor ⟦<(K, C, G, D) as Lent>⟧ first
         (place.old, link.old, clock.old, gate.old)
         (place.new, link.new, clock.new, gate.new) result }
     ensures attended { patience ≡ Patience.Endless → result ≢ SessionEnd.Unattended }
+    ensures alone { patience ≡ Patience.Endless → result ≢ SessionEnd.Cancelled }
     ensures let_go { patience ≡ Patience.Limited → IsLetGo ⟦<(K, C, G, D) as Lent>⟧ first
+        (place.old, link.old, clock.old, gate.old) (K.state link.new) }
+    ensures heeds { patience ≡ Patience.Limited → IsHeeding ⟦<(K, C, G, D) as Lent>⟧ first
         (place.old, link.old, clock.old, gate.old) (K.state link.new) }
     ensures endless { patience ≡ Patience.Endless → result ≢ SessionEnd.Idle }
     ensures awake { patience ≡ Patience.Limited → IsAwake ⟦<(K, C, G, D) as Lent>⟧ first

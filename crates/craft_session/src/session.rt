@@ -7,6 +7,7 @@ ghost use Rattle.tl1_text.specs.declared.reader.UnitKind.TheVariants.{More};
 ghost use Rattle.tl1_text.specs.Reading.{Holds, hand};
 ghost use Rattle.std.specs.Arc.{arc_value};
 ghost use Rattle.craft_session.specs.Asks.{IsAptAsk};
+ghost use Rattle.craft_session.specs.Cancelling.{IsHeeding};
 ghost use Rattle.craft_session.specs.Gated.{AreEntered};
 ghost use Rattle.craft_session.specs.Meanings.{language_for};
 ghost use Rattle.craft_session.specs.Desks.{now, place_of, input_of, ConsultedIs, IsAnswered};
@@ -22,6 +23,7 @@ ghost use Rattle.craft_session.specs.Walks.{begun_by};
 
 use crate::act::act;
 use crate::ask::Ask;
+use crate::cancelled::is_cancelled;
 use crate::desk::Desk;
 use crate::end::{Progress, SessionEnd};
 use crate::lent::Lent;
@@ -344,6 +346,7 @@ pub(crate) fn serve<
     requires room { 0 < length piece.old }
     requires nothing_read { Holds [] (hand desk.old.reader) }
     requires begun { desk.old.attending ≡ begun_by desk.old.attending.user }
+    requires vacant { patience ≡ Patience.Limited → desk.old.attending.user ≡ AUser.Nobody }
     ensures shelf { desk.new.shelf ≡ desk.old.shelf }
     ensures seat { IsSameSeat desk.old.seat desk.new.seat }
     ensures users { IsSameUserSeat desk.old.users.seat desk.new.users.seat }
@@ -386,6 +389,10 @@ pub(crate) fn serve<
     ensures let_go { patience ≡ Patience.Limited → IsLetGo ⟦<(K, C, G, D) as Lent>⟧
         desk.old.attending.user (place_of desk.old, link.old, clock.old, gate.old)
         (K.state link.new) }
+    ensures heeds { patience ≡ Patience.Limited → IsHeeding ⟦<(K, C, G, D) as Lent>⟧
+        desk.old.attending.user (place_of desk.old, link.old, clock.old, gate.old)
+        (K.state link.new) }
+    ensures alone { patience ≡ Patience.Endless → result ≢ SessionEnd.Cancelled }
     ensures idle { result ≡ SessionEnd.Idle → IsIdle ⟦<(K, C, G, D) as Lent>⟧
         desk.old.attending.user (place_of desk.old, link.old, clock.old, gate.old)
         (K.state link.new) }
@@ -406,6 +413,9 @@ pub(crate) fn serve<
         }
         if patience.is_idle(limits, &desk.attending, silent) {
             return SessionEnd::Idle;
+        }
+        if is_cancelled(desk, patience, rt) {
+            return SessionEnd::Cancelled;
         }
         let user = desk.attending.user;
         let read = match link.read(piece) {

@@ -6,7 +6,7 @@ ghost use Rattle.user_admin.specs.declared.op.UserEntry.{UserEntry as Entry};
 ghost use Rattle.user_admin.specs.Openings.{asked_at_turn};
 ghost use Rattle.user_admin.specs.Resting.{SawRest};
 ghost use Rattle.user_admin.specs.Spellable.{NamesUid};
-ghost use Rattle.user_admin.specs.Turns.{AreNumbered, LoggedIn, RowsAre, RowsDenied, Saw, TookIs};
+ghost use Rattle.user_admin.specs.Turns.{AreNumbered, Cancels, LoggedIn, LookedAt, RowsAre, RowsDenied, Saw, TookIs};
 ghost use Rattle.user_admin.specs.Verdicts.{IsChanging};
 ghost use Rattle.craft_session.specs.Seats.{IsSameUserSeat, IsUserSeated, user_seat_at};
 
@@ -62,13 +62,33 @@ impl<U: Disk + Drop> UserSeat<U> {
         let _ = &self.pass;
     }
 
-    /// The class of the user of a name, case aside, who has the PID, as the users stand.
-    pub fn login<R: Wait>(&mut self, uid: Uid, pid: &[u8], rt: &R) -> Option<Class>
+    /// The class of the user of a name, case aside, who has the PID, as the users stand; and whether nobody is logged in there, so that the user
+    /// logs in.
+    pub fn login<R: Wait>(&mut self, vacant: bool, uid: Uid, pid: &[u8], rt: &R) -> Option<Class>
         ensures same { IsSameUserSeat self.old self.new }
         ensures logged { (h : List Entry) → Saw self.old.opening self.old.seen h
-            → LoggedIn self.old.opening self.old.place h uid pid.now self.new.seen result }
+            → LoggedIn self.old.opening self.old.place h
+            (record { vacant = vacant; uid = uid; pid = pid.now }) self.new.seen result }
     {
-        turns::login(&mut self.pass, &self.turns, uid, pid, rt)
+        turns::login(&mut self.pass, &self.turns, vacant, uid, pid, rt)
+    }
+
+    /// Ends the sessions of the user of a name, case aside.
+    pub fn cancel<R: Wait>(&mut self, uid: Uid, rt: &R)
+        ensures same { IsSameUserSeat self.old self.new }
+        ensures cancelled { (h : List Entry) → Saw self.old.opening self.old.seen h
+            → Cancels self.old.opening self.old.place h uid self.new.seen }
+    {
+        turns::cancel(&mut self.pass, &self.turns, uid, rt);
+    }
+
+    /// Whether the sessions were ended of who logged in at this place last. Nothing is entered.
+    pub fn is_cancelled<R: Wait>(&mut self, rt: &R) -> bool
+        ensures same { IsSameUserSeat self.old self.new }
+        ensures looked { (h : List Entry) → Saw self.old.opening self.old.seen h
+            → LookedAt self.old.opening self.old.place h self.new.seen result }
+    {
+        turns::is_cancelled(&mut self.pass, &self.turns, rt)
     }
 
     /// The names of all users with their classes, in order of names, or of one; UnknownUser is the only cause against it.

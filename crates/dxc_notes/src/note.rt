@@ -19,6 +19,8 @@ pub enum Ending {
     Unattended,
     /// The caller was logged in, and silent for longer than its class may be.
     Idle,
+    /// CANC-USER-SECU ended its user's sessions.
+    Cancelled,
 }
 
 /// What happens at a place where callers come in.
@@ -46,6 +48,7 @@ impl Ending {
             Ending::Spent => "its session made all the reads that it may",
             Ending::Unattended => "nobody was logged in for a minute",
             Ending::Idle => "nothing came from it for longer than its class may be idle",
+            Ending::Cancelled => "its user's sessions were ended",
         }
     }
 }

@@ -24,7 +24,7 @@ use Rattle.switch_laws.specs.Users.{Hearing, Listens, consulted_on, nobody_asked
 use Rattle.xc_core.specs.Seeing.{codes, entry_coded, place_of}
 use Rattle.xc_core.specs.States.{Opening, began}
 use Rattle.craft_session.specs.declared.end.SessionEnd.{SessionEnd}
-use Rattle.craft_session.specs.declared.end.SessionEnd.TheVariants.{End, ReadFault, WriteFault, Stopped, Spent, Unattended, Idle}
+use Rattle.craft_session.specs.declared.end.SessionEnd.TheVariants.{End, ReadFault, WriteFault, Stopped, Spent, Unattended, Idle, Cancelled}
 use Rattle.craft_session.specs.declared.timestamps.Timestamps.{Ghosts as ClockOf}
 use Rattle.craft_session.specs.Asks.{Language, user_after}
 use Rattle.craft_session.specs.Happenings.{Request, unit}
@@ -176,6 +176,7 @@ module _ (l : Language Request Moment) (told clock_told : Type 0) (k j : LinkSta
   gone Spent x = whole x
   gone Unattended x = whole x.served
   gone Idle x = whole x
+  gone Cancelled x = whole x.served
   gone WriteFault x = broken x
   gone Stopped x = halted x
 

@@ -30,6 +30,8 @@ reading_makes_none sid (op.Delete uid) users c reads x = reads
 reading_makes_none sid (op.EditPid uid old new) users c reads x = reads
 reading_makes_none sid (op.Rows which) users c reads x = x
 reading_makes_none sid (op.Look uid) users c reads x = x
+reading_makes_none sid (op.LogIn uid) users c reads x = x
+reading_makes_none sid (op.Cancel uid) users c reads x = x
 
 allowed_refused : (o : UserOp) (users : Users) (q : Cause) → refusal o users ≡ None → refusal o users ≡ Some q → ⊥
 allowed_refused o users q none some = let is = sym none ∙ some in cc
@@ -52,7 +54,7 @@ module _ (E F : Type 0) (never : E → ⊥) (nor : F → ⊥) (sid : List ℕ) w
 
   hears_once : (w : Wanted) (users next also : Users) (x y : Heard) → HearsOf sid E users w x next → HearsOf sid F users w y also → (x ≡ y) × (next ≡ also)
   hears_once nothing users next also x y h k = (h.0 ∙ sym k.0, h.1 ∙ sym k.1)
-  hears_once (to_look uid pid) users next also x y h k = (h.0 ∙ sym k.0, h.1 ∙ sym k.1)
+  hears_once (to_look vacant uid pid) users next also x y h k = (h.0 ∙ sym k.0, h.1 ∙ sym k.1)
   hears_once (to_do o) users next also x y h k =
       let one = came_once o users h.0 k.0 h.1 k.1 h.2 k.2 in
       (h.3 ∙ ap (heard_of o users) one ∙ sym k.3, h.4 ∙ ap (λ (z : UserOutcome). after (change_in z) users) one ∙ sym k.4)

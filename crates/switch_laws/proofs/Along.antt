@@ -15,13 +15,13 @@ use Rattle.dxc_model.specs.Histories.{Rules, changes_of, table_after}
 use Rattle.dxc_model.proofs.Growth.{changes_append, table_more}
 use Rattle.user_admin.specs.declared.op.UserEntry.{UserEntry}
 use Rattle.user_admin.specs.declared.op.UserOp.{UserOp}
-use Rattle.user_admin.specs.declared.op.UserOp.TheVariants as op
 use Rattle.user_admin.specs.declared.op.UserOutcome.{UserOutcome}
 use Rattle.user_admin.specs.declared.op.UserOutcome.TheVariants.{Answered as Told}
 use Rattle.user_admin.specs.Histories.{MayCome, Opening as UsersOpening, users_after}
+use Rattle.user_admin.specs.Occupants.{login_op}
 use Rattle.user_admin.specs.States.{entry as user_entry}
 use Rattle.user_admin.specs.Users.{Users}
-use Rattle.user_admin.specs.Verdicts.{IsChanging}
+use Rattle.user_admin.specs.Verdicts.{IsChanging, login}
 use Rattle.user_admin.proofs.Standing.{users_more}
 use Rattle.xc_core.specs.Seeing.{entry}
 use Rattle.craft_session.specs.declared.ask.Ask.{Ask}
@@ -368,10 +368,11 @@ module _ {U M : Type 0} (l : Language U M) (r : Rules) (excused : Excuse) (past 
           let users : g ≡ g ++ us = sym (ap (λ (l2 : List UserEntry). g ++ l2) got.0 ∙ append-nil g) in
           let used : w ≡ w ++ of_users us = sym (ap (λ (l2 : List UserEntry). w ++ of_users l2) got.0 ∙ append-nil w) in
           subst (λ (z : List UserEntry × List AnyEntry). Did p h z.0 z.1 (then h)) (λ i. (users i, used i)) behind
-      by_wanted h g us w (to_look uid pid) y want_is y_is got serves d =
-          let e = user_entry p (op.Look uid) Told in
-          let here : HearsOf o.shelf.sid failing (users_after o g) (to_look uid pid) y (users_after o (g ++ e ∷ [])) = (got.1, users_more o g e) in
-          let behind = own_told h g w (op.Look uid) Told serves (λ may excuse. subst (λ (q : Wanted × Heard). HearsOf o.shelf.sid failing (users_after o g) q.0 q.1 (users_after o (g ++ e ∷ []))) (λ i. (want_is i, y_is i)) here) d in
+      by_wanted h g us w (to_look vacant uid pid) y want_is y_is got serves d =
+          let how = login_op vacant uid (login uid pid (users_after o g)) in
+          let e = user_entry p how Told in
+          let here : HearsOf o.shelf.sid failing (users_after o g) (to_look vacant uid pid) y (users_after o (g ++ e ∷ [])) = (got.1, users_more o g e) in
+          let behind = own_told h g w how Told serves (λ may excuse. subst (λ (q : Wanted × Heard). HearsOf o.shelf.sid failing (users_after o g) q.0 q.1 (users_after o (g ++ e ∷ []))) (λ i. (want_is i, y_is i)) here) d in
           subst (λ (l2 : List UserEntry). Did p h (g ++ l2) (w ++ of_users l2) (then h)) (sym got.0) behind
       by_wanted h g us w (to_do what) y want_is y_is got serves d =
           let e = user_entry p what got.0 in

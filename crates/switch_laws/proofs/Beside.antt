@@ -73,7 +73,7 @@ users_part : (x : Heard) (o : Result UserOp Cause) → Split (users_want o) (use
 users_part x (Ok o) = inr (heard_none x)
 users_part x (Err q) = inl refl
 
-session_part : (user : SessionUser) (x : Heard) (a : Asked) → Split (session_wants a) (session_ask user x a)
+session_part : (user : SessionUser) (x : Heard) (a : Asked) → Split (session_wants user a) (session_ask user x a)
 session_part user x (acts uid pid) = inr (log_in_none user (named_by uid x))
 session_part user x (cancels uid) = inl refl
 session_part user x header = inl refl

@@ -35,7 +35,7 @@ whole_is {A} g es a b is none = is ∙ ap (λ (c : List A). a ++ c) none ∙ app
 
 hears_few : (o : Opening) (place : ℕ) (h : List UserEntry) (w : Wanted) (es : List UserEntry) (x : Heard) → Hears o place h w es x → length es ≤ 1
 hears_few o place h nothing es x hears = let long : length es ≡ 0 = ap length hears.0 in omega (arith, long)
-hears_few o place h (to_look uid pid) es x hears = let long : length es ≡ 1 = ap length hears.0 in omega (arith, long)
+hears_few o place h (to_look vacant uid pid) es x hears = let long : length es ≡ 1 = ap length hears.0 in omega (arith, long)
 hears_few o place h (to_do what) es x hears = let long : length es ≡ 1 = ap length hears.1 in omega (arith, long)
 
 module _ {U : Type 0} where

@@ -36,4 +36,4 @@ module _ (D : RattleType) (g : Disk.Ghosts D.Denot) (s : Send.IsSend D) where
 
   pub state_send : Send.IsSend (SharedUsers.the_row D g)
   state_send = Send.recorded_send (SharedUsers.the_field D g).row _ _ (SharedUsers.the_type D g).to_one (Send.struct_send (Declared.shape (SharedUsers.the_type D g))
-      (sid.the_send, (table.the_send, (keeper_home, (record { owned = λ d vs. ((λ vss. (tt, ((λ uss. (tt, tt)), tt))), tt); leaving = λ k f vs. tt }, tt)))))
+      (sid.the_send, (table.the_send, (keeper_home, (search Send.sendable depth 20, (record { owned = λ d vs. ((λ vss. (tt, ((λ uss. (tt, tt)), tt))), tt); leaving = λ k f vs. tt }, tt))))))

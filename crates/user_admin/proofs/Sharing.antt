@@ -20,12 +20,15 @@ use Rattle.user_admin.specs.Verdicts.{Grants, Refuses, refusal}
 use Rattle.user_admin.specs.Histories.{IsLegal, IsLegalFrom, IsReading, MayCome, Opening, change_in, changes_of, users_after}
 use Rattle.user_admin.specs.Spellable.{NamesUid}
 use Rattle.user_admin.specs.States.{IsGranted, IsPaid, StandsFor, entry, refused}
+use Rattle.user_admin.specs.declared.occupants.Occupant.{Occupant}
+use Rattle.user_admin.specs.Occupants.{answered, nobody_yet, occupants_after, occupied_by}
 use Rattle.user_admin.specs.Marks.{ArePassing, KeepsTurns, MayEnter, PassesBy, entries_of, holder, place_of}
 use Rattle.user_admin.specs.Shared.{Boxed, HasKeeper, HasKept, KeeperIs, SharedFor}
 use Rattle.user_admin.proofs.Always.{users_named}
 use Rattle.user_admin.proofs.Granted.{granted_fits}
 use Rattle.user_admin.proofs.Leading.{after-append}
 use Rattle.user_admin.proofs.Marking.{entries_append, entries_one, entries_took, free_by, holder_append, may_own, may_pass, no_failure_by, nothing_by, passing, passing_append, stays_by, turns_append, turns_behind}
+use Rattle.user_admin.proofs.Occupying.{occupants_more, still_by}
 use Rattle.user_admin.proofs.Standing.{failures_more, legal_more, not_by_disk, passed, passed_one, room_more, users_more}
 
 -- the end of a legal history is one, from the users that it finds
@@ -53,8 +56,8 @@ module _ {D : Type 0} (told : Type 0) (state : D → DiskState) (disks : (d : D)
     keeper_more n op out passes may None lent = (lent.0, holder_append None ms (Entered n op out ∷ []) ∙ stays_by (holder None ms) out passes ∙ lent.1)
 
     -- an entry that passes by
-    pub shared_more : (s : SharedUsers D) (n : ℕ) (op : Snapshot UserOp) (out : UserOutcome) → PassesBy out → MayCome o.shelf.sid op.value (users_after o (entries_of ms)) out → SharedFor told state o s ms → SharedFor told state o s (ms ++ Entered n op out ∷ [])
-    shared_more s n op out passes may st =
+    pub shared_more : (s : SharedUsers D) (n : ℕ) (op : Snapshot UserOp) (out : UserOutcome) (os : List Occupant) → os ≡ occupied_by n op.value out s.occupants → PassesBy out → MayCome o.shelf.sid op.value (users_after o (entries_of ms)) out → SharedFor told state o s ms → SharedFor told state o (record s { occupants = os }) (ms ++ Entered n op out ∷ [])
+    shared_more s n op out os os_are passes may st =
         let h = entries_of ms in
         let e = entry n op.value out in
         let m = Entered n op out in
@@ -66,17 +69,23 @@ module _ {D : Type 0} (told : Type 0) (state : D → DiskState) (disks : (d : D)
           paid = subst (λ (g : List UserEntry). IsPaid o g) (sym one) (paid_more o h e passes st.paid);
           turns = turns_append None ms (m ∷ []) st.turns (may_pass (holder None ms) n out passes, tt);
           keeper = keeper_more n op out passes may s.keeper st.keeper;
+          occupants = os_are ∙ ap (occupied_by n op.value out) st.occupants ∙ sym (occupants_more h e) ∙ ap occupants_after (sym one);
         }
 
     -- what the users deny
     pub shared_denied : (s : SharedUsers D) (n : ℕ) (op : Snapshot UserOp) (q : Cause) → Refuses op.value s.list q → SharedFor told state o s ms → SharedFor told state o s (ms ++ Entered n op (refused q) ∷ [])
     shared_denied s n op q is st =
         let denial = subst (λ (m : Users). Refuses op.value m q) st.list is in
-        subst (λ (out : UserOutcome). SharedFor told state o s (ms ++ Entered n op out ∷ [])) (sym (not_by_disk op.value (users_after o (entries_of ms)) q denial)) (shared_more s n op (Denied q) tt denial st)
+        subst (λ (out : UserOutcome). SharedFor told state o s (ms ++ Entered n op out ∷ [])) (sym (not_by_disk op.value (users_after o (entries_of ms)) q denial)) (shared_more s n op (Denied q) s.occupants refl tt denial st)
 
     -- what only reads
-    pub shared_read : (s : SharedUsers D) (n : ℕ) (op : Snapshot UserOp) → IsReading op.value → refusal op.value s.list ≡ None → SharedFor told state o s ms → SharedFor told state o s (ms ++ Entered n op Answered ∷ [])
-    shared_read s n op reads allowed st = shared_more s n op Answered tt (reads, ap (refusal op.value) (sym st.list) ∙ allowed) st
+    pub shared_read : (s : SharedUsers D) (n : ℕ) (op : Snapshot UserOp) → s.occupants ≡ answered n op.value s.occupants → IsReading op.value → refusal op.value s.list ≡ None → SharedFor told state o s ms → SharedFor told state o s (ms ++ Entered n op Answered ∷ [])
+    shared_read s n op still reads allowed st = shared_more s n op Answered s.occupants still tt (reads, ap (refusal op.value) (sym st.list) ∙ allowed) st
+
+    -- what is answered, and tells who is where
+    pub shared_answered : (s t : SharedUsers D) (n : ℕ) (op : Snapshot UserOp) (what : UserOp) → op.value ≡ what → t ≡ record s { occupants = answered n what s.occupants } → IsReading what → ((users : Users) → refusal what users ≡ None) → SharedFor told state o s ms → SharedFor told state o t (ms ++ Entered n op Answered ∷ [])
+    shared_answered s t n op what is t_is reads allowed st = subst (λ (x : SharedUsers D). SharedFor told state o x (ms ++ Entered n op Answered ∷ [])) (sym t_is)
+        (shared_more s n op Answered (answered n what s.occupants) (ap (λ (x : UserOp). answered n x s.occupants) (sym is)) tt (subst IsReading (sym is) reads, subst (λ (x : UserOp). refusal x (users_after o (entries_of ms)) ≡ None) (sym is) (allowed (users_after o (entries_of ms)))) st)
 
     module _ (s : SharedUsers D) (st : SharedFor told state o s ms) (k : Boxed D) (is : s.keeper ≡ Some k) where
       home_of : KeeperIs told state o ms (Some k)
@@ -93,6 +102,7 @@ module _ {D : Type 0} (told : Type 0) (state : D → DiskState) (disks : (d : D)
             paid = subst (λ (g : List UserEntry). IsPaid o g) (sym same) st.paid;
             turns = turns_append None ms (Took own ∷ []) st.turns (home_of.0, tt);
             keeper = (own, holder_append None ms (Took own ∷ []));
+            occupants = st.occupants ∙ ap occupants_after (sym same);
           }
 
       -- and has it for an operation that is granted
@@ -149,6 +159,7 @@ module _ {D : Type 0} (told : Type 0) (state : D → DiskState) (disks : (d : D)
       paid = now_stands.paid;
       turns = turns_append None ms (last ∷ []) st.turns (subst (λ (who : Option ℕ). MayEnter who own out) (sym t.held) (may_own own out), tt);
       keeper = (holder_append None ms (last ∷ []) ∙ t.homing (holder None ms), now_stands);
+      occupants = st.occupants ∙ sym (still_by own op.value out (occupants_after (entries_of ms)) t.homing) ∙ sym (occupants_more (entries_of ms) (entry own op.value out)) ∙ ap occupants_after (sym (entries_one ms last));
     }
 
     -- what was done fits
@@ -168,12 +179,13 @@ nothing_done (Failed q) other = refl
 nothing_done Answered other = refl
 
 -- users who are nobody's yet
-pub shared_first : {D : Type 0} (told : Type 0) (state : D → DiskState) (o : Opening) (first : UserState D) (s : SharedUsers D) (k : Boxed D) → StandsFor told state o first [] → s.list ≡ first.lists.value.users → s.sid ≡ first.sid → s.keeper ≡ Some k → k.value ≡ first → SharedFor told state o s []
-shared_first {D} told state o first s k st list sid keeper is = record {
+pub shared_first : {D : Type 0} (told : Type 0) (state : D → DiskState) (o : Opening) (first : UserState D) (s : SharedUsers D) (k : Boxed D) → StandsFor told state o first [] → s.list ≡ first.lists.value.users → s.sid ≡ first.sid → s.keeper ≡ Some k → k.value ≡ first → s.occupants ≡ nobody_yet → SharedFor told state o s []
+shared_first {D} told state o first s k st list sid keeper is occupants = record {
   list = list ∙ st.users;
   sid = sid ∙ st.of_shelf.sid;
   legal = st.legal;
   paid = st.paid;
   turns = tt;
   keeper = subst (λ (x : Option (Boxed D)). KeeperIs told state o [] x) (sym keeper) (refl, subst (λ (x : UserState D). StandsFor told state o x []) (sym is) st);
+  occupants = occupants;
 }

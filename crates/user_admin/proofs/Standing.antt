@@ -202,6 +202,8 @@ module _ (P : Cause → Type 0) (there : P UserThere) (full : P UsersFull) (unkn
   by_users (asked_for.Rows None) users q is = absurd (none_some q is)
   by_users (asked_for.Rows (Some uid)) users q is = rows_cause (is_there uid users) q is
   by_users (asked_for.Look uid) users q is = absurd (none_some q is)
+  by_users (asked_for.LogIn uid) users q is = absurd (none_some q is)
+  by_users (asked_for.Cancel uid) users q is = absurd (none_some q is)
 
 -- no cause of the users is the disk's
 pub not_by_disk : (op : UserOp) (users : Users) (q : Cause) → refusal op users ≡ Some q → refused q ≡ Denied q

@@ -1,6 +1,7 @@
 -- What a place sees in a turn, and behind it.
-use Rattle.std.proofs.Common.{◌≡◌, ◌≢◌, ◌<◌, ◌≤◌, ℕ, true, Option, None, Some, List, [], ◌∷◌, ◌++◌, append-nil, append_assoc, refl, sym, ◌∙◌, ap, subst}
+use Rattle.std.proofs.Common.{◌≡◌, ◌≢◌, ◌<◌, ◌≤◌, ℕ, Bool, true, Option, None, Some, List, [], ◌∷◌, ◌++◌, append-nil, append_assoc, refl, sym, ◌∙◌, ap, subst}
 use Rattle.std.proofs.lemmas.List.{map-append}
+use Rattle.std.specs.Prelude.{slice_get}
 use Rattle.std.specs.declared.snapshot.Snapshot.{Snapshot}
 use base.Stored.{Gv}
 use Rattle.turnstile.specs.Passing.{Gate, Token}
@@ -25,7 +26,9 @@ use Rattle.user_admin.specs.Histories.{Opening, users_after}
 use Rattle.user_admin.specs.States.{entry, opening_of, refused}
 use Rattle.user_admin.specs.Marks.{entered, entries_of, entry_in, mark_for, place_of}
 use Rattle.user_admin.specs.Shared.{HasKeeper, PlannedIs, SharedFor, SharedStands, opening_at}
-use Rattle.user_admin.specs.Turns.{AreNumbered, HasPass, IsHistory, IsTaken, Saw, TakenIs, TriedIs, Turned, TurnedBack, codes}
+use Rattle.user_admin.specs.declared.occupants.Occupant.{Occupant}
+use Rattle.user_admin.specs.Occupants.{is_out, occupants_after}
+use Rattle.user_admin.specs.Turns.{AreNumbered, HasPass, IsHistory, IsTaken, LookedAt, Saw, TakenIs, TriedIs, Turned, TurnedBack, codes}
 use Rattle.user_admin.proofs.Marking.{each_entries, entries_append, entries_one, entries_took, no_mark, others_entries, same_mark}
 
 -- a pass that comes back from a turn
@@ -90,7 +93,7 @@ module _ {D : Type 0} (told : Type 0) (state : D → DiskState) where
             };
           }
 
-      pub turned_back_at : (y : SharedUsers D) (then_seen : List Gv) → SharedFor told state o y (ms ++ f.later) → then_seen ≡ in_turn → TurnedBack o own h then_seen
+      abbrev pub turned_back_at : (y : SharedUsers D) (then_seen : List Gv) → SharedFor told state o y (ms ++ f.later) → then_seen ≡ in_turn → TurnedBack o own h then_seen
       turned_back_at y then_seen st is = record {
         later = entries_of f.later;
         others = others_entries own f.later f.others;
@@ -166,6 +169,14 @@ module _ {D : Type 0} (told : Type 0) (state : D → DiskState) where
     -- the list is that of the users whom it finds
     pub listed_at : (h : List UserEntry) (saw : Saw o seen h) → x.list ≡ users_after o (h ++ entries_of (at_turn saw.marks saw.codes_are).later)
     listed_at h saw = let t = at_turn saw.marks saw.codes_are in t.stands.list ∙ ap (users_after o) (entries_found o own saw.marks x in_turn t h saw.entries_are)
+
+    -- and so is who is where
+    pub looked_at : (h : List UserEntry) (saw : Saw o seen h) (then_seen : List Gv) (out : Bool) → then_seen ≡ in_turn → out ≡ is_out (slice_get x.occupants own) → LookedAt o own h then_seen out
+    looked_at h saw then_seen out seen_is is =
+        let t = at_turn saw.marks saw.codes_are in (
+          turned_back_at o own saw.marks x in_turn t h saw.entries_are x then_seen t.stands seen_is,
+          is ∙ ap (λ (os : List Occupant). is_out (slice_get os own)) (t.stands.occupants ∙ ap occupants_after (entries_found o own saw.marks x in_turn t h saw.entries_are)),
+        )
 
     -- the pass behind it
     pub ends_pass : {X : Type 0} (t : Gate X) (p q : Token) (m : UserMark) → passes ≡ t.passes → own ≡ p.number → HasPass t p → (q.free ≡ true) × (q.id ≡ t.id) × (q.number ≡ p.number) → place_of m ≡ own → q.seen ≡ in_turn ++ mark_coded.code m ∷ [] → HasPass t q × (q.number ≡ p.number)

@@ -21,6 +21,7 @@ use Rattle.user_admin.specs.Verdicts.{Grants}
 use Rattle.user_admin.specs.Histories.{IsLegal, Opening, users_after}
 use Rattle.user_admin.specs.Openings.{asked_at_turn, asked_before}
 use Rattle.user_admin.specs.States.{IsPaid, StandsFor, entry, opening_of, refused}
+use Rattle.user_admin.specs.Occupants.{occupants_after}
 use Rattle.user_admin.specs.Marks.{ArePassing, KeepsTurns, entered, entries_of, holder, holder_by}
 
 -- the opening of the state as it was when nobody had taken a turn
@@ -63,6 +64,7 @@ module _ {D : Type 0} (told : Type 0) (state : D → DiskState) where
     pub paid : IsPaid o (entries_of ms)
     pub turns : KeepsTurns None ms
     pub keeper : KeeperIs o ms s.keeper
+    pub occupants : s.occupants ≡ occupants_after (entries_of ms)
 
   -- from its own opening on
   abbrev pub SharedStands : SharedUsers D → List UserMark → Type 0

@@ -1,5 +1,5 @@
 -- What a place knows of the users' history, and what its turns come to.
-use Rattle.std.specs.Prelude.{◌≡◌, ◌≢◌, ◌<◌, ℕ, true, List, [], ◌∷◌, ◌++◌, map, Option, Some, None}
+use Rattle.std.specs.Prelude.{◌≡◌, ◌≢◌, ◌<◌, ℕ, Bool, true, List, [], ◌∷◌, ◌++◌, map, Option, Some, None}
 use base.Stored.{Gv}
 use Rattle.turnstile.specs.Passing.{Gate, Token}
 use Rattle.turnstile.specs.Turning.{Each}
@@ -13,7 +13,7 @@ use Rattle.user_admin.specs.declared.op.UserMark.{UserMark}
 use Rattle.user_admin.specs.declared.op.UserOp.{UserOp}
 use Rattle.user_admin.specs.declared.op.UserOutcome.{UserOutcome}
 use Rattle.user_admin.specs.declared.op.UserRow.{UserRow}
-use Rattle.user_admin.specs.declared.op.UserOp.TheVariants.{Look, Rows}
+use Rattle.user_admin.specs.declared.op.UserOp.TheVariants.{Cancel, Rows}
 use Rattle.user_admin.specs.declared.op.UserOutcome.TheVariants as outcome
 use Rattle.user_admin.specs.declared.shared.Planned.{Planned}
 use Rattle.user_admin.specs.declared.shared.Planned.TheVariants as planned
@@ -24,6 +24,7 @@ use Rattle.user_admin.specs.declared.turns.UserTook.TheVariants.{Done, Denied, S
 use Rattle.user_admin.specs.Verdicts.{login, rows_in}
 use Rattle.user_admin.specs.Coding.{mark_coded}
 use Rattle.user_admin.specs.Histories.{IsLegal, Opening, users_after}
+use Rattle.user_admin.specs.Occupants.{is_cancelled, login_op}
 use Rattle.user_admin.specs.States.{IsPaid, entry, refused}
 use Rattle.user_admin.specs.Marks.{entries_of, place_of}
 use Rattle.user_admin.specs.Shared.{HasKeeper, HasKept, opening_at}
@@ -69,9 +70,23 @@ TookIs o own h op then_seen Done = (c : UserChange) × Turned o own h (entry own
 TookIs o own h op then_seen (Denied q) = Turned o own h (entry own op (refused q)) then_seen
 TookIs o own h op then_seen Stopped = TurnedBack o own h then_seen
 
--- a look at the users before the place's entry tells whom name and PID log in
-abbrev pub LoggedIn : Opening → ℕ → List UserEntry → List ℕ → List ℕ → List Gv → Option Class → Type 0
-LoggedIn o own h uid pid then_seen found = (t : Turned o own h (entry own (Look uid) outcome.Answered) then_seen) × (found ≡ login uid pid (users_after o (h ++ t.later)))
+-- a log-in by name and PID, in a session where nobody is logged in or somebody is
+pub record Asking : Type 0 where
+  pub vacant : Bool
+  pub uid : List ℕ
+  pub pid : List ℕ
+
+-- a look at the users before the place's entry tells whom name and PID log in, and the entry, whether they do
+abbrev pub LoggedIn : Opening → ℕ → List UserEntry → Asking → List Gv → Option Class → Type 0
+LoggedIn o own h a then_seen found = (t : Turned o own h (entry own (login_op a.vacant a.uid found) outcome.Answered) then_seen) × (found ≡ login a.uid a.pid (users_after o (h ++ t.later)))
+
+-- the user's sessions end
+abbrev pub Cancels : Opening → ℕ → List UserEntry → List ℕ → List Gv → Type 0
+Cancels o own h uid then_seen = Turned o own h (entry own (Cancel uid) outcome.Answered) then_seen
+
+-- behind others' entries alone: whether the sessions were ended of who logged in at the place last
+abbrev pub LookedAt : Opening → ℕ → List UserEntry → List Gv → Bool → Type 0
+LookedAt o own h then_seen cancelled = (t : TurnedBack o own h then_seen) × (cancelled ≡ is_cancelled own (h ++ t.later))
 
 -- the rows of the users before the place's entry, or the cause against it
 abbrev pub RowsAre : Opening → ℕ → List UserEntry → Option (List ℕ) → List Gv → List UserRow → Type 0

@@ -41,7 +41,7 @@ fn is_missing(code: UserCode, uid: &[u8], pid: &[u8], second: &[u8]) -> bool
             uid.is_empty() || pid.is_empty() || second.is_empty()
         }
         UserCode::Edit => uid.is_empty() || (pid.is_empty() && second.is_empty()),
-        UserCode::Delete => uid.is_empty(),
+        UserCode::Delete | UserCode::Cancel => uid.is_empty(),
         UserCode::Rows => false,
     }
 }
@@ -184,6 +184,10 @@ fn asked(
         UserCode::Delete => {
             let uid = uid_of(uid)?;
             Ok(UserOp::Delete(uid))
+        }
+        UserCode::Cancel => {
+            let uid = uid_of(uid)?;
+            Ok(UserOp::Cancel(uid))
         }
         UserCode::Rows => rows_of(uid),
         UserCode::EditPid => {

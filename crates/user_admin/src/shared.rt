@@ -5,10 +5,12 @@ ghost use Rattle.user_admin.specs.declared.op.UserChange.{UserChange as Change};
 ghost use Rattle.user_admin.specs.Changes.{Fits, after};
 ghost use Rattle.user_admin.specs.Histories.{change_in};
 ghost use Rattle.user_admin.specs.Marks.{mark_for};
+ghost use Rattle.user_admin.specs.Occupants.{answered};
 ghost use Rattle.user_admin.specs.Shared.{BringsHome, MayBring, PlansFor, SharedStands, asked_by, keeper_left};
 ghost use Rattle.user_admin.specs.States.{Stands, refused as refused_by};
 ghost use Rattle.user_admin.specs.Verdicts.{IsChanging, refusal};
 
+use crate::occupants::{Occupants, answer, nobody_yet};
 use crate::op::{UserChange, UserMark, UserOp, UserOutcome};
 use crate::state::{UserState, copy_of};
 use crate::table::UserTable;
@@ -30,6 +32,7 @@ pub struct SharedUsers<D: Disk> {
     pub(crate) list: UserTable,
     /// None: a place has it.
     pub(crate) keeper: Option<Box<UserState<D>>>,
+    pub(crate) occupants: Occupants,
     /// As they were when nobody had taken a turn. It has no bytes; contracts alone read it.
     pub(crate) first: Snapshot<UserState<D>>,
 }
@@ -82,6 +85,7 @@ impl<D: Disk + Drop> SharedUsers<D> {
                 sid,
                 list,
                 keeper: Some(keeper),
+                occupants: nobody_yet(),
                 first,
             }),
             Err(_) => Err(NoMemory),
@@ -129,6 +133,14 @@ impl<D: Disk + Drop> SharedUsers<D> {
     {
         take_done(&mut self.list, outcome);
         self.keeper = Some(keeper);
+    }
+
+    /// Puts down who is where behind an operation of the place that is answered.
+    pub(crate) fn answer(&mut self, place: u16, op: &UserOp)
+        ensures { self.new ≡ record self.old
+            { occupants = answered place op.now self.old.occupants } }
+    {
+        answer(&mut self.occupants, place, op);
     }
 }
 

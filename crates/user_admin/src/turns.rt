@@ -6,9 +6,11 @@ ghost use Rattle.user_admin.specs.Openings.{asked_at_turn};
 ghost use Rattle.user_admin.specs.Spellable.{NamesUid};
 ghost use Rattle.user_admin.specs.Resting.{IsAtRest, RestsUnlessTaken};
 ghost use Rattle.user_admin.specs.Shared.{asked_by, asked_in, opening_at};
-ghost use Rattle.user_admin.specs.Turns.{After, Brings, HasPass, HasSeen, IsKept, LoggedIn, OutUpon, OutAfter, RowsAre, RowsDenied, Saw, Takes, TookIs, Tries};
+ghost use Rattle.user_admin.specs.Turns.{After, Brings, Cancels, HasPass, HasSeen, IsKept, LoggedIn, LookedAt, OutUpon, OutAfter, RowsAre, RowsDenied, Saw, Takes, TookIs, Tries};
+ghost use Rattle.user_admin.specs.Occupants.{login_op as entered_as};
 ghost use Rattle.user_admin.specs.Verdicts.{IsChanging};
 
+use crate::occupants::has_ended;
 use crate::op::{UserMark, UserOp, UserOutcome, UserRows};
 use crate::shared::{Planned, SharedUsers, mark_of, refused};
 use crate::state::UserState;
@@ -193,6 +195,7 @@ fn bring<D: Disk + Drop, R: Wait>(
 pub fn login<D: Disk + Drop, R: Wait>(
     pass: &mut Pass,
     turns: &Turnstile<SharedUsers<D>>,
+    vacant: bool,
     uid: Uid,
     pid: &[u8],
     rt: &R,
@@ -202,16 +205,71 @@ pub fn login<D: Disk + Drop, R: Wait>(
     ensures pass { HasPass turns.now pass.new × (pass.new.number ≡ pass.old.number) }
     ensures rests { IsAtRest pass.old → IsAtRest pass.new }
     ensures logged { (h : List Entry) → Saw (opening_at D.state turns.now.first) pass.old.seen h
-        → LoggedIn (opening_at D.state turns.now.first) pass.old.number h uid pid.now pass.new.seen
-        result }
+        → LoggedIn (opening_at D.state turns.now.first) pass.old.number h
+        (record { vacant = vacant; uid = uid; pid = pid.now }) pass.new.seen result }
 {
-    let turn = turns.enter(pass, rt);
+    let mut turn = turns.enter(pass, rt);
     let class = turn.state().list.login_now(uid, pid);
     let place = pass.number();
-    let op = Snapshot::of(&UserOp::Look(uid));
+    let done = login_op(vacant, uid, class);
+    turn.state_mut().answer(place, &done);
+    let op = Snapshot::of(&done);
     let outcome = UserOutcome::Answered;
     turns.leave(pass, turn, UserMark::Entered { place, op, outcome });
     class
+}
+
+// How a look for a log-in is entered, which found this class.
+fn login_op(vacant: bool, uid: Uid, found: Option<Class>) -> UserOp
+    ensures { result ≡ entered_as vacant uid found }
+{
+    if vacant && found.is_some() {
+        UserOp::LogIn(uid)
+    } else {
+        UserOp::Look(uid)
+    }
+}
+
+/// Ends the sessions of the user of a name, case aside: at each place whose last log-in was the user's, from now on `is_cancelled`.
+pub fn cancel<D: Disk + Drop, R: Wait>(
+    pass: &mut Pass,
+    turns: &Turnstile<SharedUsers<D>>,
+    uid: Uid,
+    rt: &R,
+)
+    requires pass { HasPass turns.now pass.old }
+    requires seen { (h : List Entry) × Saw (opening_at D.state turns.now.first) pass.old.seen h }
+    ensures pass { HasPass turns.now pass.new × (pass.new.number ≡ pass.old.number) }
+    ensures rests { IsAtRest pass.old → IsAtRest pass.new }
+    ensures cancelled { (h : List Entry) → Saw (opening_at D.state turns.now.first) pass.old.seen h
+        → Cancels (opening_at D.state turns.now.first) pass.old.number h uid pass.new.seen }
+{
+    let mut turn = turns.enter(pass, rt);
+    let place = pass.number();
+    let done = UserOp::Cancel(uid);
+    turn.state_mut().answer(place, &done);
+    let op = Snapshot::of(&done);
+    let outcome = UserOutcome::Answered;
+    turns.leave(pass, turn, UserMark::Entered { place, op, outcome });
+}
+
+/// Whether the sessions were ended of who logged in at this place last. Nothing is entered.
+pub fn is_cancelled<D: Disk + Drop, R: Wait>(
+    pass: &mut Pass,
+    turns: &Turnstile<SharedUsers<D>>,
+    rt: &R,
+) -> bool
+    requires pass { HasPass turns.now pass.old }
+    requires seen { (h : List Entry) × Saw (opening_at D.state turns.now.first) pass.old.seen h }
+    ensures pass { HasPass turns.now pass.new × (pass.new.number ≡ pass.old.number) }
+    ensures rests { IsAtRest pass.old → IsAtRest pass.new }
+    ensures looked { (h : List Entry) → Saw (opening_at D.state turns.now.first) pass.old.seen h
+        → LookedAt (opening_at D.state turns.now.first) pass.old.number h pass.new.seen result }
+{
+    let turn = turns.enter(pass, rt);
+    let cancelled = has_ended(&turn.state().occupants, pass.number());
+    turns.back(pass, turn);
+    cancelled
 }
 
 /// The names of all users with their classes, in order of names, or of one; UnknownUser is the only cause against it.

@@ -93,7 +93,7 @@ fn is_changing(op: &UserOp) -> bool
     match op {
         UserOp::Enter { .. } | UserOp::Edit { .. } | UserOp::Delete(_) | UserOp::EditPid { .. } =>
             true,
-        UserOp::Rows(_) | UserOp::Look(_) => false,
+        UserOp::Rows(_) | UserOp::Look(_) | UserOp::LogIn(_) | UserOp::Cancel(_) => false,
     }
 }
 

@@ -57,3 +57,6 @@ unreachable-requires-in-Unattended g c = c.serve_session-end.ensures.attended c.
 
 pub unreachable-requires-in-Idle : goal.unreachable-requires-in-Idle
 unreachable-requires-in-Idle g c = c.serve_session-end.ensures.endless c.in-Idle.is
+
+pub unreachable-requires-in-Cancelled : goal.unreachable-requires-in-Cancelled
+unreachable-requires-in-Cancelled g c = c.serve_session-end.ensures.alone c.in-Cancelled.is

@@ -34,7 +34,7 @@ returns-clause-opens g c =
     let l = g.K.Link.state c.serve_session.new.link in
     let later = g.G.Gate.stops c.serve_session.new.gate in
     let e = c.serve_session.ensures.served in
-    let ended : IsEnd k l (g.G.Gate.stops c.open.new.gate) later c.serve_session.result = record { ended = e.why.ended; read_fault = e.why.read_fault; write_fault = e.why.write_fault; stopped = e.stopped; unstopped = e.unstopped; spent = e.why.spent; attended = c.serve_session.ensures.attended; endless = c.serve_session.ensures.endless } in
+    let ended : IsEnd k l (g.G.Gate.stops c.open.new.gate) later c.serve_session.result = record { ended = e.why.ended; read_fault = e.why.read_fault; write_fault = e.why.write_fault; stopped = e.stopped; unstopped = e.unstopped; spent = e.why.spent; attended = c.serve_session.ensures.attended; endless = c.serve_session.ensures.endless; alone = c.serve_session.ensures.alone } in
     inr (
       f,
       opening_of state x.state,

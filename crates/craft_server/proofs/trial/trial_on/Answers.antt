@@ -47,7 +47,7 @@ returns-clause-ran g c =
     let o = opening_of state x.controller.state in
     let p = users_opening state x.users in
     let user_is = first_user el.shelf c.deref.result.now.users user c.args.shape (ap (λ (s : Contents). s.users) (c.deref.ensures ∙ el.is_new.started.shelf)) el.is_shelf c.logged_in-user.ensures in
-    let ended : IsEnd k l stops later c.serve_session_of.result = record { ended = e.why.ended; read_fault = e.why.read_fault; write_fault = e.why.write_fault; stopped = e.stopped; unstopped = e.unstopped; spent = e.why.spent; attended = c.serve_session_of.ensures.attended; endless = c.serve_session_of.ensures.endless } in
+    let ended : IsEnd k l stops later c.serve_session_of.result = record { ended = e.why.ended; read_fault = e.why.read_fault; write_fault = e.why.write_fault; stopped = e.stopped; unstopped = e.unstopped; spent = e.why.spent; attended = c.serve_session_of.ensures.attended; endless = c.serve_session_of.ensures.endless; alone = c.serve_session_of.ensures.alone } in
     let ran = ran_session told state g.K.Link.told g.C.Clock.told g.K.Link.begun k l moments later_moments stops later user el.shelf el.is_new.disk el.is_new.users_disk 1 x.controller x.users c.in-Ok.place c.serve_session_of.new.place c.serve_session_of.result status el.is_new.started el.is_new.users_started c.in-Ok.ensures e.place.seat e.place.users e.place.numbers e.place.users_numbers e.place.astray e.session e.prompt ended c.after_session.ensures in
     inr (ran_trial (trial_told told state g.K.Link.told g.C.Clock.told g.K.Link.begun) c.args.shape x el (trial_lent k moments stops) (trial_lent l later_moments later) status
     (subst (λ (u : SessionUser). RanSession told g.K.Link.told g.C.Clock.told g.K.Link.begun (state el.is_new.disk) (state el.is_new.users_disk) u el.shelf o p k l moments later_moments stops later status) user_is ran))

@@ -47,7 +47,7 @@ returns-in-Some g c =
       consulted = (
         c.ctag_in.ensures,
         asked_nothing _ _ _ _ _ (g.G.Gate.asked c.args.gate.now c.args.gate.now) (g.G.Gate.unasked c.args.gate.now)
-            (ap (λ (o : Option (List Block)). text_wants s user o) c.in-Ok.ensures.reading ∙ (ap (command_wants s user bs) is ∙ often.unasked))
+            (ap (λ (o : Option (List Block)). text_wants s user o) c.in-Ok.ensures.reading ∙ (ap (command_wants s user bs) is ∙ often.unasked user))
             (sym (ap (λ (o : Option (List Block)). text_ask s user unasked o) c.in-Ok.ensures.reading ∙ (ap (command_ask s user unasked bs) is ∙ often.asked user unasked)))
             c.requires.no_rows,
       );

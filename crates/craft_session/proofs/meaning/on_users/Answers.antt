@@ -1,8 +1,9 @@
-use Rattle.std.proofs.Common.{refl, ap, sym, subst}
+use Rattle.std.proofs.Common.{refl, ap, sym, subst, inl, inr}
+use Rattle.craft_session.specs.declared.ask.Ask.TheVariants.{Completes}
 use Rattle.craft_session.specs.Gated.{NothingAsked}
 use Rattle.craft_session.specs.Hearing.{IsAsked, Wanted}
 use Rattle.craft_session.specs.Meanings.{heard_ask, op_wants}
-use Rattle.craft_session.proofs.Asking.{asked_beside}
+use Rattle.craft_session.proofs.Asking.{asked_beside, asked_cancelled}
 use Rattle.craft_session.proofs.Consulted.{asked_nothing}
 use Rattle.craft_session.proofs.meaning.on_users.Goals as goal
 
@@ -10,5 +11,9 @@ pub returns-in-Rows-clause-asked : goal.returns-in-Rows-clause-asked
 returns-in-Rows-clause-asked g c = asked_beside c.args.users.now.seat (op_wants c.args.op) heard_ask c.list_users.result c.list_users.new.users.rows.items c.list_users.new.users.seat.seen (g.G.Gate.asked c.args.gate.now c.args.gate.now) (g.G.Gate.unasked c.args.gate.now)
     (subst (λ (w : Wanted). IsAsked c.args.users.now.seat w heard_ask c.list_users.result c.list_users.new.users.rows.items c.list_users.new.users.seat.seen NothingAsked) (sym (ap op_wants c.in-Rows.is)) c.list_users.ensures.asked)
 
+pub returns-in-Cancel-clause-asked : goal.returns-in-Cancel-clause-asked
+returns-in-Cancel-clause-asked g c = asked_beside c.args.users.now.seat (op_wants c.args.op) heard_ask Completes c.args.users.now.rows.items c.cancel.new.self.seen (g.G.Gate.asked c.args.gate.now c.args.gate.now) (g.G.Gate.unasked c.args.gate.now)
+    (subst (λ (w : Wanted). IsAsked c.args.users.now.seat w heard_ask Completes c.args.users.now.rows.items c.cancel.new.self.seen NothingAsked) (sym (ap op_wants c.in-Cancel.is)) (asked_cancelled c.args.users.now.seat c.cancel.new.self.seen _ _ c.requires.no_rows c.cancel.ensures.cancelled))
+
 pub returns-in-Look-clause-asked : goal.returns-in-Look-clause-asked
-returns-in-Look-clause-asked g c = asked_nothing _ _ _ _ _ (g.G.Gate.asked c.args.gate.now c.args.gate.now) (g.G.Gate.unasked c.args.gate.now) (ap op_wants c.in-Look.is) refl c.requires.no_rows
+returns-in-Look-clause-asked g c = asked_nothing _ _ _ _ _ (g.G.Gate.asked c.args.gate.now c.args.gate.now) (g.G.Gate.unasked c.args.gate.now) (elim c.in-Look.is [ inl look ↦ ap op_wants look.1 | inr log_in ↦ ap op_wants log_in.1 ]) refl c.requires.no_rows

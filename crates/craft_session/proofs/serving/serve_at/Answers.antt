@@ -6,6 +6,7 @@ use Rattle.craft_session.specs.declared.attending.Attending.{Attending}
 use Rattle.craft_session.specs.declared.end.SessionEnd.TheVariants.{Unattended, Idle}
 use Rattle.craft_session.specs.declared.patience.Patience.TheVariants.{Limited}
 use Rattle.craft_session.specs.declared.users.UserDesk.{UserDesk}
+use Rattle.craft_session.specs.Cancelling.{Heeds}
 use Rattle.craft_session.specs.Gated.{AreEntered}
 use Rattle.craft_session.specs.Meanings.{language_for}
 use Rattle.craft_session.specs.Noted.{HasNoted, stood}
@@ -17,6 +18,9 @@ use Rattle.craft_session.specs.Idling.{WasAwake, WasIdle}
 use Rattle.craft_session.specs.Waiting.{IsLetGoBy, WasUnattended}
 use Rattle.craft_session.proofs.Ends.{no_write_fault}
 use Rattle.craft_session.proofs.serving.serve_at.Goals as goal
+
+pub serve-requires-clause-vacant : goal.serve-requires-clause-vacant
+serve-requires-clause-vacant g c = λ limits. ap (λ (a : Attending). a.user) c.begin.ensures.attending ∙ c.requires.vacant limits
 
 pub returns : goal.returns
 returns g c =
@@ -47,6 +51,9 @@ returns g c =
       attended = c.serve-end.ensures.attended;
       let_go = subst (λ (w : (Contents × SessionUser) × (SeatAt × UserSeatAt)). c.args.patience ≡ Limited → IsLetGoBy (language_for w.0.1 w.0.0) g.K.Link.begun g.K.Link.told g.C.Timestamps.told (g.K.Link.state c.args.link.now) (g.C.Timestamps.coming c.args.clock.now) w.1.0 w.1.1 (g.K.Link.state c.serve-end.new.link) 4800) (λ i. ((shelf_is i, user_is i), (seat_is i, users_is i)))
           c.serve-end.ensures.let_go;
+      heeds = subst (λ (w : (Contents × SessionUser) × (SeatAt × UserSeatAt)). c.args.patience ≡ Limited → Heeds (language_for w.0.1 w.0.0) g.K.Link.begun g.K.Link.told g.C.Timestamps.told (g.K.Link.state c.args.link.now) (g.C.Timestamps.coming c.args.clock.now) w.1.0 w.1.1 (g.K.Link.state c.serve-end.new.link)) (λ i. ((shelf_is i, user_is i), (seat_is i, users_is i)))
+          c.serve-end.ensures.heeds;
+      alone = c.serve-end.ensures.alone;
       endless = c.serve-end.ensures.endless;
       awake = subst (λ (w : (Contents × SessionUser) × (SeatAt × UserSeatAt)). c.args.patience ≡ Limited → WasAwake (language_for w.0.1 w.0.0) g.K.Link.begun g.K.Link.told g.C.Timestamps.told (g.K.Link.state c.args.link.now) (g.C.Timestamps.coming c.args.clock.now) w.1.0 w.1.1 w.0.0.idle (g.K.Link.state c.serve-end.new.link)) (λ i. ((shelf_is i, user_is i), (seat_is i, users_is i)))
           c.serve-end.ensures.awake;

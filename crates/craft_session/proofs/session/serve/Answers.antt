@@ -10,7 +10,7 @@ use Rattle.tl1_text.specs.Reading.{Reader}
 use Rattle.craft_session.specs.declared.end.Progress.TheVariants.{Cut}
 use Rattle.craft_session.specs.Noted.{stood}
 use Rattle.craft_session.specs.Sessions.{Beginning, Stands}
-use Rattle.craft_session.proofs.Ends.{bytes_came, counted_none, cut_goes, end_came, end_no, few_here, few_more, idle_no, later_behind, on_goes, quiet_came, read_no, rose_behind, rose_later, spent_no, stayed, stop_no, unattended_no, unheld, write_no}
+use Rattle.craft_session.proofs.Ends.{bytes_came, counted_none, cut_goes, end_came, end_no, few_here, few_more, idle_no, later_behind, on_goes, quiet_came, read_no, rose_behind, rose_later, spent_no, stayed, stop_no, unattended_no, cancelled_no, unheld, write_no}
 use Rattle.craft_session.proofs.Gated.{are_entered_beside, are_entered_none, are_entered_on}
 use Rattle.craft_session.proofs.Noted.{beside_reports, noted_beside, noted_more, noted_moved, noted_none, noted_read}
 use Rattle.craft_session.proofs.Prompt.{prompt_more, prompt_none}
@@ -20,11 +20,13 @@ use Rattle.craft_session.proofs.Answering.{moved_goes}
 use Rattle.craft_session.proofs.Timely.{goes_nowhere, looked_to, timely_moved, timely_none, timely_read, went_to}
 use Rattle.craft_session.specs.declared.patience.Patience.TheVariants.{Limited}
 use Rattle.craft_session.specs.Waiting.{waited_after}
-use Rattle.craft_session.proofs.Idling.{awake_behind, byte_came, idle_at, idles_heard, idles_none, idles_silent, some_silent}
+use Rattle.craft_session.proofs.Idling.{Idles, awake_behind, byte_came, idle_at, idles_heard, idles_none, idles_silent, some_silent}
 use Rattle.craft_session.specs.Idling.{IsInTime, IsTooLong, silent_after}
 use Rattle.shelf_file.specs.declared.idle.IdleLimits.{IdleLimits}
 use Rattle.shelf_file.specs.Contents.{Contents}
 use Rattle.dxc_outside.specs.Items.{Item, quiet}
+use Rattle.craft_session.specs.declared.attending.Attending.{Attending}
+use Rattle.craft_session.proofs.Cancelling.{beside_look, heeds_more, heeds_none, looked, made_one, somebody_ended}
 use Rattle.craft_session.proofs.Waiting.{both_no, let_go_behind, let_go_here, some_made, unattended_at, waits_more, waits_none}
 use Rattle.craft_session.proofs.session.serve.Goals as goal
 use Rattle.craft_session.proofs.session.serve.Goals.{in-Bytes+in-On, in-Quiet+in-On-report}
@@ -47,29 +49,35 @@ loop-init g c = record {
   noted = noted_none (arc_value c.args.desk.now.shelf) (telling g.K.Link.told g.C.Timestamps.told g.C.Timestamps.stamped) (stood (g.K.Link.state c.args.link.now) (g.C.Timestamps.coming c.args.clock.now) c.args.desk.now.seat c.args.desk.now.users.seat c.args.desk.now.attending) (g.N.Notes.noted c.args.notes.now c.args.notes.now) (g.N.Notes.unnoted c.args.notes.now);
   waits = waits_none (c.args.patience ≡ Limited) (language_for c.args.desk.now.attending.user (arc_value c.args.desk.now.shelf)) g.K.Link.begun g.K.Link.told g.C.Timestamps.told (g.K.Link.state c.args.link.now) (g.C.Timestamps.coming c.args.clock.now) c.args.desk.now.seat c.args.desk.now.users.seat;
   idles = idles_none (c.args.patience ≡ Limited) ((arc_value c.args.desk.now.shelf).idle) (language_for c.args.desk.now.attending.user (arc_value c.args.desk.now.shelf)) g.K.Link.begun g.K.Link.told g.C.Timestamps.told (g.K.Link.state c.args.link.now) (g.C.Timestamps.coming c.args.clock.now) c.args.desk.now.seat c.args.desk.now.users.seat c.args.desk.now.attending.user;
+  heeds = λ limits. heeds_none (language_for c.args.desk.now.attending.user (arc_value c.args.desk.now.shelf)) g.K.Link.begun g.K.Link.told g.C.Timestamps.told (g.K.Link.state c.args.link.now) (g.C.Timestamps.coming c.args.clock.now) c.args.desk.now.seat c.args.desk.now.users.seat;
+  vacant = λ limits none. c.requires.vacant limits;
 }
 
 pub returns-in-Cut : goal.returns-in-Cut
 returns-in-Cut g c =
+    let moved = looked (language_for c.args.desk.now.attending.user (arc_value c.args.desk.now.shelf)) (telling g.K.Link.told g.C.Timestamps.told g.C.Timestamps.stamped) g.G.Gate.asked g.G.Gate.asked_on g.G.Gate.unasked (g.K.Link.state c.args.link.now) (g.K.Link.state c.loop.link) (g.C.Timestamps.coming c.args.clock.now) (g.C.Timestamps.coming c.loop.clock) c.args.desk.now.seat c.args.desk.now.users.seat c.args.gate.now c.loop.gate c.args.patience c.is_cancelled.result c.loop.desk.seat c.loop.desk.users.seat c.is_cancelled.new.desk.users.seat c.loop.desk.attending c.loop.desk.reader (record { seat_is = c.loop.invariant.seat; users_are = c.loop.invariant.users; stands = c.loop.invariant.stands; timely = c.loop.invariant.timely; entered = c.loop.invariant.asked }) c.is_cancelled.ensures.users c.is_cancelled.ensures.heeded c.is_cancelled.new.desk.seat c.is_cancelled.new.desk.attending c.is_cancelled.new.desk.reader c.is_cancelled.ensures.seat c.is_cancelled.ensures.attending c.is_cancelled.ensures.reader in
+    let idles_here = subst (λ (a : Attending). Idles (c.args.patience ≡ Limited) ((arc_value c.args.desk.now.shelf).idle) (language_for c.args.desk.now.attending.user (arc_value c.args.desk.now.shelf)) g.K.Link.begun g.K.Link.told g.C.Timestamps.told (g.K.Link.state c.args.link.now) (g.C.Timestamps.coming c.args.clock.now) c.args.desk.now.seat c.args.desk.now.users.seat (g.K.Link.state c.loop.link) a.user c.loop.counter c.loop.silent) (sym c.is_cancelled.ensures.attending) c.loop.invariant.idles in
+    let noted_here = noted_beside (arc_value c.args.desk.now.shelf) (telling g.K.Link.told g.C.Timestamps.told g.C.Timestamps.stamped) (stood (g.K.Link.state c.args.link.now) (g.C.Timestamps.coming c.args.clock.now) c.args.desk.now.seat c.args.desk.now.users.seat c.args.desk.now.attending) (stood (g.K.Link.state c.loop.link) (g.C.Timestamps.coming c.loop.clock) c.loop.desk.seat c.loop.desk.users.seat c.loop.desk.attending) (stood (g.K.Link.state c.loop.link) (g.C.Timestamps.coming c.loop.clock) c.is_cancelled.new.desk.seat c.is_cancelled.new.desk.users.seat c.is_cancelled.new.desk.attending) (g.N.Notes.noted c.args.notes.now c.loop.notes) c.loop.invariant.noted (beside_look g.K.Link.told (g.K.Link.state c.loop.link) (g.C.Timestamps.coming c.loop.clock) c.args.patience c.is_cancelled.result c.loop.desk.seat c.is_cancelled.new.desk.seat c.loop.desk.users.seat c.is_cancelled.new.desk.users.seat c.loop.desk.attending c.is_cancelled.new.desk.attending c.is_cancelled.ensures.seat c.is_cancelled.ensures.users c.is_cancelled.ensures.heeded c.is_cancelled.ensures.attending) in
     let h = c.seen.ensures.history in
     let p = c.seen-2.ensures.history in
     let seat = c.args.desk.now.seat in
     let b : Beginning = record { opening = seat.opening; users = c.args.desk.now.users.seat.opening; place = seat.place; before = h.0; users_before = p.0 } in
     let s = c.serve_piece-progress.ensures in
     let going : (g.K.Link.state c.serve_piece-progress.new.link).ended ≡ false = s.link.wrote.ended ∙ c.in-Bytes.ensures.read.ended in
-    let breaks = goes_cut_is _ _ _ _ _ _ _ _ _ _ _ _ _ c.in-Cut.is (moved_goes arc_value c.args.desk.now.attending.user g.K.Link.told g.C.Timestamps.told _ (g.K.Link.state c.serve_piece-progress.new.link) (g.C.Timestamps.coming c.loop.clock) (g.C.Timestamps.coming c.serve_piece-progress.new.clock) (now c.loop.desk) (now c.serve_piece-progress.new.desk) false c.loop.desk.reader c.serve_piece-progress.new.desk.reader c.serve_piece-progress.result c.args.desk.now.shelf c.loop.desk.shelf c.args.desk.now.seat c.loop.desk.seat c.args.desk.now.users.seat c.loop.desk.users.seat _ [] c.loop.invariant.shelf c.loop.invariant.seat c.loop.invariant.users (c.serve_piece-progress.ensures.goes c.args.desk.now.attending.user) _ _ b (refl, refl, refl, c.args.desk.now.same_place) (stands_piece _ _ _ _ _ _ _ _ _ _ _ _ _ _ (c.loop.invariant.stands b (refl, refl, refl, c.args.desk.now.same_place) h.1 p.1) c.in-Bytes.ensures.read (grind (arith, common_steps)))) in
+    let breaks = goes_cut_is _ _ _ _ _ _ _ _ _ _ _ _ _ c.in-Cut.is (moved_goes arc_value c.args.desk.now.attending.user g.K.Link.told g.C.Timestamps.told _ (g.K.Link.state c.serve_piece-progress.new.link) (g.C.Timestamps.coming c.loop.clock) (g.C.Timestamps.coming c.serve_piece-progress.new.clock) (now c.is_cancelled.new.desk) (now c.serve_piece-progress.new.desk) false c.is_cancelled.new.desk.reader c.serve_piece-progress.new.desk.reader c.serve_piece-progress.result c.args.desk.now.shelf c.is_cancelled.new.desk.shelf c.args.desk.now.seat c.is_cancelled.new.desk.seat c.args.desk.now.users.seat c.is_cancelled.new.desk.users.seat _ [] (c.is_cancelled.ensures.shelf ∙ c.loop.invariant.shelf) moved.here.seat_is moved.here.users_are (c.serve_piece-progress.ensures.goes c.args.desk.now.attending.user) _ _ b (refl, refl, refl, c.args.desk.now.same_place) (stands_piece _ _ _ _ _ _ _ _ _ _ _ _ _ _ (moved.here.stands b (refl, refl, refl, c.args.desk.now.same_place) h.1 p.1) c.in-Bytes.ensures.read (grind (arith, common_steps)))) in
     record {
-      shelf = s.shelf ∙ c.loop.invariant.shelf;
-      seat = (s.seat.0 ∙ c.loop.invariant.seat.0, s.seat.1 ∙ c.loop.invariant.seat.1, s.seat.2 ∙ c.loop.invariant.seat.2, s.seat.3 ∙ c.loop.invariant.seat.3);
-      users = (s.users.0 ∙ c.loop.invariant.users.0, s.users.1 ∙ c.loop.invariant.users.1, s.users.2 ∙ c.loop.invariant.users.2, s.users.3 ∙ c.loop.invariant.users.3);
+      shelf = s.shelf ∙ (c.is_cancelled.ensures.shelf ∙ c.loop.invariant.shelf);
+      seat = (s.seat.0 ∙ moved.here.seat_is.0, s.seat.1 ∙ moved.here.seat_is.1, s.seat.2 ∙ moved.here.seat_is.2, s.seat.3 ∙ moved.here.seat_is.3);
+      users = (s.users.0 ∙ moved.here.users_are.0, s.users.1 ∙ moved.here.users_are.1, s.users.2 ∙ moved.here.users_are.2, s.users.3 ∙ moved.here.users_are.3);
       hung_up = s.hung_up ∙ c.in-Bytes.ensures.hung_up ∙ c.loop.invariant.hung_up;
       session = record { before = h.0; users_before = p.0; saw = h.1; users_saw = p.1; attending = _; session = breaks };
-      prompt = prompt_more (language_for c.args.desk.now.attending.user (arc_value c.args.desk.now.shelf)) g.K.Link.begun g.K.Link.told g.C.Timestamps.told (g.K.Link.state c.args.link.now) (g.C.Timestamps.coming c.args.clock.now) c.args.desk.now.seat c.args.desk.now.users.seat (g.K.Link.state c.loop.link) (g.K.Link.state c.serve_piece-progress.new.link) _ (g.C.Timestamps.coming c.loop.clock) (now c.loop.desk) c.loop.desk.reader c.loop.invariant.prompt c.in-Bytes.ensures.begun c.loop.invariant.stands c.in-Bytes.ensures.read.reads s.link.wrote.reads;
+      prompt = prompt_more (language_for c.args.desk.now.attending.user (arc_value c.args.desk.now.shelf)) g.K.Link.begun g.K.Link.told g.C.Timestamps.told (g.K.Link.state c.args.link.now) (g.C.Timestamps.coming c.args.clock.now) c.args.desk.now.seat c.args.desk.now.users.seat (g.K.Link.state c.loop.link) (g.K.Link.state c.serve_piece-progress.new.link) _ (g.C.Timestamps.coming c.loop.clock) (now c.is_cancelled.new.desk) c.is_cancelled.new.desk.reader c.loop.invariant.prompt c.in-Bytes.ensures.begun moved.here.stands c.in-Bytes.ensures.read.reads s.link.wrote.reads;
+      heeds = λ limits. heeds_more (language_for c.args.desk.now.attending.user (arc_value c.args.desk.now.shelf)) g.K.Link.begun g.K.Link.told g.C.Timestamps.told (g.K.Link.state c.args.link.now) (g.C.Timestamps.coming c.args.clock.now) c.args.desk.now.seat c.args.desk.now.users.seat (g.K.Link.state c.loop.link) (g.K.Link.state c.serve_piece-progress.new.link) _ (g.C.Timestamps.coming c.loop.clock) (now c.is_cancelled.new.desk) c.is_cancelled.new.desk.reader (c.loop.invariant.heeds limits) c.in-Bytes.ensures.begun (λ b at saw users. (moved.here.stands b at saw users, moved.unended c.if-is_cancelled.false limits b at saw users)) c.in-Bytes.ensures.read.reads s.link.wrote.reads;
       timely = λ b at saw users.
-          timely_read (language_for c.args.desk.now.attending.user (arc_value c.args.desk.now.shelf)) (telling g.K.Link.told g.C.Timestamps.told g.C.Timestamps.stamped) (starting (g.K.Link.state c.args.link.now) (g.C.Timestamps.coming c.args.clock.now) b) (g.K.Link.state c.args.link.now) (g.K.Link.state c.loop.link) c.loop.desk.seat.seen c.loop.desk.users.seat.seen (c.loop.invariant.timely b at saw users) _ _ _ _ c.in-Bytes.ensures.read
-          (timely_moved arc_value (telling g.K.Link.told g.C.Timestamps.told g.C.Timestamps.stamped) (g.C.Timestamps.coming c.loop.clock) _ _ (in_hand c.loop.desk.attending false More c.loop.desk.reader _) c.args.desk.now.shelf c.loop.desk.shelf c.args.desk.now.seat c.loop.desk.seat c.args.desk.now.users.seat c.loop.desk.users.seat c.loop.invariant.shelf c.loop.invariant.seat c.loop.invariant.users c.serve_piece-progress.ensures.timely c.args.desk.now.attending.user _ _ b at
-          (stands_piece _ _ _ _ _ _ _ _ _ _ _ _ _ _ (c.loop.invariant.stands b at saw users) c.in-Bytes.ensures.read (grind (arith, common_steps))))
-          (went_to g.K.Link.told b _ (g.K.Link.state c.serve_piece-progress.new.link) c.loop.desk.seat c.loop.desk.users.seat (c.loop.invariant.seat.0 ∙ at.0, c.loop.invariant.seat.1 ∙ at.1, c.loop.invariant.users.0 ∙ at.2, c.loop.invariant.users.1 ∙ at.3) c.serve_piece-progress.ensures.link _ _ _ c.serve_piece-progress.ensures.asked);
+          timely_read (language_for c.args.desk.now.attending.user (arc_value c.args.desk.now.shelf)) (telling g.K.Link.told g.C.Timestamps.told g.C.Timestamps.stamped) (starting (g.K.Link.state c.args.link.now) (g.C.Timestamps.coming c.args.clock.now) b) (g.K.Link.state c.args.link.now) (g.K.Link.state c.loop.link) c.is_cancelled.new.desk.seat.seen c.is_cancelled.new.desk.users.seat.seen (moved.here.timely b at saw users) _ _ _ _ c.in-Bytes.ensures.read
+          (timely_moved arc_value (telling g.K.Link.told g.C.Timestamps.told g.C.Timestamps.stamped) (g.C.Timestamps.coming c.loop.clock) _ _ (in_hand c.is_cancelled.new.desk.attending false More c.is_cancelled.new.desk.reader _) c.args.desk.now.shelf c.is_cancelled.new.desk.shelf c.args.desk.now.seat c.is_cancelled.new.desk.seat c.args.desk.now.users.seat c.is_cancelled.new.desk.users.seat (c.is_cancelled.ensures.shelf ∙ c.loop.invariant.shelf) moved.here.seat_is moved.here.users_are c.serve_piece-progress.ensures.timely c.args.desk.now.attending.user _ _ b at
+          (stands_piece _ _ _ _ _ _ _ _ _ _ _ _ _ _ (moved.here.stands b at saw users) c.in-Bytes.ensures.read (grind (arith, common_steps))))
+          (went_to g.K.Link.told b _ (g.K.Link.state c.serve_piece-progress.new.link) c.is_cancelled.new.desk.seat c.is_cancelled.new.desk.users.seat (moved.here.seat_is.0 ∙ at.0, moved.here.seat_is.1 ∙ at.1, moved.here.users_are.0 ∙ at.2, moved.here.users_are.1 ∙ at.3) c.serve_piece-progress.ensures.link _ _ _ c.serve_piece-progress.ensures.asked);
       end = ((λ is. write_no _ is refl), (λ ended. unheld _ going ended));
       all_read = λ t is. write_no _ is refl;
       read_fault = λ is. write_no _ is refl;
@@ -80,18 +88,22 @@ returns-in-Cut g c =
       later = later_behind _ _ _ c.loop.invariant.gate s.later;
       spent = λ is. write_no _ is refl;
       few = few_more _ _ _ _ _ _ c.loop.invariant.counted c.in-Bytes.ensures.read.reads s.link.wrote.reads c.loop-test.true;
-      asked = are_entered_on g.G.Gate.asked g.G.Gate.asked_on c.args.desk.now.seat c.loop.desk.seat c.args.desk.now.users.seat c.loop.desk.users.seat c.args.gate.now c.loop.gate c.serve_piece-progress.new.gate _ _ c.loop.invariant.asked c.loop.invariant.seat c.loop.invariant.users s.asked;
-      noted = noted_more (arc_value c.args.desk.now.shelf) (telling g.K.Link.told g.C.Timestamps.told g.C.Timestamps.stamped) g.N.Notes.noted g.N.Notes.noted_on c.args.notes.now c.loop.notes c.serve_piece-progress.new.notes (stood (g.K.Link.state c.args.link.now) (g.C.Timestamps.coming c.args.clock.now) c.args.desk.now.seat c.args.desk.now.users.seat c.args.desk.now.attending) (stood _ (g.C.Timestamps.coming c.loop.clock) c.loop.desk.seat c.loop.desk.users.seat c.loop.desk.attending) (stood (g.K.Link.state c.serve_piece-progress.new.link) (g.C.Timestamps.coming c.serve_piece-progress.new.clock) c.serve_piece-progress.new.desk.seat c.serve_piece-progress.new.desk.users.seat c.serve_piece-progress.new.desk.attending) (noted_read (arc_value c.args.desk.now.shelf) (telling g.K.Link.told g.C.Timestamps.told g.C.Timestamps.stamped) (stood (g.K.Link.state c.args.link.now) (g.C.Timestamps.coming c.args.clock.now) c.args.desk.now.seat c.args.desk.now.users.seat c.args.desk.now.attending) (g.K.Link.state c.loop.link) _ (g.C.Timestamps.coming c.loop.clock) c.loop.desk.seat c.loop.desk.users.seat c.loop.desk.attending (g.N.Notes.noted c.args.notes.now c.loop.notes) _ _ c.loop.invariant.noted c.in-Bytes.ensures.read) (noted_moved arc_value (telling g.K.Link.told g.C.Timestamps.told g.C.Timestamps.stamped) (stood _ (g.C.Timestamps.coming c.loop.clock) c.loop.desk.seat c.loop.desk.users.seat c.loop.desk.attending) (stood (g.K.Link.state c.serve_piece-progress.new.link) (g.C.Timestamps.coming c.serve_piece-progress.new.clock) c.serve_piece-progress.new.desk.seat c.serve_piece-progress.new.desk.users.seat c.serve_piece-progress.new.desk.attending) (g.N.Notes.noted c.loop.notes c.serve_piece-progress.new.notes) c.args.desk.now.shelf c.loop.desk.shelf c.loop.invariant.shelf c.serve_piece-progress.ensures.noted);
+      asked = are_entered_on g.G.Gate.asked g.G.Gate.asked_on c.args.desk.now.seat c.is_cancelled.new.desk.seat c.args.desk.now.users.seat c.is_cancelled.new.desk.users.seat c.args.gate.now c.loop.gate c.serve_piece-progress.new.gate _ _ moved.here.entered moved.here.seat_is moved.here.users_are s.asked;
+      noted = noted_more (arc_value c.args.desk.now.shelf) (telling g.K.Link.told g.C.Timestamps.told g.C.Timestamps.stamped) g.N.Notes.noted g.N.Notes.noted_on c.args.notes.now c.loop.notes c.serve_piece-progress.new.notes (stood (g.K.Link.state c.args.link.now) (g.C.Timestamps.coming c.args.clock.now) c.args.desk.now.seat c.args.desk.now.users.seat c.args.desk.now.attending) (stood _ (g.C.Timestamps.coming c.loop.clock) c.is_cancelled.new.desk.seat c.is_cancelled.new.desk.users.seat c.is_cancelled.new.desk.attending) (stood (g.K.Link.state c.serve_piece-progress.new.link) (g.C.Timestamps.coming c.serve_piece-progress.new.clock) c.serve_piece-progress.new.desk.seat c.serve_piece-progress.new.desk.users.seat c.serve_piece-progress.new.desk.attending) (noted_read (arc_value c.args.desk.now.shelf) (telling g.K.Link.told g.C.Timestamps.told g.C.Timestamps.stamped) (stood (g.K.Link.state c.args.link.now) (g.C.Timestamps.coming c.args.clock.now) c.args.desk.now.seat c.args.desk.now.users.seat c.args.desk.now.attending) (g.K.Link.state c.loop.link) _ (g.C.Timestamps.coming c.loop.clock) c.is_cancelled.new.desk.seat c.is_cancelled.new.desk.users.seat c.is_cancelled.new.desk.attending (g.N.Notes.noted c.args.notes.now c.loop.notes) _ _ noted_here c.in-Bytes.ensures.read) (noted_moved arc_value (telling g.K.Link.told g.C.Timestamps.told g.C.Timestamps.stamped) (stood _ (g.C.Timestamps.coming c.loop.clock) c.is_cancelled.new.desk.seat c.is_cancelled.new.desk.users.seat c.is_cancelled.new.desk.attending) (stood (g.K.Link.state c.serve_piece-progress.new.link) (g.C.Timestamps.coming c.serve_piece-progress.new.clock) c.serve_piece-progress.new.desk.seat c.serve_piece-progress.new.desk.users.seat c.serve_piece-progress.new.desk.attending) (g.N.Notes.noted c.loop.notes c.serve_piece-progress.new.notes) c.args.desk.now.shelf c.is_cancelled.new.desk.shelf (c.is_cancelled.ensures.shelf ∙ c.loop.invariant.shelf) c.serve_piece-progress.ensures.noted);
       unattended = λ is. write_no _ is refl;
       attended = λ endless is. write_no _ is refl;
+      alone = λ endless is. write_no _ is refl;
       idle = λ is. write_no _ is refl;
       endless = λ endless is. write_no _ is refl;
-      let_go = λ limits. let_go_behind (c.args.patience ≡ Limited) (language_for c.args.desk.now.attending.user (arc_value c.args.desk.now.shelf)) g.K.Link.begun g.K.Link.told g.C.Timestamps.told (g.K.Link.state c.args.link.now) (g.C.Timestamps.coming c.args.clock.now) c.args.desk.now.seat c.args.desk.now.users.seat (g.K.Link.state c.loop.link) (g.K.Link.state c.serve_piece-progress.new.link) _ (g.C.Timestamps.coming c.loop.clock) (now c.loop.desk) c.loop.desk.reader c.in-Bytes.ensures.begun c.loop.invariant.stands c.in-Bytes.ensures.read.reads c.serve_piece-progress.ensures.link.wrote.reads c.loop.counter c.loop.waited (c.is_over.ensures.lasts c.if-is_over.false) c.loop.invariant.waits limits;
-      awake = λ limits. awake_behind (c.args.patience ≡ Limited) ((arc_value c.args.desk.now.shelf).idle) (language_for c.args.desk.now.attending.user (arc_value c.args.desk.now.shelf)) g.K.Link.begun g.K.Link.told g.C.Timestamps.told (g.K.Link.state c.args.link.now) (g.C.Timestamps.coming c.args.clock.now) c.args.desk.now.seat c.args.desk.now.users.seat (g.K.Link.state c.loop.link) (g.K.Link.state c.serve_piece-progress.new.link) _ (g.C.Timestamps.coming c.loop.clock) (now c.loop.desk) c.loop.desk.reader c.in-Bytes.ensures.begun c.loop.invariant.stands c.in-Bytes.ensures.read.reads c.serve_piece-progress.ensures.link.wrote.reads c.loop.counter c.loop.silent (subst (λ (i : IdleLimits). IsInTime i c.loop.desk.attending.user c.loop.silent) (c.idle-limits.ensures ∙ ap (λ (s : Contents). s.idle) c.deref.ensures) (c.is_idle.ensures.awake c.if-is_idle.false limits)) c.loop.invariant.idles;
+      let_go = λ limits. let_go_behind (c.args.patience ≡ Limited) (language_for c.args.desk.now.attending.user (arc_value c.args.desk.now.shelf)) g.K.Link.begun g.K.Link.told g.C.Timestamps.told (g.K.Link.state c.args.link.now) (g.C.Timestamps.coming c.args.clock.now) c.args.desk.now.seat c.args.desk.now.users.seat (g.K.Link.state c.loop.link) (g.K.Link.state c.serve_piece-progress.new.link) _ (g.C.Timestamps.coming c.loop.clock) (now c.is_cancelled.new.desk) c.is_cancelled.new.desk.reader c.in-Bytes.ensures.begun moved.here.stands c.in-Bytes.ensures.read.reads c.serve_piece-progress.ensures.link.wrote.reads c.loop.counter c.loop.waited (λ limits nobody. c.is_over.ensures.lasts c.if-is_over.false limits (ap (λ (a : Attending). a.user) (sym c.is_cancelled.ensures.attending) ∙ nobody)) c.loop.invariant.waits limits;
+      awake = λ limits. awake_behind (c.args.patience ≡ Limited) ((arc_value c.args.desk.now.shelf).idle) (language_for c.args.desk.now.attending.user (arc_value c.args.desk.now.shelf)) g.K.Link.begun g.K.Link.told g.C.Timestamps.told (g.K.Link.state c.args.link.now) (g.C.Timestamps.coming c.args.clock.now) c.args.desk.now.seat c.args.desk.now.users.seat (g.K.Link.state c.loop.link) (g.K.Link.state c.serve_piece-progress.new.link) _ (g.C.Timestamps.coming c.loop.clock) (now c.is_cancelled.new.desk) c.is_cancelled.new.desk.reader c.in-Bytes.ensures.begun moved.here.stands c.in-Bytes.ensures.read.reads c.serve_piece-progress.ensures.link.wrote.reads c.loop.counter c.loop.silent (subst (λ (i : IdleLimits). IsInTime i c.is_cancelled.new.desk.attending.user c.loop.silent) (c.idle-limits.ensures ∙ ap (λ (s : Contents). s.idle) c.deref.ensures) (subst (λ (a : Attending). IsInTime c.idle-limits.result a.user c.loop.silent) (sym c.is_cancelled.ensures.attending) (c.is_idle.ensures.awake c.if-is_idle.false limits))) idles_here;
     }
 
 pub returns-in-Stopped : goal.returns-in-Stopped
 returns-in-Stopped g c =
+    let moved = looked (language_for c.args.desk.now.attending.user (arc_value c.args.desk.now.shelf)) (telling g.K.Link.told g.C.Timestamps.told g.C.Timestamps.stamped) g.G.Gate.asked g.G.Gate.asked_on g.G.Gate.unasked (g.K.Link.state c.args.link.now) (g.K.Link.state c.loop.link) (g.C.Timestamps.coming c.args.clock.now) (g.C.Timestamps.coming c.loop.clock) c.args.desk.now.seat c.args.desk.now.users.seat c.args.gate.now c.loop.gate c.args.patience c.is_cancelled.result c.loop.desk.seat c.loop.desk.users.seat c.is_cancelled.new.desk.users.seat c.loop.desk.attending c.loop.desk.reader (record { seat_is = c.loop.invariant.seat; users_are = c.loop.invariant.users; stands = c.loop.invariant.stands; timely = c.loop.invariant.timely; entered = c.loop.invariant.asked }) c.is_cancelled.ensures.users c.is_cancelled.ensures.heeded c.is_cancelled.new.desk.seat c.is_cancelled.new.desk.attending c.is_cancelled.new.desk.reader c.is_cancelled.ensures.seat c.is_cancelled.ensures.attending c.is_cancelled.ensures.reader in
+    let idles_here = subst (λ (a : Attending). Idles (c.args.patience ≡ Limited) ((arc_value c.args.desk.now.shelf).idle) (language_for c.args.desk.now.attending.user (arc_value c.args.desk.now.shelf)) g.K.Link.begun g.K.Link.told g.C.Timestamps.told (g.K.Link.state c.args.link.now) (g.C.Timestamps.coming c.args.clock.now) c.args.desk.now.seat c.args.desk.now.users.seat (g.K.Link.state c.loop.link) a.user c.loop.counter c.loop.silent) (sym c.is_cancelled.ensures.attending) c.loop.invariant.idles in
+    let noted_here = noted_beside (arc_value c.args.desk.now.shelf) (telling g.K.Link.told g.C.Timestamps.told g.C.Timestamps.stamped) (stood (g.K.Link.state c.args.link.now) (g.C.Timestamps.coming c.args.clock.now) c.args.desk.now.seat c.args.desk.now.users.seat c.args.desk.now.attending) (stood (g.K.Link.state c.loop.link) (g.C.Timestamps.coming c.loop.clock) c.loop.desk.seat c.loop.desk.users.seat c.loop.desk.attending) (stood (g.K.Link.state c.loop.link) (g.C.Timestamps.coming c.loop.clock) c.is_cancelled.new.desk.seat c.is_cancelled.new.desk.users.seat c.is_cancelled.new.desk.attending) (g.N.Notes.noted c.args.notes.now c.loop.notes) c.loop.invariant.noted (beside_look g.K.Link.told (g.K.Link.state c.loop.link) (g.C.Timestamps.coming c.loop.clock) c.args.patience c.is_cancelled.result c.loop.desk.seat c.is_cancelled.new.desk.seat c.loop.desk.users.seat c.is_cancelled.new.desk.users.seat c.loop.desk.attending c.is_cancelled.new.desk.attending c.is_cancelled.ensures.seat c.is_cancelled.ensures.users c.is_cancelled.ensures.heeded c.is_cancelled.ensures.attending) in
     let h = c.seen.ensures.history in
     let p = c.seen-2.ensures.history in
     let seat = c.args.desk.now.seat in
@@ -99,16 +111,17 @@ returns-in-Stopped g c =
     let s = c.serve_piece-progress.ensures in
     let going : (g.K.Link.state c.serve_piece-progress.new.link).ended ≡ false = s.link.wrote.ended ∙ c.in-Bytes.ensures.read.ended in
     record {
-      shelf = s.shelf ∙ c.loop.invariant.shelf;
-      seat = (s.seat.0 ∙ c.loop.invariant.seat.0, s.seat.1 ∙ c.loop.invariant.seat.1, s.seat.2 ∙ c.loop.invariant.seat.2, s.seat.3 ∙ c.loop.invariant.seat.3);
-      users = (s.users.0 ∙ c.loop.invariant.users.0, s.users.1 ∙ c.loop.invariant.users.1, s.users.2 ∙ c.loop.invariant.users.2, s.users.3 ∙ c.loop.invariant.users.3);
-      session = record { before = h.0; users_before = p.0; saw = h.1; users_saw = p.1; attending = _; session = goes_stopped_is _ _ _ _ _ _ _ _ _ _ _ _ _ c.in-Stopped.is (moved_goes arc_value c.args.desk.now.attending.user g.K.Link.told g.C.Timestamps.told _ (g.K.Link.state c.serve_piece-progress.new.link) (g.C.Timestamps.coming c.loop.clock) (g.C.Timestamps.coming c.serve_piece-progress.new.clock) (now c.loop.desk) (now c.serve_piece-progress.new.desk) false c.loop.desk.reader c.serve_piece-progress.new.desk.reader c.serve_piece-progress.result c.args.desk.now.shelf c.loop.desk.shelf c.args.desk.now.seat c.loop.desk.seat c.args.desk.now.users.seat c.loop.desk.users.seat _ [] c.loop.invariant.shelf c.loop.invariant.seat c.loop.invariant.users (c.serve_piece-progress.ensures.goes c.args.desk.now.attending.user) _ _ b (refl, refl, refl, c.args.desk.now.same_place) (stands_piece _ _ _ _ _ _ _ _ _ _ _ _ _ _ (c.loop.invariant.stands b (refl, refl, refl, c.args.desk.now.same_place) h.1 p.1) c.in-Bytes.ensures.read (grind (arith, common_steps)))) };
-      prompt = prompt_more (language_for c.args.desk.now.attending.user (arc_value c.args.desk.now.shelf)) g.K.Link.begun g.K.Link.told g.C.Timestamps.told (g.K.Link.state c.args.link.now) (g.C.Timestamps.coming c.args.clock.now) c.args.desk.now.seat c.args.desk.now.users.seat (g.K.Link.state c.loop.link) (g.K.Link.state c.serve_piece-progress.new.link) _ (g.C.Timestamps.coming c.loop.clock) (now c.loop.desk) c.loop.desk.reader c.loop.invariant.prompt c.in-Bytes.ensures.begun c.loop.invariant.stands c.in-Bytes.ensures.read.reads s.link.wrote.reads;
+      shelf = s.shelf ∙ (c.is_cancelled.ensures.shelf ∙ c.loop.invariant.shelf);
+      seat = (s.seat.0 ∙ moved.here.seat_is.0, s.seat.1 ∙ moved.here.seat_is.1, s.seat.2 ∙ moved.here.seat_is.2, s.seat.3 ∙ moved.here.seat_is.3);
+      users = (s.users.0 ∙ moved.here.users_are.0, s.users.1 ∙ moved.here.users_are.1, s.users.2 ∙ moved.here.users_are.2, s.users.3 ∙ moved.here.users_are.3);
+      session = record { before = h.0; users_before = p.0; saw = h.1; users_saw = p.1; attending = _; session = goes_stopped_is _ _ _ _ _ _ _ _ _ _ _ _ _ c.in-Stopped.is (moved_goes arc_value c.args.desk.now.attending.user g.K.Link.told g.C.Timestamps.told _ (g.K.Link.state c.serve_piece-progress.new.link) (g.C.Timestamps.coming c.loop.clock) (g.C.Timestamps.coming c.serve_piece-progress.new.clock) (now c.is_cancelled.new.desk) (now c.serve_piece-progress.new.desk) false c.is_cancelled.new.desk.reader c.serve_piece-progress.new.desk.reader c.serve_piece-progress.result c.args.desk.now.shelf c.is_cancelled.new.desk.shelf c.args.desk.now.seat c.is_cancelled.new.desk.seat c.args.desk.now.users.seat c.is_cancelled.new.desk.users.seat _ [] (c.is_cancelled.ensures.shelf ∙ c.loop.invariant.shelf) moved.here.seat_is moved.here.users_are (c.serve_piece-progress.ensures.goes c.args.desk.now.attending.user) _ _ b (refl, refl, refl, c.args.desk.now.same_place) (stands_piece _ _ _ _ _ _ _ _ _ _ _ _ _ _ (moved.here.stands b (refl, refl, refl, c.args.desk.now.same_place) h.1 p.1) c.in-Bytes.ensures.read (grind (arith, common_steps)))) };
+      prompt = prompt_more (language_for c.args.desk.now.attending.user (arc_value c.args.desk.now.shelf)) g.K.Link.begun g.K.Link.told g.C.Timestamps.told (g.K.Link.state c.args.link.now) (g.C.Timestamps.coming c.args.clock.now) c.args.desk.now.seat c.args.desk.now.users.seat (g.K.Link.state c.loop.link) (g.K.Link.state c.serve_piece-progress.new.link) _ (g.C.Timestamps.coming c.loop.clock) (now c.is_cancelled.new.desk) c.is_cancelled.new.desk.reader c.loop.invariant.prompt c.in-Bytes.ensures.begun moved.here.stands c.in-Bytes.ensures.read.reads s.link.wrote.reads;
+      heeds = λ limits. heeds_more (language_for c.args.desk.now.attending.user (arc_value c.args.desk.now.shelf)) g.K.Link.begun g.K.Link.told g.C.Timestamps.told (g.K.Link.state c.args.link.now) (g.C.Timestamps.coming c.args.clock.now) c.args.desk.now.seat c.args.desk.now.users.seat (g.K.Link.state c.loop.link) (g.K.Link.state c.serve_piece-progress.new.link) _ (g.C.Timestamps.coming c.loop.clock) (now c.is_cancelled.new.desk) c.is_cancelled.new.desk.reader (c.loop.invariant.heeds limits) c.in-Bytes.ensures.begun (λ b at saw users. (moved.here.stands b at saw users, moved.unended c.if-is_cancelled.false limits b at saw users)) c.in-Bytes.ensures.read.reads s.link.wrote.reads;
       timely = λ b at saw users.
-          timely_read (language_for c.args.desk.now.attending.user (arc_value c.args.desk.now.shelf)) (telling g.K.Link.told g.C.Timestamps.told g.C.Timestamps.stamped) (starting (g.K.Link.state c.args.link.now) (g.C.Timestamps.coming c.args.clock.now) b) (g.K.Link.state c.args.link.now) (g.K.Link.state c.loop.link) c.loop.desk.seat.seen c.loop.desk.users.seat.seen (c.loop.invariant.timely b at saw users) _ _ _ _ c.in-Bytes.ensures.read
-          (timely_moved arc_value (telling g.K.Link.told g.C.Timestamps.told g.C.Timestamps.stamped) (g.C.Timestamps.coming c.loop.clock) _ _ (in_hand c.loop.desk.attending false More c.loop.desk.reader _) c.args.desk.now.shelf c.loop.desk.shelf c.args.desk.now.seat c.loop.desk.seat c.args.desk.now.users.seat c.loop.desk.users.seat c.loop.invariant.shelf c.loop.invariant.seat c.loop.invariant.users c.serve_piece-progress.ensures.timely c.args.desk.now.attending.user _ _ b at
-          (stands_piece _ _ _ _ _ _ _ _ _ _ _ _ _ _ (c.loop.invariant.stands b at saw users) c.in-Bytes.ensures.read (grind (arith, common_steps))))
-          (went_to g.K.Link.told b _ (g.K.Link.state c.serve_piece-progress.new.link) c.loop.desk.seat c.loop.desk.users.seat (c.loop.invariant.seat.0 ∙ at.0, c.loop.invariant.seat.1 ∙ at.1, c.loop.invariant.users.0 ∙ at.2, c.loop.invariant.users.1 ∙ at.3) c.serve_piece-progress.ensures.link _ _ _ c.serve_piece-progress.ensures.asked);
+          timely_read (language_for c.args.desk.now.attending.user (arc_value c.args.desk.now.shelf)) (telling g.K.Link.told g.C.Timestamps.told g.C.Timestamps.stamped) (starting (g.K.Link.state c.args.link.now) (g.C.Timestamps.coming c.args.clock.now) b) (g.K.Link.state c.args.link.now) (g.K.Link.state c.loop.link) c.is_cancelled.new.desk.seat.seen c.is_cancelled.new.desk.users.seat.seen (moved.here.timely b at saw users) _ _ _ _ c.in-Bytes.ensures.read
+          (timely_moved arc_value (telling g.K.Link.told g.C.Timestamps.told g.C.Timestamps.stamped) (g.C.Timestamps.coming c.loop.clock) _ _ (in_hand c.is_cancelled.new.desk.attending false More c.is_cancelled.new.desk.reader _) c.args.desk.now.shelf c.is_cancelled.new.desk.shelf c.args.desk.now.seat c.is_cancelled.new.desk.seat c.args.desk.now.users.seat c.is_cancelled.new.desk.users.seat (c.is_cancelled.ensures.shelf ∙ c.loop.invariant.shelf) moved.here.seat_is moved.here.users_are c.serve_piece-progress.ensures.timely c.args.desk.now.attending.user _ _ b at
+          (stands_piece _ _ _ _ _ _ _ _ _ _ _ _ _ _ (moved.here.stands b at saw users) c.in-Bytes.ensures.read (grind (arith, common_steps))))
+          (went_to g.K.Link.told b _ (g.K.Link.state c.serve_piece-progress.new.link) c.is_cancelled.new.desk.seat c.is_cancelled.new.desk.users.seat (moved.here.seat_is.0 ∙ at.0, moved.here.seat_is.1 ∙ at.1, moved.here.users_are.0 ∙ at.2, moved.here.users_are.1 ∙ at.3) c.serve_piece-progress.ensures.link _ _ _ c.serve_piece-progress.ensures.asked);
       hung_up = s.hung_up ∙ c.in-Bytes.ensures.hung_up ∙ c.loop.invariant.hung_up;
       end = ((λ is. stop_no _ is refl), (λ ended. unheld _ going ended));
       all_read = λ t is. stop_no _ is refl;
@@ -120,31 +133,36 @@ returns-in-Stopped g c =
       later = later_behind _ _ _ c.loop.invariant.gate s.later;
       spent = λ is. stop_no _ is refl;
       few = few_more _ _ _ _ _ _ c.loop.invariant.counted c.in-Bytes.ensures.read.reads s.link.wrote.reads c.loop-test.true;
-      asked = are_entered_on g.G.Gate.asked g.G.Gate.asked_on c.args.desk.now.seat c.loop.desk.seat c.args.desk.now.users.seat c.loop.desk.users.seat c.args.gate.now c.loop.gate c.serve_piece-progress.new.gate _ _ c.loop.invariant.asked c.loop.invariant.seat c.loop.invariant.users s.asked;
-      noted = noted_more (arc_value c.args.desk.now.shelf) (telling g.K.Link.told g.C.Timestamps.told g.C.Timestamps.stamped) g.N.Notes.noted g.N.Notes.noted_on c.args.notes.now c.loop.notes c.serve_piece-progress.new.notes (stood (g.K.Link.state c.args.link.now) (g.C.Timestamps.coming c.args.clock.now) c.args.desk.now.seat c.args.desk.now.users.seat c.args.desk.now.attending) (stood _ (g.C.Timestamps.coming c.loop.clock) c.loop.desk.seat c.loop.desk.users.seat c.loop.desk.attending) (stood (g.K.Link.state c.serve_piece-progress.new.link) (g.C.Timestamps.coming c.serve_piece-progress.new.clock) c.serve_piece-progress.new.desk.seat c.serve_piece-progress.new.desk.users.seat c.serve_piece-progress.new.desk.attending) (noted_read (arc_value c.args.desk.now.shelf) (telling g.K.Link.told g.C.Timestamps.told g.C.Timestamps.stamped) (stood (g.K.Link.state c.args.link.now) (g.C.Timestamps.coming c.args.clock.now) c.args.desk.now.seat c.args.desk.now.users.seat c.args.desk.now.attending) (g.K.Link.state c.loop.link) _ (g.C.Timestamps.coming c.loop.clock) c.loop.desk.seat c.loop.desk.users.seat c.loop.desk.attending (g.N.Notes.noted c.args.notes.now c.loop.notes) _ _ c.loop.invariant.noted c.in-Bytes.ensures.read) (noted_moved arc_value (telling g.K.Link.told g.C.Timestamps.told g.C.Timestamps.stamped) (stood _ (g.C.Timestamps.coming c.loop.clock) c.loop.desk.seat c.loop.desk.users.seat c.loop.desk.attending) (stood (g.K.Link.state c.serve_piece-progress.new.link) (g.C.Timestamps.coming c.serve_piece-progress.new.clock) c.serve_piece-progress.new.desk.seat c.serve_piece-progress.new.desk.users.seat c.serve_piece-progress.new.desk.attending) (g.N.Notes.noted c.loop.notes c.serve_piece-progress.new.notes) c.args.desk.now.shelf c.loop.desk.shelf c.loop.invariant.shelf c.serve_piece-progress.ensures.noted);
+      asked = are_entered_on g.G.Gate.asked g.G.Gate.asked_on c.args.desk.now.seat c.is_cancelled.new.desk.seat c.args.desk.now.users.seat c.is_cancelled.new.desk.users.seat c.args.gate.now c.loop.gate c.serve_piece-progress.new.gate _ _ moved.here.entered moved.here.seat_is moved.here.users_are s.asked;
+      noted = noted_more (arc_value c.args.desk.now.shelf) (telling g.K.Link.told g.C.Timestamps.told g.C.Timestamps.stamped) g.N.Notes.noted g.N.Notes.noted_on c.args.notes.now c.loop.notes c.serve_piece-progress.new.notes (stood (g.K.Link.state c.args.link.now) (g.C.Timestamps.coming c.args.clock.now) c.args.desk.now.seat c.args.desk.now.users.seat c.args.desk.now.attending) (stood _ (g.C.Timestamps.coming c.loop.clock) c.is_cancelled.new.desk.seat c.is_cancelled.new.desk.users.seat c.is_cancelled.new.desk.attending) (stood (g.K.Link.state c.serve_piece-progress.new.link) (g.C.Timestamps.coming c.serve_piece-progress.new.clock) c.serve_piece-progress.new.desk.seat c.serve_piece-progress.new.desk.users.seat c.serve_piece-progress.new.desk.attending) (noted_read (arc_value c.args.desk.now.shelf) (telling g.K.Link.told g.C.Timestamps.told g.C.Timestamps.stamped) (stood (g.K.Link.state c.args.link.now) (g.C.Timestamps.coming c.args.clock.now) c.args.desk.now.seat c.args.desk.now.users.seat c.args.desk.now.attending) (g.K.Link.state c.loop.link) _ (g.C.Timestamps.coming c.loop.clock) c.is_cancelled.new.desk.seat c.is_cancelled.new.desk.users.seat c.is_cancelled.new.desk.attending (g.N.Notes.noted c.args.notes.now c.loop.notes) _ _ noted_here c.in-Bytes.ensures.read) (noted_moved arc_value (telling g.K.Link.told g.C.Timestamps.told g.C.Timestamps.stamped) (stood _ (g.C.Timestamps.coming c.loop.clock) c.is_cancelled.new.desk.seat c.is_cancelled.new.desk.users.seat c.is_cancelled.new.desk.attending) (stood (g.K.Link.state c.serve_piece-progress.new.link) (g.C.Timestamps.coming c.serve_piece-progress.new.clock) c.serve_piece-progress.new.desk.seat c.serve_piece-progress.new.desk.users.seat c.serve_piece-progress.new.desk.attending) (g.N.Notes.noted c.loop.notes c.serve_piece-progress.new.notes) c.args.desk.now.shelf c.is_cancelled.new.desk.shelf (c.is_cancelled.ensures.shelf ∙ c.loop.invariant.shelf) c.serve_piece-progress.ensures.noted);
       unattended = λ is. stop_no _ is refl;
       attended = λ endless is. stop_no _ is refl;
+      alone = λ endless is. stop_no _ is refl;
       idle = λ is. stop_no _ is refl;
       endless = λ endless is. stop_no _ is refl;
-      let_go = λ limits. let_go_behind (c.args.patience ≡ Limited) (language_for c.args.desk.now.attending.user (arc_value c.args.desk.now.shelf)) g.K.Link.begun g.K.Link.told g.C.Timestamps.told (g.K.Link.state c.args.link.now) (g.C.Timestamps.coming c.args.clock.now) c.args.desk.now.seat c.args.desk.now.users.seat (g.K.Link.state c.loop.link) (g.K.Link.state c.serve_piece-progress.new.link) _ (g.C.Timestamps.coming c.loop.clock) (now c.loop.desk) c.loop.desk.reader c.in-Bytes.ensures.begun c.loop.invariant.stands c.in-Bytes.ensures.read.reads c.serve_piece-progress.ensures.link.wrote.reads c.loop.counter c.loop.waited (c.is_over.ensures.lasts c.if-is_over.false) c.loop.invariant.waits limits;
-      awake = λ limits. awake_behind (c.args.patience ≡ Limited) ((arc_value c.args.desk.now.shelf).idle) (language_for c.args.desk.now.attending.user (arc_value c.args.desk.now.shelf)) g.K.Link.begun g.K.Link.told g.C.Timestamps.told (g.K.Link.state c.args.link.now) (g.C.Timestamps.coming c.args.clock.now) c.args.desk.now.seat c.args.desk.now.users.seat (g.K.Link.state c.loop.link) (g.K.Link.state c.serve_piece-progress.new.link) _ (g.C.Timestamps.coming c.loop.clock) (now c.loop.desk) c.loop.desk.reader c.in-Bytes.ensures.begun c.loop.invariant.stands c.in-Bytes.ensures.read.reads c.serve_piece-progress.ensures.link.wrote.reads c.loop.counter c.loop.silent (subst (λ (i : IdleLimits). IsInTime i c.loop.desk.attending.user c.loop.silent) (c.idle-limits.ensures ∙ ap (λ (s : Contents). s.idle) c.deref.ensures) (c.is_idle.ensures.awake c.if-is_idle.false limits)) c.loop.invariant.idles;
+      let_go = λ limits. let_go_behind (c.args.patience ≡ Limited) (language_for c.args.desk.now.attending.user (arc_value c.args.desk.now.shelf)) g.K.Link.begun g.K.Link.told g.C.Timestamps.told (g.K.Link.state c.args.link.now) (g.C.Timestamps.coming c.args.clock.now) c.args.desk.now.seat c.args.desk.now.users.seat (g.K.Link.state c.loop.link) (g.K.Link.state c.serve_piece-progress.new.link) _ (g.C.Timestamps.coming c.loop.clock) (now c.is_cancelled.new.desk) c.is_cancelled.new.desk.reader c.in-Bytes.ensures.begun moved.here.stands c.in-Bytes.ensures.read.reads c.serve_piece-progress.ensures.link.wrote.reads c.loop.counter c.loop.waited (λ limits nobody. c.is_over.ensures.lasts c.if-is_over.false limits (ap (λ (a : Attending). a.user) (sym c.is_cancelled.ensures.attending) ∙ nobody)) c.loop.invariant.waits limits;
+      awake = λ limits. awake_behind (c.args.patience ≡ Limited) ((arc_value c.args.desk.now.shelf).idle) (language_for c.args.desk.now.attending.user (arc_value c.args.desk.now.shelf)) g.K.Link.begun g.K.Link.told g.C.Timestamps.told (g.K.Link.state c.args.link.now) (g.C.Timestamps.coming c.args.clock.now) c.args.desk.now.seat c.args.desk.now.users.seat (g.K.Link.state c.loop.link) (g.K.Link.state c.serve_piece-progress.new.link) _ (g.C.Timestamps.coming c.loop.clock) (now c.is_cancelled.new.desk) c.is_cancelled.new.desk.reader c.in-Bytes.ensures.begun moved.here.stands c.in-Bytes.ensures.read.reads c.serve_piece-progress.ensures.link.wrote.reads c.loop.counter c.loop.silent (subst (λ (i : IdleLimits). IsInTime i c.is_cancelled.new.desk.attending.user c.loop.silent) (c.idle-limits.ensures ∙ ap (λ (s : Contents). s.idle) c.deref.ensures) (subst (λ (a : Attending). IsInTime c.idle-limits.result a.user c.loop.silent) (sym c.is_cancelled.ensures.attending) (c.is_idle.ensures.awake c.if-is_idle.false limits))) idles_here;
     }
 
 pub returns-in-End : goal.returns-in-End
 returns-in-End g c =
+    let moved = looked (language_for c.args.desk.now.attending.user (arc_value c.args.desk.now.shelf)) (telling g.K.Link.told g.C.Timestamps.told g.C.Timestamps.stamped) g.G.Gate.asked g.G.Gate.asked_on g.G.Gate.unasked (g.K.Link.state c.args.link.now) (g.K.Link.state c.loop.link) (g.C.Timestamps.coming c.args.clock.now) (g.C.Timestamps.coming c.loop.clock) c.args.desk.now.seat c.args.desk.now.users.seat c.args.gate.now c.loop.gate c.args.patience c.is_cancelled.result c.loop.desk.seat c.loop.desk.users.seat c.is_cancelled.new.desk.users.seat c.loop.desk.attending c.loop.desk.reader (record { seat_is = c.loop.invariant.seat; users_are = c.loop.invariant.users; stands = c.loop.invariant.stands; timely = c.loop.invariant.timely; entered = c.loop.invariant.asked }) c.is_cancelled.ensures.users c.is_cancelled.ensures.heeded c.is_cancelled.new.desk.seat c.is_cancelled.new.desk.attending c.is_cancelled.new.desk.reader c.is_cancelled.ensures.seat c.is_cancelled.ensures.attending c.is_cancelled.ensures.reader in
+    let idles_here = subst (λ (a : Attending). Idles (c.args.patience ≡ Limited) ((arc_value c.args.desk.now.shelf).idle) (language_for c.args.desk.now.attending.user (arc_value c.args.desk.now.shelf)) g.K.Link.begun g.K.Link.told g.C.Timestamps.told (g.K.Link.state c.args.link.now) (g.C.Timestamps.coming c.args.clock.now) c.args.desk.now.seat c.args.desk.now.users.seat (g.K.Link.state c.loop.link) a.user c.loop.counter c.loop.silent) (sym c.is_cancelled.ensures.attending) c.loop.invariant.idles in
+    let noted_here = noted_beside (arc_value c.args.desk.now.shelf) (telling g.K.Link.told g.C.Timestamps.told g.C.Timestamps.stamped) (stood (g.K.Link.state c.args.link.now) (g.C.Timestamps.coming c.args.clock.now) c.args.desk.now.seat c.args.desk.now.users.seat c.args.desk.now.attending) (stood (g.K.Link.state c.loop.link) (g.C.Timestamps.coming c.loop.clock) c.loop.desk.seat c.loop.desk.users.seat c.loop.desk.attending) (stood (g.K.Link.state c.loop.link) (g.C.Timestamps.coming c.loop.clock) c.is_cancelled.new.desk.seat c.is_cancelled.new.desk.users.seat c.is_cancelled.new.desk.attending) (g.N.Notes.noted c.args.notes.now c.loop.notes) c.loop.invariant.noted (beside_look g.K.Link.told (g.K.Link.state c.loop.link) (g.C.Timestamps.coming c.loop.clock) c.args.patience c.is_cancelled.result c.loop.desk.seat c.is_cancelled.new.desk.seat c.loop.desk.users.seat c.is_cancelled.new.desk.users.seat c.loop.desk.attending c.is_cancelled.new.desk.attending c.is_cancelled.ensures.seat c.is_cancelled.ensures.users c.is_cancelled.ensures.heeded c.is_cancelled.ensures.attending) in
     let h = c.seen.ensures.history in
     let p = c.seen-2.ensures.history in
     let seat = c.args.desk.now.seat in
     let b : Beginning = record { opening = seat.opening; users = c.args.desk.now.users.seat.opening; place = seat.place; before = h.0; users_before = p.0 } in
-    let stands = c.loop.invariant.stands b (refl, refl, refl, c.args.desk.now.same_place) h.1 p.1 in
+    let stands = moved.here.stands b (refl, refl, refl, c.args.desk.now.same_place) h.1 p.1 in
     record {
-      shelf = c.loop.invariant.shelf;
+      shelf = (c.is_cancelled.ensures.shelf ∙ c.loop.invariant.shelf);
       hung_up = c.in-End.ensures.hung_up ∙ c.loop.invariant.hung_up;
-      seat = c.loop.invariant.seat;
-      users = c.loop.invariant.users;
+      seat = moved.here.seat_is;
+      users = moved.here.users_are;
       session = record { before = h.0; users_before = p.0; saw = h.1; users_saw = p.1; attending = _; session = served_nothing _ _ _ _ _ _ _ _ _ _ _ _ _ stands c.in-End.ensures.read refl };
-      prompt = prompt_more (language_for c.args.desk.now.attending.user (arc_value c.args.desk.now.shelf)) g.K.Link.begun g.K.Link.told g.C.Timestamps.told (g.K.Link.state c.args.link.now) (g.C.Timestamps.coming c.args.clock.now) c.args.desk.now.seat c.args.desk.now.users.seat (g.K.Link.state c.loop.link) (g.K.Link.state c.read.new.self) _ (g.C.Timestamps.coming c.loop.clock) (now c.loop.desk) c.loop.desk.reader c.loop.invariant.prompt c.in-End.ensures.begun c.loop.invariant.stands c.in-End.ensures.read.reads refl;
-      timely = λ b at saw users. timely_read (language_for c.args.desk.now.attending.user (arc_value c.args.desk.now.shelf)) (telling g.K.Link.told g.C.Timestamps.told g.C.Timestamps.stamped) (starting (g.K.Link.state c.args.link.now) (g.C.Timestamps.coming c.args.clock.now) b) (g.K.Link.state c.args.link.now) (g.K.Link.state c.loop.link) c.loop.desk.seat.seen c.loop.desk.users.seat.seen (c.loop.invariant.timely b at saw users) _ (g.K.Link.state c.read.new.self) _ _ c.in-End.ensures.read (timely_none (language_for c.args.desk.now.attending.user (arc_value c.args.desk.now.shelf)) (telling g.K.Link.told g.C.Timestamps.told g.C.Timestamps.stamped) (starting (g.K.Link.state c.args.link.now) (g.C.Timestamps.coming c.args.clock.now) b) (g.K.Link.state c.read.new.self) _ refl) (goes_nowhere g.K.Link.told b _);
+      prompt = prompt_more (language_for c.args.desk.now.attending.user (arc_value c.args.desk.now.shelf)) g.K.Link.begun g.K.Link.told g.C.Timestamps.told (g.K.Link.state c.args.link.now) (g.C.Timestamps.coming c.args.clock.now) c.args.desk.now.seat c.args.desk.now.users.seat (g.K.Link.state c.loop.link) (g.K.Link.state c.read.new.self) _ (g.C.Timestamps.coming c.loop.clock) (now c.is_cancelled.new.desk) c.is_cancelled.new.desk.reader c.loop.invariant.prompt c.in-End.ensures.begun moved.here.stands c.in-End.ensures.read.reads refl;
+      heeds = λ limits. heeds_more (language_for c.args.desk.now.attending.user (arc_value c.args.desk.now.shelf)) g.K.Link.begun g.K.Link.told g.C.Timestamps.told (g.K.Link.state c.args.link.now) (g.C.Timestamps.coming c.args.clock.now) c.args.desk.now.seat c.args.desk.now.users.seat (g.K.Link.state c.loop.link) (g.K.Link.state c.read.new.self) _ (g.C.Timestamps.coming c.loop.clock) (now c.is_cancelled.new.desk) c.is_cancelled.new.desk.reader (c.loop.invariant.heeds limits) c.in-End.ensures.begun (λ b at saw users. (moved.here.stands b at saw users, moved.unended c.if-is_cancelled.false limits b at saw users)) c.in-End.ensures.read.reads refl;
+      timely = λ b at saw users. timely_read (language_for c.args.desk.now.attending.user (arc_value c.args.desk.now.shelf)) (telling g.K.Link.told g.C.Timestamps.told g.C.Timestamps.stamped) (starting (g.K.Link.state c.args.link.now) (g.C.Timestamps.coming c.args.clock.now) b) (g.K.Link.state c.args.link.now) (g.K.Link.state c.loop.link) c.is_cancelled.new.desk.seat.seen c.is_cancelled.new.desk.users.seat.seen (moved.here.timely b at saw users) _ (g.K.Link.state c.read.new.self) _ _ c.in-End.ensures.read (timely_none (language_for c.args.desk.now.attending.user (arc_value c.args.desk.now.shelf)) (telling g.K.Link.told g.C.Timestamps.told g.C.Timestamps.stamped) (starting (g.K.Link.state c.args.link.now) (g.C.Timestamps.coming c.args.clock.now) b) (g.K.Link.state c.read.new.self) _ refl) (goes_nowhere g.K.Link.told b _);
       end = ((λ is. c.in-End.ensures.read.ended), (λ ended. refl));
       all_read = λ t is. c.in-End.ensures.read.end t refl;
       read_fault = λ is. end_no _ is refl;
@@ -155,31 +173,36 @@ returns-in-End g c =
       later = stayed _ _ c.loop.invariant.gate;
       spent = λ is. end_no _ is refl;
       few = few_more _ _ _ _ _ _ c.loop.invariant.counted c.in-End.ensures.read.reads refl c.loop-test.true;
-      asked = c.loop.invariant.asked;
-      noted = (noted_read (arc_value c.args.desk.now.shelf) (telling g.K.Link.told g.C.Timestamps.told g.C.Timestamps.stamped) (stood (g.K.Link.state c.args.link.now) (g.C.Timestamps.coming c.args.clock.now) c.args.desk.now.seat c.args.desk.now.users.seat c.args.desk.now.attending) (g.K.Link.state c.loop.link) _ (g.C.Timestamps.coming c.loop.clock) c.loop.desk.seat c.loop.desk.users.seat c.loop.desk.attending (g.N.Notes.noted c.args.notes.now c.loop.notes) _ _ c.loop.invariant.noted c.in-End.ensures.read);
+      asked = moved.here.entered;
+      noted = (noted_read (arc_value c.args.desk.now.shelf) (telling g.K.Link.told g.C.Timestamps.told g.C.Timestamps.stamped) (stood (g.K.Link.state c.args.link.now) (g.C.Timestamps.coming c.args.clock.now) c.args.desk.now.seat c.args.desk.now.users.seat c.args.desk.now.attending) (g.K.Link.state c.loop.link) _ (g.C.Timestamps.coming c.loop.clock) c.is_cancelled.new.desk.seat c.is_cancelled.new.desk.users.seat c.is_cancelled.new.desk.attending (g.N.Notes.noted c.args.notes.now c.loop.notes) _ _ noted_here c.in-End.ensures.read);
       unattended = λ is. end_no _ is refl;
       attended = λ endless is. end_no _ is refl;
+      alone = λ endless is. end_no _ is refl;
       idle = λ is. end_no _ is refl;
       endless = λ endless is. end_no _ is refl;
-      let_go = λ limits. let_go_behind (c.args.patience ≡ Limited) (language_for c.args.desk.now.attending.user (arc_value c.args.desk.now.shelf)) g.K.Link.begun g.K.Link.told g.C.Timestamps.told (g.K.Link.state c.args.link.now) (g.C.Timestamps.coming c.args.clock.now) c.args.desk.now.seat c.args.desk.now.users.seat (g.K.Link.state c.loop.link) (g.K.Link.state c.read.new.self) _ (g.C.Timestamps.coming c.loop.clock) (now c.loop.desk) c.loop.desk.reader c.in-End.ensures.begun c.loop.invariant.stands c.in-End.ensures.read.reads refl c.loop.counter c.loop.waited (c.is_over.ensures.lasts c.if-is_over.false) c.loop.invariant.waits limits;
-      awake = λ limits. awake_behind (c.args.patience ≡ Limited) ((arc_value c.args.desk.now.shelf).idle) (language_for c.args.desk.now.attending.user (arc_value c.args.desk.now.shelf)) g.K.Link.begun g.K.Link.told g.C.Timestamps.told (g.K.Link.state c.args.link.now) (g.C.Timestamps.coming c.args.clock.now) c.args.desk.now.seat c.args.desk.now.users.seat (g.K.Link.state c.loop.link) (g.K.Link.state c.read.new.self) _ (g.C.Timestamps.coming c.loop.clock) (now c.loop.desk) c.loop.desk.reader c.in-End.ensures.begun c.loop.invariant.stands c.in-End.ensures.read.reads refl c.loop.counter c.loop.silent (subst (λ (i : IdleLimits). IsInTime i c.loop.desk.attending.user c.loop.silent) (c.idle-limits.ensures ∙ ap (λ (s : Contents). s.idle) c.deref.ensures) (c.is_idle.ensures.awake c.if-is_idle.false limits)) c.loop.invariant.idles;
+      let_go = λ limits. let_go_behind (c.args.patience ≡ Limited) (language_for c.args.desk.now.attending.user (arc_value c.args.desk.now.shelf)) g.K.Link.begun g.K.Link.told g.C.Timestamps.told (g.K.Link.state c.args.link.now) (g.C.Timestamps.coming c.args.clock.now) c.args.desk.now.seat c.args.desk.now.users.seat (g.K.Link.state c.loop.link) (g.K.Link.state c.read.new.self) _ (g.C.Timestamps.coming c.loop.clock) (now c.is_cancelled.new.desk) c.is_cancelled.new.desk.reader c.in-End.ensures.begun moved.here.stands c.in-End.ensures.read.reads refl c.loop.counter c.loop.waited (λ limits nobody. c.is_over.ensures.lasts c.if-is_over.false limits (ap (λ (a : Attending). a.user) (sym c.is_cancelled.ensures.attending) ∙ nobody)) c.loop.invariant.waits limits;
+      awake = λ limits. awake_behind (c.args.patience ≡ Limited) ((arc_value c.args.desk.now.shelf).idle) (language_for c.args.desk.now.attending.user (arc_value c.args.desk.now.shelf)) g.K.Link.begun g.K.Link.told g.C.Timestamps.told (g.K.Link.state c.args.link.now) (g.C.Timestamps.coming c.args.clock.now) c.args.desk.now.seat c.args.desk.now.users.seat (g.K.Link.state c.loop.link) (g.K.Link.state c.read.new.self) _ (g.C.Timestamps.coming c.loop.clock) (now c.is_cancelled.new.desk) c.is_cancelled.new.desk.reader c.in-End.ensures.begun moved.here.stands c.in-End.ensures.read.reads refl c.loop.counter c.loop.silent (subst (λ (i : IdleLimits). IsInTime i c.is_cancelled.new.desk.attending.user c.loop.silent) (c.idle-limits.ensures ∙ ap (λ (s : Contents). s.idle) c.deref.ensures) (subst (λ (a : Attending). IsInTime c.idle-limits.result a.user c.loop.silent) (sym c.is_cancelled.ensures.attending) (c.is_idle.ensures.awake c.if-is_idle.false limits))) idles_here;
     }
 
 pub returns-in-Failed : goal.returns-in-Failed
 returns-in-Failed g c =
+    let moved = looked (language_for c.args.desk.now.attending.user (arc_value c.args.desk.now.shelf)) (telling g.K.Link.told g.C.Timestamps.told g.C.Timestamps.stamped) g.G.Gate.asked g.G.Gate.asked_on g.G.Gate.unasked (g.K.Link.state c.args.link.now) (g.K.Link.state c.loop.link) (g.C.Timestamps.coming c.args.clock.now) (g.C.Timestamps.coming c.loop.clock) c.args.desk.now.seat c.args.desk.now.users.seat c.args.gate.now c.loop.gate c.args.patience c.is_cancelled.result c.loop.desk.seat c.loop.desk.users.seat c.is_cancelled.new.desk.users.seat c.loop.desk.attending c.loop.desk.reader (record { seat_is = c.loop.invariant.seat; users_are = c.loop.invariant.users; stands = c.loop.invariant.stands; timely = c.loop.invariant.timely; entered = c.loop.invariant.asked }) c.is_cancelled.ensures.users c.is_cancelled.ensures.heeded c.is_cancelled.new.desk.seat c.is_cancelled.new.desk.attending c.is_cancelled.new.desk.reader c.is_cancelled.ensures.seat c.is_cancelled.ensures.attending c.is_cancelled.ensures.reader in
+    let idles_here = subst (λ (a : Attending). Idles (c.args.patience ≡ Limited) ((arc_value c.args.desk.now.shelf).idle) (language_for c.args.desk.now.attending.user (arc_value c.args.desk.now.shelf)) g.K.Link.begun g.K.Link.told g.C.Timestamps.told (g.K.Link.state c.args.link.now) (g.C.Timestamps.coming c.args.clock.now) c.args.desk.now.seat c.args.desk.now.users.seat (g.K.Link.state c.loop.link) a.user c.loop.counter c.loop.silent) (sym c.is_cancelled.ensures.attending) c.loop.invariant.idles in
+    let noted_here = noted_beside (arc_value c.args.desk.now.shelf) (telling g.K.Link.told g.C.Timestamps.told g.C.Timestamps.stamped) (stood (g.K.Link.state c.args.link.now) (g.C.Timestamps.coming c.args.clock.now) c.args.desk.now.seat c.args.desk.now.users.seat c.args.desk.now.attending) (stood (g.K.Link.state c.loop.link) (g.C.Timestamps.coming c.loop.clock) c.loop.desk.seat c.loop.desk.users.seat c.loop.desk.attending) (stood (g.K.Link.state c.loop.link) (g.C.Timestamps.coming c.loop.clock) c.is_cancelled.new.desk.seat c.is_cancelled.new.desk.users.seat c.is_cancelled.new.desk.attending) (g.N.Notes.noted c.args.notes.now c.loop.notes) c.loop.invariant.noted (beside_look g.K.Link.told (g.K.Link.state c.loop.link) (g.C.Timestamps.coming c.loop.clock) c.args.patience c.is_cancelled.result c.loop.desk.seat c.is_cancelled.new.desk.seat c.loop.desk.users.seat c.is_cancelled.new.desk.users.seat c.loop.desk.attending c.is_cancelled.new.desk.attending c.is_cancelled.ensures.seat c.is_cancelled.ensures.users c.is_cancelled.ensures.heeded c.is_cancelled.ensures.attending) in
     let h = c.seen.ensures.history in
     let p = c.seen-2.ensures.history in
     let seat = c.args.desk.now.seat in
     let b : Beginning = record { opening = seat.opening; users = c.args.desk.now.users.seat.opening; place = seat.place; before = h.0; users_before = p.0 } in
-    let stands = c.loop.invariant.stands b (refl, refl, refl, c.args.desk.now.same_place) h.1 p.1 in
+    let stands = moved.here.stands b (refl, refl, refl, c.args.desk.now.same_place) h.1 p.1 in
     record {
-      shelf = c.loop.invariant.shelf;
+      shelf = (c.is_cancelled.ensures.shelf ∙ c.loop.invariant.shelf);
       hung_up = c.in-Failed.ensures.hung_up ∙ c.loop.invariant.hung_up;
-      seat = c.loop.invariant.seat;
-      users = c.loop.invariant.users;
+      seat = moved.here.seat_is;
+      users = moved.here.users_are;
       session = record { before = h.0; users_before = p.0; saw = h.1; users_saw = p.1; attending = _; session = served_nothing _ _ _ _ _ _ _ _ _ _ _ _ _ stands c.in-Failed.ensures.read refl };
-      prompt = prompt_more (language_for c.args.desk.now.attending.user (arc_value c.args.desk.now.shelf)) g.K.Link.begun g.K.Link.told g.C.Timestamps.told (g.K.Link.state c.args.link.now) (g.C.Timestamps.coming c.args.clock.now) c.args.desk.now.seat c.args.desk.now.users.seat (g.K.Link.state c.loop.link) (g.K.Link.state c.read.new.self) _ (g.C.Timestamps.coming c.loop.clock) (now c.loop.desk) c.loop.desk.reader c.loop.invariant.prompt c.in-Failed.ensures.begun c.loop.invariant.stands c.in-Failed.ensures.read.reads refl;
-      timely = λ b at saw users. timely_read (language_for c.args.desk.now.attending.user (arc_value c.args.desk.now.shelf)) (telling g.K.Link.told g.C.Timestamps.told g.C.Timestamps.stamped) (starting (g.K.Link.state c.args.link.now) (g.C.Timestamps.coming c.args.clock.now) b) (g.K.Link.state c.args.link.now) (g.K.Link.state c.loop.link) c.loop.desk.seat.seen c.loop.desk.users.seat.seen (c.loop.invariant.timely b at saw users) _ (g.K.Link.state c.read.new.self) _ _ c.in-Failed.ensures.read (timely_none (language_for c.args.desk.now.attending.user (arc_value c.args.desk.now.shelf)) (telling g.K.Link.told g.C.Timestamps.told g.C.Timestamps.stamped) (starting (g.K.Link.state c.args.link.now) (g.C.Timestamps.coming c.args.clock.now) b) (g.K.Link.state c.read.new.self) _ refl) (goes_nowhere g.K.Link.told b _);
+      prompt = prompt_more (language_for c.args.desk.now.attending.user (arc_value c.args.desk.now.shelf)) g.K.Link.begun g.K.Link.told g.C.Timestamps.told (g.K.Link.state c.args.link.now) (g.C.Timestamps.coming c.args.clock.now) c.args.desk.now.seat c.args.desk.now.users.seat (g.K.Link.state c.loop.link) (g.K.Link.state c.read.new.self) _ (g.C.Timestamps.coming c.loop.clock) (now c.is_cancelled.new.desk) c.is_cancelled.new.desk.reader c.loop.invariant.prompt c.in-Failed.ensures.begun moved.here.stands c.in-Failed.ensures.read.reads refl;
+      heeds = λ limits. heeds_more (language_for c.args.desk.now.attending.user (arc_value c.args.desk.now.shelf)) g.K.Link.begun g.K.Link.told g.C.Timestamps.told (g.K.Link.state c.args.link.now) (g.C.Timestamps.coming c.args.clock.now) c.args.desk.now.seat c.args.desk.now.users.seat (g.K.Link.state c.loop.link) (g.K.Link.state c.read.new.self) _ (g.C.Timestamps.coming c.loop.clock) (now c.is_cancelled.new.desk) c.is_cancelled.new.desk.reader (c.loop.invariant.heeds limits) c.in-Failed.ensures.begun (λ b at saw users. (moved.here.stands b at saw users, moved.unended c.if-is_cancelled.false limits b at saw users)) c.in-Failed.ensures.read.reads refl;
+      timely = λ b at saw users. timely_read (language_for c.args.desk.now.attending.user (arc_value c.args.desk.now.shelf)) (telling g.K.Link.told g.C.Timestamps.told g.C.Timestamps.stamped) (starting (g.K.Link.state c.args.link.now) (g.C.Timestamps.coming c.args.clock.now) b) (g.K.Link.state c.args.link.now) (g.K.Link.state c.loop.link) c.is_cancelled.new.desk.seat.seen c.is_cancelled.new.desk.users.seat.seen (moved.here.timely b at saw users) _ (g.K.Link.state c.read.new.self) _ _ c.in-Failed.ensures.read (timely_none (language_for c.args.desk.now.attending.user (arc_value c.args.desk.now.shelf)) (telling g.K.Link.told g.C.Timestamps.told g.C.Timestamps.stamped) (starting (g.K.Link.state c.args.link.now) (g.C.Timestamps.coming c.args.clock.now) b) (g.K.Link.state c.read.new.self) _ refl) (goes_nowhere g.K.Link.told b _);
       end = ((λ is. read_no _ is refl), (λ ended. unheld _ c.in-Failed.ensures.read.ended ended));
       all_read = λ t is. read_no _ is refl;
       read_fault = λ is. rose_later _ _ _ stands.exchanged.read_later (c.in-Failed.ensures.read.cause.cause refl);
@@ -190,14 +213,15 @@ returns-in-Failed g c =
       later = stayed _ _ c.loop.invariant.gate;
       spent = λ is. read_no _ is refl;
       few = few_more _ _ _ _ _ _ c.loop.invariant.counted c.in-Failed.ensures.read.reads refl c.loop-test.true;
-      asked = c.loop.invariant.asked;
-      noted = (noted_read (arc_value c.args.desk.now.shelf) (telling g.K.Link.told g.C.Timestamps.told g.C.Timestamps.stamped) (stood (g.K.Link.state c.args.link.now) (g.C.Timestamps.coming c.args.clock.now) c.args.desk.now.seat c.args.desk.now.users.seat c.args.desk.now.attending) (g.K.Link.state c.loop.link) _ (g.C.Timestamps.coming c.loop.clock) c.loop.desk.seat c.loop.desk.users.seat c.loop.desk.attending (g.N.Notes.noted c.args.notes.now c.loop.notes) _ _ c.loop.invariant.noted c.in-Failed.ensures.read);
+      asked = moved.here.entered;
+      noted = (noted_read (arc_value c.args.desk.now.shelf) (telling g.K.Link.told g.C.Timestamps.told g.C.Timestamps.stamped) (stood (g.K.Link.state c.args.link.now) (g.C.Timestamps.coming c.args.clock.now) c.args.desk.now.seat c.args.desk.now.users.seat c.args.desk.now.attending) (g.K.Link.state c.loop.link) _ (g.C.Timestamps.coming c.loop.clock) c.is_cancelled.new.desk.seat c.is_cancelled.new.desk.users.seat c.is_cancelled.new.desk.attending (g.N.Notes.noted c.args.notes.now c.loop.notes) _ _ noted_here c.in-Failed.ensures.read);
       unattended = λ is. read_no _ is refl;
       attended = λ endless is. read_no _ is refl;
+      alone = λ endless is. read_no _ is refl;
       idle = λ is. read_no _ is refl;
       endless = λ endless is. read_no _ is refl;
-      let_go = λ limits. let_go_behind (c.args.patience ≡ Limited) (language_for c.args.desk.now.attending.user (arc_value c.args.desk.now.shelf)) g.K.Link.begun g.K.Link.told g.C.Timestamps.told (g.K.Link.state c.args.link.now) (g.C.Timestamps.coming c.args.clock.now) c.args.desk.now.seat c.args.desk.now.users.seat (g.K.Link.state c.loop.link) (g.K.Link.state c.read.new.self) _ (g.C.Timestamps.coming c.loop.clock) (now c.loop.desk) c.loop.desk.reader c.in-Failed.ensures.begun c.loop.invariant.stands c.in-Failed.ensures.read.reads refl c.loop.counter c.loop.waited (c.is_over.ensures.lasts c.if-is_over.false) c.loop.invariant.waits limits;
-      awake = λ limits. awake_behind (c.args.patience ≡ Limited) ((arc_value c.args.desk.now.shelf).idle) (language_for c.args.desk.now.attending.user (arc_value c.args.desk.now.shelf)) g.K.Link.begun g.K.Link.told g.C.Timestamps.told (g.K.Link.state c.args.link.now) (g.C.Timestamps.coming c.args.clock.now) c.args.desk.now.seat c.args.desk.now.users.seat (g.K.Link.state c.loop.link) (g.K.Link.state c.read.new.self) _ (g.C.Timestamps.coming c.loop.clock) (now c.loop.desk) c.loop.desk.reader c.in-Failed.ensures.begun c.loop.invariant.stands c.in-Failed.ensures.read.reads refl c.loop.counter c.loop.silent (subst (λ (i : IdleLimits). IsInTime i c.loop.desk.attending.user c.loop.silent) (c.idle-limits.ensures ∙ ap (λ (s : Contents). s.idle) c.deref.ensures) (c.is_idle.ensures.awake c.if-is_idle.false limits)) c.loop.invariant.idles;
+      let_go = λ limits. let_go_behind (c.args.patience ≡ Limited) (language_for c.args.desk.now.attending.user (arc_value c.args.desk.now.shelf)) g.K.Link.begun g.K.Link.told g.C.Timestamps.told (g.K.Link.state c.args.link.now) (g.C.Timestamps.coming c.args.clock.now) c.args.desk.now.seat c.args.desk.now.users.seat (g.K.Link.state c.loop.link) (g.K.Link.state c.read.new.self) _ (g.C.Timestamps.coming c.loop.clock) (now c.is_cancelled.new.desk) c.is_cancelled.new.desk.reader c.in-Failed.ensures.begun moved.here.stands c.in-Failed.ensures.read.reads refl c.loop.counter c.loop.waited (λ limits nobody. c.is_over.ensures.lasts c.if-is_over.false limits (ap (λ (a : Attending). a.user) (sym c.is_cancelled.ensures.attending) ∙ nobody)) c.loop.invariant.waits limits;
+      awake = λ limits. awake_behind (c.args.patience ≡ Limited) ((arc_value c.args.desk.now.shelf).idle) (language_for c.args.desk.now.attending.user (arc_value c.args.desk.now.shelf)) g.K.Link.begun g.K.Link.told g.C.Timestamps.told (g.K.Link.state c.args.link.now) (g.C.Timestamps.coming c.args.clock.now) c.args.desk.now.seat c.args.desk.now.users.seat (g.K.Link.state c.loop.link) (g.K.Link.state c.read.new.self) _ (g.C.Timestamps.coming c.loop.clock) (now c.is_cancelled.new.desk) c.is_cancelled.new.desk.reader c.in-Failed.ensures.begun moved.here.stands c.in-Failed.ensures.read.reads refl c.loop.counter c.loop.silent (subst (λ (i : IdleLimits). IsInTime i c.is_cancelled.new.desk.attending.user c.loop.silent) (c.idle-limits.ensures ∙ ap (λ (s : Contents). s.idle) c.deref.ensures) (subst (λ (a : Attending). IsInTime c.idle-limits.result a.user c.loop.silent) (sym c.is_cancelled.ensures.attending) (c.is_idle.ensures.awake c.if-is_idle.false limits))) idles_here;
     }
 
 pub returns-clause-session : goal.returns-clause-session
@@ -210,75 +234,86 @@ returns-clause-session g c =
 
 pub loop-preserved : goal.loop-preserved
 loop-preserved g c =
+    let moved = looked (language_for c.args.desk.now.attending.user (arc_value c.args.desk.now.shelf)) (telling g.K.Link.told g.C.Timestamps.told g.C.Timestamps.stamped) g.G.Gate.asked g.G.Gate.asked_on g.G.Gate.unasked (g.K.Link.state c.args.link.now) (g.K.Link.state c.loop.link) (g.C.Timestamps.coming c.args.clock.now) (g.C.Timestamps.coming c.loop.clock) c.args.desk.now.seat c.args.desk.now.users.seat c.args.gate.now c.loop.gate c.args.patience c.is_cancelled.result c.loop.desk.seat c.loop.desk.users.seat c.is_cancelled.new.desk.users.seat c.loop.desk.attending c.loop.desk.reader (record { seat_is = c.loop.invariant.seat; users_are = c.loop.invariant.users; stands = c.loop.invariant.stands; timely = c.loop.invariant.timely; entered = c.loop.invariant.asked }) c.is_cancelled.ensures.users c.is_cancelled.ensures.heeded c.is_cancelled.new.desk.seat c.is_cancelled.new.desk.attending c.is_cancelled.new.desk.reader c.is_cancelled.ensures.seat c.is_cancelled.ensures.attending c.is_cancelled.ensures.reader in
+    let idles_here = subst (λ (a : Attending). Idles (c.args.patience ≡ Limited) ((arc_value c.args.desk.now.shelf).idle) (language_for c.args.desk.now.attending.user (arc_value c.args.desk.now.shelf)) g.K.Link.begun g.K.Link.told g.C.Timestamps.told (g.K.Link.state c.args.link.now) (g.C.Timestamps.coming c.args.clock.now) c.args.desk.now.seat c.args.desk.now.users.seat (g.K.Link.state c.loop.link) a.user c.loop.counter c.loop.silent) (sym c.is_cancelled.ensures.attending) c.loop.invariant.idles in
+    let noted_here = noted_beside (arc_value c.args.desk.now.shelf) (telling g.K.Link.told g.C.Timestamps.told g.C.Timestamps.stamped) (stood (g.K.Link.state c.args.link.now) (g.C.Timestamps.coming c.args.clock.now) c.args.desk.now.seat c.args.desk.now.users.seat c.args.desk.now.attending) (stood (g.K.Link.state c.loop.link) (g.C.Timestamps.coming c.loop.clock) c.loop.desk.seat c.loop.desk.users.seat c.loop.desk.attending) (stood (g.K.Link.state c.loop.link) (g.C.Timestamps.coming c.loop.clock) c.is_cancelled.new.desk.seat c.is_cancelled.new.desk.users.seat c.is_cancelled.new.desk.attending) (g.N.Notes.noted c.args.notes.now c.loop.notes) c.loop.invariant.noted (beside_look g.K.Link.told (g.K.Link.state c.loop.link) (g.C.Timestamps.coming c.loop.clock) c.args.patience c.is_cancelled.result c.loop.desk.seat c.is_cancelled.new.desk.seat c.loop.desk.users.seat c.is_cancelled.new.desk.users.seat c.loop.desk.attending c.is_cancelled.new.desk.attending c.is_cancelled.ensures.seat c.is_cancelled.ensures.users c.is_cancelled.ensures.heeded c.is_cancelled.ensures.attending) in
     elim c.match-read.branch [
       | in-Bytes+in-On w ↦ rw (w.desk-is, w.link-is, w.clock-is, w.gate-is, w.notes-is) (record {
-        shelf = w.serve_piece-progress.ensures.shelf ∙ c.loop.invariant.shelf;
-        seat = (w.serve_piece-progress.ensures.seat.0 ∙ c.loop.invariant.seat.0, w.serve_piece-progress.ensures.seat.1 ∙ c.loop.invariant.seat.1, w.serve_piece-progress.ensures.seat.2 ∙ c.loop.invariant.seat.2, w.serve_piece-progress.ensures.seat.3 ∙ c.loop.invariant.seat.3);
-        users = (w.serve_piece-progress.ensures.users.0 ∙ c.loop.invariant.users.0, w.serve_piece-progress.ensures.users.1 ∙ c.loop.invariant.users.1, w.serve_piece-progress.ensures.users.2 ∙ c.loop.invariant.users.2, w.serve_piece-progress.ensures.users.3 ∙ c.loop.invariant.users.3);
-        stands = λ b at saw users. goes_on_is _ _ _ _ _ _ _ _ _ _ _ _ w.in-On.is (moved_goes arc_value c.args.desk.now.attending.user g.K.Link.told g.C.Timestamps.told _ (g.K.Link.state w.serve_piece-progress.new.link) (g.C.Timestamps.coming c.loop.clock) (g.C.Timestamps.coming w.serve_piece-progress.new.clock) (now c.loop.desk) (now w.serve_piece-progress.new.desk) false c.loop.desk.reader w.serve_piece-progress.new.desk.reader w.serve_piece-progress.result c.args.desk.now.shelf c.loop.desk.shelf c.args.desk.now.seat c.loop.desk.seat c.args.desk.now.users.seat c.loop.desk.users.seat _ [] c.loop.invariant.shelf c.loop.invariant.seat c.loop.invariant.users (w.serve_piece-progress.ensures.goes c.args.desk.now.attending.user) _ _ b at (stands_piece _ _ _ _ _ _ _ _ _ _ _ _ _ _ (c.loop.invariant.stands b at saw users) w.in-Bytes.ensures.read (grind (arith, common_steps))));
-        prompt = prompt_more (language_for c.args.desk.now.attending.user (arc_value c.args.desk.now.shelf)) g.K.Link.begun g.K.Link.told g.C.Timestamps.told (g.K.Link.state c.args.link.now) (g.C.Timestamps.coming c.args.clock.now) c.args.desk.now.seat c.args.desk.now.users.seat (g.K.Link.state c.loop.link) (g.K.Link.state w.serve_piece-progress.new.link) _ (g.C.Timestamps.coming c.loop.clock) (now c.loop.desk) c.loop.desk.reader c.loop.invariant.prompt w.in-Bytes.ensures.begun c.loop.invariant.stands w.in-Bytes.ensures.read.reads w.serve_piece-progress.ensures.link.wrote.reads;
+        shelf = w.serve_piece-progress.ensures.shelf ∙ (c.is_cancelled.ensures.shelf ∙ c.loop.invariant.shelf);
+        seat = (w.serve_piece-progress.ensures.seat.0 ∙ moved.here.seat_is.0, w.serve_piece-progress.ensures.seat.1 ∙ moved.here.seat_is.1, w.serve_piece-progress.ensures.seat.2 ∙ moved.here.seat_is.2, w.serve_piece-progress.ensures.seat.3 ∙ moved.here.seat_is.3);
+        users = (w.serve_piece-progress.ensures.users.0 ∙ moved.here.users_are.0, w.serve_piece-progress.ensures.users.1 ∙ moved.here.users_are.1, w.serve_piece-progress.ensures.users.2 ∙ moved.here.users_are.2, w.serve_piece-progress.ensures.users.3 ∙ moved.here.users_are.3);
+        stands = λ b at saw users. goes_on_is _ _ _ _ _ _ _ _ _ _ _ _ w.in-On.is (moved_goes arc_value c.args.desk.now.attending.user g.K.Link.told g.C.Timestamps.told _ (g.K.Link.state w.serve_piece-progress.new.link) (g.C.Timestamps.coming c.loop.clock) (g.C.Timestamps.coming w.serve_piece-progress.new.clock) (now c.is_cancelled.new.desk) (now w.serve_piece-progress.new.desk) false c.is_cancelled.new.desk.reader w.serve_piece-progress.new.desk.reader w.serve_piece-progress.result c.args.desk.now.shelf c.is_cancelled.new.desk.shelf c.args.desk.now.seat c.is_cancelled.new.desk.seat c.args.desk.now.users.seat c.is_cancelled.new.desk.users.seat _ [] (c.is_cancelled.ensures.shelf ∙ c.loop.invariant.shelf) moved.here.seat_is moved.here.users_are (w.serve_piece-progress.ensures.goes c.args.desk.now.attending.user) _ _ b at (stands_piece _ _ _ _ _ _ _ _ _ _ _ _ _ _ (moved.here.stands b at saw users) w.in-Bytes.ensures.read (grind (arith, common_steps))));
+        prompt = prompt_more (language_for c.args.desk.now.attending.user (arc_value c.args.desk.now.shelf)) g.K.Link.begun g.K.Link.told g.C.Timestamps.told (g.K.Link.state c.args.link.now) (g.C.Timestamps.coming c.args.clock.now) c.args.desk.now.seat c.args.desk.now.users.seat (g.K.Link.state c.loop.link) (g.K.Link.state w.serve_piece-progress.new.link) _ (g.C.Timestamps.coming c.loop.clock) (now c.is_cancelled.new.desk) c.is_cancelled.new.desk.reader c.loop.invariant.prompt w.in-Bytes.ensures.begun moved.here.stands w.in-Bytes.ensures.read.reads w.serve_piece-progress.ensures.link.wrote.reads;
+        heeds = λ limits. heeds_more (language_for c.args.desk.now.attending.user (arc_value c.args.desk.now.shelf)) g.K.Link.begun g.K.Link.told g.C.Timestamps.told (g.K.Link.state c.args.link.now) (g.C.Timestamps.coming c.args.clock.now) c.args.desk.now.seat c.args.desk.now.users.seat (g.K.Link.state c.loop.link) (g.K.Link.state w.serve_piece-progress.new.link) _ (g.C.Timestamps.coming c.loop.clock) (now c.is_cancelled.new.desk) c.is_cancelled.new.desk.reader (c.loop.invariant.heeds limits) w.in-Bytes.ensures.begun (λ b at saw users. (moved.here.stands b at saw users, moved.unended c.if-is_cancelled.false limits b at saw users)) w.in-Bytes.ensures.read.reads w.serve_piece-progress.ensures.link.wrote.reads;
         timely = λ b at saw users.
-            timely_read (language_for c.args.desk.now.attending.user (arc_value c.args.desk.now.shelf)) (telling g.K.Link.told g.C.Timestamps.told g.C.Timestamps.stamped) (starting (g.K.Link.state c.args.link.now) (g.C.Timestamps.coming c.args.clock.now) b) (g.K.Link.state c.args.link.now) (g.K.Link.state c.loop.link) c.loop.desk.seat.seen c.loop.desk.users.seat.seen (c.loop.invariant.timely b at saw users) _ _ _ _ w.in-Bytes.ensures.read
-            (timely_moved arc_value (telling g.K.Link.told g.C.Timestamps.told g.C.Timestamps.stamped) (g.C.Timestamps.coming c.loop.clock) _ _ (in_hand c.loop.desk.attending false More c.loop.desk.reader _) c.args.desk.now.shelf c.loop.desk.shelf c.args.desk.now.seat c.loop.desk.seat c.args.desk.now.users.seat c.loop.desk.users.seat c.loop.invariant.shelf c.loop.invariant.seat c.loop.invariant.users w.serve_piece-progress.ensures.timely c.args.desk.now.attending.user _ _ b at
-            (stands_piece _ _ _ _ _ _ _ _ _ _ _ _ _ _ (c.loop.invariant.stands b at saw users) w.in-Bytes.ensures.read (grind (arith, common_steps))))
-            (went_to g.K.Link.told b _ (g.K.Link.state w.serve_piece-progress.new.link) c.loop.desk.seat c.loop.desk.users.seat (c.loop.invariant.seat.0 ∙ at.0, c.loop.invariant.seat.1 ∙ at.1, c.loop.invariant.users.0 ∙ at.2, c.loop.invariant.users.1 ∙ at.3) w.serve_piece-progress.ensures.link _ _ _ w.serve_piece-progress.ensures.asked);
+            timely_read (language_for c.args.desk.now.attending.user (arc_value c.args.desk.now.shelf)) (telling g.K.Link.told g.C.Timestamps.told g.C.Timestamps.stamped) (starting (g.K.Link.state c.args.link.now) (g.C.Timestamps.coming c.args.clock.now) b) (g.K.Link.state c.args.link.now) (g.K.Link.state c.loop.link) c.is_cancelled.new.desk.seat.seen c.is_cancelled.new.desk.users.seat.seen (moved.here.timely b at saw users) _ _ _ _ w.in-Bytes.ensures.read
+            (timely_moved arc_value (telling g.K.Link.told g.C.Timestamps.told g.C.Timestamps.stamped) (g.C.Timestamps.coming c.loop.clock) _ _ (in_hand c.is_cancelled.new.desk.attending false More c.is_cancelled.new.desk.reader _) c.args.desk.now.shelf c.is_cancelled.new.desk.shelf c.args.desk.now.seat c.is_cancelled.new.desk.seat c.args.desk.now.users.seat c.is_cancelled.new.desk.users.seat (c.is_cancelled.ensures.shelf ∙ c.loop.invariant.shelf) moved.here.seat_is moved.here.users_are w.serve_piece-progress.ensures.timely c.args.desk.now.attending.user _ _ b at
+            (stands_piece _ _ _ _ _ _ _ _ _ _ _ _ _ _ (moved.here.stands b at saw users) w.in-Bytes.ensures.read (grind (arith, common_steps))))
+            (went_to g.K.Link.told b _ (g.K.Link.state w.serve_piece-progress.new.link) c.is_cancelled.new.desk.seat c.is_cancelled.new.desk.users.seat (moved.here.seat_is.0 ∙ at.0, moved.here.seat_is.1 ∙ at.1, moved.here.users_are.0 ∙ at.2, moved.here.users_are.1 ∙ at.3) w.serve_piece-progress.ensures.link _ _ _ w.serve_piece-progress.ensures.asked);
         gate = w.serve_piece-progress.ensures.unstopped (on_goes _ w.in-On.is) ∙ c.loop.invariant.gate;
         counted = rw w.serve_piece-progress.ensures.link.wrote.reads (counted_more _ _ _ _ c.loop.invariant.counted w.in-Bytes.ensures.read.reads);
         faults = w.serve_piece-progress.ensures.link.wrote.read_faults ∙ w.in-Bytes.ensures.read.no_fault (bytes_came _) ∙ c.loop.invariant.faults;
         not_ended = λ _. w.serve_piece-progress.ensures.link.wrote.ended ∙ w.in-Bytes.ensures.read.ended;
         hung_up = w.serve_piece-progress.ensures.hung_up ∙ w.in-Bytes.ensures.hung_up ∙ c.loop.invariant.hung_up;
         room = search rules;
-        asked = are_entered_on g.G.Gate.asked g.G.Gate.asked_on c.args.desk.now.seat c.loop.desk.seat c.args.desk.now.users.seat c.loop.desk.users.seat c.args.gate.now c.loop.gate w.serve_piece-progress.new.gate _ _ c.loop.invariant.asked c.loop.invariant.seat c.loop.invariant.users w.serve_piece-progress.ensures.asked;
-        noted = noted_more (arc_value c.args.desk.now.shelf) (telling g.K.Link.told g.C.Timestamps.told g.C.Timestamps.stamped) g.N.Notes.noted g.N.Notes.noted_on c.args.notes.now c.loop.notes w.serve_piece-progress.new.notes (stood (g.K.Link.state c.args.link.now) (g.C.Timestamps.coming c.args.clock.now) c.args.desk.now.seat c.args.desk.now.users.seat c.args.desk.now.attending) (stood _ (g.C.Timestamps.coming c.loop.clock) c.loop.desk.seat c.loop.desk.users.seat c.loop.desk.attending) (stood (g.K.Link.state w.serve_piece-progress.new.link) (g.C.Timestamps.coming w.serve_piece-progress.new.clock) w.serve_piece-progress.new.desk.seat w.serve_piece-progress.new.desk.users.seat w.serve_piece-progress.new.desk.attending) (noted_read (arc_value c.args.desk.now.shelf) (telling g.K.Link.told g.C.Timestamps.told g.C.Timestamps.stamped) (stood (g.K.Link.state c.args.link.now) (g.C.Timestamps.coming c.args.clock.now) c.args.desk.now.seat c.args.desk.now.users.seat c.args.desk.now.attending) (g.K.Link.state c.loop.link) _ (g.C.Timestamps.coming c.loop.clock) c.loop.desk.seat c.loop.desk.users.seat c.loop.desk.attending (g.N.Notes.noted c.args.notes.now c.loop.notes) _ _ c.loop.invariant.noted w.in-Bytes.ensures.read) (noted_moved arc_value (telling g.K.Link.told g.C.Timestamps.told g.C.Timestamps.stamped) (stood _ (g.C.Timestamps.coming c.loop.clock) c.loop.desk.seat c.loop.desk.users.seat c.loop.desk.attending) (stood (g.K.Link.state w.serve_piece-progress.new.link) (g.C.Timestamps.coming w.serve_piece-progress.new.clock) w.serve_piece-progress.new.desk.seat w.serve_piece-progress.new.desk.users.seat w.serve_piece-progress.new.desk.attending) (g.N.Notes.noted c.loop.notes w.serve_piece-progress.new.notes) c.args.desk.now.shelf c.loop.desk.shelf c.loop.invariant.shelf w.serve_piece-progress.ensures.noted);
-        waits = waits_more (c.args.patience ≡ Limited) (language_for c.args.desk.now.attending.user (arc_value c.args.desk.now.shelf)) g.K.Link.begun g.K.Link.told g.C.Timestamps.told (g.K.Link.state c.args.link.now) (g.C.Timestamps.coming c.args.clock.now) c.args.desk.now.seat c.args.desk.now.users.seat (g.K.Link.state c.loop.link) (g.K.Link.state w.serve_piece-progress.new.link) _ (g.C.Timestamps.coming c.loop.clock) (now c.loop.desk) c.loop.desk.reader w.in-Bytes.ensures.begun c.loop.invariant.stands w.in-Bytes.ensures.read.reads w.serve_piece-progress.ensures.link.wrote.reads c.loop.counter c.loop.waited 1 c.waited_after-waited.result (c.waited_after-waited.ensures ∙ ap (λ (n : ℕ). waited_after c.loop.desk.attending.user c.loop.waited n) w.read-is) (c.is_over.ensures.lasts c.if-is_over.false) (omega arith) (omega arith) c.loop.invariant.waits;
-        idles = idles_heard (c.args.patience ≡ Limited) ((arc_value c.args.desk.now.shelf).idle) (language_for c.args.desk.now.attending.user (arc_value c.args.desk.now.shelf)) g.K.Link.begun g.K.Link.told g.C.Timestamps.told (g.K.Link.state c.args.link.now) (g.C.Timestamps.coming c.args.clock.now) c.args.desk.now.seat c.args.desk.now.users.seat (g.K.Link.state c.loop.link) (g.K.Link.state w.serve_piece-progress.new.link) _ (g.C.Timestamps.coming c.loop.clock) (now c.loop.desk) c.loop.desk.reader w.in-Bytes.ensures.begun c.loop.invariant.stands w.in-Bytes.ensures.read.reads w.serve_piece-progress.ensures.link.wrote.reads w.serve_piece-progress.new.desk.attending.user c.loop.counter c.loop.silent c.silent_after-silent.result (λ t. byte_came _ _ _ _ w.in-Bytes.ensures.read.fits (w.in-Bytes.ensures.read.left t)) (c.silent_after-silent.ensures ∙ ap (λ (n : ℕ). silent_after c.loop.silent n) w.read-is) (λ limits. subst (λ (i : IdleLimits). IsInTime i c.loop.desk.attending.user c.loop.silent) (c.idle-limits.ensures ∙ ap (λ (s : Contents). s.idle) c.deref.ensures) (c.is_idle.ensures.awake c.if-is_idle.false limits)) c.loop.invariant.idles;
+        asked = are_entered_on g.G.Gate.asked g.G.Gate.asked_on c.args.desk.now.seat c.is_cancelled.new.desk.seat c.args.desk.now.users.seat c.is_cancelled.new.desk.users.seat c.args.gate.now c.loop.gate w.serve_piece-progress.new.gate _ _ moved.here.entered moved.here.seat_is moved.here.users_are w.serve_piece-progress.ensures.asked;
+        noted = noted_more (arc_value c.args.desk.now.shelf) (telling g.K.Link.told g.C.Timestamps.told g.C.Timestamps.stamped) g.N.Notes.noted g.N.Notes.noted_on c.args.notes.now c.loop.notes w.serve_piece-progress.new.notes (stood (g.K.Link.state c.args.link.now) (g.C.Timestamps.coming c.args.clock.now) c.args.desk.now.seat c.args.desk.now.users.seat c.args.desk.now.attending) (stood _ (g.C.Timestamps.coming c.loop.clock) c.is_cancelled.new.desk.seat c.is_cancelled.new.desk.users.seat c.is_cancelled.new.desk.attending) (stood (g.K.Link.state w.serve_piece-progress.new.link) (g.C.Timestamps.coming w.serve_piece-progress.new.clock) w.serve_piece-progress.new.desk.seat w.serve_piece-progress.new.desk.users.seat w.serve_piece-progress.new.desk.attending) (noted_read (arc_value c.args.desk.now.shelf) (telling g.K.Link.told g.C.Timestamps.told g.C.Timestamps.stamped) (stood (g.K.Link.state c.args.link.now) (g.C.Timestamps.coming c.args.clock.now) c.args.desk.now.seat c.args.desk.now.users.seat c.args.desk.now.attending) (g.K.Link.state c.loop.link) _ (g.C.Timestamps.coming c.loop.clock) c.is_cancelled.new.desk.seat c.is_cancelled.new.desk.users.seat c.is_cancelled.new.desk.attending (g.N.Notes.noted c.args.notes.now c.loop.notes) _ _ noted_here w.in-Bytes.ensures.read) (noted_moved arc_value (telling g.K.Link.told g.C.Timestamps.told g.C.Timestamps.stamped) (stood _ (g.C.Timestamps.coming c.loop.clock) c.is_cancelled.new.desk.seat c.is_cancelled.new.desk.users.seat c.is_cancelled.new.desk.attending) (stood (g.K.Link.state w.serve_piece-progress.new.link) (g.C.Timestamps.coming w.serve_piece-progress.new.clock) w.serve_piece-progress.new.desk.seat w.serve_piece-progress.new.desk.users.seat w.serve_piece-progress.new.desk.attending) (g.N.Notes.noted c.loop.notes w.serve_piece-progress.new.notes) c.args.desk.now.shelf c.is_cancelled.new.desk.shelf (c.is_cancelled.ensures.shelf ∙ c.loop.invariant.shelf) w.serve_piece-progress.ensures.noted);
+        vacant = λ limits none. absurd (omega (arith, none));
+        waits = waits_more (c.args.patience ≡ Limited) (language_for c.args.desk.now.attending.user (arc_value c.args.desk.now.shelf)) g.K.Link.begun g.K.Link.told g.C.Timestamps.told (g.K.Link.state c.args.link.now) (g.C.Timestamps.coming c.args.clock.now) c.args.desk.now.seat c.args.desk.now.users.seat (g.K.Link.state c.loop.link) (g.K.Link.state w.serve_piece-progress.new.link) _ (g.C.Timestamps.coming c.loop.clock) (now c.is_cancelled.new.desk) c.is_cancelled.new.desk.reader w.in-Bytes.ensures.begun moved.here.stands w.in-Bytes.ensures.read.reads w.serve_piece-progress.ensures.link.wrote.reads c.loop.counter c.loop.waited 1 c.waited_after-waited.result (c.waited_after-waited.ensures ∙ ap (λ (n : ℕ). waited_after c.is_cancelled.new.desk.attending.user c.loop.waited n) w.read-is) (λ limits nobody. c.is_over.ensures.lasts c.if-is_over.false limits (ap (λ (a : Attending). a.user) (sym c.is_cancelled.ensures.attending) ∙ nobody)) (omega arith) (omega arith) c.loop.invariant.waits;
+        idles = idles_heard (c.args.patience ≡ Limited) ((arc_value c.args.desk.now.shelf).idle) (language_for c.args.desk.now.attending.user (arc_value c.args.desk.now.shelf)) g.K.Link.begun g.K.Link.told g.C.Timestamps.told (g.K.Link.state c.args.link.now) (g.C.Timestamps.coming c.args.clock.now) c.args.desk.now.seat c.args.desk.now.users.seat (g.K.Link.state c.loop.link) (g.K.Link.state w.serve_piece-progress.new.link) _ (g.C.Timestamps.coming c.loop.clock) (now c.is_cancelled.new.desk) c.is_cancelled.new.desk.reader w.in-Bytes.ensures.begun moved.here.stands w.in-Bytes.ensures.read.reads w.serve_piece-progress.ensures.link.wrote.reads w.serve_piece-progress.new.desk.attending.user c.loop.counter c.loop.silent c.silent_after-silent.result (λ t. byte_came _ _ _ _ w.in-Bytes.ensures.read.fits (w.in-Bytes.ensures.read.left t)) (c.silent_after-silent.ensures ∙ ap (λ (n : ℕ). silent_after c.loop.silent n) w.read-is) (λ limits. subst (λ (i : IdleLimits). IsInTime i c.is_cancelled.new.desk.attending.user c.loop.silent) (c.idle-limits.ensures ∙ ap (λ (s : Contents). s.idle) c.deref.ensures) (subst (λ (a : Attending). IsInTime c.idle-limits.result a.user c.loop.silent) (sym c.is_cancelled.ensures.attending) (c.is_idle.ensures.awake c.if-is_idle.false limits))) idles_here;
       })
       | in-Quiet+in-On-report w ↦ rw (w.desk-is, w.link-is, w.clock-is, w.gate-is, w.notes-is) (record {
-        shelf = w.report.ensures.shelf ∙ c.loop.invariant.shelf;
-        seat = (w.report.ensures.seat.0 ∙ c.loop.invariant.seat.0, w.report.ensures.seat.1 ∙ c.loop.invariant.seat.1, w.report.ensures.seat.2 ∙ c.loop.invariant.seat.2, w.report.ensures.seat.3 ∙ c.loop.invariant.seat.3);
-        users = (ap (λ (u : UserDesk g.row.U.Denot). u.seat.opening) w.report.ensures.users ∙ c.loop.invariant.users.0, ap (λ (u : UserDesk g.row.U.Denot). u.seat.place) w.report.ensures.users ∙ c.loop.invariant.users.1, ap (λ (u : UserDesk g.row.U.Denot). u.seat.places) w.report.ensures.users ∙ c.loop.invariant.users.2, ap (λ (u : UserDesk g.row.U.Denot). u.seat.turnstile) w.report.ensures.users ∙ c.loop.invariant.users.3);
+        shelf = w.report.ensures.shelf ∙ (c.is_cancelled.ensures.shelf ∙ c.loop.invariant.shelf);
+        seat = (w.report.ensures.seat.0 ∙ moved.here.seat_is.0, w.report.ensures.seat.1 ∙ moved.here.seat_is.1, w.report.ensures.seat.2 ∙ moved.here.seat_is.2, w.report.ensures.seat.3 ∙ moved.here.seat_is.3);
+        users = (ap (λ (u : UserDesk g.row.U.Denot). u.seat.opening) w.report.ensures.users ∙ moved.here.users_are.0, ap (λ (u : UserDesk g.row.U.Denot). u.seat.place) w.report.ensures.users ∙ moved.here.users_are.1, ap (λ (u : UserDesk g.row.U.Denot). u.seat.places) w.report.ensures.users ∙ moved.here.users_are.2, ap (λ (u : UserDesk g.row.U.Denot). u.seat.turnstile) w.report.ensures.users ∙ moved.here.users_are.3);
         stands = λ b at saw users. subst (λ (r : Reader). Stands (language_for c.args.desk.now.attending.user (arc_value c.args.desk.now.shelf)) g.K.Link.told g.C.Timestamps.told (g.K.Link.state c.args.link.now) (g.K.Link.state w.report.new.link) (g.C.Timestamps.coming c.args.clock.now) (g.C.Timestamps.coming w.report.new.clock) b (now w.report.new.desk) false More r []) (sym w.report.ensures.reader)
-            (goes_on_is _ _ _ _ _ _ _ _ _ _ _ _ w.in-On-report.is (moved_goes arc_value c.args.desk.now.attending.user g.K.Link.told g.C.Timestamps.told _ (g.K.Link.state w.report.new.link) (g.C.Timestamps.coming c.loop.clock) (g.C.Timestamps.coming w.report.new.clock) (now c.loop.desk) (now w.report.new.desk) (is_some c.loop.desk.attending.watch) c.loop.desk.reader c.loop.desk.reader w.report.result c.args.desk.now.shelf c.loop.desk.shelf c.args.desk.now.seat c.loop.desk.seat c.args.desk.now.users.seat c.loop.desk.users.seat [] [] c.loop.invariant.shelf c.loop.invariant.seat c.loop.invariant.users (λ k c1 b1. w.report.ensures.goes c.args.desk.now.attending.user k c1 b1 c.loop.desk.reader []) _ _ b at (stands_quiet _ _ _ _ _ _ _ _ _ _ _ _ (c.loop.invariant.stands b at saw users) w.in-Quiet.ensures.read)));
-        prompt = prompt_more (language_for c.args.desk.now.attending.user (arc_value c.args.desk.now.shelf)) g.K.Link.begun g.K.Link.told g.C.Timestamps.told (g.K.Link.state c.args.link.now) (g.C.Timestamps.coming c.args.clock.now) c.args.desk.now.seat c.args.desk.now.users.seat (g.K.Link.state c.loop.link) (g.K.Link.state w.report.new.link) _ (g.C.Timestamps.coming c.loop.clock) (now c.loop.desk) c.loop.desk.reader c.loop.invariant.prompt w.in-Quiet.ensures.begun c.loop.invariant.stands w.in-Quiet.ensures.read.reads w.report.ensures.link.wrote.reads;
+            (goes_on_is _ _ _ _ _ _ _ _ _ _ _ _ w.in-On-report.is (moved_goes arc_value c.args.desk.now.attending.user g.K.Link.told g.C.Timestamps.told _ (g.K.Link.state w.report.new.link) (g.C.Timestamps.coming c.loop.clock) (g.C.Timestamps.coming w.report.new.clock) (now c.is_cancelled.new.desk) (now w.report.new.desk) (is_some c.is_cancelled.new.desk.attending.watch) c.is_cancelled.new.desk.reader c.is_cancelled.new.desk.reader w.report.result c.args.desk.now.shelf c.is_cancelled.new.desk.shelf c.args.desk.now.seat c.is_cancelled.new.desk.seat c.args.desk.now.users.seat c.is_cancelled.new.desk.users.seat [] [] (c.is_cancelled.ensures.shelf ∙ c.loop.invariant.shelf) moved.here.seat_is moved.here.users_are (λ k c1 b1. w.report.ensures.goes c.args.desk.now.attending.user k c1 b1 c.is_cancelled.new.desk.reader []) _ _ b at (stands_quiet _ _ _ _ _ _ _ _ _ _ _ _ (moved.here.stands b at saw users) w.in-Quiet.ensures.read)));
+        prompt = prompt_more (language_for c.args.desk.now.attending.user (arc_value c.args.desk.now.shelf)) g.K.Link.begun g.K.Link.told g.C.Timestamps.told (g.K.Link.state c.args.link.now) (g.C.Timestamps.coming c.args.clock.now) c.args.desk.now.seat c.args.desk.now.users.seat (g.K.Link.state c.loop.link) (g.K.Link.state w.report.new.link) _ (g.C.Timestamps.coming c.loop.clock) (now c.is_cancelled.new.desk) c.is_cancelled.new.desk.reader c.loop.invariant.prompt w.in-Quiet.ensures.begun moved.here.stands w.in-Quiet.ensures.read.reads w.report.ensures.link.wrote.reads;
+        heeds = λ limits. heeds_more (language_for c.args.desk.now.attending.user (arc_value c.args.desk.now.shelf)) g.K.Link.begun g.K.Link.told g.C.Timestamps.told (g.K.Link.state c.args.link.now) (g.C.Timestamps.coming c.args.clock.now) c.args.desk.now.seat c.args.desk.now.users.seat (g.K.Link.state c.loop.link) (g.K.Link.state w.report.new.link) _ (g.C.Timestamps.coming c.loop.clock) (now c.is_cancelled.new.desk) c.is_cancelled.new.desk.reader (c.loop.invariant.heeds limits) w.in-Quiet.ensures.begun (λ b at saw users. (moved.here.stands b at saw users, moved.unended c.if-is_cancelled.false limits b at saw users)) w.in-Quiet.ensures.read.reads w.report.ensures.link.wrote.reads;
         timely = λ b at saw users.
-            timely_read (language_for c.args.desk.now.attending.user (arc_value c.args.desk.now.shelf)) (telling g.K.Link.told g.C.Timestamps.told g.C.Timestamps.stamped) (starting (g.K.Link.state c.args.link.now) (g.C.Timestamps.coming c.args.clock.now) b) (g.K.Link.state c.args.link.now) (g.K.Link.state c.loop.link) c.loop.desk.seat.seen c.loop.desk.users.seat.seen (c.loop.invariant.timely b at saw users) _ _ _ _ w.in-Quiet.ensures.read
-            (timely_moved arc_value (telling g.K.Link.told g.C.Timestamps.told g.C.Timestamps.stamped) (g.C.Timestamps.coming c.loop.clock) _ _ (in_hand c.loop.desk.attending (is_some c.loop.desk.attending.watch) More c.loop.desk.reader []) c.args.desk.now.shelf c.loop.desk.shelf c.args.desk.now.seat c.loop.desk.seat c.args.desk.now.users.seat c.loop.desk.users.seat c.loop.invariant.shelf c.loop.invariant.seat c.loop.invariant.users (w.report.ensures.timely c.loop.desk.reader []) c.args.desk.now.attending.user _ _ b at
-            (stands_quiet _ _ _ _ _ _ _ _ _ _ _ _ (c.loop.invariant.stands b at saw users) w.in-Quiet.ensures.read))
-            (looked_to g.K.Link.told b _ (g.K.Link.state w.report.new.link) c.loop.desk.seat c.loop.desk.users.seat (c.loop.invariant.seat.0 ∙ at.0, c.loop.invariant.seat.1 ∙ at.1, c.loop.invariant.users.0 ∙ at.2, c.loop.invariant.users.1 ∙ at.3) w.report.ensures.link _ _ (ap (λ (u : UserDesk g.row.U.Denot). u.seat.seen) w.report.ensures.users) w.report.ensures.entered);
+            timely_read (language_for c.args.desk.now.attending.user (arc_value c.args.desk.now.shelf)) (telling g.K.Link.told g.C.Timestamps.told g.C.Timestamps.stamped) (starting (g.K.Link.state c.args.link.now) (g.C.Timestamps.coming c.args.clock.now) b) (g.K.Link.state c.args.link.now) (g.K.Link.state c.loop.link) c.is_cancelled.new.desk.seat.seen c.is_cancelled.new.desk.users.seat.seen (moved.here.timely b at saw users) _ _ _ _ w.in-Quiet.ensures.read
+            (timely_moved arc_value (telling g.K.Link.told g.C.Timestamps.told g.C.Timestamps.stamped) (g.C.Timestamps.coming c.loop.clock) _ _ (in_hand c.is_cancelled.new.desk.attending (is_some c.is_cancelled.new.desk.attending.watch) More c.is_cancelled.new.desk.reader []) c.args.desk.now.shelf c.is_cancelled.new.desk.shelf c.args.desk.now.seat c.is_cancelled.new.desk.seat c.args.desk.now.users.seat c.is_cancelled.new.desk.users.seat (c.is_cancelled.ensures.shelf ∙ c.loop.invariant.shelf) moved.here.seat_is moved.here.users_are (w.report.ensures.timely c.is_cancelled.new.desk.reader []) c.args.desk.now.attending.user _ _ b at
+            (stands_quiet _ _ _ _ _ _ _ _ _ _ _ _ (moved.here.stands b at saw users) w.in-Quiet.ensures.read))
+            (looked_to g.K.Link.told b _ (g.K.Link.state w.report.new.link) c.is_cancelled.new.desk.seat c.is_cancelled.new.desk.users.seat (moved.here.seat_is.0 ∙ at.0, moved.here.seat_is.1 ∙ at.1, moved.here.users_are.0 ∙ at.2, moved.here.users_are.1 ∙ at.3) w.report.ensures.link _ _ (ap (λ (u : UserDesk g.row.U.Denot). u.seat.seen) w.report.ensures.users) w.report.ensures.entered);
         gate = c.loop.invariant.gate;
         counted = rw w.report.ensures.link.wrote.reads (counted_more _ _ _ _ c.loop.invariant.counted w.in-Quiet.ensures.read.reads);
         faults = w.report.ensures.link.wrote.read_faults ∙ w.in-Quiet.ensures.read.no_fault quiet_came ∙ c.loop.invariant.faults;
         not_ended = λ _. w.report.ensures.link.wrote.ended ∙ w.in-Quiet.ensures.read.ended;
         hung_up = w.report.ensures.hung_up ∙ w.in-Quiet.ensures.hung_up ∙ c.loop.invariant.hung_up;
         room = search rules;
-        asked = are_entered_beside g.G.Gate.asked g.G.Gate.asked_on g.G.Gate.unasked c.args.desk.now.seat c.loop.desk.seat c.args.desk.now.users.seat c.args.gate.now c.loop.gate _ _ _ _ c.loop.invariant.asked refl c.loop.invariant.seat (ap (λ (u : UserDesk g.row.U.Denot). u.seat.seen) w.report.ensures.users) w.report.ensures.entered;
-        noted = noted_beside (arc_value c.args.desk.now.shelf) (telling g.K.Link.told g.C.Timestamps.told g.C.Timestamps.stamped) (stood (g.K.Link.state c.args.link.now) (g.C.Timestamps.coming c.args.clock.now) c.args.desk.now.seat c.args.desk.now.users.seat c.args.desk.now.attending) (stood _ (g.C.Timestamps.coming c.loop.clock) c.loop.desk.seat c.loop.desk.users.seat c.loop.desk.attending) (stood (g.K.Link.state w.report.new.link) (g.C.Timestamps.coming w.report.new.clock) w.report.new.desk.seat w.report.new.desk.users.seat w.report.new.desk.attending) (g.N.Notes.noted c.args.notes.now c.loop.notes) (noted_read (arc_value c.args.desk.now.shelf) (telling g.K.Link.told g.C.Timestamps.told g.C.Timestamps.stamped) (stood (g.K.Link.state c.args.link.now) (g.C.Timestamps.coming c.args.clock.now) c.args.desk.now.seat c.args.desk.now.users.seat c.args.desk.now.attending) (g.K.Link.state c.loop.link) _ (g.C.Timestamps.coming c.loop.clock) c.loop.desk.seat c.loop.desk.users.seat c.loop.desk.attending (g.N.Notes.noted c.args.notes.now c.loop.notes) _ _ c.loop.invariant.noted w.in-Quiet.ensures.read) (beside_reports g.K.Link.told (stood _ (g.C.Timestamps.coming c.loop.clock) c.loop.desk.seat c.loop.desk.users.seat c.loop.desk.attending) (stood (g.K.Link.state w.report.new.link) (g.C.Timestamps.coming w.report.new.clock) w.report.new.desk.seat w.report.new.desk.users.seat w.report.new.desk.attending) w.report.ensures.link w.report.ensures.seat (ap (λ (u : UserDesk g.row.U.Denot). u.seat) w.report.ensures.users) w.report.ensures.looked w.report.ensures.user);
-        waits = waits_more (c.args.patience ≡ Limited) (language_for c.args.desk.now.attending.user (arc_value c.args.desk.now.shelf)) g.K.Link.begun g.K.Link.told g.C.Timestamps.told (g.K.Link.state c.args.link.now) (g.C.Timestamps.coming c.args.clock.now) c.args.desk.now.seat c.args.desk.now.users.seat (g.K.Link.state c.loop.link) (g.K.Link.state w.report.new.link) _ (g.C.Timestamps.coming c.loop.clock) (now c.loop.desk) c.loop.desk.reader w.in-Quiet.ensures.begun c.loop.invariant.stands w.in-Quiet.ensures.read.reads w.report.ensures.link.wrote.reads c.loop.counter c.loop.waited 16 c.waited_after-waited.result (c.waited_after-waited.ensures ∙ ap (λ (n : ℕ). waited_after c.loop.desk.attending.user c.loop.waited n) w.read-is) (c.is_over.ensures.lasts c.if-is_over.false) (omega arith) (omega arith) c.loop.invariant.waits;
-        idles = idles_silent (c.args.patience ≡ Limited) ((arc_value c.args.desk.now.shelf).idle) (language_for c.args.desk.now.attending.user (arc_value c.args.desk.now.shelf)) g.K.Link.begun g.K.Link.told g.C.Timestamps.told (g.K.Link.state c.args.link.now) (g.C.Timestamps.coming c.args.clock.now) c.args.desk.now.seat c.args.desk.now.users.seat (g.K.Link.state c.loop.link) (g.K.Link.state w.report.new.link) _ (g.C.Timestamps.coming c.loop.clock) (now c.loop.desk) c.loop.desk.reader w.in-Quiet.ensures.begun c.loop.invariant.stands w.in-Quiet.ensures.read.reads w.report.ensures.link.wrote.reads w.report.new.desk.attending.user c.loop.counter c.loop.silent c.silent_after-silent.result w.report.ensures.user (λ t. w.in-Quiet.ensures.read.left t ∙ ap (λ (items : List Item). quiet ∷ items) (sym (w.report.ensures.link.wrote.left t))) (c.silent_after-silent.ensures ∙ ap (λ (n : ℕ). silent_after c.loop.silent n) w.read-is) (λ limits. subst (λ (i : IdleLimits). IsInTime i c.loop.desk.attending.user c.loop.silent) (c.idle-limits.ensures ∙ ap (λ (s : Contents). s.idle) c.deref.ensures) (c.is_idle.ensures.awake c.if-is_idle.false limits)) c.loop.invariant.idles;
+        asked = are_entered_beside g.G.Gate.asked g.G.Gate.asked_on g.G.Gate.unasked c.args.desk.now.seat c.is_cancelled.new.desk.seat c.args.desk.now.users.seat c.args.gate.now c.loop.gate _ _ _ _ moved.here.entered refl moved.here.seat_is (ap (λ (u : UserDesk g.row.U.Denot). u.seat.seen) w.report.ensures.users) w.report.ensures.entered;
+        noted = noted_beside (arc_value c.args.desk.now.shelf) (telling g.K.Link.told g.C.Timestamps.told g.C.Timestamps.stamped) (stood (g.K.Link.state c.args.link.now) (g.C.Timestamps.coming c.args.clock.now) c.args.desk.now.seat c.args.desk.now.users.seat c.args.desk.now.attending) (stood _ (g.C.Timestamps.coming c.loop.clock) c.is_cancelled.new.desk.seat c.is_cancelled.new.desk.users.seat c.is_cancelled.new.desk.attending) (stood (g.K.Link.state w.report.new.link) (g.C.Timestamps.coming w.report.new.clock) w.report.new.desk.seat w.report.new.desk.users.seat w.report.new.desk.attending) (g.N.Notes.noted c.args.notes.now c.loop.notes) (noted_read (arc_value c.args.desk.now.shelf) (telling g.K.Link.told g.C.Timestamps.told g.C.Timestamps.stamped) (stood (g.K.Link.state c.args.link.now) (g.C.Timestamps.coming c.args.clock.now) c.args.desk.now.seat c.args.desk.now.users.seat c.args.desk.now.attending) (g.K.Link.state c.loop.link) _ (g.C.Timestamps.coming c.loop.clock) c.is_cancelled.new.desk.seat c.is_cancelled.new.desk.users.seat c.is_cancelled.new.desk.attending (g.N.Notes.noted c.args.notes.now c.loop.notes) _ _ noted_here w.in-Quiet.ensures.read) (beside_reports g.K.Link.told (stood _ (g.C.Timestamps.coming c.loop.clock) c.is_cancelled.new.desk.seat c.is_cancelled.new.desk.users.seat c.is_cancelled.new.desk.attending) (stood (g.K.Link.state w.report.new.link) (g.C.Timestamps.coming w.report.new.clock) w.report.new.desk.seat w.report.new.desk.users.seat w.report.new.desk.attending) w.report.ensures.link w.report.ensures.seat (ap (λ (u : UserDesk g.row.U.Denot). u.seat) w.report.ensures.users) w.report.ensures.looked w.report.ensures.user);
+        vacant = λ limits none. absurd (omega (arith, none));
+        waits = waits_more (c.args.patience ≡ Limited) (language_for c.args.desk.now.attending.user (arc_value c.args.desk.now.shelf)) g.K.Link.begun g.K.Link.told g.C.Timestamps.told (g.K.Link.state c.args.link.now) (g.C.Timestamps.coming c.args.clock.now) c.args.desk.now.seat c.args.desk.now.users.seat (g.K.Link.state c.loop.link) (g.K.Link.state w.report.new.link) _ (g.C.Timestamps.coming c.loop.clock) (now c.is_cancelled.new.desk) c.is_cancelled.new.desk.reader w.in-Quiet.ensures.begun moved.here.stands w.in-Quiet.ensures.read.reads w.report.ensures.link.wrote.reads c.loop.counter c.loop.waited 16 c.waited_after-waited.result (c.waited_after-waited.ensures ∙ ap (λ (n : ℕ). waited_after c.is_cancelled.new.desk.attending.user c.loop.waited n) w.read-is) (λ limits nobody. c.is_over.ensures.lasts c.if-is_over.false limits (ap (λ (a : Attending). a.user) (sym c.is_cancelled.ensures.attending) ∙ nobody)) (omega arith) (omega arith) c.loop.invariant.waits;
+        idles = idles_silent (c.args.patience ≡ Limited) ((arc_value c.args.desk.now.shelf).idle) (language_for c.args.desk.now.attending.user (arc_value c.args.desk.now.shelf)) g.K.Link.begun g.K.Link.told g.C.Timestamps.told (g.K.Link.state c.args.link.now) (g.C.Timestamps.coming c.args.clock.now) c.args.desk.now.seat c.args.desk.now.users.seat (g.K.Link.state c.loop.link) (g.K.Link.state w.report.new.link) _ (g.C.Timestamps.coming c.loop.clock) (now c.is_cancelled.new.desk) c.is_cancelled.new.desk.reader w.in-Quiet.ensures.begun moved.here.stands w.in-Quiet.ensures.read.reads w.report.ensures.link.wrote.reads w.report.new.desk.attending.user c.loop.counter c.loop.silent c.silent_after-silent.result w.report.ensures.user (λ t. w.in-Quiet.ensures.read.left t ∙ ap (λ (items : List Item). quiet ∷ items) (sym (w.report.ensures.link.wrote.left t))) (c.silent_after-silent.ensures ∙ ap (λ (n : ℕ). silent_after c.loop.silent n) w.read-is) (λ limits. subst (λ (i : IdleLimits). IsInTime i c.is_cancelled.new.desk.attending.user c.loop.silent) (c.idle-limits.ensures ∙ ap (λ (s : Contents). s.idle) c.deref.ensures) (subst (λ (a : Attending). IsInTime c.idle-limits.result a.user c.loop.silent) (sym c.is_cancelled.ensures.attending) (c.is_idle.ensures.awake c.if-is_idle.false limits))) idles_here;
       })
     ]
 
 pub returns-in-Cut-report : goal.returns-in-Cut-report
 returns-in-Cut-report g c =
+    let moved = looked (language_for c.args.desk.now.attending.user (arc_value c.args.desk.now.shelf)) (telling g.K.Link.told g.C.Timestamps.told g.C.Timestamps.stamped) g.G.Gate.asked g.G.Gate.asked_on g.G.Gate.unasked (g.K.Link.state c.args.link.now) (g.K.Link.state c.loop.link) (g.C.Timestamps.coming c.args.clock.now) (g.C.Timestamps.coming c.loop.clock) c.args.desk.now.seat c.args.desk.now.users.seat c.args.gate.now c.loop.gate c.args.patience c.is_cancelled.result c.loop.desk.seat c.loop.desk.users.seat c.is_cancelled.new.desk.users.seat c.loop.desk.attending c.loop.desk.reader (record { seat_is = c.loop.invariant.seat; users_are = c.loop.invariant.users; stands = c.loop.invariant.stands; timely = c.loop.invariant.timely; entered = c.loop.invariant.asked }) c.is_cancelled.ensures.users c.is_cancelled.ensures.heeded c.is_cancelled.new.desk.seat c.is_cancelled.new.desk.attending c.is_cancelled.new.desk.reader c.is_cancelled.ensures.seat c.is_cancelled.ensures.attending c.is_cancelled.ensures.reader in
+    let idles_here = subst (λ (a : Attending). Idles (c.args.patience ≡ Limited) ((arc_value c.args.desk.now.shelf).idle) (language_for c.args.desk.now.attending.user (arc_value c.args.desk.now.shelf)) g.K.Link.begun g.K.Link.told g.C.Timestamps.told (g.K.Link.state c.args.link.now) (g.C.Timestamps.coming c.args.clock.now) c.args.desk.now.seat c.args.desk.now.users.seat (g.K.Link.state c.loop.link) a.user c.loop.counter c.loop.silent) (sym c.is_cancelled.ensures.attending) c.loop.invariant.idles in
+    let noted_here = noted_beside (arc_value c.args.desk.now.shelf) (telling g.K.Link.told g.C.Timestamps.told g.C.Timestamps.stamped) (stood (g.K.Link.state c.args.link.now) (g.C.Timestamps.coming c.args.clock.now) c.args.desk.now.seat c.args.desk.now.users.seat c.args.desk.now.attending) (stood (g.K.Link.state c.loop.link) (g.C.Timestamps.coming c.loop.clock) c.loop.desk.seat c.loop.desk.users.seat c.loop.desk.attending) (stood (g.K.Link.state c.loop.link) (g.C.Timestamps.coming c.loop.clock) c.is_cancelled.new.desk.seat c.is_cancelled.new.desk.users.seat c.is_cancelled.new.desk.attending) (g.N.Notes.noted c.args.notes.now c.loop.notes) c.loop.invariant.noted (beside_look g.K.Link.told (g.K.Link.state c.loop.link) (g.C.Timestamps.coming c.loop.clock) c.args.patience c.is_cancelled.result c.loop.desk.seat c.is_cancelled.new.desk.seat c.loop.desk.users.seat c.is_cancelled.new.desk.users.seat c.loop.desk.attending c.is_cancelled.new.desk.attending c.is_cancelled.ensures.seat c.is_cancelled.ensures.users c.is_cancelled.ensures.heeded c.is_cancelled.ensures.attending) in
     let h = c.seen.ensures.history in
     let p = c.seen-2.ensures.history in
     let seat = c.args.desk.now.seat in
     let b : Beginning = record { opening = seat.opening; users = c.args.desk.now.users.seat.opening; place = seat.place; before = h.0; users_before = p.0 } in
     let cut : c.report.result ≡ Cut = elim c.in-Cut-report.is [ inl e ↦ e | inr e ↦ absurd (c.report.ensures.unstopped e) ] in
     let going : (g.K.Link.state c.report.new.link).ended ≡ false = c.report.ensures.link.wrote.ended ∙ c.in-Quiet.ensures.read.ended in
-    let breaks = goes_cut_is _ _ _ _ _ _ _ _ _ _ _ _ _ cut (moved_goes arc_value c.args.desk.now.attending.user g.K.Link.told g.C.Timestamps.told _ (g.K.Link.state c.report.new.link) (g.C.Timestamps.coming c.loop.clock) (g.C.Timestamps.coming c.report.new.clock) (now c.loop.desk) (now c.report.new.desk) (is_some c.loop.desk.attending.watch) c.loop.desk.reader c.loop.desk.reader c.report.result c.args.desk.now.shelf c.loop.desk.shelf c.args.desk.now.seat c.loop.desk.seat c.args.desk.now.users.seat c.loop.desk.users.seat [] [] c.loop.invariant.shelf c.loop.invariant.seat c.loop.invariant.users (λ k c1 b1. c.report.ensures.goes c.args.desk.now.attending.user k c1 b1 c.loop.desk.reader []) _ _ b (refl, refl, refl, c.args.desk.now.same_place) (stands_quiet _ _ _ _ _ _ _ _ _ _ _ _ (c.loop.invariant.stands b (refl, refl, refl, c.args.desk.now.same_place) h.1 p.1) c.in-Quiet.ensures.read)) in
+    let breaks = goes_cut_is _ _ _ _ _ _ _ _ _ _ _ _ _ cut (moved_goes arc_value c.args.desk.now.attending.user g.K.Link.told g.C.Timestamps.told _ (g.K.Link.state c.report.new.link) (g.C.Timestamps.coming c.loop.clock) (g.C.Timestamps.coming c.report.new.clock) (now c.is_cancelled.new.desk) (now c.report.new.desk) (is_some c.is_cancelled.new.desk.attending.watch) c.is_cancelled.new.desk.reader c.is_cancelled.new.desk.reader c.report.result c.args.desk.now.shelf c.is_cancelled.new.desk.shelf c.args.desk.now.seat c.is_cancelled.new.desk.seat c.args.desk.now.users.seat c.is_cancelled.new.desk.users.seat [] [] (c.is_cancelled.ensures.shelf ∙ c.loop.invariant.shelf) moved.here.seat_is moved.here.users_are (λ k c1 b1. c.report.ensures.goes c.args.desk.now.attending.user k c1 b1 c.is_cancelled.new.desk.reader []) _ _ b (refl, refl, refl, c.args.desk.now.same_place) (stands_quiet _ _ _ _ _ _ _ _ _ _ _ _ (moved.here.stands b (refl, refl, refl, c.args.desk.now.same_place) h.1 p.1) c.in-Quiet.ensures.read)) in
     record {
-      shelf = c.report.ensures.shelf ∙ c.loop.invariant.shelf;
-      seat = (c.report.ensures.seat.0 ∙ c.loop.invariant.seat.0, c.report.ensures.seat.1 ∙ c.loop.invariant.seat.1, c.report.ensures.seat.2 ∙ c.loop.invariant.seat.2, c.report.ensures.seat.3 ∙ c.loop.invariant.seat.3);
-      users = (ap (λ (u : UserDesk g.row.U.Denot). u.seat.opening) c.report.ensures.users ∙ c.loop.invariant.users.0, ap (λ (u : UserDesk g.row.U.Denot). u.seat.place) c.report.ensures.users ∙ c.loop.invariant.users.1, ap (λ (u : UserDesk g.row.U.Denot). u.seat.places) c.report.ensures.users ∙ c.loop.invariant.users.2, ap (λ (u : UserDesk g.row.U.Denot). u.seat.turnstile) c.report.ensures.users ∙ c.loop.invariant.users.3);
+      shelf = c.report.ensures.shelf ∙ (c.is_cancelled.ensures.shelf ∙ c.loop.invariant.shelf);
+      seat = (c.report.ensures.seat.0 ∙ moved.here.seat_is.0, c.report.ensures.seat.1 ∙ moved.here.seat_is.1, c.report.ensures.seat.2 ∙ moved.here.seat_is.2, c.report.ensures.seat.3 ∙ moved.here.seat_is.3);
+      users = (ap (λ (u : UserDesk g.row.U.Denot). u.seat.opening) c.report.ensures.users ∙ moved.here.users_are.0, ap (λ (u : UserDesk g.row.U.Denot). u.seat.place) c.report.ensures.users ∙ moved.here.users_are.1, ap (λ (u : UserDesk g.row.U.Denot). u.seat.places) c.report.ensures.users ∙ moved.here.users_are.2, ap (λ (u : UserDesk g.row.U.Denot). u.seat.turnstile) c.report.ensures.users ∙ moved.here.users_are.3);
       hung_up = c.report.ensures.hung_up ∙ c.in-Quiet.ensures.hung_up ∙ c.loop.invariant.hung_up;
       session = record { before = h.0; users_before = p.0; saw = h.1; users_saw = p.1; attending = _; session = breaks };
-      prompt = prompt_more (language_for c.args.desk.now.attending.user (arc_value c.args.desk.now.shelf)) g.K.Link.begun g.K.Link.told g.C.Timestamps.told (g.K.Link.state c.args.link.now) (g.C.Timestamps.coming c.args.clock.now) c.args.desk.now.seat c.args.desk.now.users.seat (g.K.Link.state c.loop.link) (g.K.Link.state c.report.new.link) _ (g.C.Timestamps.coming c.loop.clock) (now c.loop.desk) c.loop.desk.reader c.loop.invariant.prompt c.in-Quiet.ensures.begun c.loop.invariant.stands c.in-Quiet.ensures.read.reads c.report.ensures.link.wrote.reads;
+      prompt = prompt_more (language_for c.args.desk.now.attending.user (arc_value c.args.desk.now.shelf)) g.K.Link.begun g.K.Link.told g.C.Timestamps.told (g.K.Link.state c.args.link.now) (g.C.Timestamps.coming c.args.clock.now) c.args.desk.now.seat c.args.desk.now.users.seat (g.K.Link.state c.loop.link) (g.K.Link.state c.report.new.link) _ (g.C.Timestamps.coming c.loop.clock) (now c.is_cancelled.new.desk) c.is_cancelled.new.desk.reader c.loop.invariant.prompt c.in-Quiet.ensures.begun moved.here.stands c.in-Quiet.ensures.read.reads c.report.ensures.link.wrote.reads;
+      heeds = λ limits. heeds_more (language_for c.args.desk.now.attending.user (arc_value c.args.desk.now.shelf)) g.K.Link.begun g.K.Link.told g.C.Timestamps.told (g.K.Link.state c.args.link.now) (g.C.Timestamps.coming c.args.clock.now) c.args.desk.now.seat c.args.desk.now.users.seat (g.K.Link.state c.loop.link) (g.K.Link.state c.report.new.link) _ (g.C.Timestamps.coming c.loop.clock) (now c.is_cancelled.new.desk) c.is_cancelled.new.desk.reader (c.loop.invariant.heeds limits) c.in-Quiet.ensures.begun (λ b at saw users. (moved.here.stands b at saw users, moved.unended c.if-is_cancelled.false limits b at saw users)) c.in-Quiet.ensures.read.reads c.report.ensures.link.wrote.reads;
       timely = λ b at saw users.
-          timely_read (language_for c.args.desk.now.attending.user (arc_value c.args.desk.now.shelf)) (telling g.K.Link.told g.C.Timestamps.told g.C.Timestamps.stamped) (starting (g.K.Link.state c.args.link.now) (g.C.Timestamps.coming c.args.clock.now) b) (g.K.Link.state c.args.link.now) (g.K.Link.state c.loop.link) c.loop.desk.seat.seen c.loop.desk.users.seat.seen (c.loop.invariant.timely b at saw users) _ _ _ _ c.in-Quiet.ensures.read
-          (timely_moved arc_value (telling g.K.Link.told g.C.Timestamps.told g.C.Timestamps.stamped) (g.C.Timestamps.coming c.loop.clock) _ _ (in_hand c.loop.desk.attending (is_some c.loop.desk.attending.watch) More c.loop.desk.reader []) c.args.desk.now.shelf c.loop.desk.shelf c.args.desk.now.seat c.loop.desk.seat c.args.desk.now.users.seat c.loop.desk.users.seat c.loop.invariant.shelf c.loop.invariant.seat c.loop.invariant.users (c.report.ensures.timely c.loop.desk.reader []) c.args.desk.now.attending.user _ _ b at
-          (stands_quiet _ _ _ _ _ _ _ _ _ _ _ _ (c.loop.invariant.stands b at saw users) c.in-Quiet.ensures.read))
-          (looked_to g.K.Link.told b _ (g.K.Link.state c.report.new.link) c.loop.desk.seat c.loop.desk.users.seat (c.loop.invariant.seat.0 ∙ at.0, c.loop.invariant.seat.1 ∙ at.1, c.loop.invariant.users.0 ∙ at.2, c.loop.invariant.users.1 ∙ at.3) c.report.ensures.link _ _ (ap (λ (u : UserDesk g.row.U.Denot). u.seat.seen) c.report.ensures.users) c.report.ensures.entered);
+          timely_read (language_for c.args.desk.now.attending.user (arc_value c.args.desk.now.shelf)) (telling g.K.Link.told g.C.Timestamps.told g.C.Timestamps.stamped) (starting (g.K.Link.state c.args.link.now) (g.C.Timestamps.coming c.args.clock.now) b) (g.K.Link.state c.args.link.now) (g.K.Link.state c.loop.link) c.is_cancelled.new.desk.seat.seen c.is_cancelled.new.desk.users.seat.seen (moved.here.timely b at saw users) _ _ _ _ c.in-Quiet.ensures.read
+          (timely_moved arc_value (telling g.K.Link.told g.C.Timestamps.told g.C.Timestamps.stamped) (g.C.Timestamps.coming c.loop.clock) _ _ (in_hand c.is_cancelled.new.desk.attending (is_some c.is_cancelled.new.desk.attending.watch) More c.is_cancelled.new.desk.reader []) c.args.desk.now.shelf c.is_cancelled.new.desk.shelf c.args.desk.now.seat c.is_cancelled.new.desk.seat c.args.desk.now.users.seat c.is_cancelled.new.desk.users.seat (c.is_cancelled.ensures.shelf ∙ c.loop.invariant.shelf) moved.here.seat_is moved.here.users_are (c.report.ensures.timely c.is_cancelled.new.desk.reader []) c.args.desk.now.attending.user _ _ b at
+          (stands_quiet _ _ _ _ _ _ _ _ _ _ _ _ (moved.here.stands b at saw users) c.in-Quiet.ensures.read))
+          (looked_to g.K.Link.told b _ (g.K.Link.state c.report.new.link) c.is_cancelled.new.desk.seat c.is_cancelled.new.desk.users.seat (moved.here.seat_is.0 ∙ at.0, moved.here.seat_is.1 ∙ at.1, moved.here.users_are.0 ∙ at.2, moved.here.users_are.1 ∙ at.3) c.report.ensures.link _ _ (ap (λ (u : UserDesk g.row.U.Denot). u.seat.seen) c.report.ensures.users) c.report.ensures.entered);
       end = ((λ is. write_no _ is refl), (λ ended. unheld _ going ended));
       all_read = λ t is. write_no _ is refl;
       read_fault = λ is. write_no _ is refl;
@@ -289,14 +324,15 @@ returns-in-Cut-report g c =
       later = stayed _ _ c.loop.invariant.gate;
       spent = λ is. write_no _ is refl;
       few = few_more _ _ _ _ _ _ c.loop.invariant.counted c.in-Quiet.ensures.read.reads c.report.ensures.link.wrote.reads c.loop-test.true;
-      asked = are_entered_beside g.G.Gate.asked g.G.Gate.asked_on g.G.Gate.unasked c.args.desk.now.seat c.loop.desk.seat c.args.desk.now.users.seat c.args.gate.now c.loop.gate _ _ _ _ c.loop.invariant.asked refl c.loop.invariant.seat (ap (λ (u : UserDesk g.row.U.Denot). u.seat.seen) c.report.ensures.users) c.report.ensures.entered;
-      noted = noted_beside (arc_value c.args.desk.now.shelf) (telling g.K.Link.told g.C.Timestamps.told g.C.Timestamps.stamped) (stood (g.K.Link.state c.args.link.now) (g.C.Timestamps.coming c.args.clock.now) c.args.desk.now.seat c.args.desk.now.users.seat c.args.desk.now.attending) (stood _ (g.C.Timestamps.coming c.loop.clock) c.loop.desk.seat c.loop.desk.users.seat c.loop.desk.attending) (stood (g.K.Link.state c.report.new.link) (g.C.Timestamps.coming c.report.new.clock) c.report.new.desk.seat c.report.new.desk.users.seat c.report.new.desk.attending) (g.N.Notes.noted c.args.notes.now c.loop.notes) (noted_read (arc_value c.args.desk.now.shelf) (telling g.K.Link.told g.C.Timestamps.told g.C.Timestamps.stamped) (stood (g.K.Link.state c.args.link.now) (g.C.Timestamps.coming c.args.clock.now) c.args.desk.now.seat c.args.desk.now.users.seat c.args.desk.now.attending) (g.K.Link.state c.loop.link) _ (g.C.Timestamps.coming c.loop.clock) c.loop.desk.seat c.loop.desk.users.seat c.loop.desk.attending (g.N.Notes.noted c.args.notes.now c.loop.notes) _ _ c.loop.invariant.noted c.in-Quiet.ensures.read) (beside_reports g.K.Link.told (stood _ (g.C.Timestamps.coming c.loop.clock) c.loop.desk.seat c.loop.desk.users.seat c.loop.desk.attending) (stood (g.K.Link.state c.report.new.link) (g.C.Timestamps.coming c.report.new.clock) c.report.new.desk.seat c.report.new.desk.users.seat c.report.new.desk.attending) c.report.ensures.link c.report.ensures.seat (ap (λ (u : UserDesk g.row.U.Denot). u.seat) c.report.ensures.users) c.report.ensures.looked c.report.ensures.user);
+      asked = are_entered_beside g.G.Gate.asked g.G.Gate.asked_on g.G.Gate.unasked c.args.desk.now.seat c.is_cancelled.new.desk.seat c.args.desk.now.users.seat c.args.gate.now c.loop.gate _ _ _ _ moved.here.entered refl moved.here.seat_is (ap (λ (u : UserDesk g.row.U.Denot). u.seat.seen) c.report.ensures.users) c.report.ensures.entered;
+      noted = noted_beside (arc_value c.args.desk.now.shelf) (telling g.K.Link.told g.C.Timestamps.told g.C.Timestamps.stamped) (stood (g.K.Link.state c.args.link.now) (g.C.Timestamps.coming c.args.clock.now) c.args.desk.now.seat c.args.desk.now.users.seat c.args.desk.now.attending) (stood _ (g.C.Timestamps.coming c.loop.clock) c.is_cancelled.new.desk.seat c.is_cancelled.new.desk.users.seat c.is_cancelled.new.desk.attending) (stood (g.K.Link.state c.report.new.link) (g.C.Timestamps.coming c.report.new.clock) c.report.new.desk.seat c.report.new.desk.users.seat c.report.new.desk.attending) (g.N.Notes.noted c.args.notes.now c.loop.notes) (noted_read (arc_value c.args.desk.now.shelf) (telling g.K.Link.told g.C.Timestamps.told g.C.Timestamps.stamped) (stood (g.K.Link.state c.args.link.now) (g.C.Timestamps.coming c.args.clock.now) c.args.desk.now.seat c.args.desk.now.users.seat c.args.desk.now.attending) (g.K.Link.state c.loop.link) _ (g.C.Timestamps.coming c.loop.clock) c.is_cancelled.new.desk.seat c.is_cancelled.new.desk.users.seat c.is_cancelled.new.desk.attending (g.N.Notes.noted c.args.notes.now c.loop.notes) _ _ noted_here c.in-Quiet.ensures.read) (beside_reports g.K.Link.told (stood _ (g.C.Timestamps.coming c.loop.clock) c.is_cancelled.new.desk.seat c.is_cancelled.new.desk.users.seat c.is_cancelled.new.desk.attending) (stood (g.K.Link.state c.report.new.link) (g.C.Timestamps.coming c.report.new.clock) c.report.new.desk.seat c.report.new.desk.users.seat c.report.new.desk.attending) c.report.ensures.link c.report.ensures.seat (ap (λ (u : UserDesk g.row.U.Denot). u.seat) c.report.ensures.users) c.report.ensures.looked c.report.ensures.user);
       unattended = λ is. write_no _ is refl;
       attended = λ endless is. write_no _ is refl;
+      alone = λ endless is. write_no _ is refl;
       idle = λ is. write_no _ is refl;
       endless = λ endless is. write_no _ is refl;
-      let_go = λ limits. let_go_behind (c.args.patience ≡ Limited) (language_for c.args.desk.now.attending.user (arc_value c.args.desk.now.shelf)) g.K.Link.begun g.K.Link.told g.C.Timestamps.told (g.K.Link.state c.args.link.now) (g.C.Timestamps.coming c.args.clock.now) c.args.desk.now.seat c.args.desk.now.users.seat (g.K.Link.state c.loop.link) (g.K.Link.state c.report.new.link) _ (g.C.Timestamps.coming c.loop.clock) (now c.loop.desk) c.loop.desk.reader c.in-Quiet.ensures.begun c.loop.invariant.stands c.in-Quiet.ensures.read.reads c.report.ensures.link.wrote.reads c.loop.counter c.loop.waited (c.is_over.ensures.lasts c.if-is_over.false) c.loop.invariant.waits limits;
-      awake = λ limits. awake_behind (c.args.patience ≡ Limited) ((arc_value c.args.desk.now.shelf).idle) (language_for c.args.desk.now.attending.user (arc_value c.args.desk.now.shelf)) g.K.Link.begun g.K.Link.told g.C.Timestamps.told (g.K.Link.state c.args.link.now) (g.C.Timestamps.coming c.args.clock.now) c.args.desk.now.seat c.args.desk.now.users.seat (g.K.Link.state c.loop.link) (g.K.Link.state c.report.new.link) _ (g.C.Timestamps.coming c.loop.clock) (now c.loop.desk) c.loop.desk.reader c.in-Quiet.ensures.begun c.loop.invariant.stands c.in-Quiet.ensures.read.reads c.report.ensures.link.wrote.reads c.loop.counter c.loop.silent (subst (λ (i : IdleLimits). IsInTime i c.loop.desk.attending.user c.loop.silent) (c.idle-limits.ensures ∙ ap (λ (s : Contents). s.idle) c.deref.ensures) (c.is_idle.ensures.awake c.if-is_idle.false limits)) c.loop.invariant.idles;
+      let_go = λ limits. let_go_behind (c.args.patience ≡ Limited) (language_for c.args.desk.now.attending.user (arc_value c.args.desk.now.shelf)) g.K.Link.begun g.K.Link.told g.C.Timestamps.told (g.K.Link.state c.args.link.now) (g.C.Timestamps.coming c.args.clock.now) c.args.desk.now.seat c.args.desk.now.users.seat (g.K.Link.state c.loop.link) (g.K.Link.state c.report.new.link) _ (g.C.Timestamps.coming c.loop.clock) (now c.is_cancelled.new.desk) c.is_cancelled.new.desk.reader c.in-Quiet.ensures.begun moved.here.stands c.in-Quiet.ensures.read.reads c.report.ensures.link.wrote.reads c.loop.counter c.loop.waited (λ limits nobody. c.is_over.ensures.lasts c.if-is_over.false limits (ap (λ (a : Attending). a.user) (sym c.is_cancelled.ensures.attending) ∙ nobody)) c.loop.invariant.waits limits;
+      awake = λ limits. awake_behind (c.args.patience ≡ Limited) ((arc_value c.args.desk.now.shelf).idle) (language_for c.args.desk.now.attending.user (arc_value c.args.desk.now.shelf)) g.K.Link.begun g.K.Link.told g.C.Timestamps.told (g.K.Link.state c.args.link.now) (g.C.Timestamps.coming c.args.clock.now) c.args.desk.now.seat c.args.desk.now.users.seat (g.K.Link.state c.loop.link) (g.K.Link.state c.report.new.link) _ (g.C.Timestamps.coming c.loop.clock) (now c.is_cancelled.new.desk) c.is_cancelled.new.desk.reader c.in-Quiet.ensures.begun moved.here.stands c.in-Quiet.ensures.read.reads c.report.ensures.link.wrote.reads c.loop.counter c.loop.silent (subst (λ (i : IdleLimits). IsInTime i c.is_cancelled.new.desk.attending.user c.loop.silent) (c.idle-limits.ensures ∙ ap (λ (s : Contents). s.idle) c.deref.ensures) (subst (λ (a : Attending). IsInTime c.idle-limits.result a.user c.loop.silent) (sym c.is_cancelled.ensures.attending) (c.is_idle.ensures.awake c.if-is_idle.false limits))) idles_here;
     }
 
 pub returns-clause-noted : goal.returns-clause-noted
@@ -348,6 +384,8 @@ returns-then-is_over g c =
       endless = λ endless is. unattended_no _ is refl;
       awake = i.idles.awake;
       let_go = λ limits. let_go_here (c.args.patience ≡ Limited) (language_for c.args.desk.now.attending.user (arc_value c.args.desk.now.shelf)) g.K.Link.begun g.K.Link.told g.C.Timestamps.told (g.K.Link.state c.args.link.now) (g.C.Timestamps.coming c.args.clock.now) c.args.desk.now.seat c.args.desk.now.users.seat (g.K.Link.state c.loop.link) c.loop.counter c.loop.waited i.waits limits;
+      heeds = i.heeds;
+      alone = λ endless is. unattended_no _ is refl;
     }
 
 pub returns-then-is_idle : goal.returns-then-is_idle
@@ -385,6 +423,8 @@ returns-then-is_idle g c =
       awake = i.idles.awake;
       endless = λ endless is. both_no (sym idle.0 ∙ endless);
       let_go = λ limits. let_go_here (c.args.patience ≡ Limited) (language_for c.args.desk.now.attending.user (arc_value c.args.desk.now.shelf)) g.K.Link.begun g.K.Link.told g.C.Timestamps.told (g.K.Link.state c.args.link.now) (g.C.Timestamps.coming c.args.clock.now) c.args.desk.now.seat c.args.desk.now.users.seat (g.K.Link.state c.loop.link) c.loop.counter c.loop.waited i.waits limits;
+      heeds = i.heeds;
+      alone = λ endless is. idle_no _ is refl;
     }
 
 pub returns-clause-unattended : goal.returns-clause-unattended
@@ -404,3 +444,48 @@ returns-clause-endless g c = λ endless is. spent_no _ is refl
 
 pub returns-clause-awake : goal.returns-clause-awake
 returns-clause-awake g c = c.loop.invariant.idles.awake
+
+pub returns-then-is_cancelled : goal.returns-then-is_cancelled
+returns-then-is_cancelled g c =
+    let h = c.seen.ensures.history in
+    let p = c.seen-2.ensures.history in
+    let seat = c.args.desk.now.seat in
+    let b : Beginning = record { opening = seat.opening; users = c.args.desk.now.users.seat.opening; place = seat.place; before = h.0; users_before = p.0 } in
+    let i = c.loop.invariant in
+    let moved = looked (language_for c.args.desk.now.attending.user (arc_value c.args.desk.now.shelf)) (telling g.K.Link.told g.C.Timestamps.told g.C.Timestamps.stamped) g.G.Gate.asked g.G.Gate.asked_on g.G.Gate.unasked (g.K.Link.state c.args.link.now) (g.K.Link.state c.loop.link) (g.C.Timestamps.coming c.args.clock.now) (g.C.Timestamps.coming c.loop.clock) c.args.desk.now.seat c.args.desk.now.users.seat c.args.gate.now c.loop.gate c.args.patience c.is_cancelled.result c.loop.desk.seat c.loop.desk.users.seat c.is_cancelled.new.desk.users.seat c.loop.desk.attending c.loop.desk.reader (record { seat_is = c.loop.invariant.seat; users_are = c.loop.invariant.users; stands = c.loop.invariant.stands; timely = c.loop.invariant.timely; entered = c.loop.invariant.asked }) c.is_cancelled.ensures.users c.is_cancelled.ensures.heeded c.is_cancelled.new.desk.seat c.is_cancelled.new.desk.attending c.is_cancelled.new.desk.reader c.is_cancelled.ensures.seat c.is_cancelled.ensures.attending c.is_cancelled.ensures.reader in
+    let noted_here = noted_beside (arc_value c.args.desk.now.shelf) (telling g.K.Link.told g.C.Timestamps.told g.C.Timestamps.stamped) (stood (g.K.Link.state c.args.link.now) (g.C.Timestamps.coming c.args.clock.now) c.args.desk.now.seat c.args.desk.now.users.seat c.args.desk.now.attending) (stood (g.K.Link.state c.loop.link) (g.C.Timestamps.coming c.loop.clock) c.loop.desk.seat c.loop.desk.users.seat c.loop.desk.attending) (stood (g.K.Link.state c.loop.link) (g.C.Timestamps.coming c.loop.clock) c.is_cancelled.new.desk.seat c.is_cancelled.new.desk.users.seat c.is_cancelled.new.desk.attending) (g.N.Notes.noted c.args.notes.now c.loop.notes) c.loop.invariant.noted (beside_look g.K.Link.told (g.K.Link.state c.loop.link) (g.C.Timestamps.coming c.loop.clock) c.args.patience c.is_cancelled.result c.loop.desk.seat c.is_cancelled.new.desk.seat c.loop.desk.users.seat c.is_cancelled.new.desk.users.seat c.loop.desk.attending c.is_cancelled.new.desk.attending c.is_cancelled.ensures.seat c.is_cancelled.ensures.users c.is_cancelled.ensures.heeded c.is_cancelled.ensures.attending) in
+    record {
+      shelf = c.is_cancelled.ensures.shelf ∙ i.shelf;
+      hung_up = i.hung_up;
+      seat = moved.here.seat_is;
+      users = moved.here.users_are;
+      session = record { before = h.0; users_before = p.0; saw = h.1; users_saw = p.1; attending = c.is_cancelled.new.desk.attending; session = record { served = served_here _ _ _ _ _ _ _ _ _ _ (moved.here.stands b (refl, refl, refl, c.args.desk.now.same_place) h.1 p.1); ended = moved.ended c.if-is_cancelled.true b (refl, refl, refl, c.args.desk.now.same_place) h.1 p.1 } };
+      prompt = i.prompt;
+      timely = moved.here.timely;
+      end = ((λ is. cancelled_no _ is refl), (λ ended. unheld _ (made_one c.loop.counter (λ none. somebody_ended b.place c.is_cancelled.new.desk.attending.user _ (moved.ended c.if-is_cancelled.true b (refl, refl, refl, c.args.desk.now.same_place) h.1 p.1) (ap (λ (a : Attending). a.user) c.is_cancelled.ensures.attending ∙ i.vacant (c.is_cancelled.ensures.limited c.if-is_cancelled.true) none)) i.not_ended) ended));
+      all_read = λ t is. cancelled_no _ is refl;
+      read_fault = λ is. cancelled_no _ is refl;
+      no_read_fault = λ is. i.faults;
+      write_fault = λ is. cancelled_no _ is refl;
+      stopped = λ is. cancelled_no _ is refl;
+      unstopped = λ is. i.gate;
+      later = stayed _ _ i.gate;
+      spent = λ is. cancelled_no _ is refl;
+      few = few_here _ _ _ _ i.counted c.loop-test.true;
+      asked = moved.here.entered;
+      noted = noted_here;
+      unattended = λ is. cancelled_no _ is refl;
+      attended = λ endless is. cancelled_no _ is refl;
+      alone = λ endless is. both_no (sym (c.is_cancelled.ensures.limited c.if-is_cancelled.true) ∙ endless);
+      heeds = i.heeds;
+      idle = λ is. cancelled_no _ is refl;
+      endless = λ endless is. cancelled_no _ is refl;
+      awake = i.idles.awake;
+      let_go = λ limits. let_go_here (c.args.patience ≡ Limited) (language_for c.args.desk.now.attending.user (arc_value c.args.desk.now.shelf)) g.K.Link.begun g.K.Link.told g.C.Timestamps.told (g.K.Link.state c.args.link.now) (g.C.Timestamps.coming c.args.clock.now) c.args.desk.now.seat c.args.desk.now.users.seat (g.K.Link.state c.loop.link) c.loop.counter c.loop.waited i.waits limits;
+    }
+
+pub returns-clause-heeds : goal.returns-clause-heeds
+returns-clause-heeds g c = c.loop.invariant.heeds
+
+pub returns-clause-alone : goal.returns-clause-alone
+returns-clause-alone g c = λ endless is. spent_no _ is refl

@@ -4,6 +4,8 @@ use Rattle.dxc_causes.specs.Causes.{Counted}
 use Rattle.tl1_text.specs.declared.reader.UnitKind.TheVariants.{More}
 use Rattle.user_admin.specs.Turns.{Saw as SawUsers}
 use Rattle.xc_core.specs.Seeing.{Saw}
+use Rattle.dxc_model.specs.declared.user.SessionUser.TheVariants.{Nobody}
+use Rattle.craft_session.specs.Cancelling.{Heeds}
 use Rattle.craft_session.specs.Desks.{now}
 use Rattle.craft_session.specs.Gated.{AreEntered}
 use Rattle.craft_session.specs.Meanings.{language_for}
@@ -38,4 +40,6 @@ invariant-loop g l =
       noted : HasNoted (arc_value l.fn.desk.shelf) (telling g.K.Link.told g.C.Timestamps.told g.C.Timestamps.stamped) (stood (state l.fn.link) (coming l.fn.clock) l.fn.desk.seat l.fn.desk.users.seat l.fn.desk.attending) (stood (state l.link) (coming l.clock) l.desk.seat l.desk.users.seat l.desk.attending) (g.N.Notes.noted l.fn.notes l.notes);
       waits : Waits (l.fn.patience ≡ Limited) (language_for l.fn.desk.attending.user (arc_value l.fn.desk.shelf)) g.K.Link.begun g.K.Link.told g.C.Timestamps.told (state l.fn.link) (coming l.fn.clock) l.fn.desk.seat l.fn.desk.users.seat (state l.link) l.counter l.waited;
       idles : Idles (l.fn.patience ≡ Limited) ((arc_value l.fn.desk.shelf).idle) (language_for l.fn.desk.attending.user (arc_value l.fn.desk.shelf)) g.K.Link.begun g.K.Link.told g.C.Timestamps.told (state l.fn.link) (coming l.fn.clock) l.fn.desk.seat l.fn.desk.users.seat (state l.link) l.desk.attending.user l.counter l.silent;
+      heeds : l.fn.patience ≡ Limited → Heeds (language_for l.fn.desk.attending.user (arc_value l.fn.desk.shelf)) g.K.Link.begun g.K.Link.told g.C.Timestamps.told (state l.fn.link) (coming l.fn.clock) l.fn.desk.seat l.fn.desk.users.seat (state l.link);
+      vacant : l.fn.patience ≡ Limited → l.counter ≡ 0 → l.desk.attending.user ≡ Nobody;
     }

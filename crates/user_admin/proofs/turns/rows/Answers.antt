@@ -6,6 +6,7 @@ use Rattle.user_admin.specs.declared.op.UserOutcome.{UserOutcome}
 use Rattle.user_admin.specs.declared.op.UserOutcome.TheVariants.{Answered}
 use Rattle.user_admin.specs.declared.shared.SharedUsers.{SharedUsers}
 use Rattle.user_admin.specs.Histories.{IsReading}
+use Rattle.user_admin.specs.Occupants.{answered}
 use Rattle.user_admin.specs.Shared.{SharedFor, opening_at}
 use Rattle.user_admin.specs.States.{entry}
 use Rattle.user_admin.specs.Turns.{Turned}
@@ -19,7 +20,7 @@ use Rattle.user_admin.proofs.turns.rows.Goals as goal
 pub leave-requires-clause-stands : goal.leave-requires-clause-stands
 leave-requires-clause-stands g c =
     ends g.D.Disk.told g.D.Disk.state (opening_at g.D.Disk.state c.args.turns.now.first) c.args.pass.now.number c.enter-turn.result.own c.args.turns.now.passes c.args.pass.now.seen c.enter-turn.result.seen c.enter-turn.result.state c.enter-turn.ensures.turn.1 c.enter-turn.ensures.found
-    (c.requires.seen.1.marks, c.requires.seen.1.codes_are) c.enter-turn.result.state (Entered c.number-place.result c.of-op.result Answered) refl (λ l st. shared_read g.D.Disk.told g.D.Disk.state (λ d told. g.met.D.Disk.is_disk d told) (λ d. g.met.D.Disk.counts_on d) (opening_at g.D.Disk.state c.args.turns.now.first) l c.enter-turn.result.state c.number-place.result c.of-op.result (subst IsReading (sym c.of-op.ensures) tt) (subst (λ (x : UserOp). refusal x c.enter-turn.result.state.list ≡ None) (sym c.of-op.ensures) (subst (λ (m : Users). refusal (Rows c.args.which) m ≡ None) (ap (λ (s : SharedUsers g.row.D.Denot). s.list) c.state.ensures) c.in-Ok.ensures.0)) st)
+    (c.requires.seen.1.marks, c.requires.seen.1.codes_are) c.enter-turn.result.state (Entered c.number-place.result c.of-op.result Answered) refl (λ l st. shared_read g.D.Disk.told g.D.Disk.state (λ d told. g.met.D.Disk.is_disk d told) (λ d. g.met.D.Disk.counts_on d) (opening_at g.D.Disk.state c.args.turns.now.first) l c.enter-turn.result.state c.number-place.result c.of-op.result (subst (λ (x : UserOp). c.enter-turn.result.state.occupants ≡ answered c.number-place.result x c.enter-turn.result.state.occupants) (sym c.of-op.ensures) refl) (subst IsReading (sym c.of-op.ensures) tt) (subst (λ (x : UserOp). refusal x c.enter-turn.result.state.list ≡ None) (sym c.of-op.ensures) (subst (λ (m : Users). refusal (Rows c.args.which) m ≡ None) (ap (λ (s : SharedUsers g.row.D.Denot). s.list) c.state.ensures) c.in-Ok.ensures.0)) st)
 
 pub returns-in-Ok-clause-pass : goal.returns-in-Ok-clause-pass
 returns-in-Ok-clause-pass g c =
@@ -29,7 +30,7 @@ returns-in-Ok-clause-pass g c =
 pub returns-in-Ok-clause-rows : goal.returns-in-Ok-clause-rows
 returns-in-Ok-clause-rows g c = λ h saw. (
   ended g.D.Disk.told g.D.Disk.state (opening_at g.D.Disk.state c.args.turns.now.first) c.args.pass.now.number c.enter-turn.result.own c.args.turns.now.passes c.args.pass.now.seen c.enter-turn.result.seen c.enter-turn.result.state c.enter-turn.ensures.turn.1 c.enter-turn.ensures.found
-      h saw c.enter-turn.result.state c.number-place.result c.of-op.result (Rows c.args.which) Answered c.leave.new.pass.seen (c.number-place.ensures ∙ c.enter-turn.ensures.out.0) c.of-op.ensures (λ l st. shared_read g.D.Disk.told g.D.Disk.state (λ d told. g.met.D.Disk.is_disk d told) (λ d. g.met.D.Disk.counts_on d) (opening_at g.D.Disk.state c.args.turns.now.first) l c.enter-turn.result.state c.number-place.result c.of-op.result (subst IsReading (sym c.of-op.ensures) tt) (subst (λ (x : UserOp). refusal x c.enter-turn.result.state.list ≡ None) (sym c.of-op.ensures) (subst (λ (m : Users). refusal (Rows c.args.which) m ≡ None) (ap (λ (s : SharedUsers g.row.D.Denot). s.list) c.state.ensures) c.in-Ok.ensures.0)) st) c.leave.ensures.seen,
+      h saw c.enter-turn.result.state c.number-place.result c.of-op.result (Rows c.args.which) Answered c.leave.new.pass.seen (c.number-place.ensures ∙ c.enter-turn.ensures.out.0) c.of-op.ensures (λ l st. shared_read g.D.Disk.told g.D.Disk.state (λ d told. g.met.D.Disk.is_disk d told) (λ d. g.met.D.Disk.counts_on d) (opening_at g.D.Disk.state c.args.turns.now.first) l c.enter-turn.result.state c.number-place.result c.of-op.result (subst (λ (x : UserOp). c.enter-turn.result.state.occupants ≡ answered c.number-place.result x c.enter-turn.result.state.occupants) (sym c.of-op.ensures) refl) (subst IsReading (sym c.of-op.ensures) tt) (subst (λ (x : UserOp). refusal x c.enter-turn.result.state.list ≡ None) (sym c.of-op.ensures) (subst (λ (m : Users). refusal (Rows c.args.which) m ≡ None) (ap (λ (s : SharedUsers g.row.D.Denot). s.list) c.state.ensures) c.in-Ok.ensures.0)) st) c.leave.ensures.seen,
   c.in-Ok.ensures.1 ∙ ap (λ (m : Users). rows_in m c.args.which) ((ap (λ (s : SharedUsers g.row.D.Denot). s.list) c.state.ensures) ∙ listed_at g.D.Disk.told g.D.Disk.state (opening_at g.D.Disk.state c.args.turns.now.first) c.args.pass.now.number c.enter-turn.result.own c.args.turns.now.passes c.args.pass.now.seen c.enter-turn.result.seen c.enter-turn.result.state c.enter-turn.ensures.turn.1 c.enter-turn.ensures.found h saw),
 )
 

@@ -1,0 +1,31 @@
+use Rattle.std.proofs.Common.{refl, ◌∙◌, ap}
+use Rattle.user_admin.specs.declared.op.UserMark.TheVariants.{Entered}
+use Rattle.user_admin.specs.declared.op.UserOp.TheVariants.{Cancel}
+use Rattle.user_admin.specs.declared.op.UserOutcome.TheVariants.{Answered}
+use Rattle.user_admin.specs.declared.shared.SharedUsers.{SharedUsers}
+use Rattle.user_admin.specs.Occupants.{answered}
+use Rattle.user_admin.specs.Shared.{opening_at}
+use Rattle.user_admin.proofs.Sharing.{shared_answered}
+use Rattle.user_admin.proofs.Turning.{ended, ends, ends_pass}
+use Rattle.user_admin.proofs.Resting.{by_out, left_rests}
+use Rattle.user_admin.proofs.turns.cancel.Goals as goal
+
+pub leave-requires-clause-stands : goal.leave-requires-clause-stands
+leave-requires-clause-stands g c =
+    ends g.D.Disk.told g.D.Disk.state (opening_at g.D.Disk.state c.args.turns.now.first) c.args.pass.now.number c.enter-turn.result.own c.args.turns.now.passes c.args.pass.now.seen c.enter-turn.result.seen c.enter-turn.result.state c.enter-turn.ensures.turn.1 c.enter-turn.ensures.found
+    (c.requires.seen.1.marks, c.requires.seen.1.codes_are) c.answer.new.self (Entered c.number-place.result c.of-op.result Answered) (ap (λ (s : SharedUsers g.row.D.Denot). s.first) c.answer.ensures ∙ ap (λ (s : SharedUsers g.row.D.Denot). s.first) c.state_mut.ensures.value) (λ l st. shared_answered g.D.Disk.told g.D.Disk.state (λ d told. g.met.D.Disk.is_disk d told) (λ d. g.met.D.Disk.counts_on d) (opening_at g.D.Disk.state c.args.turns.now.first) l c.enter-turn.result.state c.answer.new.self c.number-place.result c.of-op.result (Cancel c.args.uid) c.of-op.ensures (c.answer.ensures ∙ ap (λ (s : SharedUsers g.row.D.Denot). record s { occupants = answered c.number-place.result (Cancel c.args.uid) s.occupants }) c.state_mut.ensures.value) tt (λ users. refl) st)
+
+pub returns-clause-pass : goal.returns-clause-pass
+returns-clause-pass g c =
+    ends_pass g.D.Disk.told g.D.Disk.state (opening_at g.D.Disk.state c.args.turns.now.first) c.args.pass.now.number c.enter-turn.result.own c.args.turns.now.passes c.args.pass.now.seen c.enter-turn.result.seen c.enter-turn.result.state c.enter-turn.ensures.turn.1 c.enter-turn.ensures.found
+    c.args.turns.now c.args.pass.now c.leave.new.pass (Entered c.number-place.result c.of-op.result Answered) refl refl c.requires.pass (c.leave.ensures.pass.0, c.leave.ensures.pass.1, c.leave.ensures.pass.2 ∙ c.enter-turn.ensures.out.0) (c.number-place.ensures ∙ c.enter-turn.ensures.out.0) c.leave.ensures.seen
+
+pub returns-clause-rests : goal.returns-clause-rests
+returns-clause-rests g c =
+    left_rests g.D.Disk.told g.D.Disk.state (opening_at g.D.Disk.state c.args.turns.now.first) c.enter-turn.result.own c.args.turns.now.passes c.args.pass.now c.leave.new.pass c.enter-turn.result.seen c.enter-turn.result.state c.enter-turn.ensures.turn.1 (c.leave.ensures.pass.2 ∙ c.enter-turn.ensures.out.0) c.enter-turn.ensures.found
+    (Entered c.number-place.result c.of-op.result Answered) c.leave.ensures.seen (λ who not. by_out c.args.pass.now.number who Answered not)
+
+pub returns-clause-cancelled : goal.returns-clause-cancelled
+returns-clause-cancelled g c = λ h saw.
+    ended g.D.Disk.told g.D.Disk.state (opening_at g.D.Disk.state c.args.turns.now.first) c.args.pass.now.number c.enter-turn.result.own c.args.turns.now.passes c.args.pass.now.seen c.enter-turn.result.seen c.enter-turn.result.state c.enter-turn.ensures.turn.1 c.enter-turn.ensures.found
+    h saw c.answer.new.self c.number-place.result c.of-op.result (Cancel c.args.uid) Answered c.leave.new.pass.seen (c.number-place.ensures ∙ c.enter-turn.ensures.out.0) c.of-op.ensures (λ l st. shared_answered g.D.Disk.told g.D.Disk.state (λ d told. g.met.D.Disk.is_disk d told) (λ d. g.met.D.Disk.counts_on d) (opening_at g.D.Disk.state c.args.turns.now.first) l c.enter-turn.result.state c.answer.new.self c.number-place.result c.of-op.result (Cancel c.args.uid) c.of-op.ensures (c.answer.ensures ∙ ap (λ (s : SharedUsers g.row.D.Denot). record s { occupants = answered c.number-place.result (Cancel c.args.uid) s.occupants }) c.state_mut.ensures.value) tt (λ users. refl) st) c.leave.ensures.seen
