@@ -19,8 +19,8 @@ use Rattle.craft_session.specs.Waiting.{IsLetGoBy, WasUnattended}
 use Rattle.craft_session.proofs.Ends.{no_write_fault}
 use Rattle.craft_session.proofs.serving.serve_at.Goals as goal
 
-pub serve-requires-clause-vacant : goal.serve-requires-clause-vacant
-serve-requires-clause-vacant g c = λ limits. ap (λ (a : Attending). a.user) c.begin.ensures.attending ∙ c.requires.vacant limits
+pub serve-end-requires-clause-vacant : goal.serve-end-requires-clause-vacant
+serve-end-requires-clause-vacant g c = λ limits. ap (λ (a : Attending). a.user) c.begin.ensures.attending ∙ c.requires.vacant limits
 
 pub returns : goal.returns
 returns g c =
