@@ -2,7 +2,7 @@
 use Rattle.std.specs.Prelude.{◌≡◌, ◌⊎◌, ℕ, List, [], ◌∷◌, ◌++◌, Option, Some, None}
 use base.Stored.{Gv}
 use Rattle.dxc_num.specs.declared.port.Port.{Port}
-use Rattle.dxc_num.specs.Dimensions.{Dimensions, module_of, slot_of}
+use Rattle.dxc_num.specs.Dimensions.{Dimensions}
 use Rattle.dxc_outside.specs.declared.clock.Moment.{Moment}
 use Rattle.dxc_outside.specs.declared.send.Sent.{Sent}
 use Rattle.dxc_outside.specs.declared.send.Sent.TheVariants.{Whole as Sent_whole, Cut as Sent_cut}
@@ -64,7 +64,7 @@ word_of None = []
 word_of (Some tag) = tag
 
 abbrev pub port_at : Dimensions → Port → PortAt
-port_at d p = record { «module» = module_of d p; slot = slot_of d p }
+port_at d p = record { number = p.0; slots = d.slots }
 
 -- what an operation changes on an element of a shape
 abbrev pub what_of : Dimensions → Op → What

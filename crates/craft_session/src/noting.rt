@@ -95,8 +95,8 @@ fn port_at(shape: Shape, port: Port) -> PortAt
     ensures { result ≡ port_in shape port }
 {
     PortAt {
-        module: shape.module_of(port),
-        slot: shape.slot_of(port),
+        number: port.0,
+        slots: shape.slots(),
     }
 }
 

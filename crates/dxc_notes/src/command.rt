@@ -2,11 +2,12 @@ use crate::word::Word;
 use dxc_model::Cause;
 use std::fmt::{self, Display, Formatter, Write};
 
-/// A port by the numbers of its module and slot, from 0.
+/// A port by its number, from 0, of a shelf with so many slots a module.
+// Its name is reckoned where it is written: where nobody is told, LLVM would keep the look at the divisor.
 #[derive(Clone, Copy)]
 pub struct PortAt {
-    pub module: u16,
-    pub slot: u16,
+    pub number: u16,
+    pub slots: u16,
 }
 
 /// What a command changes. Modules and middles are numbered from 0.
@@ -58,7 +59,11 @@ fn one_more(number: u16) -> u32 {
 /// A port's name.
 impl Display for PortAt {
     fn fmt<W: Write>(&self, f: &mut Formatter<W>) -> fmt::Result {
-        let (module, slot) = (one_more(self.module), one_more(self.slot));
+        if self.slots == 0 {
+            return f.write_str("?");
+        }
+        let module = one_more(self.number / self.slots);
+        let slot = one_more(self.number % self.slots);
         write!(f, "DS0-{module}-{slot}")
     }
 }
