@@ -4,6 +4,7 @@ usage: bench/run stress secrets [POINT..]     (all of them where none is named)
 
 log_in    of who logged in, who was denied, who logged in in pieces of a byte each, and in front of a part of the next unit
 entered   of users who were entered and changed by commands, and of who changed the own
+both      of who changed the own and logged in within one read, in either order
 gone      of callers who have hung up
 
 Each point prints a line. A PID is looked for in each page that the process may write, as text, all of it and all but its first two bytes; what the
@@ -110,6 +111,20 @@ def entered(server):
     return "none is left"
 
 
+def both(server):
+    # Behind a log-in less of the stack is written over than behind a command that keeps users.
+    with server.call() as caller:
+        answer(caller, f"ACT-USER::ANNA:1::{ANNAS};")
+        for what, old, new, units in (
+            ("a log-in behind another PID", ANNAS, OWN, "ED-PID::ANNA:2::{old},{new};ACT-USER::ANNA:3::{new};"),
+            ("another PID behind a log-in", OWN, NEXT, "ACT-USER::ANNA:4::{old};ED-PID::ANNA:5::{old},{new};"),
+        ):
+            got = answer(caller, units.format(old=old, new=new))
+            expect(got.count("COMPLD") == 1 and got.count("ALREADY LOGGED IN") == 1, f"{what}: answered {got!r}")
+            server.expect_none(what, old, new)
+    return "none is left"
+
+
 def gone(server):
     with server.call() as caller:
         answer(caller, f"ACT-USER::BEN:1::{BENS};")
@@ -117,7 +132,7 @@ def gone(server):
     return "none is left"
 
 
-POINTS = (log_in, entered, gone)
+POINTS = (log_in, entered, both, gone)
 
 
 def tried(point):

@@ -171,7 +171,7 @@ fn act_user<U: Disk + Drop, R: Wait>(
         NothingAsked }
     ensures apt { (d : Dimensions) → IsAptAsk d ask.new }
 {
-    users.secrets.hear();
+    users.secrets.hear_log_in();
     let Some(uid) = Uid::of(uid) else {
         *ask = Ask::Refused(Cause::BadIdentity);
         return;
@@ -314,7 +314,7 @@ fn ask_users<U: Disk + Drop, G: Gate, R: Wait>(
     ensures stopped { result ≡ None → Rose (G.stops gate.old) (G.stops gate.new) }
     ensures later { G.stops gate.old ≤ G.stops gate.new }
 {
-    users.secrets.hear();
+    users.secrets.hear_command();
     match user_command_of(shelf.sid(), *user, unit, found) {
         Ok(op) => on_users(users, op, gate, rt),
         Err(cause) => Some(Ask::Refused(cause)),

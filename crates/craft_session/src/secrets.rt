@@ -1,34 +1,61 @@
 //! What held a PID is written over behind the read that brought it. No clause tells of it.
 use std::sync::atomic::AtomicU64;
 
-// So much of the stack was in use below a session, with room to spare: PIDs are handed on by value there.
+// So much of the stack is in use below a session that hashes a PID where it stands, with room to spare.
+const FEW_WORDS: usize = 1024;
+
+// And where a command of users is made, since PIDs are handed on by value there.
 const WORDS: usize = 8192;
 
-/// Whether a unit that carries a PID was looked at, and nothing is written over yet.
+/// What carried a PID and isn't written over yet.
+#[derive(Clone, Copy)]
+pub enum Heard {
+    Nothing,
+    LogIn,
+    /// A command of users, with a log-in before it or without.
+    Command,
+}
+
+/// What units with a PID were looked at.
 #[derive(Drop)]
 pub struct Secrets {
-    heard: bool,
+    heard: Heard,
 }
 
 impl Secrets {
     pub fn new() -> Secrets {
-        Secrets { heard: false }
+        Secrets {
+            heard: Heard::Nothing,
+        }
     }
 
-    /// A unit that carries a PID is looked at.
-    pub fn hear(&mut self) {
-        self.heard = true;
+    /// A log-in is looked at.
+    pub fn hear_log_in(&mut self) {
+        if let Heard::Nothing = self.heard {
+            self.heard = Heard::LogIn;
+        }
     }
 
-    /// Whether there is something to write over; there isn't any more from here on.
-    pub fn take(&mut self) -> bool {
+    /// A command of users is looked at.
+    pub fn hear_command(&mut self) {
+        self.heard = Heard::Command;
+    }
+
+    /// What there is to write over; there isn't anything any more from here on.
+    pub fn take(&mut self) -> Heard {
         let heard = self.heard;
-        self.heard = false;
+        self.heard = Heard::Nothing;
         heard
     }
 }
 
-// Part of the stack, and a word of it that the system is told of.
+// Parts of the stack, each with a word that the system is told of.
+#[derive(Drop)]
+struct Near {
+    words: [u64; FEW_WORDS],
+    told: AtomicU64,
+}
+
 #[derive(Drop)]
 struct Below {
     words: [u64; WORDS],
@@ -36,9 +63,26 @@ struct Below {
 }
 
 /// Writes over the stack below its caller, where calls that are over kept what they were handed.
+pub fn wipe_stack(heard: Heard) {
+    match heard {
+        Heard::Nothing => {}
+        Heard::LogIn => wipe_near(),
+        Heard::Command => wipe_below(),
+    }
+}
+
 // A write to memory that nobody reads any more may be left out. The system may read what it is told of, so these aren't.
 #[inline(never)]
-pub fn wipe_stack() {
+fn wipe_near() {
+    let near = Near {
+        words: [0; FEW_WORDS],
+        told: AtomicU64::new(0),
+    };
+    near.told.wake_one();
+}
+
+#[inline(never)]
+fn wipe_below() {
     let below = Below {
         words: [0; WORDS],
         told: AtomicU64::new(0),
