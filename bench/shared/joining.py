@@ -12,11 +12,11 @@ class Joining:
 
     def __init__(self, server, standby):
         self.server, self.standby, self.begun = server, standby, None
-        self.was_joined = bool(standby.is_joined())
+        self.call, self.was_joined = server.joined_by()
 
     def ends(self):
         """Each of the two by its name, with what it said of the end."""
-        return [("server", self.server, self.server.lost()), ("standby", self.standby, self.standby.told("standby ended"))]
+        return [("server", self.server, self.server.lost(self.call)), ("standby", self.standby, self.standby.told("standby ended"))]
 
     def over(self):
         """From which moment on it is known to be over; None where it may last, or never was."""

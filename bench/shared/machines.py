@@ -175,8 +175,8 @@ class Standby(Program):
         super().__init__(machine, machine.peer, "standby", copy, f"{machine.address}:{machine.peer}")
         self.users = Program(machine, machine.peer + 1, "standby", f"{copy}.users", f"{machine.address}:{machine.peer + 1}")
         self.copy = copy
-        # The server that joined it.
-        self.primary = None
+        # The server that joined it, and by which of its calls.
+        self.primary = self.call = None
 
     def is_begun(self):
         """Whether something of a server's journal has come, or all of it."""
@@ -219,10 +219,26 @@ class Server(Program):
     def __init__(self, machine, journal, at=None):
         peer = [f"{at.address}:{at.peer}"] if at else []
         super().__init__(machine, machine.port, "serve", "shelf.toml", journal, f"127.0.0.1:{machine.port}", "lines", "1", *peer)
-        self.journal, self.is_mirrored = journal, bool(peer)
+        self.journal = journal
 
-    def lost(self):
-        return self.told("standby lost")
+    def standby_lines(self):
+        """What it said of standbys of its journal, and not of the users': the number of its call, the moment and the text of each line."""
+        found = re.findall(rf"^dxc: ({MOMENT}): (standby (?:at .*: called|joined|lost).*)$", self.said(), re.MULTILINE)
+        call = 0
+        for moment, text in found:
+            if "users" in text:
+                continue
+            call += "called" in text
+            yield call, second_of(moment), text
+
+    def joined_by(self):
+        """How often it had called a standby, and whether it is joined now, by its own lines."""
+        lines = list(self.standby_lines())
+        return (lines[-1][0], lines[-1][2] == "standby joined") if lines else (0, False)
+
+    def lost(self, call):
+        """The moment and the text in which it says that it lost the standby of that call; None where it doesn't."""
+        return next(((moment, text) for number, moment, text in self.standby_lines() if number == call and text.startswith("standby lost")), None)
 
 
 def second_of(moment):

@@ -7,6 +7,7 @@ import threading
 import time
 
 from bench.shared.changes import MODULES, PORTS, SLOTS
+from bench import Wrong
 from bench.shared.machines import Machine, Server, Standby, Wire
 from bench.shared.office import LOG_IN, write_shelf
 from bench.shared.program import PROGRAM, expect
@@ -74,7 +75,7 @@ class Office:
     def note_joining(self):
         for standby in self.standbys:
             if not standby.primary and standby.is_joined():
-                standby.primary = self.servers[-1]
+                standby.primary, standby.call = self.servers[-1], self.servers[-1].joined_by()[0]
 
     def tend(self):
         """What the units of a server and a standby do: each is started again where it ended, the one under its name, the other with a new copy."""
@@ -89,11 +90,40 @@ class Office:
 
     def is_joined(self):
         """Whether the last server runs, and the last standby has a copy of it."""
-        return self.servers[-1].runs() and self.standby.primary is self.servers[-1]
+        server, standby = self.servers[-1], self.standby
+        return server.runs() and standby.runs() and standby.primary is server and server.joined_by() == (standby.call, True)
 
     def sessions(self):
         """How many technicians are logged in at the server."""
         return sum(one.at is self.server for one in self.technicians)
+
+    def begun(self):
+        """How many sessions the technicians have begun."""
+        return sum(one.begun for one in self.technicians)
+
+    def restart(self, server):
+        """Lets the server read its journals anew, beside its sessions."""
+        self.call(server, lambda caller: expect(b"COMPLD" in caller.ask(b"INIT-SYS:::7;"), "INIT-SYS is denied"))
+
+    def call(self, server, act):
+        """Does something as a caller of the server."""
+        failed = []
+
+        def called():
+            try:
+                server.machine.enter()
+                caller = Caller(server.port)
+                with contextlib.closing(caller.link):
+                    caller.log_in()
+                    act(caller)
+            except (OSError, Wrong) as what:
+                failed.append(what)
+
+        # A thread of its own, since it stays on the server's machine.
+        calling = threading.Thread(target=called)
+        calling.start()
+        calling.join()
+        expect(not failed, f"a caller failed: {failed}, {server.said()}")
 
     def rest(self):
         """Lets nobody begin a change any more, and waits for the answers."""
@@ -109,17 +139,5 @@ class Office:
     def listed(self, server):
         """What a server lists to each technician's question."""
         texts = []
-
-        def ask():
-            server.machine.enter()
-            caller = Caller(server.port)
-            with contextlib.closing(caller.link):
-                caller.log_in()
-                texts.extend(technician.listed(caller) for technician in self.technicians)
-
-        # A thread of its own, since it stays on the server's machine.
-        asking = threading.Thread(target=ask)
-        asking.start()
-        asking.join()
-        expect(len(texts) == len(self.technicians), f"the server answered nobody: {server.said()}")
+        self.call(server, lambda caller: texts.extend(technician.listed(caller) for technician in self.technicians))
         return texts

@@ -72,8 +72,13 @@ class Change:
     answered: float | None = None
     # Whether it was made, by its answer; none where that didn't come.
     is_made: bool | None = None
-    # Whether the server hadn't said yet, once the answer was here, that it lost its standby.
+    # Once the answer was here: how often the server had called a standby, and whether it was joined, by its own lines.
+    call: int = 0
     is_joined: bool = False
+
+    def is_in(self, copy):
+        """Whether a standby's copy has to have it, which the server joined by a call: it was answered before that, or while that one was joined."""
+        return self.call < copy.call or (self.call == copy.call and self.is_joined)
 
 
 @dataclasses.dataclass
@@ -94,6 +99,8 @@ class Technician(threading.Thread):
         self.table, self.changes, self.found = frozenset(), [], []
         # The server that it is logged in at.
         self.at = None
+        # How many sessions it began.
+        self.begun = 0
         self.is_busy = self.is_over = False
 
     def run(self):
@@ -111,6 +118,7 @@ class Technician(threading.Thread):
         caller = Caller(server.port)
         with contextlib.closing(caller.link):
             caller.log_in()
+            self.begun += 1
             if self.changes and self.changes[-1].is_made is None:
                 self.take_up(self.listed(caller), server, server)
             self.at = server
@@ -131,7 +139,7 @@ class Technician(threading.Thread):
         answer = caller.ask(text.encode())
         change.answered = time.time()
         # What the server said before it answered is here once the answer is.
-        change.is_joined = server.is_mirrored and not server.lost()
+        change.call, change.is_joined = server.joined_by()
         change.is_made = b"COMPLD" in answer
         if change.is_made:
             self.table = after
@@ -139,22 +147,22 @@ class Technician(threading.Thread):
     def listed(self, caller):
         return self.work.rows(caller.ask(self.work.listing).decode())
 
-    def take_up(self, rows, server, of, is_copy=False):
-        """Goes on from what a server lists, which has the journal, or the copy, of a server (`of`); notes what is wrong with it."""
-        found = self.compare(rows, of, is_copy)
+    def take_up(self, rows, server, of, copy=None):
+        """Goes on from what a server lists, which has the journal of a server (`of`), or a standby's copy of it; notes what is wrong with it."""
+        found = self.compare(rows, of, copy)
         self.found.append(found)
         self.table = rows
-        self.changes.append(Change("", rows, server, time.time(), is_made=True, is_joined=server.is_mirrored))
+        self.changes.append(Change("", rows, server, time.time(), is_made=True))
         return found
 
-    def compare(self, rows, of, is_copy):
-        """What these rows have of the changes that a server answered, or those before it; of a copy's, while its standby was joined. Behind the
-        last of them a beginning of those that came later may be there too."""
+    def compare(self, rows, of, copy=None):
+        """What these rows have of the changes that a server answered, or those before it; of a copy's, before its standby was joined, or while it was.
+        Behind the last of them a beginning of those that came later may be there too."""
         tables = [frozenset()]
         for change in self.changes:
             if change.server.started > of.started:
                 break
-            if change.is_made and (change.is_joined or not is_copy or change.server is not of):
+            if change.is_made and (not copy or change.server is not of or change.is_in(copy)):
                 tables = [change.after]
             elif change.is_made is not False:
                 tables.append(change.after)

@@ -2,7 +2,7 @@
 
 usage: bench/run stress outside_world [POINT..]     (all of them where none is named)
 
-peer         a PEER that doesn't answer a call holds a start up for seconds, not minutes
+peer         a PEER that doesn't answer a call holds a start up for seconds, and is served without
 check        `check` changes no byte of any file and runs beside a server; nothing but a journal or its beginning becomes one
 sync         a disk whose sync failed refuses every change until the program is started anew, and then has all that was answered
 waiting      while a change waits for a disk's sync, nobody else does who only reads, or whom the table denies
@@ -39,7 +39,7 @@ from bench import Wrong
 from bench.shared import office
 from bench.shared.compiled import library
 from bench.shared.program import PROGRAM, expect
-from bench.shared.server import PLACES, Server, ends_at, free_port, until
+from bench.shared.server import PLACES, Server, await_listening, ends_at, free_port, until
 
 MODULES, SLOTS = 4, 8
 # Who only reads waits for no disk: a few milliseconds, and what a busy machine adds.
@@ -121,16 +121,17 @@ def peer(folder):
         time.sleep(0.2)
         address = f"127.0.0.1:{deaf.getsockname()[1]}"
         started = time.monotonic()
-        process = subprocess.Popen([PROGRAM, "serve", "shelf.toml", "j", f"127.0.0.1:{free_port()}", "lines", "1", address], cwd=folder, stderr=subprocess.PIPE)
+        port = free_port()
+        process = subprocess.Popen([PROGRAM, "serve", "shelf.toml", "j", f"127.0.0.1:{port}", "lines", "1", address], cwd=folder, stderr=subprocess.PIPE)
         try:
-            said = process.communicate(timeout=15)[1].decode().splitlines()
-        except subprocess.TimeoutExpired:
-            raise Wrong("the start was held up for more than fifteen seconds") from None
+            expect(await_listening(port, process), f"it doesn't serve; its status is {process.poll()}")
+            took = time.monotonic() - started
+            expect(took < 15, f"the start was held up for {took:.1f} s")
         finally:
             process.kill()
-        expect((process.returncode, said[0]) == CANNOT_OPEN, f"it ended with {process.returncode} and {said}")
-        expect(said[1:] == [f"dxc: {address}: connection timed out"], f"it said {said}")
-    return f"given up after {time.monotonic() - started:.1f} s"
+        said = process.communicate()[1].decode()
+        expect(f": standby at {address}: connection timed out: serving alone, and calling again\n" in said, f"it said {said}")
+    return f"serves alone after {took:.1f} s"
 
 
 def files_of(folder):

@@ -279,7 +279,8 @@ def entered_once(folder):
         taken.bind(("127.0.0.1", 0))
         taken.listen()
         refuses(["standby", os.path.join(folder, "other.journal"), f"127.0.0.1:{taken.getsockname()[1]}"], None, 6, b"dxc: cannot open\n")
-    refuses(["serve", shelf, journal, f"127.0.0.1:{free_port()}", lines, "1", f"127.0.0.1:{free_port()}"], None, 6, b"dxc: cannot open\n")
+    # A name that has no address: one at which nobody answers is called again.
+    refuses(["serve", shelf, journal, f"127.0.0.1:{free_port()}", lines, "1", "127.0.0.1"], None, 6, b"dxc: cannot open\n")
 
 
 def refuses(words, sent, status, text):

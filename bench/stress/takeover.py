@@ -8,7 +8,8 @@ joining, within it or behind it, one of these befalls them: the server or the st
 their machines is cut, for good or for some seconds; one machine's disk is full; one of the two programs, or both, are started again as their
 units do. In one trial of four nobody changes anything meanwhile, and in half of those in which the server goes on it is killed some
 seconds later. Then the office looks at the last lines of both and does what they say (OPERATING, "A standby"): it goes on with the server,
-starts it again from its own journal, or takes over on the standby's copy. At last the other machine comes back as a standby.
+starts it again from its own journal, or takes over on the standby's copy. At last the other machine comes back as a standby, which the server joins beside its
+sessions: with a change, or by INIT-SYS where nobody changes anything.
 
 - Every circuit and every user that was answered is there, and nothing that nobody commanded; of a copy, every one that was answered while its
   standby was joined, which is until the server said that it lost it. Each copy of circuits that is whole is audited so, also where nobody takes
@@ -17,11 +18,10 @@ starts it again from its own journal, or takes over on the standby's copy. At la
   ends the joining at once, else with the first such line; for who was stopped, once it is let go on. So a slow machine changes little.
 - The moment in the standby's last line isn't before the last change that was answered while it was joined, nor behind the line in which the
   server says that it goes on alone: by these two moments an office knows which journal is the newer.
-- Who comes back has what the server has.
+- Who comes back has what the server has, and no session ended for it.
 
-Sessions that end as a standby comes back are counted, and fail nothing: the program joins at its start alone. It takes Linux with namespaces
-(as root, or where users may have their own) and ip; where they can't be had it leaves out cut links and full disks, and says so. Status 1: a
-circuit or a user was lost, or the end of a joining wasn't told, or not in time, or with a wrong moment.
+It takes Linux with namespaces (as root, or where users may have their own) and ip; where they can't be had it leaves out cut links and full disks,
+and says so. Status 1: a circuit or a user was lost, or the end of a joining wasn't told, or not in time, or with a wrong moment.
 """
 import collections
 import contextlib
@@ -47,6 +47,10 @@ from bench.shared.troubles import KINDS, Kind
 
 # Seconds for which the office goes on where nothing ended.
 REST = 1.5
+# Seconds for which a server that was started again may yet join a standby.
+COMING = 8
+# Seconds between two tries to let a server join: it calls no sooner again.
+AGAIN = 2.5
 # Names the part of the trials that a run has to do.
 PART = "BENCH_TAKEOVER_PART"
 
@@ -102,13 +106,13 @@ def kill_server(trial):
 
 def is_coming(office, since):
     """Whether the server may yet be there again, with its standby joined."""
-    return not office.is_joined() and not office.servers[-1].lost() and time.time() < since + PATIENCE
+    return not office.is_joined() and time.time() < since + COMING
 
 
 def note_start(office, trial):
     """Notes what came of a server or a standby that was started again."""
     server = office.servers[-1]
-    joined = office.is_joined() and not server.lost()
+    joined = office.is_joined()
     trial.note(f"behind {len(office.servers) - 1} further starts {'joined' if joined else 'not joined: ' + server.said().strip()}")
     trial.counts["not joined again"] += not joined
 
@@ -133,15 +137,15 @@ def judge_copies(office, trial):
         if not standby.primary:
             continue
         text = office.audited(standby.machine, standby.copy)
-        count(trial, [one.compare(one.work.rows(text), standby.primary, True) for one in circuits_of(office)], f"the copy {standby.copy}")
+        count(trial, [one.compare(one.work.rows(text), standby.primary, standby) for one in circuits_of(office)], f"the copy {standby.copy}")
         judge_moment(office, trial, standby)
 
 
 def judge_moment(office, trial, standby):
     """The copy has each change that was answered while it was joined, and perhaps none of those behind that: so its last line has to say. Clocks
     that are read coarsely, and whole seconds, make one second of difference."""
-    synced, lost = standby.synced(), standby.primary.lost()
-    changes = [change for one in circuits_of(office) for change in one.changes if change.is_joined and change.server is standby.primary]
+    synced, lost = standby.synced(), standby.primary.lost(standby.call)
+    changes = [change for one in circuits_of(office) for change in one.changes if change.server is standby.primary and (change.call, change.is_joined) == (standby.call, True)]
     newest = max((int(change.sent) for change in changes), default=0)
     if synced and synced + 1 < newest:
         trial.fail(f"the standby names {clock(synced)}, and its copy has a change of {clock(newest)}", "moment too early")
@@ -160,35 +164,38 @@ def count(trial, found, where):
 
 
 def serve_on(office, trial):
-    """Does what the lines of both say; the server that serves from here on, whose journal it has, and whether that is a copy."""
+    """Does what the lines of both say; the server that serves from here on, whose journal it has, and the standby whose copy that is, if it is one."""
     former = office.servers[-1]
     if former.runs() and former.listens():
         trial.note("goes on with the server")
-        return former, former, False
+        return former, former, None
     former.kill()
-    joined = [standby for standby in office.standbys if standby.primary is former]
+    copies = [standby for standby in office.standbys if standby.primary is former and former.joined_by() == (standby.call, True)]
     # A full disk is seen to first.
     for machine in office.machines:
         machine.empty()
-    if joined and not former.lost():
-        joined[-1].kill()
-        trial.note(f"takes over on {joined[-1].copy}")
-        server, is_copy = office.start_server(joined[-1].machine, joined[-1].copy), True
+    copy = copies[-1] if copies else None
+    if copy:
+        copy.kill()
+        trial.note(f"takes over on {copy.copy}")
+        server = office.start_server(copy.machine, copy.copy, office.other(copy.machine))
     else:
         trial.note("starts the server again from its own journal")
-        server, is_copy = office.start_server(former.machine, former.journal), False
+        server = office.start_server(former.machine, former.journal, office.other(former.machine))
     expect(server.listens(), f"the server doesn't start: {server.said()}")
-    return server, former, is_copy
+    return server, former, copy
 
 
 def judge(office, trial):
     office.rest()
     judge_copies(office, trial)
-    server, of, is_copy = serve_on(office, trial)
-    found = {one: one.take_up(rows, server, of, is_copy) for one, rows in zip(office.technicians, office.listed(server))}
+    server, of, copy = serve_on(office, trial)
+    found = {one: one.take_up(rows, server, of, copy) for one, rows in zip(office.technicians, office.listed(server))}
     circuits, users = circuits_of(office), [one for one in office.technicians if not isinstance(one.work, Circuits)]
     count(trial, [found[one] for one in circuits] + [past for one in circuits for past in one.found[:-1]], "the server")
-    count(trial, [past for one in users for past in one.found], "the server's users")
+    # The users' copy is called for behind a change of users alone.
+    if not copy or copy.users.told("standby joined"):
+        count(trial, [past for one in users for past in one.found], "the server's users")
     answered, lost = sum(one.answered() for one in circuits), sum(len(found[one].lost) for one in users)
     trial.counts.update({"changes of circuits": answered, "changes of users": sum(one.answered() for one in users), "users lost": lost})
     must, gone = (sum(number) for number in zip(*((found[one].must, len(found[one].lost)) for one in circuits)))
@@ -198,36 +205,43 @@ def judge(office, trial):
     return server
 
 
-def come_back(office, trial, former):
-    """The other machine comes back as a standby, for which the server has to be started again."""
+def come_back(office, trial, server):
+    """The other machine comes back as a standby, which the server joins beside its sessions."""
     for machine in office.machines:
         machine.empty()
     if office.wire:
         office.wire.mend()
     for standby in office.standbys:
         standby.kill()
-    office.may_change.set()
-    until(lambda: office.sessions() == len(office.technicians), PATIENCE)
-    standby = office.start_standby(office.other(former.machine))
+    if not trial.is_quiet:
+        office.may_change.set()
+    expect(until(lambda: office.sessions() == len(office.technicians), PATIENCE), f"technicians can't log in: {server.said()}")
+    standby, before = office.start_standby(office.other(server.machine)), office.begun()
     expect(standby.listens(), f"no standby comes back: {standby.said()}")
-    ended, began = office.sessions(), time.monotonic()
-    former.kill()
-    office.start_server(former.machine, former.journal, standby.machine)
-    while not office.is_joined():
-        expect(time.monotonic() < began + PATIENCE, f"no standby joined: {office.server.said()}, {office.standby.said()}")
-        office.tend()
-        time.sleep(0.02)
-    server, standby = office.server, office.standby
-    expect(server.listens(), f"the server doesn't start with a standby: {server.said()}")
-    took = time.monotonic() - began
+    took = let_join(office, trial, server)
+    office.may_change.set()
     time.sleep(REST)
+    expect(office.is_joined(), f"the standby that came back is lost: {server.said()}, {standby.said()}")
+    expect(office.begun() == before and office.sessions() == len(office.technicians), f"a session ended: {server.said()}")
     office.rest()
     server.kill()
     expect(until(lambda: not standby.runs(), PATIENCE), "the standby that came back doesn't end")
     same = office.audited(server.machine, server.journal) == office.audited(standby.machine, standby.copy)
     expect(same, f"the standby that came back has another table than its server: {server.said()}, {standby.said()}")
-    trial.counts.update({"sessions ended": ended})
-    trial.note(f"came back in {took:.1f} s, {ended} sessions ended")
+    trial.note(f"came back in {took:.1f} s")
+
+
+def let_join(office, trial, server):
+    """How many seconds it takes until the standby that is there is joined."""
+    began = asked = time.monotonic()
+    while not office.is_joined():
+        expect(time.monotonic() < began + PATIENCE, f"no standby joined: {server.said()}, {office.standby.said()}")
+        if trial.is_quiet and time.monotonic() >= asked:
+            office.restart(server)
+            asked = time.monotonic() + AGAIN
+        office.note_joining()
+        time.sleep(0.02)
+    return time.monotonic() - began
 
 
 def start_both(office, is_slow):

@@ -27,7 +27,7 @@ use Rattle.xc_core.specs.declared.state.Home.{Home}
 use Rattle.xc_core.specs.declared.state.Home.TheVariants.{In, Out}
 use Rattle.xc_core.specs.declared.state.State.{State}
 use Rattle.xc_core.specs.Journals.{IsOld, IsOldOrDoubted, IsSoFar}
-use Rattle.core_laws.specs.Mirrorings.{AreCommands, Command, CopiesStand, HasStarted, IsBetween, IsCommand, IsMirroredSince, MayBe, Says, StandbysStand, StandbysStandSince, StandsForFirst, StartsAreCommands, Task, change, made_in, read_by, restart, start}
+use Rattle.core_laws.specs.Mirrorings.{AreCommands, Command, CopiesStand, HasStarted, IsBetween, IsCommand, IsMirroredBehind, IsMirroredSince, MayBe, Says, StandbysStand, StandbysStandBehind, StandbysStandSince, StandsForFirst, StartsAreCommands, Task, change, made_in, read_by, restart, start}
 use Rattle.xc_core.specs.Openings.{Begins, disk_home}
 use Rattle.xc_core.specs.Provisioners.{Rolls, with_halt}
 use Rattle.xc_core.specs.Reckonings.{Past, ReckonsTo, changed}
@@ -189,6 +189,14 @@ module _ {D : Type 0} (told : Type 0) (state : D → DiskState) (disk : (d : D) 
       find told state t (λ x. disk x t) d b cs p are m.by n pair.standby.file (omega (arith, not_before, answered))
       (sym (behind_older m.older ((state d).reads_as ∷ read_by state cs) n) ∙ ap (slice_get (m.older ++ (state d).reads_as ∷ read_by state cs)) (sym there) ∙ ap (λ (l : List (List ℕ)). slice_get l keeps.moment) (sym m.are) ∙ get_more (moments pair.primary) m.unseen keeps.moment pair.standby.file keeps.read)
 
+-- the moment whose file the standby has comes behind the earlier ones
+behind : {D : Type 0} (told : Type 0) (state : D → DiskState) → ((d : D) → told → IsDisk (state d)) → told → (d : D) (b : Past) (cs : List (Command D)) (p : Provisioner D) → AreCommands told state d b cs p → (pair : Pair) (m : IsMirroredBehind state d cs pair.primary) → KeepsUp pair → StandsForFirst state b cs p.doubt m.by pair.standby.file
+behind told state disk t d b cs p are pair m keeps =
+    let not_before = keeps.not_before in
+    let answered = m.answered in
+    find told state t (λ x. disk x t) d b cs p are m.by (length m.earlier + keeps.moment) pair.standby.file (omega (arith, not_before, answered))
+    (ap (λ (l : List (List ℕ)). slice_get l (length m.earlier + keeps.moment)) (sym m.are) ∙ behind_older m.earlier (moments pair.primary ++ m.unseen) keeps.moment ∙ get_more (moments pair.primary) m.unseen keeps.moment pair.standby.file keeps.read)
+
 stands_by : {A : Type 0} (P : A → Type 0) (x : A) (n : ℕ) → (0 < n → P x) → IfSome (if nat_eq n 0 then None else Some x) P
 stands_by P x zero holds = tt
 stands_by P x (suc n) holds = subst (λ (b : Bool). IfSome (if b then None else Some x) P) (sym (eqb-suc-zero n)) (holds (omega arith))
@@ -200,6 +208,10 @@ copies_stand told state disk t d b cs p are pair unseen keeps is =
 pub standbys_stand_since : {D : Type 0} (told : Type 0) (state : D → DiskState) → ((d : D) → told → IsDisk (state d)) → StandbysStandSince told state
 standbys_stand_since told state disk t d b cs p are pair keeps m =
     stands_by (StandsForFirst state b cs p.doubt m.by) pair.standby.file pair.standby.synced (λ some. since told state disk t d b cs p are pair m (keeps some))
+
+pub standbys_stand_behind : {D : Type 0} (told : Type 0) (state : D → DiskState) → ((d : D) → told → IsDisk (state d)) → StandbysStandBehind told state
+standbys_stand_behind told state disk t d b cs p are pair keeps m =
+    stands_by (StandsForFirst state b cs p.doubt m.by) pair.standby.file pair.standby.synced (λ some. behind told state disk t d b cs p are pair m (keeps some))
 
 -- what a start says of its state
 module _ {D : Type 0} (told : Type 0) (state : D → DiskState) (s : State D) (begins : Begins told state s) where

@@ -125,6 +125,21 @@ StandbysStandSince {D} told state = told → (d : D) (b : Past) (cs : List (Comm
     → (pair : Pair) → (0 < pair.standby.synced → KeepsUp pair) → (m : IsMirroredSince state d cs pair.primary)
     → IfSome (named pair.standby) (StandsForFirst state b cs p.doubt m.by)
 
+-- The standby was joined behind that: first the disk read these, from the joining on what the primary's moments say, and then those that the primary didn't see any
+-- more. By the last sync that was answered while Joined so many had come.
+pub record IsMirroredBehind {D : Type 0} (state : D → DiskState) (d : D) (cs : List (Command D)) (primary : Primary) : Type 0 where
+  pub earlier : List (List ℕ)
+  pub unseen : List (List ℕ)
+  pub by : ℕ
+  pub answered : by ≡ length earlier + primary.answered
+  pub are : earlier ++ (moments primary ++ unseen) ≡ (state d).reads_as ∷ read_by state cs
+
+-- The same of a standby that was joined among the commands, in whichever call of them.
+abbrev pub StandbysStandBehind : {D : Type 0} → Type 0 → (D → DiskState) → Type 0
+StandbysStandBehind {D} told state = told → (d : D) (b : Past) (cs : List (Command D)) (p : Provisioner D) → AreCommands told state d b cs p
+    → (pair : Pair) → (0 < pair.standby.synced → KeepsUp pair) → (m : IsMirroredBehind state d cs pair.primary)
+    → IfSome (named pair.standby) (StandsForFirst state b cs p.doubt m.by)
+
 -- By its name, whatever messages came, again, never or in any order, a copy is no file, or one that stands for those changes.
 abbrev pub CopiesStand : {D : Type 0} → Type 0 → (D → DiskState) → Type 0
 CopiesStand {D} told state = told → (d : D) (b : Past) (cs : List (Command D)) (p : Provisioner D) → AreCommands told state d b cs p

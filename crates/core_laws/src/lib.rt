@@ -2,7 +2,7 @@
 #![tactic(auto)]
 
 ghost use Rattle.core_laws.specs.Laws.{ChangesAreCounted, ChangesComeToOne, LimitsAreOne, MiddlesMoveFew, MovesAreFew, OpeningsAreOne, StandbysAreAdopted, StoppedAreAdopted, SyncedAreMirrored};
-ghost use Rattle.core_laws.specs.Mirrorings.{CopiesStand, StandbysStand, StandbysStandSince, StartsAreCommands};
+ghost use Rattle.core_laws.specs.Mirrorings.{CopiesStand, StandbysStand, StandbysStandBehind, StandbysStandSince, StartsAreCommands};
 
 use dxc_disk::Disk;
 
@@ -48,6 +48,9 @@ pub fn standbys_are_adopted<D: Disk>()
 /// The commands may be those since any moment at which the Provisioner was between two of them, whatever came before: then the last sync that was answered while
 /// Joined has to be none before that moment (`since`).
 ///
+/// The standby may also have been joined behind that moment, in the middle of a command too: a mirror that was lost joins whoever stands by anew
+/// (`behind`).
+///
 /// Each premise is what clauses give. What a crash at any moment of a command leaves: `any_moment` of `note`, `settle` and `recover`, and of
 /// `Core::open` and `Core::adopt` with what they found, which make a start the first command (`start`); of a command that a crash cut short, what it
 /// would have done is unseen. What stands behind the changes: `finishes` of `finish`, `ends` of `end_recovery`; all other calls leave it, and the
@@ -58,5 +61,6 @@ pub fn standbys_stand_for_commands<D: Disk>()
     ensures start { StartsAreCommands D.told D.state }
     ensures stands { StandbysStand D.told D.state }
     ensures since { StandbysStandSince D.told D.state }
+    ensures behind { StandbysStandBehind D.told D.state }
     ensures copies { CopiesStand D.told D.state }
 {}

@@ -47,15 +47,15 @@ NoMirror opener_told gone name before after status = IsUnopened before.opener.fa
 
 -- what a mirrored disk shows is what the disk below shows
 abbrev pub mirror_state : {D K : Type 0} → (D → DiskState) → MirrorDisk D K → DiskState
-mirror_state state m = state m.disk
+mirror_state state m = state m.disk.disk
 
 module _ {D K : Type 0} (disk_told link_told : Type 0) (state : D → DiskState) (link : K → LinkState) where
   -- The disk is mirrored, behind a joining over some link. That changed nothing on it.
   pub record IsMirror (disk : D) (m : MirrorDisk D K) : Type 0 where
-    pub looks : disk_told → Looks (state disk) (state m.disk)
-    pub later : (state disk).faults ≤ (state m.disk).faults
+    pub looks : disk_told → Looks (state disk) (state m.disk.disk)
+    pub later : (state disk).faults ≤ (state m.disk.disk).faults
     pub peer : K
-    pub joins : IsSomeAnd m.line (λ l. Joins disk_told link_told (state disk) (state m.disk) (link peer) (line_at link l))
+    pub joins : IsSomeAnd m.line (λ l. Joins disk_told link_told (state disk) (state m.disk.disk) (link peer) (line_at link l))
 
   module _ (opener_told : Type 0) where
     -- the mirror of the disk that was handed out for a journal

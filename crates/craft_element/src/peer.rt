@@ -19,7 +19,7 @@ pub type Mirror<O> = MirrorDisk<<O as Opener>::Journal, <O as Opener>::Peer>;
 
 /// Opens the shelf file and the journal of these names, joins the standby at the peer, and starts the controller with so many
 /// workers on what the journal came to; then the users' journal beside it, over a link of its own to the peer's copy of it. Where a joining is lost that
-/// journal is served alone. Where the element doesn't start, what is left of it is let go as it was handed back.
+/// journal is served alone until somebody stands by anew. Where the element doesn't start, what is left of it is let go as it was handed back.
 pub fn open_mirrored<O: Opener + LetGo, G: Gate>(
     alloc: Global,
     opener: &mut O,
@@ -130,7 +130,7 @@ fn mirror_of<O: Opener + LetGo>(
         Opened::NoMemory => return Err(Status::NoMemory),
     };
     match opener.peer(alloc, peer) {
-        Opened::Open(link) => Ok(MirrorDisk::join(disk, link)),
+        Opened::Open(link) => Ok(MirrorDisk::join(alloc, disk, link)),
         Opened::Failed => {
             opener.let_go(disk);
             Err(Status::CannotOpen)

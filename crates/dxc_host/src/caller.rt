@@ -1,7 +1,8 @@
 ghost use Rattle.std.specs.Prelude.{◌≤◌, length, IfOk};
 
-use crate::entrance::Seat;
+use crate::entrance::{Seat, is_readable};
 use crate::keepalive::{self, FarEnd};
+use crate::last_sync::LastSync;
 use std::io::{self, ErrorKind, Read, Write};
 use std::net::{Shutdown, TcpStream};
 use std::time::Duration;
@@ -22,6 +23,8 @@ pub(crate) struct Caller {
     stream: TcpStream,
     /// Of one that came in by an entrance.
     seat: Option<Seat>,
+    /// Of a standby: the moment at which its primary has sent nothing more is kept there.
+    last_sync: Option<LastSync>,
 }
 
 impl Caller {
@@ -31,12 +34,27 @@ impl Caller {
         stream.set_write_timeout(Some(Duration::from_millis(WRITE_MILLIS)))?;
         stream.set_nodelay(true)?;
         keepalive::watch(&stream, far)?;
-        Ok(Caller { stream, seat })
+        Ok(Caller {
+            stream,
+            seat,
+            last_sync: None,
+        })
+    }
+
+    /// Keeps there from here on when nothing more was to be read.
+    pub(crate) fn keep_waits(&mut self, last_sync: LastSync) {
+        self.last_sync = Some(last_sync);
     }
 
     /// Ends both directions. Where that fails the connection is gone already.
     pub(crate) fn hang_up(&self) {
         let _ = self.stream.shutdown(Shutdown::Both);
+    }
+
+    /// The same, and what the other end hasn't got yet isn't sent again.
+    pub(crate) fn give_up(&self) {
+        let _ = keepalive::give_up(&self.stream);
+        self.hang_up();
     }
 
     // Tries again where there was no room.
@@ -57,6 +75,11 @@ impl Caller {
 impl Read for Caller {
     /// Where no byte came in time, one who waits at the same entrance is told that all places are taken, if they are.
     fn read(&mut self, into: &mut [u8]) -> io::Result<usize> {
+        if let Some(last_sync) = &self.last_sync {
+            if !is_readable(&self.stream) {
+                last_sync.wait();
+            }
+        }
         let read = self.stream.read(into);
         match (&read, &self.seat) {
             (Err(error), Some(seat)) if error.kind() == ErrorKind::WouldBlock => seat.turn_away(),

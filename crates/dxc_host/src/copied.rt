@@ -15,6 +15,11 @@ impl Copied {
         let name = name.to_string(alloc)?;
         Ok(Copied { name, last_sync })
     }
+
+    /// For one more holder; none where memory is wanting.
+    pub(crate) fn last_sync(&self) -> Option<LastSync> {
+        self.last_sync.shared().ok()
+    }
 }
 
 impl Display for Copied {

@@ -11,6 +11,9 @@ use std::sync::atomic::{AtomicU64, Ordering};
 /// What a caller is told for whom there is no seat.
 const FULL: &[u8] = b"dxc: all places are taken, call again later\r\n";
 
+/// Who waits for callers looks so often whether the standby's connection is another one.
+const LOOK_MILLIS: i32 = 2000;
+
 /// So many bytes of what such a caller sent are read before it is let go: where some are left, TCP drops what it was told.
 const MOST_SENT: usize = 4096;
 
@@ -66,7 +69,8 @@ impl Entrance {
         self.hall.free.fetch_add(1, Ordering::SeqCst);
     }
 
-    /// Waits until someone calls, or the standby's connection ends. Another one may be faster to answer.
+    /// Waits until someone calls, or the standby's connection ends; where there is a standby, for two seconds at most. Another one may be faster to
+    /// answer.
     pub(crate) fn wait(&self) -> io::Result<()> {
         let listener = pollfd {
             fd: self.hall.listener.as_raw_fd(),
@@ -76,18 +80,22 @@ impl Entrance {
         let Some(standby) = &self.hall.standby else {
             return poll(&mut [listener], -1);
         };
-        let mut asked = [listener, standby.asked()];
-        poll(&mut asked, -1)?;
-        standby.answered(&asked[1]);
+        let [(journal, journal_time), (users, users_time)] = standby.asked();
+        let mut asked = [listener, journal, users];
+        poll(&mut asked, LOOK_MILLIS)?;
+        standby.answered(&asked[1], journal_time);
+        standby.answered(&asked[2], users_time);
         Ok(())
     }
 
     /// Looks after the standby's connection without waiting.
     fn look(&self) {
         if let Some(standby) = &self.hall.standby {
-            let mut asked = [standby.asked()];
+            let [(journal, journal_time), (users, users_time)] = standby.asked();
+            let mut asked = [journal, users];
             if poll(&mut asked, 0).is_ok() {
-                standby.answered(&asked[0]);
+                standby.answered(&asked[0], journal_time);
+                standby.answered(&asked[1], users_time);
             }
         }
     }
@@ -131,6 +139,16 @@ impl Seat {
             let _ = tell_full(stream);
         }
     }
+}
+
+/// Whether a read of the stream wouldn't wait.
+pub(crate) fn is_readable(stream: &TcpStream) -> bool {
+    let mut asked = [pollfd {
+        fd: stream.as_raw_fd(),
+        events: POLLIN,
+        revents: 0,
+    }];
+    poll(&mut asked, 0).is_ok() && asked[0].revents != 0
 }
 
 fn poll(asked: &mut [pollfd], millis: i32) -> io::Result<()> {

@@ -12,18 +12,14 @@ use crate::last_sync::LastSync;
 use crate::lines_files::{open_input, open_output};
 use crate::peer_watch::PeerWatch;
 use crate::staged_file::{StagedFile, is_free};
-use crate::{FileLines, HostClock, HostDisk, HostGate, PeerLink, Refusal, TcpDoor, TcpLink};
+use crate::{FileLines, HostClock, HostDisk, HostGate, PeerLink, Refusal, TcpDoor};
 use dxc_disk::FileDisk;
 use dxc_outside::{Opened, Opener, most_shelf_bytes};
 use std::alloc::{AllocError, Global};
 use std::fs::File;
 use std::io::{self, ErrorKind, Read};
-use std::net::{Net, TcpListener, TcpStream, ToSocketAddrs};
+use std::net::{Net, TcpListener, TcpStream};
 use std::rt::{Clock as SystemClock, Files};
-use std::time::Duration;
-
-/// How long a peer's machine has to answer a call.
-const CALL_SECONDS: u64 = 5;
 
 /// Opens files of the operating system by their paths, and TCP listeners and connections by their addresses. It tells nothing of what they hold.
 #[derive(Drop)]
@@ -41,7 +37,7 @@ pub struct HostOpener<T> {
     refusal: Option<Refusal>,
     /// The copy of a journal that was to be made last.
     copied: Option<Copied>,
-    /// The connection to a standby, for those who wait for callers.
+    /// The connections to a standby, for those who wait for callers.
     standby: Option<PeerWatch>,
 }
 
@@ -181,38 +177,6 @@ fn share_lines(alloc: Global, lines: &mut Option<ErrorLines>) -> ErrorLines {
     shared
 }
 
-// A link to whoever listens at the address, which is tried in each form that its name has.
-fn call<T: Net<Listener = TcpListener, Stream = TcpStream>>(
-    alloc: Global,
-    net: &T,
-    address: &str,
-    lines: &ErrorLines,
-) -> io::Result<PeerLink> {
-    let mut last = io::Error::new(ErrorKind::InvalidInput, "the name has no address");
-    for at in address.to_socket_addrs(net)? {
-        match TcpStream::connect_timeout(net, &at, Duration::from_secs(CALL_SECONDS)) {
-            Ok(stream) => return peer_link(alloc, stream, lines.shared()),
-            Err(error) => last = error,
-        }
-    }
-    Err(last)
-}
-
-// No gate is asked for what it is sent.
-fn peer_link(alloc: Global, stream: TcpStream, lines: ErrorLines) -> io::Result<PeerLink> {
-    let watch = PeerWatch::new(alloc, stream.try_clone()?, lines)?;
-    let link = TcpLink::new(alloc, stream, None, FarEnd::Peer, Changes::new(alloc)?)?;
-    Ok(PeerLink::new(link, watch))
-}
-
-fn tell_called(alloc: Global, lines: &ErrorLines, address: &str) {
-    if let Ok(what) = format!(in alloc;
-        "standby at {address}: called, the journal is copied to it"
-    ) {
-        lines.tell(&what.as_str());
-    }
-}
-
 impl<
     T: Files<File = File>
         + Net<Listener = TcpListener, Stream = TcpStream>
@@ -237,7 +201,7 @@ impl<
 
     type Gate = HostGate;
 
-    type Peer = PeerLink;
+    type Peer = PeerLink<T>;
 
     ghost told = { ⊥ };
 
@@ -346,10 +310,9 @@ impl<
             .as_ref()
             .and_then(|standby| standby.shared().ok());
         // Who has a copy to make is called by its primary.
-        let far = if self.copied.is_some() {
-            FarEnd::Peer
-        } else {
-            FarEnd::Caller
+        let (far, last_sync) = match &self.copied {
+            Some(copied) => (FarEnd::Peer, copied.last_sync()),
+            None => (FarEnd::Caller, None),
         };
         match bind(
             alloc,
@@ -366,21 +329,28 @@ impl<
                 changes,
                 lines,
                 far,
+                last_sync,
             )),
             Err(error) => self.not_opened(alloc, address, &error),
         }
     }
 
-    fn peer(&mut self, alloc: Global, address: &str) -> Opened<PeerLink>
+    /// Also where nobody answers there: the link calls again then. ADDRESS`.users` is where the users' journal is copied: at the port behind ADDRESS's.
+    fn peer(&mut self, alloc: Global, address: &str) -> Opened<PeerLink<T>>
         ensures aside { StaysAside self.old self.new }
         ensures cause { HasCause self.old.faults self.new.faults (result ≡ Opened.Failed) }
         ensures no_fault { result ≢ Opened.Failed → self.new.faults ≡ self.old.faults }
         ensures looks { self.new.only_looks ≡ self.old.only_looks }
     {
         let lines = share_lines(alloc, &mut self.lines);
-        match call(alloc, &self.system, address, &lines) {
+        let opened = match (&self.standby, address.strip_suffix(".users")) {
+            (Some(standby), Some(name)) => {
+                PeerLink::of_users(alloc, self.system, name, lines, standby)
+            }
+            _ => PeerLink::new(alloc, self.system, address, lines),
+        };
+        match opened {
             Ok(link) => {
-                tell_called(alloc, &lines, address);
                 self.standby = link.watch();
                 Opened::Open(link)
             }

@@ -2,7 +2,7 @@
 ghost use Rattle.libc.specs.Net.{SockOption};
 
 use libc::net::{
-    IPPROTO_TCP, SO_KEEPALIVE, SOL_SOCKET, TCP_KEEPCNT, TCP_KEEPIDLE, TCP_KEEPINTVL,
+    IPPROTO_TCP, SO_KEEPALIVE, SO_SNDBUF, SOL_SOCKET, TCP_KEEPCNT, TCP_KEEPIDLE, TCP_KEEPINTVL,
     TCP_USER_TIMEOUT,
 };
 use std::io;
@@ -61,6 +61,20 @@ pub(crate) fn watch(stream: &TcpStream, far: FarEnd) -> io::Result<()> {
         TCP_USER_TIMEOUT,
         far.unanswered_millis(),
     )
+}
+
+/// So many bytes are on their way to a standby at most: then its silence is that of somebody who gets nothing, also where the way is slow, and a whole
+/// journal is sent.
+const ON_THE_WAY: i32 = 32_768;
+
+/// Lets the stream hold little that isn't acknowledged yet.
+pub(crate) fn hold_little(stream: &TcpStream) -> io::Result<()> {
+    set(stream.as_raw_fd(), SOL_SOCKET, SO_SNDBUF, ON_THE_WAY)
+}
+
+/// Lets the system give up what isn't acknowledged yet in place of sending it again.
+pub(crate) fn give_up(stream: &TcpStream) -> io::Result<()> {
+    set(stream.as_raw_fd(), IPPROTO_TCP, TCP_USER_TIMEOUT, 1)
 }
 
 fn set(socket: i32, level: i32, option: i32, number: i32) -> io::Result<()>

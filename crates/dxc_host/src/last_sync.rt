@@ -4,28 +4,40 @@ use std::alloc::{AllocError, Global};
 use std::sync::Arc;
 use std::sync::atomic::{AtomicU64, Ordering};
 
-/// When a disk was synced last, as a second since 1970-01-01 00:00:00: 0 as long as it wasn't.
+/// Of a copy, as seconds since 1970-01-01 00:00:00, or 0: when its disk was synced last, and when its link had nothing more to give last. A sync's moment is
+/// the latter: where this program was stopped for a while, it makes later what its primary sent before.
 #[derive(Drop)]
 pub(crate) struct LastSync {
     second: Arc<AtomicU64>,
+    waiting: Arc<AtomicU64>,
 }
 
 impl LastSync {
     pub(crate) fn new(alloc: Global) -> Result<LastSync, AllocError> {
         let second = Arc::new(alloc, AtomicU64::new(0))?;
-        Ok(LastSync { second })
+        let waiting = Arc::new(alloc, AtomicU64::new(0))?;
+        Ok(LastSync { second, waiting })
     }
 
     /// The same one for another holder.
     pub(crate) fn shared(&self) -> Result<LastSync, AllocError> {
         let second = Arc::try_clone(&self.second)?;
-        Ok(LastSync { second })
+        let waiting = Arc::try_clone(&self.waiting)?;
+        Ok(LastSync { second, waiting })
+    }
+
+    /// Nothing more is to be read now.
+    pub(crate) fn wait(&self) {
+        self.waiting.store(now(), Ordering::SeqCst);
     }
 
     /// It is synced now.
     pub(crate) fn mark(&self) {
-        let now = libc::time(&mut 0).max(1);
-        self.second.store(now.cast_unsigned(), Ordering::SeqCst);
+        let second = match self.waiting.load(Ordering::SeqCst) {
+            0 => now(),
+            waiting => waiting,
+        };
+        self.second.store(second, Ordering::SeqCst);
     }
 
     /// None: it wasn't yet.
@@ -35,4 +47,8 @@ impl LastSync {
             second => Some(Utc(moment_of(second.cast_signed()))),
         }
     }
+}
+
+fn now() -> u64 {
+    libc::time(&mut 0).max(1).cast_unsigned()
 }

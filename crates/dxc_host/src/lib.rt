@@ -5,6 +5,7 @@
 mod caller;
 mod changes;
 mod copied;
+mod dialer;
 mod door_notes;
 mod entrance;
 mod error_lines;

@@ -3,20 +3,33 @@ use dxc_outside::Lost;
 use libc::net::{POLLERR, POLLRDHUP};
 use libc::types::pollfd;
 use std::alloc::{AllocError, Global};
-use std::net::TcpStream;
-use std::os::fd::AsRawFd;
 use std::sync::Arc;
 use std::sync::atomic::{AtomicU64, Ordering};
 
-/// A handle of a standby's connection, and whether its end was told: 1, or 0.
-#[derive(Drop)]
-struct Watched {
-    stream: TcpStream,
-    told: AtomicU64,
+/// Which of the two journals a connection copies.
+#[derive(Clone, Copy)]
+pub(crate) enum CopyOf {
+    Journal,
+    Users,
 }
 
-/// The connection to a standby, as all who wait for callers see it: the first of them that meets its end tells standard error, so that it is told
-/// at once, and not only where somebody changes something. It is told once, whoever meets it.
+/// A connection to a standby's copy: its descriptor, and which time it is that the standby is there, counted from 1; 0: there was none yet.
+#[derive(Drop)]
+struct Seen {
+    descriptor: AtomicU64,
+    time: AtomicU64,
+}
+
+/// The connections for the journal and for the users' journal, and how often the standby was lost.
+#[derive(Drop)]
+struct Watched {
+    journal: Seen,
+    users: Seen,
+    lost: AtomicU64,
+}
+
+/// The connections to a standby, as all who wait for callers see them: the first of them that meets the end of one tells standard error, so that it is told
+/// at once, and not only where somebody changes something. It is told once, whoever meets it, and both connections have ended by it.
 #[derive(Drop)]
 pub(crate) struct PeerWatch {
     watched: Arc<Watched>,
@@ -24,15 +37,12 @@ pub(crate) struct PeerWatch {
 }
 
 impl PeerWatch {
-    /// Of another handle of the connection.
-    pub(crate) fn new(
-        alloc: Global,
-        stream: TcpStream,
-        lines: ErrorLines,
-    ) -> Result<PeerWatch, AllocError> {
+    /// Of no connection yet.
+    pub(crate) fn new(alloc: Global, lines: ErrorLines) -> Result<PeerWatch, AllocError> {
         let watched = Watched {
-            stream,
-            told: AtomicU64::new(0),
+            journal: none_seen(),
+            users: none_seen(),
+            lost: AtomicU64::new(0),
         };
         let watched = Arc::new(alloc, watched)?;
         Ok(PeerWatch { watched, lines })
@@ -45,34 +55,85 @@ impl PeerWatch {
         Ok(PeerWatch { watched, lines })
     }
 
-    /// What `poll` is asked: for the end of the connection. Once that was told, for nothing.
-    pub(crate) fn asked(&self) -> pollfd {
-        let is_told = self.watched.told.load(Ordering::SeqCst) > 0;
-        pollfd {
-            fd: if is_told {
+    /// A new connection is there, of that descriptor; which time this is.
+    pub(crate) fn begin(&self, of: CopyOf, descriptor: i32) -> u64 {
+        let time = self.watched.lost.load(Ordering::SeqCst).saturating_add(1);
+        let seen = self.seen(of);
+        let descriptor = u64::from(descriptor.unsigned_abs());
+        seen.descriptor.store(descriptor, Ordering::SeqCst);
+        seen.time.store(time, Ordering::SeqCst);
+        time
+    }
+
+    /// Whether the standby of that time was lost, by this connection or by the other one.
+    pub(crate) fn is_over(&self, time: u64) -> bool {
+        self.watched.lost.load(Ordering::SeqCst) >= time
+    }
+
+    /// The time of the journal's connection, if it is there.
+    pub(crate) fn journal_time(&self) -> Option<u64> {
+        let time = self.watched.journal.time.load(Ordering::SeqCst);
+        if self.is_over(time) { None } else { Some(time) }
+    }
+
+    /// What `poll` is asked, and of which times: for the ends of the connections. Of those of a time that is over, for nothing.
+    // A descriptor may be another file's by the time that `poll` is called: that time was over then, and what is answered says nothing.
+    pub(crate) fn asked(&self) -> [(pollfd, u64); 2] {
+        [
+            self.asked_of(&self.watched.journal),
+            self.asked_of(&self.watched.users),
+        ]
+    }
+
+    fn asked_of(&self, seen: &Seen) -> (pollfd, u64) {
+        let time = seen.time.load(Ordering::SeqCst);
+        let descriptor = seen.descriptor.load(Ordering::SeqCst);
+        let asked = pollfd {
+            fd: if self.is_over(time) {
                 -1
             } else {
-                self.watched.stream.as_raw_fd()
+                i32::try_from(descriptor).unwrap_or(-1)
             },
             events: POLLRDHUP,
             revents: 0,
-        }
+        };
+        (asked, time)
     }
 
-    /// Tells standard error where that is what `poll` answered.
-    pub(crate) fn answered(&self, asked: &pollfd) {
+    /// Tells standard error where that is what `poll` answered of a connection.
+    pub(crate) fn answered(&self, asked: &pollfd, time: u64) {
         if asked.revents & POLLERR != 0 {
-            self.tell(Lost::Link);
+            self.tell(time, Lost::Link);
         } else if asked.revents != 0 {
-            self.tell(Lost::End);
+            self.tell(time, Lost::End);
         }
     }
 
-    /// Tells standard error why the standby is lost, where nobody told that before.
-    pub(crate) fn tell(&self, why: Lost) {
-        if self.watched.told.swap(1, Ordering::SeqCst) == 0 {
+    /// Tells standard error why the standby of that time is lost, where nobody told that before.
+    pub(crate) fn tell(&self, time: u64, why: Lost) {
+        let before = time.saturating_sub(1);
+        let lost = &self.watched.lost;
+        if before < time
+            && lost
+                .compare_exchange(before, time, Ordering::SeqCst, Ordering::SeqCst)
+                .is_ok()
+        {
             self.lines.tell(&lost_text(why));
         }
+    }
+
+    fn seen(&self, of: CopyOf) -> &Seen {
+        match of {
+            CopyOf::Journal => &self.watched.journal,
+            CopyOf::Users => &self.watched.users,
+        }
+    }
+}
+
+fn none_seen() -> Seen {
+    Seen {
+        descriptor: AtomicU64::new(0),
+        time: AtomicU64::new(0),
     }
 }
 

@@ -6,6 +6,7 @@ use crate::door_notes::DoorNotes;
 use crate::entrance::Entrance;
 use crate::error_lines::ErrorLines;
 use crate::keepalive::FarEnd;
+use crate::last_sync::LastSync;
 use dxc_notes::Noted;
 use dxc_outside::{Came, Listener};
 use std::alloc::Global;
@@ -33,6 +34,8 @@ pub struct TcpDoor<T> {
     place: u64,
     /// Who calls here.
     far: FarEnd,
+    /// Of a standby.
+    last_sync: Option<LastSync>,
     faults: u64,
 }
 
@@ -45,6 +48,7 @@ impl<T: SystemClock + Drop> TcpDoor<T> {
         changes: Changes,
         lines: ErrorLines,
         far: FarEnd,
+        last_sync: Option<LastSync>,
     ) -> TcpDoor<T>
         ensures { result.faults ≡ 0 }
     {
@@ -57,6 +61,7 @@ impl<T: SystemClock + Drop> TcpDoor<T> {
             lines,
             place,
             far,
+            last_sync,
             faults: 0,
         }
     }
@@ -82,7 +87,10 @@ impl<T: SystemClock + Drop> TcpDoor<T> {
         let (stream, address) = self.entrance.accept()?;
         let seat = self.entrance.seat()?;
         let changes = self.changes.shared()?;
-        let link = TcpLink::new(self.alloc, stream, Some(seat), self.far, changes)?;
+        let mut link = TcpLink::new(self.alloc, stream, Some(seat), self.far, changes)?;
+        if let Some(last_sync) = &self.last_sync {
+            link.keep_waits(last_sync.shared()?);
+        }
         Ok((link, address))
     }
 

@@ -5,6 +5,7 @@ use crate::caller::Caller;
 use crate::changes::Changes;
 use crate::entrance::Seat;
 use crate::keepalive::FarEnd;
+use crate::last_sync::LastSync;
 use crate::outbox::Outbox;
 use dxc_outside::{Got, Link, Lost, Put};
 use std::alloc::Global;
@@ -50,6 +51,15 @@ impl TcpLink {
             read_faults: 0,
             write_faults: 0,
         })
+    }
+}
+
+impl TcpLink {
+    /// Keeps there from here on when nothing more was to be read.
+    pub(crate) fn keep_waits(&mut self, last_sync: LastSync)
+        ensures { tcp_state self.new ≡ tcp_state self.old }
+    {
+        self.caller.keep_waits(last_sync);
     }
 }
 

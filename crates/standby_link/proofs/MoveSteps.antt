@@ -13,7 +13,7 @@ use Rattle.dxc_outside.specs.declared.link.Lost.TheVariants.{Link, Disk}
 use Rattle.standby_link.specs.Acts.{Act, write, sync, acted, pieces}
 use Rattle.standby_link.specs.Lines.{LineState, SentActs, Syncs}
 use Rattle.standby_link.specs.Mirrors.{Primary, sends, called, syncing, failed, lose, is_awaited, takes, joining}
-use Rattle.standby_link.specs.Moves.{Both, mirrored, first_line, Moved, lost_by, takes_all, IsSmall, TellsWrite, TellsSync, StepsByWrite, Took, TookHaves, StepsBySync, SendsFile, Joins}
+use Rattle.standby_link.specs.Moves.{Both, mirrored, first_line, Moved, lost_by, takes_all, IsSmall, TellsWrite, TellsSync, StepsByWrite, LinkTook, Took, TookHaves, StepsBySync, SendsFile, Joins}
 
 -- a Have leaves what is sent and read as it is
 record Keeps (p q : Primary) : Type 0 where
@@ -83,6 +83,17 @@ lost_before told link_told d' l k' n' held why (Some other) q content left gone 
   moved = lost_moved told d' other n' q content;
 }
 
+-- the same, where its link was read once more
+lost_asked : (told link_told : Type 0) (d' : DiskState) (l : LineState) (k' : LinkState) (n' : ℕ) (held : List ℕ) (why : Lost) (lost' : Option Lost) (q : Primary) → (told → d'.reads_as ≡ q.file) → LinkTook link_told l.link k' → lost' ≡ Some why
+    → TookHaves told link_told l (mirrored d' (line k' n' held lost')) q
+lost_asked told link_told d' l k' n' held why None q content took gone = absurd (none_is None why refl gone)
+lost_asked told link_told d' l k' n' held why (Some other) q content took gone = record {
+  numbers = [];
+  rest = l.held ++ bytes_in took.came;
+  took = record { came = took.came; spells = refl; small = tt; left = took.left };
+  moved = lost_moved told d' other n' q content;
+}
+
 -- a primary whose Sync was sent over its line
 module _ (told link_told : Type 0) (d' : DiskState) (l : LineState) (k' : LinkState) (n' : ℕ) (rest : List ℕ) (q : Primary) (content : told → d'.reads_as ≡ q.file) (here : q.lost ≡ false) (size : length q.acts ≡ l.number + 1) where
   went : (lost' : Option Lost) → Syncs link_told l (line k' n' rest lost') → TookHaves told link_told l (mirrored d' (line k' n' rest lost')) q
@@ -145,11 +156,11 @@ module _ (told link_told : Type 0) (d d' : DiskState) (k k' : LinkState) (n n' :
 
   -- a sync that was made
   sync_moved : (part rest : List ℕ) (lost lost' : Option Lost) (p : Primary) → (told → d'.reads_as ≡ d.reads_as) → Moved told d lost n p
-      → (lost ≡ None → Syncs link_told (line k n part lost) (line k' n' rest lost')) → (IsSome lost → (lost' ≡ lost) × (k' ≡ k))
+      → (lost ≡ None → Syncs link_told (line k n part lost) (line k' n' rest lost')) → (IsSome lost → lost' ≡ lost) → (IsSome lost → LinkTook link_told k k')
       → TookHaves told link_told (line k n part lost) (mirrored d' (line k' n' rest lost')) (syncing p)
-  sync_moved part rest (Some why) lost' p same moved syncs gone =
-      lost_before told link_told d' (line k n part (Some why)) k' n' rest why lost' (syncing p) (λ t. same t ∙ moved.content t) (λ t. ap (λ (s : LinkState). s.left) (gone refl).1) (gone refl).0
-  sync_moved part rest None lost' p same moved syncs gone =
+  sync_moved part rest (Some why) lost' p same moved syncs gone vain =
+      lost_asked told link_told d' (line k n part (Some why)) k' n' rest why lost' (syncing p) (λ t. same t ∙ moved.content t) (vain refl) (gone refl)
+  sync_moved part rest None lost' p same moved syncs gone vain =
       let here = moved.on.joined refl in
       went told link_told d' (line k n part None) k' n' rest (syncing p) (λ t. same t ∙ moved.content t) here.0 (omega (arith, here.1, sent_length p.lost p.acts (sync ∷ []) here.0)) lost' (syncs refl)
 
@@ -161,8 +172,8 @@ module _ (told link_told : Type 0) (d d' : DiskState) (l m : LineState) where
 
   pub steps_by_sync : {T E : Type 0} → (result : Result T E) → (told → Looks d d') → TellsSync link_told l m result → StepsBySync told link_told (mirrored d l) (mirrored d' m) result
   steps_by_sync (Ok x) looks tells p moved small =
-      sync_moved told link_told d d' l.link m.link l.number m.number l.held m.held l.lost m.lost p (λ t. (looks t).same) moved (λ here. tells.syncs here small) tells.gone
-  steps_by_sync (Err x) looks tells p moved small = failed_moved told d' l.lost m.lost m.number p moved.on.idle (λ here. (tells.failing here).0) (λ some. (tells.gone some).0)
+      sync_moved told link_told d d' l.link m.link l.number m.number l.held m.held l.lost m.lost p (λ t. (looks t).same) moved (λ here. tells.syncs here small) tells.gone tells.vain
+  steps_by_sync (Err x) looks tells p moved small = failed_moved told d' l.lost m.lost m.number p moved.on.idle (λ here. (tells.failing here).0) tells.gone
 
 -- the line before and after
 pub both_then : {A : Type 0} (x y : Option A) (P Q : A → A → Type 0) → ((l m : A) → P l m → Q l m) → Both x y P → Both x y Q

@@ -1,7 +1,9 @@
 -- What a primary sends over its line.
-use Rattle.std.specs.Prelude.{◌≡◌, ◌≢◌, ◌⊎◌, ◌↔◌, IsTrue, ℕ, ◌+◌, ◌≤◌, List, [], ◌++◌, length, take, Option, Some, None, IsSome}
+use Rattle.std.specs.Prelude.{◌≡◌, ◌≢◌, ◌⊎◌, ◌↔◌, IsTrue, Bool, true, false, ℕ, ◌+◌, ◌≤◌, List, [], ◌++◌, length, take, Option, Some, None, IsSome}
 use Rattle.dxc_causes.specs.Causes.{Rose}
-use Rattle.dxc_outside.specs.Links.{LinkState, Wrote, IsSent}
+use Rattle.dxc_outside.specs.Links.{LinkState, IsRead, IsSent, Wrote}
+use Rattle.dxc_outside.specs.declared.link.Got.{Got}
+use Rattle.dxc_outside.specs.declared.link.Got.TheVariants.{Bytes, Quiet, End as AtEnd, Failed}
 use Rattle.dxc_outside.specs.declared.send.Sent.TheVariants.{Cut}
 use Rattle.standby_link.specs.declared.line.Line.{Line}
 use Rattle.dxc_outside.specs.declared.link.Lost.{Lost}
@@ -62,3 +64,29 @@ abbrev pub Syncs : (told : Type 0) (old new : LineState) → Type 0
 Syncs told old new =
     ((new.lost ≡ Some Link) × IsSent told old.link new.link Cut (spelled (old.number + 1) sync))
     ⊎ ((mid : LinkState) × SentSync told mid old new)
+
+abbrev pub is_quiet_read : Got → Bool
+is_quiet_read (Bytes n) = false
+is_quiet_read Quiet = true
+is_quiet_read AtEnd = false
+is_quiet_read Failed = false
+
+-- A read of the link of a lost line: it wasn't Quiet, or it was.
+pub record AskedAnew {K : Type 0} (told : Type 0) (begun : LinkState → Type 0) (state : K → LinkState) (is_quiet : Bool) (old new : Line K) : Type 0 where
+  pub got : Got
+  pub buffer : List ℕ
+  pub begins : begun (state old.link)
+  pub read : IsRead told (state old.link) (state new.link) got buffer
+  pub answer : is_quiet_read got ≡ is_quiet
+
+-- Nobody stands by: the line is as it was.
+pub record StaysLost {K : Type 0} (told : Type 0) (begun : LinkState → Type 0) (state : K → LinkState) (old new : Line K) : Type 0 where
+  pub asked : AskedAnew told begun state false old new
+  pub same : new ≡ record old { link = new.link }
+
+-- Somebody stands by anew: nothing was sent over the line, and nothing of a Have came.
+pub record BeginsAnew {K : Type 0} (told : Type 0) (begun : LinkState → Type 0) (state : K → LinkState) (old new : Line K) : Type 0 where
+  pub asked : AskedAnew told begun state true old new
+  pub here : new.lost ≡ None
+  pub first : new.number ≡ 0
+  pub none_held : new.ear.held ≡ 0

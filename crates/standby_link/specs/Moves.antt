@@ -59,9 +59,15 @@ pub record TellsWrite {T E : Type 0} (told : Type 0) (l m : LineState) (at : ℕ
   pub held : m.held ≡ l.held
   pub failing : l.lost ≡ None → OnErr result ((m.lost ≡ Some Disk) × (m.link ≡ l.link))
 
--- what it does for a sync
+-- what a read of a hung up link took
+pub record LinkTook (told : Type 0) (k k' : LinkState) : Type 0 where
+  pub came : List LinkItem
+  pub left : told → k.left ≡ came ++ k'.left
+
+-- What it does for a sync. A line that was lost, and is still lost, read its link once, in vain.
 pub record TellsSync {T E : Type 0} (told : Type 0) (l m : LineState) (result : Result T E) : Type 0 where
-  pub gone : IsSome l.lost → (m.lost ≡ l.lost) × (m.link ≡ l.link)
+  pub gone : IsSome l.lost → m.lost ≡ l.lost
+  pub vain : IsSome l.lost → LinkTook told l.link m.link
   pub syncs : l.lost ≡ None → l.number + 1 < 2 ^ 64 → OnOk result (Syncs told l m)
   pub failing : l.lost ≡ None → OnErr result ((m.lost ≡ Some Disk) × (m.link ≡ l.link))
 

@@ -1,16 +1,16 @@
-ghost use Rattle.std.specs.Prelude.{◌≡◌, ◌+◌, ◌^◌, ◌≤◌, ◌<◌, [], ◌∷◌, length, Option, Some, None, IsSome};
+ghost use Rattle.std.specs.Prelude.{◌≡◌, ◌+◌, ◌^◌, ◌≤◌, ◌<◌, [], ◌∷◌, length, Option, Some, None, IsSome, true, false};
 ghost use Rattle.dxc_causes.specs.Causes.{Rose};
 ghost use Rattle.standby_link.specs.Acts.{write, sync, pieces};
-ghost use Rattle.standby_link.specs.Lines.{line_at, Sends, SendsOne, Syncs, IsHungUp};
+ghost use Rattle.standby_link.specs.Lines.{line_at, Sends, SendsOne, Syncs, IsHungUp, BeginsAnew, StaysLost};
 
 use crate::ear::Ear;
 use crate::spell::{spell_sync, spell_write};
-use dxc_outside::{Link, Lost, Sent, write_all};
+use dxc_outside::{Got, Link, Lost, Sent, write_all};
 
 /// The most bytes that one item carries.
 pub(crate) const MOST: usize = 4096;
 
-/// A primary's end of the link to its standby. Once it is lost it is hung up, and nothing more is sent or read.
+/// A primary's end of the link to its standby. Once it is lost it is hung up, and nothing more is sent until somebody stands by anew.
 #[derive(Drop)]
 pub(crate) struct Line<K: Link> {
     pub(crate) link: K,
@@ -126,7 +126,27 @@ impl<K: Link> Line<K> {
         }
     }
 
-    // Hangs up, for good.
+    /// Whether somebody stands by anew: a link that was hung up has ended, so where a read of it is Quiet it is a new one. The line begins anew
+    /// then.
+    pub(crate) fn begins_anew(&mut self) -> bool
+        requires { IsSome self.old.lost }
+        ensures anew { result ≡ true → BeginsAnew K.told K.begun K.state self.old self.new }
+        ensures vain { result ≡ false → StaysLost K.told K.begun K.state self.old self.new }
+        ensures hung_up { K.hung_up self.new.link ≡ K.hung_up self.old.link }
+    {
+        let mut into = [0];
+        match self.link.read(&mut into) {
+            Got::Quiet => {
+                self.ear = Ear::new();
+                self.number = 0;
+                self.lost = None;
+                true
+            }
+            Got::Bytes(_) | Got::End | Got::Failed => false,
+        }
+    }
+
+    // Hangs up.
     fn lose(&mut self, why: Lost)
         requires { self.old.lost ≡ None }
         ensures link { K.state self.new.link ≡ K.state self.old.link }

@@ -1,54 +1,61 @@
-ghost use Rattle.std.specs.Prelude.{◌≡◌, ◌+◌, ◌^◌, ◌≤◌, ◌<◌, length, None, MatchOption, IsSomeAnd};
+ghost use Rattle.std.specs.Prelude.{◌≡◌, ◌+◌, ◌-◌, ◌^◌, ◌≤◌, ◌<◌, length, None, IsSome, MatchOption, IsSomeAnd};
 ghost use Rattle.dxc_disk.specs.Disks.{IsLength, IsRead, IsWrite, IsSync, Looks, Spends};
 ghost use Rattle.standby_link.specs.Lines.{line_at, IsHungUp};
-ghost use Rattle.standby_link.specs.Moves.{Both, mirrored, first_line, TellsWrite, TellsSync, StepsByWrite, StepsBySync, SendsFile, Joins, TookHaves, IsSmall, mirror_of};
+ghost use Rattle.standby_link.specs.Moves.{Both, mirrored, first_line, TellsWrite, StepsByWrite, SendsFile, Joins, TookHaves, IsSmall, mirror_of};
 ghost use Rattle.standby_link.specs.Acts.{pieces};
+ghost use Rattle.standby_link.specs.Fronts.{IsWhole};
+ghost use Rattle.standby_link.specs.Joinings.{JoinsOver, SyncsOn, TellsOrJoins, over};
 ghost use Rattle.standby_link.specs.Mirrors.{joining};
 
+use crate::known_disk::KnownDisk;
 use crate::line::{Line, MOST};
 use crate::mirror::Mirror;
 use dxc_disk::{Disk, DiskFault};
 use dxc_outside::Link;
+use std::alloc::Global;
 
-/// A disk that tells a standby over a link what is written to it and when it is synced. To contracts it is the disk below;
-/// what is lost of the mirror doesn't fail a call.
+/// A disk that tells a standby over a link what is written to it and when it is synced. To contracts it is the disk below; what is
+/// lost of the mirror doesn't fail a call. It keeps the file in memory, so that whoever stands by anew is joined without a call of
+/// the disk; where there is no memory for that, or the disk failed and wasn't written there again, nobody is.
 #[derive(Drop)]
 pub struct MirrorDisk<D: Disk, K: Link> {
-    disk: D,
+    disk: KnownDisk<D>,
     pub(crate) line: Option<Line<K>>,
 }
 
 impl<D: Disk, K: Link> MirrorDisk<D, K> {
     /// A disk with no standby, for good.
-    pub fn alone(disk: D) -> MirrorDisk<D, K>
-        ensures disk { result.disk ≡ disk }
+    pub fn alone(alloc: Global, disk: D) -> MirrorDisk<D, K>
+        ensures disk { result.disk.disk ≡ disk }
         ensures line { result.line ≡ None }
     {
-        MirrorDisk { disk, line: None }
+        MirrorDisk {
+            disk: KnownDisk::new(alloc, disk),
+            line: None,
+        }
     }
 
     /// Sends the disk's file and a sync to the standby, and waits for its Have. Where that comes the mirror is Joined, else it
-    /// is Lost for good; the disk serves in either case. It makes one call on the disk and one for each piece, so a disk that was sound for
-    /// one more than its bytes stays sound for the rest.
-    pub fn join(disk: D, link: K) -> MirrorDisk<D, K>
-        ensures looks { D.told → Looks (D.state disk) (D.state result.disk) }
-        ensures faults { (D.state disk).faults ≤ (D.state result.disk).faults }
+    /// is Lost until somebody stands by anew; the disk serves in either case. It makes one call on the disk and one for each piece, so a disk that
+    /// was sound for one more than its bytes stays sound for the rest.
+    pub fn join(alloc: Global, disk: D, link: K) -> MirrorDisk<D, K>
+        ensures looks { D.told → Looks (D.state disk) (D.state result.disk.disk) }
+        ensures faults { (D.state disk).faults ≤ (D.state result.disk.disk).faults }
         ensures room { D.told → Spends (1 + length (D.state disk).reads_as)
-            (D.state disk) (D.state result.disk) }
+            (D.state disk) (D.state result.disk.disk) }
         ensures line { IsSomeAnd result.line (λ l. Joins D.told K.told (D.state disk)
-            (D.state result.disk) (K.state link) (line_at K.state l)) }
+            (D.state result.disk.disk) (K.state link) (line_at K.state l)) }
         ensures step { D.told → IsSmall 0 0 (D.state disk).reads_as
             → length (pieces 0 (D.state disk).reads_as) + 1 < 2 ^ 64
             → IsSomeAnd result.line (λ l. TookHaves D.told K.told (first_line (K.state link))
-            (mirrored (D.state result.disk) (line_at K.state l))
+            (mirrored (D.state result.disk.disk) (line_at K.state l))
             (joining (D.state disk).reads_as)) }
         ensures hung_up { IsSomeAnd result.line
             (λ l. IsHungUp None l.lost (K.hung_up link) (K.hung_up l.link)) }
     {
-        let mut disk = disk;
+        let mut disk = KnownDisk::new(alloc, disk);
         let mut line = Line::new(link);
-        send_file(&mut disk, &mut line);
-        line.sync();
+        join_file(&mut disk, &mut line);
         MirrorDisk {
             disk,
             line: Some(line),
@@ -59,9 +66,9 @@ impl<D: Disk, K: Link> MirrorDisk<D, K> {
     pub fn into_inner(self) -> D
     where
         K: Drop,
-        ensures { result ≡ self.disk }
+        ensures { result ≡ self.disk.disk }
     {
-        self.disk
+        self.disk.into_inner()
     }
 
     /// How the disk stands to its standby.
@@ -82,38 +89,39 @@ impl<D: Disk, K: Link> MirrorDisk<D, K> {
 impl<D: Disk, K: Link> Disk for MirrorDisk<D, K> {
     ghost told = { D.told };
 
-    ghost state = { λ m. D.state m.disk };
+    ghost state = { λ m. D.state m.disk.disk };
 
-    ghost is_disk = { λ m told. D.is_disk m.disk told };
+    ghost is_disk = { λ m told. D.is_disk m.disk.disk told };
 
-    ghost counts_on = { λ m. D.counts_on m.disk };
+    ghost counts_on = { λ m. D.counts_on m.disk.disk };
 
     fn length(&mut self) -> Result<u64, DiskFault>
-        ensures length { IsLength D.told (D.state self.old.disk) (D.state self.new.disk) result }
+        ensures length { IsLength D.told (D.state self.old.disk.disk)
+            (D.state self.new.disk.disk) result }
         ensures line { self.new.line ≡ self.old.line }
     {
         self.disk.length()
     }
 
     fn read(&mut self, at: u64, into: &mut [u8]) -> Result<(), DiskFault>
-        requires { D.told → at + length into.old ≤ length (D.state self.old.disk).reads_as }
-        ensures read { IsRead D.told (D.state self.old.disk) (D.state self.new.disk) result at
-            into.new }
+        requires { D.told → at + length into.old ≤ length (D.state self.old.disk.disk).reads_as }
+        ensures read { IsRead D.told (D.state self.old.disk.disk)
+            (D.state self.new.disk.disk) result at into.new }
         ensures line { self.new.line ≡ self.old.line }
     {
         self.disk.read(at, into)
     }
 
     fn write_at(&mut self, at: u64, from: &[u8]) -> Result<(), DiskFault>
-        requires within { D.told → at ≤ length (D.state self.old.disk).reads_as }
+        requires within { D.told → at ≤ length (D.state self.old.disk.disk).reads_as }
         requires short { length from.now ≤ 4096 }
-        ensures write { IsWrite D.told (D.state self.old.disk) (D.state self.new.disk) result at
-            from.now }
+        ensures write { IsWrite D.told (D.state self.old.disk.disk)
+            (D.state self.new.disk.disk) result at from.now }
         ensures tells { Both self.old.line self.new.line
             (λ l m. TellsWrite K.told (line_at K.state l) (line_at K.state m) at from.now result) }
         ensures steps { Both self.old.line self.new.line
-            (λ l m. StepsByWrite D.told (mirrored (D.state self.old.disk) (line_at K.state l))
-            (mirrored (D.state self.new.disk) (line_at K.state m)) at from.now result) }
+            (λ l m. StepsByWrite D.told (mirrored (D.state self.old.disk.disk) (line_at K.state l))
+            (mirrored (D.state self.new.disk.disk) (line_at K.state m)) at from.now result) }
         ensures hung_up { Both self.old.line self.new.line
             (λ l m. IsHungUp l.lost m.lost (K.hung_up l.link) (K.hung_up m.link)) }
     {
@@ -122,20 +130,105 @@ impl<D: Disk, K: Link> Disk for MirrorDisk<D, K> {
         written
     }
 
+    /// Where the line is lost and somebody stands by anew, that one is joined behind the sync.
     fn sync(&mut self) -> Result<(), DiskFault>
-        ensures sync { IsSync D.told (D.state self.old.disk) (D.state self.new.disk) result }
-        ensures tells { Both self.old.line self.new.line
-            (λ l m. TellsSync K.told (line_at K.state l) (line_at K.state m) result) }
-        ensures steps { Both self.old.line self.new.line
-            (λ l m. StepsBySync D.told K.told (mirrored (D.state self.old.disk) (line_at K.state l))
-            (mirrored (D.state self.new.disk) (line_at K.state m)) result) }
-        ensures hung_up { Both self.old.line self.new.line
-            (λ l m. IsHungUp l.lost m.lost (K.hung_up l.link) (K.hung_up m.link)) }
+        ensures sync { IsSync D.told (D.state self.old.disk.disk)
+            (D.state self.new.disk.disk) result }
+        ensures syncs { Both self.old.line self.new.line
+            (λ l m. SyncsOn (over D.Disk K.Link) (self.old.disk, l) (self.new.disk, m)
+            result) }
     {
-        let synced = self.disk.sync();
-        tell_sync(&mut self.line, synced);
-        synced
+        match &mut self.line {
+            None => self.disk.sync(),
+            Some(line) => sync_on(&mut self.disk, line),
+        }
     }
+}
+
+// Syncs the disk, and lets the standby have that. Where none is joined, and somebody stands by anew, that one is joined.
+fn sync_on<D: Disk, K: Link>(disk: &mut KnownDisk<D>, line: &mut Line<K>) -> Result<(), DiskFault>
+    ensures sync { IsSync D.told (D.state disk.old.disk) (D.state disk.new.disk) result }
+    ensures syncs { SyncsOn (over D.Disk K.Link) (disk.old, line.old) (disk.new, line.new)
+        result }
+{
+    match disk.sync() {
+        Ok(()) => {
+            tell_sync(disk, line);
+            Ok(())
+        }
+        Err(DiskFault) => {
+            line.end();
+            Err(DiskFault)
+        }
+    }
+}
+
+// A sync was made: it is told over the line, or somebody new is joined, if the file is known.
+fn tell_sync<D: Disk, K: Link>(disk: &KnownDisk<D>, line: &mut Line<K>)
+    ensures told { TellsOrJoins (over D.Disk K.Link) disk.now line.old line.new }
+{
+    match line.lost {
+        None => line.sync(),
+        Some(_) => {
+            if disk.is_whole() {
+                join_anew(disk, line);
+            }
+        }
+    }
+}
+
+// Joins somebody who stands by anew, if anybody does.
+fn join_anew<D: Disk, K: Link>(disk: &KnownDisk<D>, line: &mut Line<K>)
+    requires lost { IsSome line.old.lost }
+    requires whole { IsWhole disk.now }
+    requires file { D.told → disk.now.front ≡ (D.state disk.now.disk).reads_as }
+    ensures told { TellsOrJoins (over D.Disk K.Link) disk.now line.old line.new }
+{
+    if line.begins_anew() {
+        join_known(disk, line);
+    }
+}
+
+// Sends the file as it is known, and a sync, over a new line, and waits for its Have.
+fn join_known<D: Disk, K: Link>(disk: &KnownDisk<D>, new_line: &mut Line<K>)
+    requires file { D.told → disk.now.front ≡ (D.state disk.now.disk).reads_as }
+    requires here { new_line.old.lost ≡ None }
+    requires first { new_line.old.number ≡ 0 }
+    requires none_held { new_line.old.ear.held ≡ 0 }
+    ensures line { JoinsOver (over D.Disk K.Link) disk.now.disk disk.now.disk new_line.old
+        new_line.new }
+    ensures step { D.told → IsSmall 0 0 (D.state disk.now.disk).reads_as
+        → length (pieces 0 (D.state disk.now.disk).reads_as) + 1 < 2 ^ 64
+        → TookHaves D.told K.told (first_line (K.state new_line.old.link))
+        (mirrored (D.state disk.now.disk) (line_at K.state new_line.new))
+        (joining (D.state disk.now.disk).reads_as) }
+    ensures hung_up { IsHungUp None new_line.new.lost (K.hung_up new_line.old.link)
+        (K.hung_up new_line.new.link) }
+{
+    new_line.write(0, disk.front());
+    new_line.sync();
+}
+
+// Sends the file and a sync over a new line, and waits for its Have.
+fn join_file<D: Disk, K: Link>(disk: &mut D, line: &mut Line<K>)
+    requires here { line.old.lost ≡ None }
+    requires first { line.old.number ≡ 0 }
+    requires none_held { line.old.ear.held ≡ 0 }
+    ensures looks { D.told → Looks (D.state disk.old) (D.state disk.new) }
+    ensures faults { (D.state disk.old).faults ≤ (D.state disk.new).faults }
+    ensures room { D.told → Spends (1 + length (D.state disk.old).reads_as)
+        (D.state disk.old) (D.state disk.new) }
+    ensures line { JoinsOver (over D.Disk K.Link) disk.old disk.new line.old line.new }
+    ensures step { D.told → IsSmall 0 0 (D.state disk.old).reads_as
+        → length (pieces 0 (D.state disk.old).reads_as) + 1 < 2 ^ 64
+        → TookHaves D.told K.told (first_line (K.state line.old.link))
+        (mirrored (D.state disk.new) (line_at K.state line.new))
+        (joining (D.state disk.old).reads_as) }
+    ensures hung_up { IsHungUp None line.new.lost (K.hung_up line.old.link)
+        (K.hung_up line.new.link) }
+{
+    send_file(disk, line);
+    line.sync();
 }
 
 // Sends what was written, if there is a standby.
@@ -157,21 +250,7 @@ fn tell_write<K: Link>(
     }
 }
 
-// Sends a sync and waits for its Have, if there is a standby.
-fn tell_sync<K: Link>(line: &mut Option<Line<K>>, synced: Result<(), DiskFault>)
-    ensures tells { Both line.old line.new
-        (λ l m. TellsSync K.told (line_at K.state l) (line_at K.state m) synced) }
-    ensures hung_up { Both line.old line.new
-        (λ l m. IsHungUp l.lost m.lost (K.hung_up l.link) (K.hung_up m.link)) }
-{
-    let Some(line) = line else { return };
-    match synced {
-        Ok(()) => line.sync(),
-        Err(_) => line.end(),
-    }
-}
-
-// Sends the file in Writes of 4,096 bytes, the last shorter.
+// Sends the file in Writes of 4,096 bytes, the last shorter. Where the line is lost it is read on, so that it is known.
 fn send_file<D: Disk, K: Link>(disk: &mut D, line: &mut Line<K>)
     requires here { line.old.lost ≡ None }
     requires first { line.old.number ≡ 0 }
@@ -198,7 +277,27 @@ fn send_file<D: Disk, K: Link>(disk: &mut D, line: &mut Line<K>)
             return;
         }
         line.send_write(at, &piece[..count]);
+        at += count as u64;
         if line.lost.is_some() {
+            read_on(disk, at, length);
+            return;
+        }
+    }
+}
+
+// Reads the file from that place on.
+fn read_on<D: Disk>(disk: &mut D, from: u64, end: u64)
+    requires within { from ≤ end }
+    requires size { D.told → end ≡ length (D.state disk.old).reads_as }
+    ensures looks { D.told → Looks (D.state disk.old) (D.state disk.new) }
+    ensures faults { (D.state disk.old).faults ≤ (D.state disk.new).faults }
+    ensures room { Spends (end - from) (D.state disk.old) (D.state disk.new) }
+{
+    let mut piece = [0; MOST];
+    let mut at = from;
+    while at < end {
+        let count = (end - at).min(MOST as u64) as usize;
+        if disk.read(at, &mut piece[..count]).is_err() {
             return;
         }
         at += count as u64;

@@ -44,7 +44,7 @@ fn calls_otherwise(
 // What is otherwise than the lines' calls say, and whether the standby is joined to the end.
 fn called(alloc: Global, row: Part<'_, '_>, due: &mut Due) -> Result<(Option<String>, bool)> {
     let link = link_of(alloc, "", row, "the standby", due)?;
-    let mut mirror = MirrorDisk::join(disk_in(alloc, row, &due.journal)?, link);
+    let mut mirror = MirrorDisk::join(alloc, disk_in(alloc, row, &due.journal)?, link);
     let why = lines_otherwise(alloc, row, &mut mirror)?;
     Ok((why, mirror.mirror() == Mirror::Joined))
 }

@@ -80,8 +80,14 @@ returns-then-is_err-clause-room g c = λ t. spends_more ((1 + c.loop-at.at) + 1)
     (spends_on (1 + c.loop-at.at) 1 _ _ _ c.loop-at.invariant.room c.read.ensures.room)
 
 pub returns-then-is_some-clause-room : goal.returns-then-is_some-clause-room
-returns-then-is_some-clause-room g c = λ t. spends_more ((1 + c.loop-at.at) + 1) (1 + length (g.D.Disk.state c.args.disk.now).reads_as) _ _ (omega (arith, c.loop-at-test.true, c.loop-at.invariant.size t))
-    (spends_on (1 + c.loop-at.at) 1 _ _ _ c.loop-at.invariant.room c.read.ensures.room)
+returns-then-is_some-clause-room g c = λ t. spends_more (((1 + c.loop-at.at) + 1) + (c.in-Ok.length - (c.loop-at.at + c.min-count.result))) (1 + length (g.D.Disk.state c.args.disk.now).reads_as) _ _ (omega (arith, c.loop-at-test.true, c.min-count.ensures, c.loop-at.invariant.size t))
+    (spends_on ((1 + c.loop-at.at) + 1) (c.in-Ok.length - (c.loop-at.at + c.min-count.result)) _ _ _ (spends_on (1 + c.loop-at.at) 1 _ _ _ c.loop-at.invariant.room c.read.ensures.room) c.read_on.ensures.room)
+
+pub returns-then-is_some-clause-looks : goal.returns-then-is_some-clause-looks
+returns-then-is_some-clause-looks g c = λ t. looks_on _ _ _ (g.met.D.Disk.is_disk _ t) (looks_on _ _ _ (g.met.D.Disk.is_disk _ t) (c.loop-at.invariant.looks t) (c.read.ensures.looks t)) (c.read_on.ensures.looks t)
+
+pub read_on-requires-clause-size : goal.read_on-requires-clause-size
+read_on-requires-clause-size g c = λ t. c.loop-at.invariant.size t ∙ sym (ap (λ (l : List ℕ). length l) ((c.read.ensures.looks t).same ∙ (c.loop-at.invariant.looks t).same))
 
 pub returns-then-is_err-clause-looks : goal.returns-then-is_err-clause-looks
 returns-then-is_err-clause-looks g c = λ t. looks_on _ _ _ (g.met.D.Disk.is_disk _ t) (c.loop-at.invariant.looks t) (c.read.ensures.looks t)

@@ -7,10 +7,10 @@ use Rattle.standby_link.proofs.mirror_disk.MirrorDiskDisk.write_at.Goals as goal
 pub returns-clause-steps : goal.returns-clause-steps
 returns-clause-steps g c =
     let at = line_at g.K.Link.state in
-    let old = g.D.Disk.state c.args.self.now.disk in
-    let new = g.D.Disk.state c.write_at-written.new.self in
+    let old = g.D.Disk.state c.args.self.now.disk.disk in
+    let new = g.D.Disk.state c.write_at-written.new.self.disk in
     both_then c.args.self.now.line c.tell_write.new.line
     (λ (l : Line g.row.K.Denot) (m : Line g.row.K.Denot). TellsWrite g.K.Link.told (at l) (at m) c.args.at c.args.from.now c.write_at-written.result)
     (λ (l : Line g.row.K.Denot) (m : Line g.row.K.Denot). StepsByWrite g.D.Disk.told (mirrored old (at l)) (mirrored new (at m)) c.args.at c.args.from.now c.write_at-written.result)
-    (λ l m tells. steps_by_write g.D.Disk.told g.K.Link.told old new (at l) (at m) c.args.at c.args.from.now c.write_at-written.result c.write_at-written.ensures.writes tells)
+    (λ l m tells. steps_by_write g.D.Disk.told g.K.Link.told old new (at l) (at m) c.args.at c.args.from.now c.write_at-written.result c.write_at-written.ensures.write.writes tells)
     c.tell_write.ensures.tells
