@@ -222,10 +222,12 @@ class Server(Program):
         self.journal = journal
 
     def standby_lines(self):
-        """What it said of standbys: the number of its call, the moment and the text of each line."""
+        """What it said of standbys of its journal, and not of the users': the number of its call, the moment and the text of each line."""
         found = re.findall(rf"^dxc: ({MOMENT}): (standby (?:at .*: called|joined|lost).*)$", self.said(), re.MULTILINE)
         call = 0
         for moment, text in found:
+            if "users" in text:
+                continue
             call += "called" in text
             yield call, second_of(moment), text
 

@@ -193,7 +193,9 @@ def judge(office, trial):
     found = {one: one.take_up(rows, server, of, copy) for one, rows in zip(office.technicians, office.listed(server))}
     circuits, users = circuits_of(office), [one for one in office.technicians if not isinstance(one.work, Circuits)]
     count(trial, [found[one] for one in circuits] + [past for one in circuits for past in one.found[:-1]], "the server")
-    count(trial, [past for one in users for past in one.found], "the server's users")
+    # The users' copy is called for behind a change of users alone.
+    if not copy or copy.users.told("standby joined"):
+        count(trial, [past for one in users for past in one.found], "the server's users")
     answered, lost = sum(one.answered() for one in circuits), sum(len(found[one].lost) for one in users)
     trial.counts.update({"changes of circuits": answered, "changes of users": sum(one.answered() for one in users), "users lost": lost})
     must, gone = (sum(number) for number in zip(*((found[one].must, len(found[one].lost)) for one in circuits)))
