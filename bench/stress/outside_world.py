@@ -475,7 +475,7 @@ def told(folder):
             ([*serve, used, "other", "1"], used, busy),
             ([*serve, "192.0.2.1:3083", "other", "1"], "192.0.2.1:3083", "Cannot assign requested address"),
             ([*serve, "here", "other", "1"], "here", "invalid socket address"),
-            ([*serve, at, "other", "1", at], at, "Connection refused"),
+            ([*serve, at, "other", "1", "there"], "there", "invalid socket address"),
             (["standby", "copy", used], used, busy),
             (["standby", "j", at], "j", taken),
         ]

@@ -10,6 +10,13 @@ use std::time::Duration;
 /// While it is called again, so many seconds lie between two calls at least.
 const REST_SECONDS: i64 = 2;
 
+/// Where it was silent it may be stopped, and the system takes calls for it all the same: each costs a change the wait for its silence. So the rest
+/// grows by this factor with each silence, ..
+const SILENT_FACTOR: i64 = 5;
+
+/// .. to so many seconds at most.
+const LONGEST_REST_SECONDS: i64 = 300;
+
 /// How long somebody waits for an answer who makes a change meanwhile.
 const ANSWER_MILLIS: u64 = 200;
 
@@ -27,8 +34,10 @@ const FIRST_REST_MILLIS: u64 = 600;
 pub(crate) struct Dialer<T> {
     system: T,
     addresses: Vec<SocketAddr>,
-    /// The second of the last call, since 1970.
+    /// The second of the last call, or of its silence, since 1970.
     called: i64,
+    /// How many seconds it is rested from then on.
+    rest: i64,
 }
 
 impl<T: Net<Listener = TcpListener, Stream = TcpStream> + SystemClock + Drop> Dialer<T> {
@@ -51,6 +60,7 @@ impl<T: Net<Listener = TcpListener, Stream = TcpStream> + SystemClock + Drop> Di
             system,
             addresses,
             called: 0,
+            rest: REST_SECONDS,
         })
     }
 
@@ -66,11 +76,25 @@ impl<T: Net<Listener = TcpListener, Stream = TcpStream> + SystemClock + Drop> Di
         self.call(limit)
     }
 
-    /// Calls again, where the last call lies two seconds back. None: nobody answers.
+    /// The standby was silent: it is rested for longer before the next call.
+    pub(crate) fn was_silent(&mut self) {
+        self.called = libc::time(&mut 0);
+        self.rest = self
+            .rest
+            .saturating_mul(SILENT_FACTOR)
+            .min(LONGEST_REST_SECONDS);
+    }
+
+    /// The standby was heard.
+    pub(crate) fn was_heard(&mut self) {
+        self.rest = REST_SECONDS;
+    }
+
+    /// Calls again, where it was rested for long enough. None: nobody answers.
     pub(crate) fn call_again(&mut self) -> Option<TcpStream> {
         let now = libc::time(&mut 0);
         // A clock may also be set back.
-        if now >= self.called && now.saturating_sub(self.called) < REST_SECONDS {
+        if now >= self.called && now.saturating_sub(self.called) < self.rest {
             return None;
         }
         self.call(Duration::from_millis(ANSWER_MILLIS)).ok()

@@ -183,10 +183,11 @@ impl<T: Net<Listener = TcpListener, Stream = TcpStream> + SystemClock + Copy + D
 
     // The first that a standby sends is that it has the copy.
     fn tell_joined(&mut self)
-        ensures { self.new ≡ record self.old { is_heard = self.new.is_heard } }
+        ensures { self.new ≡ record self.old { is_heard = self.new.is_heard; dialer = self.new.dialer } }
     {
         if !self.is_heard {
             self.is_heard = true;
+            self.dialer.was_heard();
             self.lines.tell(&match self.of {
                 CopyOf::Journal => "standby joined",
                 CopyOf::Users => "standby joined, for the users",
@@ -269,5 +270,8 @@ impl<T: Net<Listener = TcpListener, Stream = TcpStream> + SystemClock + Copy + D
         }
         self.line = None;
         self.hung_up = Some(why);
+        if let Lost::Silent = why {
+            self.dialer.was_silent();
+        }
     }
 }
