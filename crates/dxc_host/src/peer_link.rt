@@ -183,7 +183,8 @@ impl<T: Net<Listener = TcpListener, Stream = TcpStream> + SystemClock + Copy + D
 
     // The first that a standby sends is that it has the copy.
     fn tell_joined(&mut self)
-        ensures { self.new ≡ record self.old { is_heard = self.new.is_heard; dialer = self.new.dialer } }
+        ensures { self.new ≡ record self.old
+            { is_heard = self.new.is_heard; dialer = self.new.dialer } }
     {
         if !self.is_heard {
             self.is_heard = true;
