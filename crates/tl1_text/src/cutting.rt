@@ -1,5 +1,5 @@
 // Cuts a unit into the spans of its blocks, in one pass.
-ghost use Rattle.std.specs.Prelude.{◌≡◌, ◌≤◌, ◌<◌, ℕ, List, [], None, true, false, length, slice_index, IfSome, MatchOption};
+ghost use Rattle.std.specs.Prelude.{◌≡◌, ◌≤◌, ◌<◌, ℕ, [], None, true, false, length, slice_index, IfSome, MatchOption};
 ghost use Rattle.tl1_text.specs.Grammar.{is_plain as plain};
 ghost use Rattle.tl1_text.specs.Walk.{blocks_of};
 ghost use Rattle.tl1_text.specs.Spans.{AreBlocksOf};
