@@ -39,8 +39,9 @@ fn part(matrix: &mut Matrix, leg: Leg, choice: Choice) -> bool
 // Joins a leg on this middle, where it is a working one that is free for the leg.
 fn join(matrix: &mut Matrix, leg: Leg, middle: Middle) -> bool
     requires { IsJoinable matrix.old leg }
-    ensures { let choice = record { middle = middle; chain = Direct } in
-        IsTried result (tried_by None (LegTask.Join leg) choice) matrix.old matrix.new }
+    ensures { IsTried result
+        (tried_by None (LegTask.Join leg) (record { middle = middle; chain = Direct }))
+        matrix.old matrix.new }
 {
     if middle.0 as u16 >= matrix.shape().slots() {
         return false;
