@@ -6,11 +6,13 @@ ghost use Rattle.craft_session.specs.Noted.{command_notes, name_of as user_name,
 
 use crate::ask::{Acted, Ask};
 use dxc_model::{Cause, Op, SessionUser};
-use dxc_notes::{Command, Note, Notes, Outcome, PortAt, What, Word};
+use dxc_notes::{Command, Note, Notes, Outcome, PortAt, Standing, What, Word};
 use dxc_num::{Port, Shape};
+use tl1_command::Subject;
 use tl1_text::Ctag;
 
-/// Notes what came of what a unit of this user asked, where that is noted. The ports are of this shape.
+/// Notes what came of what a unit of this user asked, where that is noted, and asks what stands of the program, where the unit does. The ports are of
+/// this shape.
 #[inline(always)]
 pub(crate) fn note_unit<N: Notes>(
     notes: &mut N,
@@ -19,6 +21,7 @@ pub(crate) fn note_unit<N: Notes>(
     tag: &Option<Ctag>,
     ask: &Ask,
     acted: &Acted,
+    standing: &mut Standing,
 )
     ensures { (rows : List Conn) → N.noted notes.old notes.new
         (notes_of shape user.now tag.now ask.now (reply_of acted.now rows)) }
@@ -33,7 +36,15 @@ pub(crate) fn note_unit<N: Notes>(
         Ask::Allows => {}
         Ask::Inhibits => {}
         Ask::Lists(_) => {}
-        Ask::Shows(_) => {}
+        Ask::Shows(subject) => learn(notes, *subject, standing),
+    }
+}
+
+// Of the program nothing but RTRV-SYS asks.
+fn learn<N: Notes>(notes: &N, subject: Subject, standing: &mut Standing) {
+    match subject {
+        Subject::Middle => {}
+        Subject::System => *standing = notes.standing(),
     }
 }
 
