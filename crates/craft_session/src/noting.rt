@@ -2,7 +2,7 @@
 ghost use Rattle.std.specs.Prelude.{◌≡◌, List};
 ghost use Rattle.dxc_model.specs.declared.conn.Conn.{Conn};
 ghost use Rattle.craft_session.specs.Asks.{reply_of};
-ghost use Rattle.craft_session.specs.Noted.{command_notes, name_of as user_name, notes_of, port_at as port_in, refusal_notes, what_of as what_is, word_of as word_in};
+ghost use Rattle.craft_session.specs.Noted.{command_notes, login_notes, name_of as user_name, notes_of, port_at as port_in, refusal_notes, what_of as what_is, word_of as word_in};
 
 use crate::ask::{Acted, Ask};
 use dxc_model::{Cause, Op, SessionUser};
@@ -27,11 +27,11 @@ pub(crate) fn note_unit<N: Notes>(
         (notes_of shape user.now tag.now ask.now (reply_of acted.now rows)) }
 {
     match ask {
-        Ask::LogsIn(user) => notes.note(Note::LoggedIn(name_of(user))),
+        Ask::LogsIn(user) => note_login(notes, user),
         Ask::Refused(cause) => note_refusal(notes, *cause),
         Ask::Restarts => note_command(notes, user, tag, What::Restart, acted),
         Ask::Changes(op) => note_command(notes, user, tag, what_of(shape, op), acted),
-        Ask::LogsOut => {}
+        Ask::LogsOut => notes.note(Note::LoggedOut),
         Ask::Completes => {}
         Ask::Allows => {}
         Ask::Inhibits => {}
@@ -45,6 +45,17 @@ fn learn<N: Notes>(notes: &N, subject: Subject, standing: &mut Standing) {
     match subject {
         Subject::Middle => {}
         Subject::System => *standing = notes.standing(),
+    }
+}
+
+fn note_login<N: Notes>(notes: &mut N, user: &SessionUser)
+    ensures { N.noted notes.old notes.new (login_notes user.now) }
+{
+    match user {
+        SessionUser::Nobody => {}
+        SessionUser::User { uid, class } => {
+            notes.note(Note::LoggedIn(Word::of(uid.bytes()), *class));
+        }
     }
 }
 

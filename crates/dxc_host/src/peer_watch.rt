@@ -68,9 +68,12 @@ impl PeerWatch {
         }
     }
 
-    /// Tells standard error why the standby is lost, where nobody told that before.
+    /// Tells standard error why the standby is lost, and all places that it is, where nobody told that before.
     pub(crate) fn tell(&self, why: Lost) {
         if self.watched.told.swap(1, Ordering::SeqCst) == 0 {
+            if let Some(hall) = self.lines.hall() {
+                hall.lose_standby();
+            }
             self.lines.tell(&lost_text(why));
         }
     }

@@ -147,7 +147,7 @@ module _ {U M : Type 0} (l : Language U M) (p : ℕ) (t : Board) (o : UsersOpeni
   none_heard g _ _ _ (others_pass hs h s e other c) is =
       let r = none_heard g hs h s c is in
       record { passed = r.passed ++ e ∷ []; others = each_more r.passed e r.others other; all = ap (λ (x : List UserEntry). x ++ e ∷ []) r.all ∙ append_assoc g r.passed (e ∷ []); user = r.user }
-  none_heard g _ _ _ (unit_hears hs h s u es got c) is = absurd (no_last hs (unit u) is)
+  none_heard g _ _ _ (unit_hears hs h s u es got told c) is = absurd (no_last hs (unit u) is)
   none_heard g _ _ _ (quiet_passes hs h s c) is = absurd (no_last hs quiet is)
 
   unit_heard : (g : List UserEntry) (fs : List (Happening U)) (v : U) (hs : List (Happening U)) (seen : List UserEntry) (s : SessionUser) → Consults l p o g hs seen s → hs ≡ fs ++ unit v ∷ [] → UnitHeard g fs v seen s
@@ -155,7 +155,7 @@ module _ {U M : Type 0} (l : Language U M) (p : ℕ) (t : Board) (o : UsersOpeni
   unit_heard g fs v _ _ _ (others_pass hs h s e other c) is =
       let r = unit_heard g fs v hs h s c is in
       record { before = r.before; who = r.who; front = r.front; entries = r.entries; got = r.got; passed = r.passed ++ e ∷ []; others = each_more r.passed e r.others other; all = ap (λ (x : List UserEntry). x ++ e ∷ []) r.all ∙ append_assoc (r.before ++ r.entries) r.passed (e ∷ []); user = r.user }
-  unit_heard g fs v _ _ _ (unit_hears hs h s u es got c) is =
+  unit_heard g fs v _ _ _ (unit_hears hs h s u es got told c) is =
       let x = snoc_once hs fs (unit u) (unit v) is in
       let same : u ≡ v = ap (unit_of_it u) x.1 in
       record {
@@ -176,7 +176,7 @@ module _ {U M : Type 0} (l : Language U M) (p : ℕ) (t : Board) (o : UsersOpeni
   quiet_heard g fs _ _ _ (others_pass hs h s e other c) is =
       let r = quiet_heard g fs hs h s c is in
       record { before = r.before; front = r.front; passed = r.passed ++ e ∷ []; others = each_more r.passed e r.others other; all = ap (λ (x : List UserEntry). x ++ e ∷ []) r.all ∙ append_assoc r.before r.passed (e ∷ []) }
-  quiet_heard g fs _ _ _ (unit_hears hs h s u es got c) is = absurd (let same : unit u ≡ quiet = (snoc_once hs fs (unit u) quiet is).1 in cc)
+  quiet_heard g fs _ _ _ (unit_hears hs h s u es got told c) is = absurd (let same : unit u ≡ quiet = (snoc_once hs fs (unit u) quiet is).1 in cc)
   quiet_heard g fs _ _ _ (quiet_passes hs h s c) is =
       let x = snoc_once hs fs quiet quiet is in
       record { before = h; front = subst (λ (y : List (Happening U)). Consults l p o g y h s) x.0 c; passed = []; others = tt; all = sym (append-nil h) }
