@@ -187,11 +187,7 @@ fn share(alloc: Global, changes: &mut Option<Changes>) -> Result<Changes, AllocE
 }
 
 // Standard error's, for one more holder.
-fn share_lines(
-    alloc: Global,
-    version: Option<Word>,
-    lines: &mut Option<ErrorLines>,
-) -> ErrorLines {
+fn share_lines(alloc: Global, version: Option<Word>, lines: &mut Option<ErrorLines>) -> ErrorLines {
     if let Some(lines) = lines {
         return lines.shared();
     }
