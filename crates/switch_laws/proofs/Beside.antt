@@ -29,7 +29,7 @@ use Rattle.craft_session.specs.Asks.{Language, Reply, user_after}
 use Rattle.craft_session.specs.Consulting.{Consults, consults_none, others_pass, quiet_passes, unit_hears}
 use Rattle.craft_session.specs.Happenings.{Happening, quiet, unit}
 use Rattle.craft_session.specs.Hearing.{Heard, Hears, Wanted, done_with, found, nothing, refused_by, to_do, unasked}
-use Rattle.craft_session.specs.Meanings.{command_ask, command_wants, heard_ask, language, log_in, named_by, session_ask, session_wants, text_ask, text_wants, users_ask, users_want}
+use Rattle.craft_session.specs.Meanings.{asks, command_ask, command_wants, heard_ask, language, log_in, named_by, session_ask, session_wants, text_ask, text_wants, users_ask, users_want, wants}
 use Rattle.craft_session.specs.Runs.{Run, Walk, beginning, begins, passes, responds, waits, looks, with_look, with_quiet, with_response}
 use Rattle.craft_session.specs.Walks.{CutsAt, FrontOf, Serves, attending_after}
 use Rattle.switch_laws.specs.Element.{Session, answered, reported, rested, unanswered}
@@ -91,7 +91,7 @@ text_part : (s : Contents) (user : SessionUser) (x : Heard) (bs : Option (List B
 text_part s user x None = inl refl
 text_part s user x (Some bs) = command_part s user x bs (meaning s.shape s.sid user bs)
 
-input_part : (s : Contents) (user : SessionUser) (x : Heard) (i : Input) → Split ((language s).wants user (record { input = i; heard = x })) ((language s).asks user (record { input = i; heard = x }))
+input_part : (s : Contents) (user : SessionUser) (x : Heard) (i : Input) → Split (wants s user i) (asks s user x i)
 input_part s user x too_long = inl refl
 input_part s user x (whole text) = text_part s user x (blocks_of text)
 
