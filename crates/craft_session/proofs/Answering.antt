@@ -66,16 +66,16 @@ module _ (s : Contents) (first : SessionUser) (told clock_told : Type 0) (k j : 
   module _ (u : Input) (ended : IsUnit stands.rest u × (hand r ≡ [])) where
     -- the unit, with what it heard and was told
     module _ (heard : Heard) where
-      asked : Ask
+      abbrev asked : Ask
       asked = asks s now.attending.user heard u
 
-      unit_told : Standing → Request
+      abbrev unit_told : Standing → Request
       unit_told standing = record { input = u; heard = heard; stands = given (asks_program asked) standing }
 
       learns_told : (standing : Standing) → IsHeard users (wants s now.attending.user u) heard after.users → Learns (language_for first s) b now.users now.attending.user (unit_told standing) after.users
       learns_told standing behind = (given_as (asks_program asked) standing, hears (wants s now.attending.user u) heard behind)
 
-      unit_untold : Request
+      abbrev unit_untold : Request
       unit_untold = record { input = u; heard = heard; stands = None }
 
       -- a stop cut nothing that is told
