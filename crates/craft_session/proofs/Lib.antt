@@ -21,6 +21,7 @@ pub mod Prompt
 pub mod Waiting
 pub mod Idling
 pub mod Forgetting
+pub mod Learning
 pub mod Answering
 pub mod Telling
 pub mod Playing
