@@ -36,52 +36,42 @@ impl Seat {
         let bytes = user.bytes();
         let mut name = [0; 10];
         name[..bytes.len()].copy_from_slice(bytes);
-        self.front.store(front_of(&name), Ordering::SeqCst);
-        let end = [name[8], name[9], bytes.len() as u8, number_of(class)];
-        self.write(end, writes);
+        let [a, b, c, d, e, f, g, h, i, j] = name;
+        let front = u64::from_le_bytes([a, b, c, d, e, f, g, h]);
+        self.front.store(front, Ordering::SeqCst);
+        self.write([i, j, bytes.len() as u8, number_of(class)], writes);
     }
 
     // How often it was written.
     fn leave(&self) -> u32 {
-        let back = self.back.load(Ordering::SeqCst).to_le_bytes();
-        let writes = u32::from_le_bytes([back[4], back[5], back[6], back[7]]).wrapping_add(1);
+        let [_, _, _, _, a, b, c, d] = self.back.load(Ordering::SeqCst).to_le_bytes();
+        let writes = u32::from_le_bytes([a, b, c, d]).wrapping_add(1);
         self.write([0, 0, 0, 0], writes);
         writes
     }
 
-    fn write(&self, end: [u8; 4], writes: u32) {
-        let count = writes.to_le_bytes();
-        let back = u64::from_le_bytes([
-            end[0], end[1], end[2], end[3], count[0], count[1], count[2], count[3],
-        ]);
+    fn write(&self, bytes: [u8; 4], writes: u32) {
+        let [a, b, c, d] = bytes;
+        let [e, f, g, h] = writes.to_le_bytes();
+        let back = u64::from_le_bytes([a, b, c, d, e, f, g, h]);
         self.back.store(back, Ordering::SeqCst);
     }
 
     // Who is about to come or to go isn't there.
     fn who(&self) -> Option<(Word, Class)> {
-        let number = self.back.load(Ordering::SeqCst);
-        let front = self.front.load(Ordering::SeqCst);
-        if self.back.load(Ordering::SeqCst) != number {
+        let back = self.back.load(Ordering::SeqCst);
+        let [a, b, c, d, e, f, g, h] = self.front.load(Ordering::SeqCst).to_le_bytes();
+        if self.back.load(Ordering::SeqCst) != back {
             return None;
         }
-        let back = number.to_le_bytes();
-        let class = class_of(back[3])?;
-        let count = back[2] as usize;
+        let [i, j, count, class, _, _, _, _] = back.to_le_bytes();
+        let class = class_of(class)?;
         if count > 10 {
             return None;
         }
-        let mut name = [0; 10];
-        name[..8].copy_from_slice(&front.to_le_bytes());
-        name[8] = back[0];
-        name[9] = back[1];
-        Some((Word::of(&name[..count]), class))
+        let name = [a, b, c, d, e, f, g, h, i, j];
+        Some((Word::of(&name[..count as usize]), class))
     }
-}
-
-fn front_of(name: &[u8; 10]) -> u64 {
-    u64::from_le_bytes([
-        name[0], name[1], name[2], name[3], name[4], name[5], name[6], name[7],
-    ])
 }
 
 fn number_of(class: Class) -> u8 {
