@@ -9,7 +9,7 @@ mod notes;
 mod silence;
 mod word;
 
-pub use command::{Command, Outcome, PortAt, What};
+pub use command::{Command, Outcome, PortAt, UserChange, UserCommand, What};
 pub use mem_notes::MemNotes;
 pub use note::{Ending, Note};
 pub use notes::{Noted, Notes};

@@ -1,4 +1,4 @@
-use crate::command::{Command, text_of};
+use crate::command::{Command, UserCommand, text_of};
 use crate::word::Word;
 use std::fmt::{self, Display, Formatter, Write};
 
@@ -34,6 +34,8 @@ pub enum Note {
     LogInDenied,
     /// A command that changes something was done, or denied.
     Asked(Command),
+    /// The same of one that changes the users.
+    UsersAsked(UserCommand),
 }
 
 impl Ending {
@@ -59,6 +61,7 @@ impl Display for Note {
             Note::LoggedIn(user) => write!(f, "{} logged in", text_of(user)),
             Note::LogInDenied => write!(f, "a log-in was denied"),
             Note::Asked(command) => write!(f, "{command}"),
+            Note::UsersAsked(command) => write!(f, "{command}"),
         }
     }
 }
