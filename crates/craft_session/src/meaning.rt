@@ -20,6 +20,7 @@ ghost use Rattle.craft_session.specs.Meanings.{command_ask, command_wants, heard
 ghost use Rattle.craft_session.specs.Seats.{IsSameUserSeat};
 
 use crate::ask::Ask;
+use crate::secrets::wipe_stack;
 use crate::users::UserDesk;
 use dxc_disk::Disk;
 use dxc_model::{Cause, Cct, Class, Conn, Label, Op, SessionUser, Uid};
@@ -252,6 +253,7 @@ fn on_table(op: &Op, ask: &mut Ask)
 }
 
 /// Puts down what a unit asks that may be a command of the users. The blocks are the unit's.
+// Such a command hands PIDs on deep in the stack, which is written over here: log-ins, which are many, don't go so deep.
 fn hear_users<U: Disk + Drop, G: Gate, R: Wait>(
     shelf: &Shelf,
     users: &mut UserDesk<U>,
@@ -282,10 +284,14 @@ fn hear_users<U: Disk + Drop, G: Gate, R: Wait>(
     }
     match ask_users(shelf, users, user, unit, found, gate, rt) {
         Some(heard) => {
+            wipe_stack();
             *ask = heard;
             Pass1::Go
         }
-        None => Pass1::Stop,
+        None => {
+            wipe_stack();
+            Pass1::Stop
+        }
     }
 }
 
