@@ -66,9 +66,17 @@ pub fn consult<U: Disk + Drop, G: Gate, R: Wait>(
     };
     *tag = ctag_in(unit, &found);
     let tagged = tag.is_some();
-    if let Some(often) = frequent_of(shelf.shape(), shelf.sid(), user, unit, &found, tagged) {
-        on_frequent(often, ask);
-        return Pass1::Go;
+    match frequent_of(shelf.shape(), shelf.sid(), user, unit, &found, tagged) {
+        Ok(often) => {
+            on_frequent(often, ask);
+            return Pass1::Go;
+        }
+        // An unknown command may be one of the users', for whom a unit is read again.
+        Err(None | Some(Cause::UnknownCommand)) => {}
+        Err(Some(cause)) => {
+            *ask = Ask::Refused(cause);
+            return Pass1::Go;
+        }
     }
     ask_in(shelf, users, user, unit, &found, tagged, ask, gate, rt)
 }
