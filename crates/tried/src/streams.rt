@@ -74,7 +74,7 @@ fn callers_are_heard(rt: HostRuntime) -> Result<(), Fail> {
     let free = TcpListener::bind(&rt, "127.0.0.1:0")?.local_addr()?;
     let address = format!(in alloc; "{free}")?;
     let address = address.as_str();
-    assert!(rt; matches!(opener.peer(alloc, address), Opened::Failed));
+    assert!(rt; matches!(opener.peer(alloc, "no address"), Opened::Failed));
     assert!(rt; matches!(opener.listener(alloc, "no address"), Opened::Failed));
     let (Opened::Open(mut front), Opened::Open(mut back)) = (
         opener.listener(alloc, address),
