@@ -21,7 +21,7 @@ from bench.oracle import plain
 from bench.shared import server
 from bench.shared.compiled import library
 from bench.shared.office import DIGEST, shelf_text
-from bench.shared.program import PROGRAM, counted
+from bench.shared.program import PROGRAM, counted, version
 
 MODULES, SLOTS, SESSIONS, LIFE, ONE_OF = 4, 3, 4, 4000, 60
 RANKS = {"ANNA": "S", "BEN": "P", "CARA": "R"}
@@ -200,6 +200,7 @@ class Run:
 
     def __init__(self, folder):
         self.folder, self.faults, self.count, self.refused, self.lives = folder, Faults(folder), 0, 0, 0
+        self.version = version()
         self.library = library("faults", folder)
         with open(self.path("shelf.toml"), "w", encoding="utf-8") as file:
             file.write(SHELF)
@@ -244,6 +245,7 @@ class Run:
         with server.Server(self.folder, env=world) as running:
             try:
                 callers = [Caller(running.port, self.element) for _ in range(SESSIONS)]
+                self.element.program = plain.Program(self.version, "NONE", [caller.session for caller in callers])
                 self.equip(callers[0])
                 self.faults.fail(ONE_OF)
                 until, unsynced = self.count + most, self.faults.unsynced()
@@ -304,6 +306,7 @@ class Run:
         session = caller.session
         wanted = session.answer(unit)
         tag, code, lines = caller.answer()
+        lines = plain.settled(lines)
         self.count += 1
         is_restart = wanted[2] == ['"WARM"']
         # A restart that failed is made again in front of the next change, whatever the table says of that one.

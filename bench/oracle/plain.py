@@ -77,6 +77,9 @@ PORT = re.compile(rb"DS0-([1-9][0-9]{0,2})-([1-9][0-9]{0,2})\Z", re.IGNORECASE)
 MODULE = re.compile(rb"MOD-([1-9][0-9]{0,2})\Z", re.IGNORECASE)
 MIDDLE = re.compile(rb"MID-([1-9][0-9]{0,2})\Z", re.IGNORECASE)
 MOST_LABEL = 24
+MOST_PLACES = 16
+START = re.compile(r'"START=\d\d-\d\d-\d\d,\d\d:\d\d:\d\d"\Z')
+PLACE = re.compile(r'"SESSION-(\d+):')
 
 
 class Denied(Exception):
@@ -210,6 +213,8 @@ class Element:
     connections: dict = field(default_factory=dict)
     changes: list = field(default_factory=list)
     out: int | None = None
+    # what stands of the program, where it serves; no field
+    program = None
 
     def __post_init__(self):
         self.paths = Paths(self.slots)
@@ -346,6 +351,27 @@ class Element:
         self.users = sorted([user for user in self.users if user is not was] + ([now] if now else []), key=lambda user: user.name)
 
 
+class Program:
+    """What stands of a program that serves these sessions, of which RTRV-SYS tells. Its rows are as `settled` leaves them: without what hangs on the
+    clock and on which place a caller came to."""
+
+    def __init__(self, version, standby, sessions):
+        self.version, self.standby, self.sessions = version, standby, sessions
+
+    def rows(self):
+        users = [session.user for session in self.sessions if session.user]
+        return [f"VERSION={self.version}", "START=", f"STANDBY={self.standby}", *sorted(f"SESSION:{user.name},{user.rank}" for user in users)]
+
+
+def settled(lines):
+    """Text lines, without the moment of a START and the places of SESSIONs, which must be in order, from 1 to 16."""
+    places = [int(found[1]) for line in lines if (found := PLACE.match(line))]
+    if places != sorted(set(places) & set(range(1, MOST_PLACES + 1))):
+        return [f"sessions at the places {places}"]
+    plain_lines = [START.sub('"START="', line) for line in lines if not PLACE.match(line)]
+    return plain_lines + sorted(PLACE.sub('"SESSION:', line) for line in lines if PLACE.match(line))
+
+
 class Session:
     """What one session is answered. `change` is the change that the unit in hand is granted, with a path for each leg, which its caller makes
     where it was completed, and else takes back; `asks` whether the unit came to the table with a change, granted or not. `people` is the user
@@ -417,7 +443,8 @@ class Session:
         elif code == "RTRV-CRS-T0":
             return [f'"{text}"' for text in element.rows(element.selection(names[0]))]
         elif code in ("RTRV-MID", "RTRV-SYS"):
-            return [f'"{text}"' for text in element.inventory(code == "RTRV-SYS")]
+            told = element.program.rows() if code == "RTRV-SYS" and element.program else []
+            return [f'"{text}"' for text in element.inventory(code == "RTRV-SYS") + told]
         elif code == "INIT-SYS":
             return ['"WARM"']
         elif code in ("ENT-EQPT", "DLT-EQPT"):

@@ -25,7 +25,7 @@ from bench.oracle import plain
 from bench.oracle.fuzz import Caller, Different
 from bench.oracle.history import TAG, Answer, History, Table
 from bench.shared.office import DIGEST, LOG_IN, write_shelf
-from bench.shared.program import expect
+from bench.shared.program import expect, version
 from bench.shared.server import PATIENCE, PLACES, Server
 
 MODULES, SLOTS, SESSIONS, WORKERS, PAIRS = 8, 2, PLACES, 8, 16
@@ -75,7 +75,7 @@ class Told(Caller):
             raise Different(f"unit {asked!r} of {sent}: answered to {tag}")
         # (what was told before an answer was told after the one before it)
         self.close()
-        self.answers.append(Answer(asked, code, tuple(lines), len(self.texts), len(self.texts)))
+        self.answers.append(Answer(asked, code, tuple(plain.settled(lines)), len(self.texts), len(self.texts)))
         return code == "COMPLD" and not asked.startswith(b"RTRV")
 
     def close(self):
@@ -232,9 +232,16 @@ def done(answers):
     return KEPT[0].done(answers)
 
 
+def logged_in(user):
+    session = plain.Session(None)
+    session.user = user
+    return session
+
+
 def check(texts, answers):
     """Compares all answers with the tables, and puts the completed changes into their order."""
     users = [plain.User("ANNA", "S", b"a", bytes.fromhex(DIGEST))]
+    Table.program = plain.Program(version(), "NONE", [logged_in(users[0])] * SESSIONS)
     history = History(Table(b"DXC1", MODULES, SLOTS, users, set(range(1, MODULES + 1))), texts)
     with multiprocessing.Pool(CHECKERS, keep, (history,)) as checkers:
         history.place([change for changes in checkers.map(done, answers, 1) for change in changes])

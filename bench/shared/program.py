@@ -35,4 +35,9 @@ def run_program(words, commands="", **more):
     return subprocess.run([PROGRAM, *words], input=commands, capture_output=True, text=True, check=False, **more)
 
 
+def version():
+    """The program's version."""
+    return run_program(["--version"]).stdout.split()[1]
+
+
 PROGRAM = made_ready()

@@ -3,7 +3,7 @@
 usage: bench/run stress notes [POINT..]     (all of them where none is named)
 
 callers   where it listens, who came to which place, and why each went: who hung up, and one whose connection was reset
-commands  who logged in, a log-in that was denied, and what came of each command that changes something
+commands  who logged in and out, a log-in that was denied, and what came of each command that changes something
 worker    the frames of a worker that ended, at the input's end and within a frame
 silent    standard error is a pipe that nobody reads: hundreds of callers are served as ever, and once it is read the count of lost lines is told
 taken     standard error is closed, a full disk, or a pipe whose reader is gone: the server goes on, and its answers are the same
@@ -108,7 +108,7 @@ def commands(folder):
     units = b"ACT-USER::ANNA:1::wrong;" + office.LOG_IN.encode() + b"ENT-CRS-T0::DS0-1-1,DS0-2-1:2;ENT-CRS-T0::DS0-1-1,DS0-3-1:3;RTRV-CRS-T0::ALL:4;ED-CRS-T0::DS0-1-1,DS0-2-1:5::2WAY;INIT-SYS:::6;DLT-CRS-T0::DS0-1-1,DS0-2-1:7;CANC-USER::ANNA:8;"
     with open(path, "wb") as errors, Noted(folder, errors) as server:
         server.answered(units)
-        told = [line for line in noted(path, 11) if line.startswith("place")]
+        told = [line for line in noted(path, 12) if line.startswith("place")]
     wanted = ["a log-in was denied", "ANNA logged in"] + [
         "ANNA " + text
         for text in (
@@ -118,7 +118,7 @@ def commands(folder):
             "6 INIT-SYS: done",
             "7 DLT-CRS-T0 DS0-1-1,DS0-2-1: done",
         )
-    ]
+    ] + ["its user logged out"]
     got = [re.sub(r"place \d+: ", "", line) for line in told]
     expect(got[1:-1] == wanted, f"it noted {got}")
     return f"{len(wanted)} lines"

@@ -1,6 +1,6 @@
 -- A unit was answered in the shelf's language.
 use Rattle.std.specs.Prelude.{is_some}
-use Rattle.std.proofs.Common.{◌≡◌, ◌≢◌, ℕ, Bool, false, List, [], Option, ap, inl, inr, refl, sym, ◌∙◌, subst}
+use Rattle.std.proofs.Common.{◌≡◌, ◌≢◌, ◌++◌, ℕ, Bool, true, false, List, [], Option, Some, None, ap, inl, inr, refl, sym, ◌∙◌, subst}
 use base.Stored.{Gv}
 use Rattle.dxc_outside.specs.declared.clock.Moment.{Moment}
 use Rattle.dxc_outside.specs.declared.gate.GatePlace.{GatePlace}
@@ -13,6 +13,7 @@ use Rattle.tl1_text.specs.declared.reader.UnitKind.{UnitKind}
 use Rattle.tl1_text.specs.declared.reader.UnitKind.TheVariants.{Whole as WholeUnit, TooLong as TooLongUnit, More}
 use Rattle.tl1_text.specs.Reading.{Reader, hand}
 use Rattle.tl1_text.specs.Units.{Input, IsUnit}
+use Rattle.dxc_notes.specs.declared.standing.Standing.{Standing}
 use Rattle.user_admin.specs.declared.op.UserEntry.{UserEntry}
 use Rattle.user_admin.specs.declared.op.UserRow.{UserRow}
 use Rattle.user_admin.specs.Histories.{Opening as UsersOpening}
@@ -24,23 +25,26 @@ use Rattle.craft_session.specs.declared.ask.Ask.{Ask}
 use Rattle.craft_session.specs.declared.end.Progress.{Progress}
 use Rattle.craft_session.specs.declared.end.Progress.TheVariants.{On, Cut, Stopped}
 use Rattle.craft_session.specs.Acting.{Acts, Stops}
-use Rattle.craft_session.specs.Asks.{Language, Reply}
+use Rattle.craft_session.specs.Asks.{Language, Reply, asks_program, is_told_as}
 use Rattle.craft_session.specs.Happenings.{Request}
 use Rattle.craft_session.specs.Hearing.{Heard, HeardBehind, IsAsked, IsHeard, IsUnasked, Wanted, rows_heard, unasked}
 use Rattle.craft_session.specs.Progresses.{progress_of}
+use Rattle.craft_session.specs.Responses.{beside}
 use Rattle.craft_session.specs.Desks.{IsReplied, IsSaidOf, IsStoppedAt, IsAnswered, input_of}
 use Rattle.craft_session.specs.Meanings.{asks, tag_of, language_for, wants}
 use Rattle.craft_session.specs.Seats.{IsSameSeat, IsSameUserSeat, SeatAt, UserSeatAt}
 use Rattle.craft_session.specs.Sessions.{Now, Beginning, Halts, IsAt, IsSaid, Stands, Goes}
 use Rattle.craft_session.specs.Stamps.{Stamp, stamp_at}
 use Rattle.craft_session.specs.Timely.{IsTimely, reached, starting, telling}
+use Rattle.craft_session.proofs.Consulted.{Learns}
 use Rattle.craft_session.proofs.Ends.{cut_goes, on_goes}
+use Rattle.craft_session.proofs.Learning.{cut_untold, given, given_as, replied_given, tells, tells_asked}
 use Rattle.craft_session.proofs.SessionSteps.{answered_in_time, goes_on, goes_cut, goes_stopped, goes_unheard, whole_ended, long_ended}
 use Rattle.craft_session.proofs.Timely.{timely_none}
 
 module _ (s : Contents) (first : SessionUser) (told clock_told : Type 0) (k j : LinkState) (c d : List Moment) (b : Beginning) (now : Now) (kind : UnitKind) (r : Reader) (ahead : List ℕ) (stands : Stands (language_for first s) told clock_told k j c d b now false kind r ahead)
     (seat : SeatAt) (users : UserSeatAt) (at : IsAt b seat users) (j2 : LinkState) (d2 : List Moment) (after : Now) (users_seen : users.seen ≡ now.users) where
-  said : (sent : Sent) (u : Request) (reply : Reply) → IsReplied s told clock_told j j2 d d2 sent (tag_of u.input) (rows_heard u.heard) reply → IsSaid (language_for first s) told clock_told j j2 d d2 sent u reply
+  said : (sent : Sent) (u : Request) (reply : Reply) → IsReplied s told clock_told j j2 d d2 sent (tag_of u.input) (beside (rows_heard u.heard) u.stands) reply → IsSaid (language_for first s) told clock_told j j2 d d2 sent u reply
   said sent u reply x = record { moment = x.moment; wrote = x.wrote; now = x.now; later = x.later }
 
   -- the place of the seats is that of the beginning
@@ -60,25 +64,53 @@ module _ (s : Contents) (first : SessionUser) (told clock_told : Type 0) (k j : 
   stops a x = here (λ o n. (h : List Entry) → Saw o now.seen h → Stops o n h now.attending a after.attending after.seen) x
 
   module _ (u : Input) (ended : IsUnit stands.rest u × (hand r ≡ [])) where
-    said_on : (sent : Sent) (x : IsSaidOf s told clock_told j j2 d d2 sent u seat users now after) → IsSaid (language_for first s) told clock_told j j2 d d2 sent (record { input = u; heard = x.heard }) x.reply
-    said_on sent x = said sent (record { input = u; heard = x.heard }) x.reply x.said
+    -- the unit, with what it heard and was told
+    module _ (heard : Heard) where
+      abbrev asked : Ask
+      asked = asks s now.attending.user heard u
+
+      abbrev unit_told : Standing → Request
+      unit_told standing = record { input = u; heard = heard; stands = given (asks_program asked) standing }
+
+      learns_told : (standing : Standing) → IsHeard users (wants s now.attending.user u) heard after.users → Learns (language_for first s) b now.users now.attending.user (unit_told standing) after.users
+      learns_told standing behind = (given_as (asks_program asked) standing, hears (wants s now.attending.user u) heard behind)
+
+      abbrev unit_untold : Request
+      unit_untold = record { input = u; heard = heard; stands = None }
+
+      -- a stop cut nothing that is told
+      untold : ((h : List Entry) → Saw seat.opening now.seen h → Stops seat.opening seat.place h now.attending asked after.attending after.seen) → is_told_as (asks_program asked) None ≡ true
+      untold x =
+          let here = stops asked x stands.past.walk.history stands.past.saw in
+          cut_untold (stands.past.walk.history ++ here.front) asked here.op here.cuts
+
+      -- the reply tells it just where that was asked
+      told_so : (reply : Reply) → ((h : List Entry) → Saw seat.opening now.seen h → Acts seat.opening seat.place h now.attending asked reply after.attending after.seen) → tells reply ≡ asks_program asked
+      told_so reply x =
+          let here = acts asked reply x stands.past.walk.history stands.past.saw in
+          tells_asked b.place b.opening.first.fold.table (stands.past.walk.history ++ here.passed) asked here.entries reply here.serves
+
+    said_on : (sent : Sent) (x : IsSaidOf s told clock_told j j2 d d2 sent u seat users now after) → IsSaid (language_for first s) told clock_told j j2 d d2 sent (unit_told x.heard x.standing) x.reply
+    said_on sent x =
+        said sent (unit_told x.heard x.standing) x.reply
+        (replied_given s told clock_told j j2 d d2 sent (tag_of u) (rows_heard x.heard) x.reply (asks_program (asked x.heard)) x.standing (told_so x.heard x.reply x.acts) x.said)
 
     answered_by_stop : IsStoppedAt s j j2 d d2 u seat users now after → Halts (language_for first s) told clock_told k j2 c d2 b after
     answered_by_stop x = elim x.stopped [
-      | inl t ↦ goes_stopped (language_for first s) told clock_told k c b j d now r kind ahead stands (record { input = u; heard = t.heard }) ended j2 d2 after x.link x.clock (hears (wants s now.attending.user u) t.heard t.behind) (stops (asks s now.attending.user t.heard u) t.stops)
-      | inr t ↦ goes_unheard (language_for first s) told clock_told k c b j d now r kind ahead stands (record { input = u; heard = unasked }) ended j2 d2 after t.unasked.op x.link x.clock t.unasked.wanted t.unasked.changing
+      | inl t ↦ goes_stopped (language_for first s) told clock_told k c b j d now r kind ahead stands (unit_untold t.heard) ended j2 d2 after x.link x.clock (untold t.heard t.stops, hears (wants s now.attending.user u) t.heard t.behind) (stops (asks s now.attending.user t.heard u) t.stops)
+      | inr t ↦ goes_unheard (language_for first s) told clock_told k c b j d now r kind ahead stands (unit_untold unasked) ended j2 d2 after t.unasked.op x.link x.clock t.unasked.wanted t.unasked.changing
           (there (λ o n seen. (h : List UserEntry) → SawUsers o seen h → TurnedBack o n h after.users) t.unasked.behind) t.seen t.attending
     ]
 
     pub answered : (how : Progress) → IsAnswered s told clock_told j j2 d d2 u seat users now after how → Goes (language_for first s) told clock_told k j2 c d2 b after how (is_some after.attending.watch) r ahead
-    answered On x = goes_on (language_for first s) told clock_told k c b j d now r kind ahead stands (record { input = u; heard = x.heard }) ended j2 d2 x.reply after (said_on Whole x) (hears (wants s now.attending.user u) x.heard x.behind) (acts (asks s now.attending.user x.heard u) x.reply x.acts)
-    answered Cut x = goes_cut (language_for first s) told clock_told k c b j d now r kind ahead stands (record { input = u; heard = x.heard }) ended j2 d2 x.reply after (said_on Sent_cut x) (hears (wants s now.attending.user u) x.heard x.behind) (acts (asks s now.attending.user x.heard u) x.reply x.acts)
+    answered On x = goes_on (language_for first s) told clock_told k c b j d now r kind ahead stands (unit_told x.heard x.standing) ended j2 d2 x.reply after (said_on Whole x) (learns_told x.heard x.standing x.behind) (acts (asks s now.attending.user x.heard u) x.reply x.acts)
+    answered Cut x = goes_cut (language_for first s) told clock_told k c b j d now r kind ahead stands (unit_told x.heard x.standing) ended j2 d2 x.reply after (said_on Sent_cut x) (learns_told x.heard x.standing x.behind) (acts (asks s now.attending.user x.heard u) x.reply x.acts)
     answered Stopped x = answered_by_stop x
 
     pub answered_timely : (stamped : Stamp → Type 0) (seat2 : SeatAt) (users2 : UserSeatAt) → IsAt b seat2 users2 → seat2.seen ≡ after.seen → users2.seen ≡ after.users → (how : Progress) → IsAnswered s told clock_told j j2 d d2 u seat users now after how
         → (how ≢ Stopped → stamped (stamp_at d j seat2 users2)) → IsTimely (language_for first s) (telling told clock_told stamped) (starting k c b) j (reached j2.written seat2.seen users2.seen)
-    answered_timely stamped seat2 users2 at2 seen2 users_seen2 On x was = answered_in_time (language_for first s) told clock_told k c b j d now r kind ahead stands (record { input = u; heard = x.heard }) j2 d2 ended.0 x.reply after (hears (wants s now.attending.user u) x.heard x.behind) (acts (asks s now.attending.user x.heard u) x.reply x.acts) stamped seat2 users2 Whole (said_on Whole x) at2 seen2 users_seen2 (was (on_goes On refl))
-    answered_timely stamped seat2 users2 at2 seen2 users_seen2 Cut x was = answered_in_time (language_for first s) told clock_told k c b j d now r kind ahead stands (record { input = u; heard = x.heard }) j2 d2 ended.0 x.reply after (hears (wants s now.attending.user u) x.heard x.behind) (acts (asks s now.attending.user x.heard u) x.reply x.acts) stamped seat2 users2 Sent_cut (said_on Sent_cut x) at2 seen2 users_seen2 (was (cut_goes Cut refl))
+    answered_timely stamped seat2 users2 at2 seen2 users_seen2 On x was = answered_in_time (language_for first s) told clock_told k c b j d now r kind ahead stands (unit_told x.heard x.standing) j2 d2 ended.0 x.reply after (learns_told x.heard x.standing x.behind) (acts (asks s now.attending.user x.heard u) x.reply x.acts) stamped seat2 users2 Whole (said_on Whole x) at2 seen2 users_seen2 (was (on_goes On refl))
+    answered_timely stamped seat2 users2 at2 seen2 users_seen2 Cut x was = answered_in_time (language_for first s) told clock_told k c b j d now r kind ahead stands (unit_told x.heard x.standing) j2 d2 ended.0 x.reply after (learns_told x.heard x.standing x.behind) (acts (asks s now.attending.user x.heard u) x.reply x.acts) stamped seat2 users2 Sent_cut (said_on Sent_cut x) at2 seen2 users_seen2 (was (cut_goes Cut refl))
     answered_timely stamped seat2 users2 at2 seen2 users_seen2 Stopped x was = timely_none (language_for first s) (telling told clock_told stamped) (starting k c b) j (reached j2.written seat2.seen users2.seen) (ap (λ (y : LinkState). y.written) x.link)
 
 -- a unit that ended, whole or too long
@@ -96,13 +128,14 @@ answered_by s told clock_told k j c d u seat users before after Sent_cut how is 
 module _ (s : Contents) (told clock_told : Type 0) (k j : LinkState) (c d : List Moment) (u : Input) (seat : SeatAt) (users : UserSeatAt) (before after : Now) (a : Ask) (rows : List UserRow)
     (gate : List GatePlace → Type 0) (x : IsAsked users (wants s before.attending.user u) (λ y. asks s before.attending.user y u) a rows after.users gate) where
   -- the reply to what was asked behind what was heard
-  pub said_of : (sent : Sent) (tag : Option (List ℕ)) (reply : Reply) → tag ≡ tag_of u → IsReplied s told clock_told k j c d sent tag rows reply
+  pub said_of : (sent : Sent) (tag : Option (List ℕ)) (reply : Reply) (standing : Standing) → tag ≡ tag_of u → IsReplied s told clock_told k j c d sent tag (beside rows (Some standing)) reply
       → ((h : List Entry) → Saw seat.opening before.seen h → Acts seat.opening seat.place h before.attending a reply after.attending after.seen) → IsSaidOf s told clock_told k j c d sent u seat users before after
-  said_of sent tag reply tag_is said acts = record {
+  said_of sent tag reply standing tag_is said acts = record {
     heard = x.heard;
     behind = x.behind;
     reply = reply;
-    said = subst (λ (w : Option (List ℕ) × List UserRow). IsReplied s told clock_told k j c d sent w.0 w.1 reply) (λ i. (tag_is i, x.rows_are i)) said;
+    standing = standing;
+    said = subst (λ (w : Option (List ℕ) × List UserRow). IsReplied s told clock_told k j c d sent w.0 (beside w.1 (Some standing)) reply) (λ i. (tag_is i, x.rows_are i)) said;
     acts = subst (λ (y : Ask). (h : List Entry) → Saw seat.opening before.seen h → Acts seat.opening seat.place h before.attending y reply after.attending after.seen) x.ask_is acts;
   }
 

@@ -1,5 +1,5 @@
 -- What a session heard of the users, one case longer.
-use Rattle.std.proofs.Common.{◌≡◌, ◌≢◌, ℕ, Option, List, [], ◌∷◌, ◌++◌, append-nil, append_assoc, refl, sym, ◌∙◌, subst}
+use Rattle.std.proofs.Common.{◌≡◌, ◌≢◌, ℕ, true, Option, List, [], ◌∷◌, ◌++◌, append-nil, append_assoc, refl, sym, ◌∙◌, subst}
 use base.Stored.{Gv}
 use Rattle.turnstile.specs.Turning.{Each}
 use Rattle.dxc_outside.specs.declared.clock.Moment.{Moment}
@@ -29,17 +29,21 @@ pub consults_past : {U M : Type 0} (l : Language U M) (place : ℕ) (o : Opening
 consults_past l place o h hs g s [] others c = subst (λ (x : List UserEntry). Consults l place o h hs x s) (sym (append-nil g)) c
 consults_past l place o h hs g s (e ∷ es) others c = subst (λ (x : List UserEntry). Consults l place o h hs x s) (append_assoc g (e ∷ []) es) (consults_past l place o h hs (g ++ e ∷ []) s es others.1 (others_pass hs g s e others.0 c))
 
+-- what a unit of this user learns behind what a seat at the users had seen: of the program just what it asks, and what it wants of the users
+abbrev pub Learns : Language Request Moment → Beginning → (seen : List Gv) → SessionUser → Request → (then_seen : List Gv) → Type 0
+Learns l b seen s u then_seen = (l.is_told s u ≡ true) × ((h : List UserEntry) → Saw b.users seen h → HeardBehind b.users b.place h (l.wants s u) (l.heard u) then_seen)
+
 module _ (l : Language Request Moment) (b : Beginning) (seen then_seen : List Gv) (hs : List (Happening Request)) (s : SessionUser) (c : Consulted l b seen hs s) where
   pub consulted_quiet : Consulted l b seen (hs ++ quiet ∷ []) s
   consulted_quiet = record { history = c.history; heard = quiet_passes hs c.history s c.heard; saw = c.saw }
 
   -- a unit heard what it wanted
-  pub consulted_on : (u : Request) → ((h : List UserEntry) → Saw b.users seen h → HeardBehind b.users b.place h (l.wants s u) (l.heard u) then_seen) → Consulted l b then_seen (hs ++ unit u ∷ []) (user_after s (l.asks s u))
-  consulted_on u hears =
-      let x = hears c.history c.saw in
+  pub consulted_on : (u : Request) → Learns l b seen s u then_seen → Consulted l b then_seen (hs ++ unit u ∷ []) (user_after s (l.asks s u))
+  consulted_on u learns =
+      let x = learns.1 c.history c.saw in
       record {
         history = (c.history ++ x.passed) ++ x.entries;
-        heard = unit_hears hs (c.history ++ x.passed) s u x.entries x.hears (consults_past l b.place b.users b.users_before hs c.history s x.passed x.others c.heard);
+        heard = unit_hears hs (c.history ++ x.passed) s u x.entries x.hears learns.0 (consults_past l b.place b.users b.users_before hs c.history s x.passed x.others c.heard);
         saw = x.saw;
       }
 

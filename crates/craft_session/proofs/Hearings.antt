@@ -1,6 +1,6 @@
 -- What a session hears of the users that is alone.
 use Rattle.std.specs.List.{AllByRecursion}
-use Rattle.std.proofs.Common.{◌≡◌, ◌≤◌, ◌<◌, ◌+◌, ◌*◌, ℕ, length, length-append, List, [], ◌∷◌, ◌++◌, append-nil, refl, sym, ◌∙◌, ap, subst, arith}
+use Rattle.std.proofs.Common.{◌≡◌, ◌≤◌, ◌<◌, ◌+◌, ◌*◌, ℕ, true, length, length-append, List, [], ◌∷◌, ◌++◌, append-nil, refl, sym, ◌∙◌, ap, subst, arith}
 use Rattle.dxc_disk.specs.Disks.{DiskState}
 use Rattle.dxc_model.specs.declared.user.SessionUser.{SessionUser}
 use Rattle.user_admin.specs.declared.op.UserEntry.{UserEntry}
@@ -54,7 +54,7 @@ module _ {U M : Type 0} (l : Language U M) (place : ℕ) (o : Opening) where
   pub consults_cost : (hs : List (Happening U)) (h : List UserEntry) (s : SessionUser) → Consults l place o [] hs h s → AllByRecursion (λ e. e.place ≡ place) h → room_in h ≤ most_room * length (units_in hs)
   consults_cost _ _ _ consults_none mine = omega arith
   consults_cost _ _ _ (others_pass hs g s e other c) mine = absurd (other (split_last (λ (x : UserEntry). x.place ≡ place) g e mine))
-  consults_cost _ _ _ (unit_hears hs g s u es hears c) mine =
+  consults_cost _ _ _ (unit_hears hs g s u es hears told c) mine =
       let so_far = consults_cost hs g s c (split_front (λ (x : UserEntry). x.place ≡ place) g es mine) in
       let more = hears_cost o place g es (l.wants s u) (l.heard u) hears in
       let joined = room_join g es in
@@ -89,14 +89,14 @@ failures_front [] es = omega arith
 failures_front (e ∷ g) es = let more = failures_front g es in omega (arith, more)
 
 module _ {U M : Type 0} (l : Language U M) (sid : List ℕ) (excused : Type 0) where
-  plays_unit : (hs : List (Happening U)) (users mid next : Users) (s t : SessionUser) (u : U) → PlaysUsers l sid excused users s hs mid t → HearsOf sid excused mid (l.wants t u) (l.heard u) next → PlaysUsers l sid excused users s (hs ++ unit u ∷ []) next (user_after t (l.asks t u))
-  plays_unit [] users mid next s t u p h = subst (λ (w : Users × SessionUser). PlaysUsers l sid excused w.0 w.1 (unit u ∷ []) next (user_after t (l.asks t u))) (λ i. (p.0 i, p.1 i)) (next, h, (refl, refl))
-  plays_unit (unit v ∷ hs) users mid next s t u p h = (p.0, p.1, plays_unit hs p.0 mid next (user_after s (l.asks s v)) t u p.2 h)
-  plays_unit (quiet ∷ hs) users mid next s t u p h = plays_unit hs users mid next s t u p h
+  plays_unit : (hs : List (Happening U)) (users mid next : Users) (s t : SessionUser) (u : U) → PlaysUsers l sid excused users s hs mid t → HearsOf sid excused mid (l.wants t u) (l.heard u) next → l.is_told t u ≡ true → PlaysUsers l sid excused users s (hs ++ unit u ∷ []) next (user_after t (l.asks t u))
+  plays_unit [] users mid next s t u p h told = subst (λ (w : Users × SessionUser). PlaysUsers l sid excused w.0 w.1 (unit u ∷ []) next (user_after t (l.asks t u))) (λ i. (p.0 i, p.1 i)) (next, h, told, (refl, refl))
+  plays_unit (unit v ∷ hs) users mid next s t u p h told = (p.0, p.1, p.2, plays_unit hs p.0 mid next (user_after s (l.asks s v)) t u p.3 h told)
+  plays_unit (quiet ∷ hs) users mid next s t u p h told = plays_unit hs users mid next s t u p h told
 
   plays_quiet : (hs : List (Happening U)) (users mid : Users) (s t : SessionUser) → PlaysUsers l sid excused users s hs mid t → PlaysUsers l sid excused users s (hs ++ quiet ∷ []) mid t
   plays_quiet [] users mid s t p = p
-  plays_quiet (unit v ∷ hs) users mid s t p = (p.0, p.1, plays_quiet hs p.0 mid (user_after s (l.asks s v)) t p.2)
+  plays_quiet (unit v ∷ hs) users mid s t p = (p.0, p.1, p.2, plays_quiet hs p.0 mid (user_after s (l.asks s v)) t p.3)
   plays_quiet (quiet ∷ hs) users mid s t p = plays_quiet hs users mid s t p
 
 module _ {U M : Type 0} (l : Language U M) (place : ℕ) (o : Opening) (excused : Type 0) where
@@ -116,11 +116,11 @@ module _ {U M : Type 0} (l : Language U M) (place : ℕ) (o : Opening) (excused 
   pub consults_played : (hs : List (Happening U)) (h : List UserEntry) (s : SessionUser) → Consults l place o [] hs h s → AllByRecursion (λ e. e.place ≡ place) h → IsLegal o h → (1 ≤ failures h → excused) → PlaysUsers l o.shelf.sid excused o.users l.first hs (users_after o h) s
   consults_played _ _ _ consults_none mine legal fails = (refl, refl)
   consults_played _ _ _ (others_pass hs g s e other c) mine legal fails = absurd (other (split_last (λ (x : UserEntry). x.place ≡ place) g e mine))
-  consults_played _ _ _ (unit_hears hs g s u es hears c) mine legal fails =
+  consults_played _ _ _ (unit_hears hs g s u es hears told c) mine legal fails =
       let joined = failures_front g es in
       let front : IsLegal o g = record { opened = legal.opened; entries = legal_front o.shelf.sid o.users g es legal.entries } in
       let so_far = consults_played hs g s c (split_front (λ (x : UserEntry). x.place ≡ place) g es mine) front (λ some. fails (omega (arith, some, joined))) in
-      plays_unit l o.shelf.sid excused hs o.users (users_after o g) (users_after o (g ++ es)) l.first s u so_far (heard_alone g es (l.wants s u) (l.heard u) hears legal (λ some. fails (omega (arith, some, joined))))
+      plays_unit l o.shelf.sid excused hs o.users (users_after o g) (users_after o (g ++ es)) l.first s u so_far (heard_alone g es (l.wants s u) (l.heard u) hears legal (λ some. fails (omega (arith, some, joined)))) told
   consults_played _ _ _ (quiet_passes hs g s c) mine legal fails = plays_quiet l o.shelf.sid excused hs o.users (users_after o g) l.first s (consults_played hs g s c mine legal fails)
 
 -- a session that is alone on the opening of a disk heard what one list of users tells

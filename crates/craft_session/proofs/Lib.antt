@@ -22,6 +22,7 @@ pub mod Waiting
 pub mod Idling
 pub mod Forgetting
 pub mod Cancelling
+pub mod Learning
 pub mod Answering
 pub mod Telling
 pub mod Playing

@@ -1,11 +1,12 @@
 -- What a session noted, one step longer.
-use Rattle.std.proofs.Common.{◌≡◌, ℕ, List, [], ◌∷◌, ◌++◌, append-nil, append_assoc, Option, refl, sym, ◌∙◌, ap, subst, inl}
+use Rattle.std.proofs.Common.{◌≡◌, ℕ, List, [], ◌∷◌, ◌++◌, append-nil, append_assoc, Option, Some, refl, sym, ◌∙◌, ap, subst, inl}
 use Rattle.dxc_num.specs.Dimensions.{Dimensions}
 use Rattle.dxc_model.specs.declared.cause.Cause.{Cause}
 use Rattle.dxc_model.specs.declared.cause.Cause.TheVariants.{BadIdentity}
 use Rattle.dxc_model.specs.declared.entry.Entry.{Entry}
 use Rattle.dxc_model.specs.declared.user.SessionUser.{SessionUser}
 use Rattle.dxc_notes.specs.declared.note.Note.{Note}
+use Rattle.dxc_notes.specs.declared.standing.Standing.{Standing}
 use Rattle.dxc_outside.specs.declared.clock.Moment.{Moment}
 use Rattle.dxc_outside.specs.declared.gate.GatePlace.{GatePlace}
 use Rattle.dxc_outside.specs.declared.link.Got.{Got}
@@ -27,6 +28,7 @@ use Rattle.craft_session.specs.Desks.{IsReplied, IsSaidOf, IsStoppedAt}
 use Rattle.craft_session.specs.Hearing.{IsAsked, IsHeard}
 use Rattle.craft_session.specs.Meanings.{asks, tag_of, wants}
 use Rattle.craft_session.specs.Noted.{HasLooked, HasNoted, IsBeside, IsUnit, Notes, Stood, no_notes, notes_beside, notes_of, notes_on, now_in, refusal_notes, said_notes, stood, unit_notes}
+use Rattle.craft_session.specs.Responses.{beside}
 use Rattle.craft_session.specs.Seats.{IsSameSeat, IsSameUserSeat, SeatAt, UserSeatAt}
 use Rattle.craft_session.specs.Sessions.{Now, Writes}
 use Rattle.craft_session.specs.Timely.{Telling}
@@ -115,14 +117,15 @@ noted_so noted d e now user tag own a b r shape_is now_is tag_is ask_is x =
 
 -- a response to what was asked, behind what was heard, and what was noted of it
 module _ (s : Contents) (t : Telling) (b c : Stood) (noted : List Note → Type 0) (u : Input) (sent : Sent) (after : Now) (there : after ≡ now_in c) (seat : IsSameSeat b.seat c.seat) (users : IsSameUserSeat b.users c.users) where
-  pub noted_reply : (a : Ask) (rows : List UserRow) (gate : List GatePlace → Type 0) (y : IsAsked b.users (wants s b.attending.user u) (λ h. asks s b.attending.user h u) a rows after.users gate) (tag : Option (List ℕ)) (r : Reply) → tag ≡ tag_of u → IsReplied s t.told t.clock_told b.link c.link b.coming c.coming sent tag rows r
+  pub noted_reply : (a : Ask) (rows : List UserRow) (gate : List GatePlace → Type 0) (y : IsAsked b.users (wants s b.attending.user u) (λ h. asks s b.attending.user h u) a rows after.users gate) (tag : Option (List ℕ)) (r : Reply) (standing : Standing) → tag ≡ tag_of u → IsReplied s t.told t.clock_told b.link c.link b.coming c.coming sent tag (beside rows (Some standing)) r
       → ((h : List Entry) → Saw b.seat.opening b.seat.seen h → Acts b.seat.opening b.seat.place h b.attending a r after.attending after.seen) → (d : Dimensions) (now : SessionUser) → d ≡ s.shape → now ≡ user_after b.attending.user a → noted (notes_of d now tag a r) → HasNoted s t b c noted
-  noted_reply a rows gate y tag r tag_is replied acts d now shape_is now_is were =
+  noted_reply a rows gate y tag r standing tag_is replied acts d now shape_is now_is were =
       noted_said s t b c noted u sent seat users (record {
         heard = y.heard;
         behind = subst (λ (n : Now). IsHeard b.users (wants s b.attending.user u) y.heard n.users) there y.behind;
         reply = r;
-        said = subst (λ (w : Option (List ℕ) × List UserRow). IsReplied s t.told t.clock_told b.link c.link b.coming c.coming sent w.0 w.1 r) (λ i. (tag_is i, y.rows_are i)) replied;
+        standing = standing;
+        said = subst (λ (w : Option (List ℕ) × List UserRow). IsReplied s t.told t.clock_told b.link c.link b.coming c.coming sent w.0 (beside w.1 (Some standing)) r) (λ i. (tag_is i, y.rows_are i)) replied;
         acts = subst (λ (n : Now). (h : List Entry) → Saw b.seat.opening b.seat.seen h → Acts b.seat.opening b.seat.place h b.attending (asks s b.attending.user y.heard u) r n.attending n.seen) there
             (subst (λ (x : Ask). (h : List Entry) → Saw b.seat.opening b.seat.seen h → Acts b.seat.opening b.seat.place h b.attending x r after.attending after.seen) y.ask_is acts);
       })

@@ -40,7 +40,7 @@ use Rattle.craft_session.specs.Acting.{Acts, Stops}
 use Rattle.craft_session.specs.Asks.{Reply, Language, user_after}
 use Rattle.craft_session.specs.Consulting.{consults_none}
 use Rattle.craft_session.specs.Happenings.{Request, unit, nothing_read, bytes_read, quiet_read, unit_ended}
-use Rattle.craft_session.specs.Hearing.{HeardBehind, to_do}
+use Rattle.craft_session.specs.Hearing.{to_do}
 use Rattle.craft_session.specs.Moments.{Gives, gave_none, gave_next}
 use Rattle.craft_session.specs.Notices.{AreReported, Notice, found_notices, notices}
 use Rattle.craft_session.specs.Progresses.{progress_of}
@@ -51,7 +51,7 @@ use Rattle.craft_session.specs.Stamps.{AreStamped, Stamp, stamp_at}
 use Rattle.craft_session.specs.Timely.{IsTimely, reached, starting, telling}
 use Rattle.craft_session.specs.Walks.{begun_by}
 use Rattle.craft_session.proofs.Changing.{others_unused}
-use Rattle.craft_session.proofs.Consulted.{consulted_back, consulted_on, consulted_quiet}
+use Rattle.craft_session.proofs.Consulted.{Learns, consulted_back, consulted_on, consulted_quiet}
 use Rattle.craft_session.proofs.Reporting.{found_is}
 use Rattle.craft_session.proofs.Timely.{in_message, sent_to}
 use Rattle.craft_session.proofs.Walking.{cursor_within, due_some, snoc_some, passes_all, run_answered, with_history}
@@ -93,11 +93,11 @@ module _ (l : Language Request Moment) (clock_told : Type 0) (c : List Moment) (
 
       -- what a unit hears from where the session stands
       abbrev Hearing : Request → List Gv → Type 0
-      Hearing u then_seen = (h : List UserEntry) → SawUsers b.users now.users h → HeardBehind b.users b.place h (l.wants now.attending.user u) (l.heard u) then_seen
+      Hearing u then_seen = Learns l b now.users now.attending.user u then_seen
 
       consults_on : (u : Request) (then_seen : List Gv) → Hearing u then_seen → Consulted l b then_seen (p.walk.happenings ++ unit u ∷ []) (user_after p.walk.attending.user (l.asks p.walk.attending.user u))
       consults_on u then_seen hears = consulted_on l b now.users then_seen p.walk.happenings p.walk.attending.user p.consulted u
-          (subst (λ (s : Attending). (h : List UserEntry) → SawUsers b.users now.users h → HeardBehind b.users b.place h (l.wants s.user u) (l.heard u) then_seen) p.attending hears)
+          (subst (λ (s : Attending). Learns l b now.users s.user u then_seen) p.attending hears)
 
       past_stopped : (u : Request) → IsUnit rest u.input → (after : Now) → Hearing u after.users → ((h : List Entry) → Saw b.opening now.seen h → Stops b.opening b.place h now.attending (l.asks now.attending.user u) after.attending after.seen) → StopPast l clock_told c d b after items out
       past_stopped u is after hears stops = record {
@@ -245,7 +245,7 @@ module _ (l : Language Request Moment) (told clock_told : Type 0) (k : LinkState
 
   module _ (j : LinkState) (d : List Moment) (now : Now) (r : Reader) where
     module _ (kind : UnitKind) (ahead : List ℕ) (s : Stands l told clock_told k j c d b now false kind r ahead) (u : Request) (j2 : LinkState) (d2 : List Moment) (is : IsUnit s.rest u.input) (reply : Reply) (after : Now)
-        (hears : (h : List UserEntry) → SawUsers b.users now.users h → HeardBehind b.users b.place h (l.wants now.attending.user u) (l.heard u) after.users) (acts : (h : List Entry) → Saw b.opening now.seen h → Acts b.opening b.place h now.attending (l.asks now.attending.user u) reply after.attending after.seen) where
+        (hears : Learns l b now.users now.attending.user u after.users) (acts : (h : List Entry) → Saw b.opening now.seen h → Acts b.opening b.place h now.attending (l.asks now.attending.user u) reply after.attending after.seen) where
       -- a unit was answered
       stands_answered : hand r ≡ [] → IsSaid l told clock_told j j2 d d2 Whole u reply → Stands l told clock_told k j2 c d2 b after (is_some after.attending.watch) More r ahead
       stands_answered none said =
@@ -307,18 +307,18 @@ module _ (l : Language Request Moment) (told clock_told : Type 0) (k : LinkState
     -- a unit that ended, whole or too long
     module _ (kind : UnitKind) (ahead : List ℕ) (s : Stands l told clock_told k j c d b now false kind r ahead) (u : Request) (ended : IsUnit s.rest u.input × (hand r ≡ [])) where
       pub goes_on : (j2 : LinkState) (d2 : List Moment) (reply : Reply) (after : Now) → IsSaid l told clock_told j j2 d d2 Whole u reply
-          → ((h : List UserEntry) → SawUsers b.users now.users h → HeardBehind b.users b.place h (l.wants now.attending.user u) (l.heard u) after.users) → ((h : List Entry) → Saw b.opening now.seen h → Acts b.opening b.place h now.attending (l.asks now.attending.user u) reply after.attending after.seen) → Stands l told clock_told k j2 c d2 b after (is_some after.attending.watch) More r ahead
+          → Learns l b now.users now.attending.user u after.users → ((h : List Entry) → Saw b.opening now.seen h → Acts b.opening b.place h now.attending (l.asks now.attending.user u) reply after.attending after.seen) → Stands l told clock_told k j2 c d2 b after (is_some after.attending.watch) More r ahead
       goes_on j2 d2 reply after said hears acts = stands_answered kind ahead s u j2 d2 ended.0 reply after hears acts ended.1 said
 
       pub goes_cut : (j2 : LinkState) (d2 : List Moment) (reply : Reply) (after : Now) → IsSaid l told clock_told j j2 d d2 Sent_cut u reply
-          → ((h : List UserEntry) → SawUsers b.users now.users h → HeardBehind b.users b.place h (l.wants now.attending.user u) (l.heard u) after.users) → ((h : List Entry) → Saw b.opening now.seen h → Acts b.opening b.place h now.attending (l.asks now.attending.user u) reply after.attending after.seen) → Breaks l told clock_told k j2 c d2 b after
+          → Learns l b now.users now.attending.user u after.users → ((h : List Entry) → Saw b.opening now.seen h → Acts b.opening b.place h now.attending (l.asks now.attending.user u) reply after.attending after.seen) → Breaks l told clock_told k j2 c d2 b after
       goes_cut j2 d2 reply after said hears acts = breaks_answered kind ahead s u j2 d2 ended.0 reply after hears acts said
 
       -- a stop came
       halts_by : (j2 : LinkState) (d2 : List Moment) (after : Now) → j2 ≡ j → d2 ≡ d → StopPast l clock_told c d b after s.items s.out → Halts l told clock_told k j2 c d2 b after
       halts_by j2 d2 after link clock past = rw (link, clock) (record { items = s.items; ahead = ahead; out = s.out; exchanged = s.exchanged; no_fault = s.no_fault; past = past })
 
-      pub goes_stopped : (j2 : LinkState) (d2 : List Moment) (after : Now) → j2 ≡ j → d2 ≡ d → ((h : List UserEntry) → SawUsers b.users now.users h → HeardBehind b.users b.place h (l.wants now.attending.user u) (l.heard u) after.users)
+      pub goes_stopped : (j2 : LinkState) (d2 : List Moment) (after : Now) → j2 ≡ j → d2 ≡ d → Learns l b now.users now.attending.user u after.users
           → ((h : List Entry) → Saw b.opening now.seen h → Stops b.opening b.place h now.attending (l.asks now.attending.user u) after.attending after.seen) → Halts l told clock_told k j2 c d2 b after
       goes_stopped j2 d2 after link clock hears stops = halts_by j2 d2 after link clock (past_stopped l clock_told c b d now s.items s.rest s.out s.past u ended.0 after hears stops)
 

@@ -1,5 +1,5 @@
 -- What a session replies, and the language in which it is asked and answers.
-use Rattle.std.specs.Prelude.{ℕ, List, Option, Some, None}
+use Rattle.std.specs.Prelude.{ℕ, Bool, true, false, List, Option, Some, None}
 use Rattle.std.specs.List.{AllByRecursion}
 use Rattle.dxc_model.specs.declared.cause.Cause.{Cause}
 use Rattle.dxc_model.specs.declared.conn.Conn.{Conn}
@@ -9,7 +9,9 @@ use Rattle.dxc_num.specs.declared.port.Middle.{Middle}
 use Rattle.dxc_num.specs.Dimensions.{Dimensions}
 use Rattle.dxc_model.specs.Operations.{IsApt}
 use Rattle.tl1_answer.specs.Texts.{IsOfShape}
+use Rattle.dxc_notes.specs.declared.standing.Standing.{Standing}
 use Rattle.tl1_command.specs.declared.command.Subject.{Subject}
+use Rattle.tl1_command.specs.declared.command.Subject.TheVariants as subject
 use Rattle.xc_core.specs.Turns.{IsInventoryOf, equipped_in}
 use Rattle.craft_session.specs.declared.ask.Ask.{Ask}
 use Rattle.craft_session.specs.declared.ask.Ask.TheVariants.{Refused, LogsIn, LogsOut, Completes, Allows, Inhibits, Lists, Shows, Restarts, Changes}
@@ -87,12 +89,34 @@ watch_after w newest (Shows what) = w
 watch_after w newest Restarts = w
 watch_after w newest (Changes op) = w
 
--- Who is logged in where a session begins; what units want of the users and ask for a user, by what they heard of them; and the bytes of the response
--- to a unit and of a report, at a moment.
+-- whether it is asked what stands of the program
+abbrev pub asks_program : Ask → Bool
+asks_program (Refused q) = false
+asks_program (LogsIn u) = false
+asks_program LogsOut = false
+asks_program Completes = false
+asks_program Allows = false
+asks_program Inhibits = false
+asks_program (Lists which) = false
+asks_program (Shows subject.Middle) = false
+asks_program (Shows subject.System) = true
+asks_program Restarts = false
+asks_program (Changes op) = false
+
+-- just what is asked is told
+abbrev pub is_told_as : Bool → Option Standing → Bool
+is_told_as true (Some x) = true
+is_told_as true None = false
+is_told_as false (Some x) = false
+is_told_as false None = true
+
+-- Who is logged in where a session begins; what units want of the users and ask for a user, by what they heard of them; whether a unit was told of the
+-- program just what it asks; and the bytes of the response to a unit and of a report, at a moment.
 pub record Language (U M : Type 0) : Type 0 where
   pub first : SessionUser
   pub wants : SessionUser → U → Wanted
   pub heard : U → Heard
   pub asks : SessionUser → U → Ask
+  pub is_told : SessionUser → U → Bool
   pub response : M → U → Reply → List ℕ
   pub report : M → Notice → List ℕ

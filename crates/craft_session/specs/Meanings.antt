@@ -21,10 +21,10 @@ use Rattle.user_admin.specs.declared.op.UserOp.TheVariants as user
 use Rattle.user_admin.specs.Commands.{is_not_logged_in, user_meaning}
 use Rattle.craft_session.specs.declared.ask.Ask.{Ask}
 use Rattle.craft_session.specs.declared.ask.Ask.TheVariants.{Refused, LogsIn, LogsOut, Completes, Allows, Inhibits, Lists, Shows, Restarts, Changes}
-use Rattle.craft_session.specs.Asks.{Language}
+use Rattle.craft_session.specs.Asks.{Language, asks_program, is_told_as}
 use Rattle.craft_session.specs.Happenings.{Request}
 use Rattle.craft_session.specs.Hearing.{Heard, Wanted, unasked, found, refused_by, done_with, nothing, to_look, to_do, rows_heard}
-use Rattle.craft_session.specs.Responses.{notice_bytes, reply_bytes}
+use Rattle.craft_session.specs.Responses.{beside, notice_bytes, reply_bytes}
 
 -- an operation on the table
 abbrev pub table_ask : Op → Ask
@@ -152,7 +152,8 @@ language_for first s = record {
   wants = λ user u. wants s user u.input;
   heard = λ u. u.heard;
   asks = λ user u. asks s user u.heard u.input;
-  response = λ m u r. reply_bytes s.sid s.shape m (tag_of u.input) (rows_heard u.heard) r;
+  is_told = λ user u. is_told_as (asks_program (asks s user u.heard u.input)) u.stands;
+  response = λ m u r. reply_bytes s.sid s.shape m (tag_of u.input) (beside (rows_heard u.heard) u.stands) r;
   report = λ m n. notice_bytes s.sid s.shape m n;
 }
 

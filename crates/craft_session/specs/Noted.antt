@@ -55,6 +55,11 @@ abbrev pub refusal_notes : Cause → List Note
 refusal_notes BadIdentity = note.LogInDenied ∷ []
 refusal_notes q = []
 
+-- who logs in
+abbrev pub login_notes : SessionUser → List Note
+login_notes Nobody = []
+login_notes (User uid class) = note.LoggedIn uid class ∷ []
+
 -- the user's name; nobody has none
 abbrev pub name_of : SessionUser → List ℕ
 name_of Nobody = []
@@ -85,11 +90,11 @@ what_of d op.Restart = what.Restart
 abbrev pub command_notes : SessionUser → Option (List ℕ) → What → Reply → List Note
 command_notes user tag w r = note.Asked (record { user = name_of user; tag = word_of tag; what = w; outcome = outcome_of r }) ∷ []
 
--- as what a unit is noted, by what it asks and its reply: log-ins, what changes something, and restarts
+-- as what a unit is noted, by what it asks and its reply: who logs in and out, what changes something, and restarts
 abbrev pub notes_of : Dimensions → SessionUser → Option (List ℕ) → Ask → Reply → List Note
 notes_of d user tag (Refused q) r = refusal_notes q
-notes_of d user tag (LogsIn u) r = note.LoggedIn (name_of u) ∷ []
-notes_of d user tag LogsOut r = []
+notes_of d user tag (LogsIn u) r = login_notes u
+notes_of d user tag LogsOut r = note.LoggedOut ∷ []
 notes_of d user tag Completes r = []
 notes_of d user tag Allows r = []
 notes_of d user tag Inhibits r = []

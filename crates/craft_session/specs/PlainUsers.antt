@@ -1,5 +1,5 @@
 -- The users as a session hears of them that is alone: one list of users, one unit after the other.
-use Rattle.std.specs.Prelude.{◌≡◌, ◌≤◌, ◌<◌, ◌+◌, ◌*◌, ℕ, List, [], ◌∷◌}
+use Rattle.std.specs.Prelude.{◌≡◌, ◌≤◌, ◌<◌, ◌+◌, ◌*◌, ℕ, true, List, [], ◌∷◌}
 use Rattle.std.specs.List.{AllByRecursion}
 use Rattle.dxc_causes.specs.Causes.{last}
 use Rattle.dxc_disk.specs.Disks.{DiskState}
@@ -32,10 +32,10 @@ HearsOf sid excused users nothing x next = (x ≡ unasked) × (next ≡ users)
 HearsOf sid excused users (to_look vacant uid pid) x next = (x ≡ found (login uid pid users)) × (next ≡ users)
 HearsOf sid excused users (to_do o) x next = (outcome : UserOutcome) × MayCome sid o users outcome × IsExcusedBy excused outcome × (x ≡ heard_of o users outcome) × (next ≡ after (change_in outcome) users)
 
--- what was heard while this happened, from these users and this session's user on, to those
+-- what was heard while this happened, from these users and this session's user on, to those; of the program each unit was told just what it asks
 abbrev pub PlaysUsers : {U M : Type 0} → Language U M → List ℕ → Type 0 → Users → SessionUser → List (Happening U) → Users → SessionUser → Type 0
 PlaysUsers l sid excused users s [] then_users then_s = (then_users ≡ users) × (then_s ≡ s)
-PlaysUsers l sid excused users s (unit u ∷ hs) then_users then_s = (next : Users) × HearsOf sid excused users (l.wants s u) (l.heard u) next × PlaysUsers l sid excused next (user_after s (l.asks s u)) hs then_users then_s
+PlaysUsers l sid excused users s (unit u ∷ hs) then_users then_s = (next : Users) × HearsOf sid excused users (l.wants s u) (l.heard u) next × (l.is_told s u ≡ true) × PlaysUsers l sid excused next (user_after s (l.asks s u)) hs then_users then_s
 PlaysUsers l sid excused users s (quiet ∷ hs) then_users then_s = PlaysUsers l sid excused users s hs then_users then_s
 
 -- what opening and so many commands may take of it

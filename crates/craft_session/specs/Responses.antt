@@ -1,5 +1,5 @@
 -- The bytes of responses, cut into blocks.
-use Rattle.std.specs.Prelude.{◌≡◌, ℕ, List, [], ◌∷◌, ◌++◌, Option, map, option_to_list, codes, decimal}
+use Rattle.std.specs.Prelude.{◌≡◌, ℕ, List, [], ◌∷◌, ◌++◌, Option, Some, None, map, option_to_list, codes, decimal}
 use Rattle.dxc_num.specs.declared.port.Middle.{Middle}
 use Rattle.dxc_num.specs.Dimensions.{Dimensions}
 use Rattle.dxc_model.specs.declared.user.Class.{Class}
@@ -8,12 +8,16 @@ use Rattle.dxc_outside.specs.declared.clock.Moment.{Moment}
 use Rattle.dxc_outside.specs.declared.send.Sent.{Sent}
 use Rattle.dxc_outside.specs.declared.send.Sent.TheVariants.{Whole, Cut}
 use Rattle.dxc_outside.specs.Links.{LinkState, IsSent, Wrote}
+use Rattle.dxc_notes.specs.declared.standing.SessionAt.{SessionAt}
+use Rattle.dxc_notes.specs.declared.standing.Standby.{Standby}
+use Rattle.dxc_notes.specs.declared.standing.Standby.TheVariants.{Unnamed, Joined, Lost}
+use Rattle.dxc_notes.specs.declared.standing.Standing.{Standing}
 use Rattle.tl1_answer.specs.declared.answer.Code.{Code}
 use Rattle.tl1_answer.specs.declared.answer.Code.TheVariants.{Compld, Deny}
 use Rattle.tl1_answer.specs.Blocks.{Draft, IsUnended}
 use Rattle.tl1_answer.specs.Responses.{blocks_from, joined, response, denial}
 use Rattle.tl1_answer.specs.Messages.{report}
-use Rattle.tl1_answer.specs.Texts.{change_text, middle_text, module_text, row_text}
+use Rattle.tl1_answer.specs.Texts.{change_text, middle_text, module_text, row_text, session_text, start_text, value_text}
 use Rattle.tl1_command.specs.declared.command.Subject.{Subject}
 use Rattle.tl1_command.specs.declared.command.Subject.TheVariants as subject
 use Rattle.user_admin.specs.declared.op.UserRow.{UserRow}
@@ -37,22 +41,63 @@ class_text S = codes "S"
 abbrev pub user_text : UserRow → List ℕ
 user_text u = codes "\"" ++ u.uid ++ codes ":" ++ class_text u.class ++ codes "\""
 
+-- the rows of version, start and standby, and of a session
+abbrev pub version_text : List ℕ → List ℕ
+version_text v = value_text (codes "VERSION") v
+
+abbrev pub state_text : Standby → List ℕ
+state_text Unnamed = codes "NONE"
+state_text Joined = codes "JOINED"
+state_text Lost = codes "LOST"
+
+abbrev pub standby_text : Standby → List ℕ
+standby_text s = value_text (codes "STANDBY") (state_text s)
+
+abbrev pub logged_in_text : SessionAt → List ℕ
+logged_in_text s = session_text s.place s.user (class_text s.class)
+
+-- the rows of what stands of the program: of version and start, of the standby, and of each session
+abbrev pub start_lines : Standing → List (List ℕ)
+start_lines x = map version_text (option_to_list x.version) ++ map start_text (option_to_list x.since)
+
+abbrev pub state_lines : Standing → List (List ℕ)
+state_lines x = start_lines x ++ map standby_text (option_to_list x.standby)
+
+abbrev pub program_lines : Standing → List (List ℕ)
+program_lines x = state_lines x ++ map logged_in_text x.sessions.items
+
+abbrev pub told_lines : Option Standing → List (List ℕ)
+told_lines None = []
+told_lines (Some x) = program_lines x
+
+-- what a response is made of besides the reply: the rows of users that were read, and what stands of the program
+pub record Beside : Type 0 where
+  pub users : List UserRow
+  pub stands : Option Standing
+
+abbrev pub beside : List UserRow → Option Standing → Beside
+beside users stands = record { users = users; stands = stands }
+
+-- the rows of equipped modules, and of a middle that is out
+abbrev pub equipment_lines : (equipped : List ℕ) → (out : Option Middle) → List (List ℕ)
+equipment_lines equipped out = map module_text equipped ++ map middle_text (option_to_list out)
+
 -- the rows of what is asked to be shown
-abbrev pub shown_lines : Subject → (equipped : List ℕ) → (out : Option Middle) → List (List ℕ)
-shown_lines subject.Middle equipped out = map middle_text (option_to_list out)
-shown_lines subject.System equipped out = map module_text equipped ++ map middle_text (option_to_list out)
+abbrev pub shown_lines : Subject → (equipped : List ℕ) → (out : Option Middle) → Option Standing → List (List ℕ)
+shown_lines subject.Middle equipped out stands = map middle_text (option_to_list out)
+shown_lines subject.System equipped out stands = equipment_lines equipped out ++ told_lines stands
 
 -- its text lines; a users' command may have rows of users
-abbrev pub lines_of : Dimensions → List UserRow → Reply → List (List ℕ)
-lines_of d users completed = map user_text users
-lines_of d users (completed_rows cs) = map (row_text d) cs
-lines_of d users (shown what equipped out) = shown_lines what equipped out
-lines_of d users restarted = codes "\"WARM\"" ∷ []
-lines_of d users (denied q) = denial q
+abbrev pub lines_of : Dimensions → Beside → Reply → List (List ℕ)
+lines_of d x completed = map user_text x.users
+lines_of d x (completed_rows cs) = map (row_text d) cs
+lines_of d x (shown what equipped out) = shown_lines what equipped out x.stands
+lines_of d x restarted = codes "\"WARM\"" ∷ []
+lines_of d x (denied q) = denial q
 
 -- the bytes of a reply's response
-abbrev pub reply_bytes : List ℕ → Dimensions → Moment → Option (List ℕ) → List UserRow → Reply → List ℕ
-reply_bytes sid d m tag users r = response sid m tag (code_of r) (lines_of d users r)
+abbrev pub reply_bytes : List ℕ → Dimensions → Moment → Option (List ℕ) → Beside → Reply → List ℕ
+reply_bytes sid d m tag x r = response sid m tag (code_of r) (lines_of d x r)
 
 -- the text of a report of lost changes
 abbrev pub lost_text : ℕ → List ℕ

@@ -16,6 +16,7 @@ mod noting;
 mod patience;
 mod place;
 pub mod places;
+mod program;
 mod reports;
 mod say;
 mod seat;

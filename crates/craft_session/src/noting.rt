@@ -2,15 +2,17 @@
 ghost use Rattle.std.specs.Prelude.{◌≡◌, List};
 ghost use Rattle.dxc_model.specs.declared.conn.Conn.{Conn};
 ghost use Rattle.craft_session.specs.Asks.{reply_of};
-ghost use Rattle.craft_session.specs.Noted.{command_notes, name_of as user_name, notes_of, port_at as port_in, refusal_notes, what_of as what_is, word_of as word_in};
+ghost use Rattle.craft_session.specs.Noted.{command_notes, login_notes, name_of as user_name, notes_of, port_at as port_in, refusal_notes, what_of as what_is, word_of as word_in};
 
 use crate::ask::{Acted, Ask};
 use dxc_model::{Cause, Op, SessionUser};
-use dxc_notes::{Command, Note, Notes, Outcome, PortAt, What, Word};
+use dxc_notes::{Command, Note, Notes, Outcome, PortAt, Standing, What, Word};
 use dxc_num::{Port, Shape};
+use tl1_command::Subject;
 use tl1_text::Ctag;
 
-/// Notes what came of what a unit of this user asked, where that is noted. The ports are of this shape.
+/// Notes what came of what a unit of this user asked, where that is noted, and asks what stands of the program, where the unit does. The ports are of
+/// this shape.
 #[inline(always)]
 pub(crate) fn note_unit<N: Notes>(
     notes: &mut N,
@@ -19,21 +21,41 @@ pub(crate) fn note_unit<N: Notes>(
     tag: &Option<Ctag>,
     ask: &Ask,
     acted: &Acted,
+    standing: &mut Standing,
 )
     ensures { (rows : List Conn) → N.noted notes.old notes.new
         (notes_of shape user.now tag.now ask.now (reply_of acted.now rows)) }
 {
     match ask {
-        Ask::LogsIn(user) => notes.note(Note::LoggedIn(name_of(user))),
+        Ask::LogsIn(user) => note_login(notes, user),
         Ask::Refused(cause) => note_refusal(notes, *cause),
         Ask::Restarts => note_command(notes, user, tag, What::Restart, acted),
         Ask::Changes(op) => note_command(notes, user, tag, what_of(shape, op), acted),
-        Ask::LogsOut => {}
+        Ask::LogsOut => notes.note(Note::LoggedOut),
         Ask::Completes => {}
         Ask::Allows => {}
         Ask::Inhibits => {}
         Ask::Lists(_) => {}
-        Ask::Shows(_) => {}
+        Ask::Shows(subject) => learn(notes, *subject, standing),
+    }
+}
+
+// Of the program nothing but RTRV-SYS asks.
+fn learn<N: Notes>(notes: &N, subject: Subject, standing: &mut Standing) {
+    match subject {
+        Subject::Middle => {}
+        Subject::System => *standing = notes.standing(),
+    }
+}
+
+fn note_login<N: Notes>(notes: &mut N, user: &SessionUser)
+    ensures { N.noted notes.old notes.new (login_notes user.now) }
+{
+    match user {
+        SessionUser::Nobody => {}
+        SessionUser::User { uid, class } => {
+            notes.note(Note::LoggedIn(Word::of(uid.bytes()), *class));
+        }
     }
 }
 

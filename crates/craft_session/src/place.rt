@@ -15,6 +15,7 @@ use arrayvec::ArrayVec;
 use dxc_causes::NoMemory;
 use dxc_disk::Disk;
 use dxc_model::{Change, Conn, SessionUser};
+use dxc_notes::Standing;
 use fabric_words::Fabric;
 use shelf_file::Shelf;
 use std::alloc::Global;
@@ -112,6 +113,7 @@ impl<D: Disk + Drop, U: Disk + Drop> Place<D, U> {
             users,
             attending,
             reader: UnitReader::new(),
+            standing: Standing::unknown(),
             answer: Answer::new(),
             rows,
             changes,
@@ -132,6 +134,7 @@ impl<D: Disk + Drop, U: Disk + Drop> Place<D, U> {
             users: _,
             attending: _,
             reader: _,
+            standing: _,
             answer: _,
             rows: _,
             changes: _,

@@ -274,6 +274,7 @@ fn answer<K: Link, C: Timestamps, G: Gate, N: Notes, D: Disk + Drop, U: Disk + D
                 &tag,
                 &ask,
                 &acted,
+                &mut desk.standing,
             );
             Progress::of(say(desk, link, clock, &tag, acted))
         }

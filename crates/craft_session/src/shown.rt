@@ -1,15 +1,17 @@
 //! The rows of what RTRV-MID and RTRV-SYS show.
-ghost use Rattle.std.specs.Prelude.{◌≡◌, ◌≤◌, ◌<◌, [], ◌∷◌, IfSome, filter, length, map, option_to_list};
+ghost use Rattle.std.specs.Prelude.{◌≡◌, ◌≤◌, ◌<◌, [], ◌∷◌, IfSome, Some, filter, length, map, option_to_list};
 ghost use Rattle.dxc_num.specs.Dimensions.{IsModule, IsWorking};
 ghost use Rattle.dxc_model.specs.Equipment.{has_bit, modules_in};
 ghost use Rattle.tl1_answer.specs.Blocks.{IsUnended, IsBegun};
 ghost use Rattle.tl1_answer.specs.Texts.{middle_text as text_of_middle, module_text as text_of_module};
 ghost use Rattle.xc_core.specs.Turns.{IsInventoryOf, equipped_in};
-ghost use Rattle.craft_session.specs.Responses.{Adds, shown_lines};
+ghost use Rattle.craft_session.specs.Responses.{Adds, equipment_lines, shown_lines};
 
+use crate::program::add_program;
 use crate::say::add_line;
 use arrayvec::ArrayVec;
 use dxc_model::equipment;
+use dxc_notes::Standing;
 use dxc_num::{Middle, Shape};
 use dxc_outside::{Link, Sent};
 use tl1_answer::{Answer, middle_text, module_text};
@@ -93,13 +95,12 @@ fn add_middle<K: Link>(
     }
 }
 
-/// Adds the rows of an inventory that are asked for.
-pub fn add_inventory<K: Link>(
+/// Adds the rows of equipped modules, and of the middle that is out of service.
+fn add_equipment<K: Link>(
     answer: &mut Answer,
     text: &mut ArrayVec<u8, 128>,
     link: &mut K,
     shape: Shape,
-    subject: Subject,
     inventory: Inventory,
 ) -> Sent
     requires unended { IsUnended answer.old }
@@ -108,13 +109,38 @@ pub fn add_inventory<K: Link>(
     requires of_shape { IsInventoryOf shape inventory }
     ensures filled { Adds K.told (K.state link.old) (K.state link.new)
         (record { sent = result; old = answer.old; new = answer.new })
-        (shown_lines subject (equipped_in inventory) inventory.out) }
+        (equipment_lines (equipped_in inventory) inventory.out) }
+    ensures hung_up { K.hung_up link.new ≡ K.hung_up link.old }
+{
+    match add_modules(answer, text, link, shape, inventory.equipped) {
+        Sent::Whole => add_middle(answer, text, link, shape, inventory.out),
+        Sent::Cut => Sent::Cut,
+    }
+}
+
+/// Adds the rows of what is asked for: of an inventory, and of what stands of the program.
+pub fn add_inventory<K: Link>(
+    answer: &mut Answer,
+    text: &mut ArrayVec<u8, 128>,
+    link: &mut K,
+    shape: Shape,
+    subject: Subject,
+    inventory: Inventory,
+    standing: &Standing,
+) -> Sent
+    requires unended { IsUnended answer.old }
+    requires begun { IsBegun answer.old }
+    requires short { length answer.old.head ≤ 64 }
+    requires of_shape { IsInventoryOf shape inventory }
+    ensures filled { Adds K.told (K.state link.old) (K.state link.new)
+        (record { sent = result; old = answer.old; new = answer.new })
+        (shown_lines subject (equipped_in inventory) inventory.out (Some standing.now)) }
     ensures hung_up { K.hung_up link.new ≡ K.hung_up link.old }
 {
     match subject {
         Subject::Middle => add_middle(answer, text, link, shape, inventory.out),
-        Subject::System => match add_modules(answer, text, link, shape, inventory.equipped) {
-            Sent::Whole => add_middle(answer, text, link, shape, inventory.out),
+        Subject::System => match add_equipment(answer, text, link, shape, inventory) {
+            Sent::Whole => add_program(answer, text, link, standing),
             Sent::Cut => Sent::Cut,
         },
     }

@@ -3,7 +3,7 @@
 
 use craft_server::{Status, dxc_run};
 use dxc_console::{
-    Printing, held_streams, help_asked, only_look, tell_standby, tell_status, words_given,
+    Printing, VERSION, held_streams, help_asked, only_look, tell_standby, tell_status, words_given,
 };
 use dxc_host::{HostClock, HostOpener, Refusal, TermLink, ThreadSpawner, Utc};
 use dxc_outside::Sent;
@@ -17,6 +17,7 @@ fn main(rt: HostRuntime) -> ExitCode {
     let held = held_streams(&rt, alloc);
     let mut words = Vec::new(alloc);
     let mut opener = HostOpener::new(rt, Vec::new(alloc));
+    opener.is_version(VERSION);
     let mut no_stream = None;
     let status = if let Err(error) = &held {
         no_stream = Refusal::of(alloc, "/dev/null", error);

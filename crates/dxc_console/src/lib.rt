@@ -8,7 +8,7 @@ mod telling;
 mod why;
 mod words;
 
-pub use help::help_asked;
+pub use help::{VERSION, help_asked};
 pub use streams::{Held, held_streams};
 pub use telling::{Printing, Telling};
 pub use why::{tell_standby, tell_status};

@@ -1,40 +1,58 @@
+use crate::hall::Hall;
 use crate::told::Utc;
+use dxc_notes::{Standing, Word};
 use libc::net::POLLOUT;
 use libc::types::pollfd;
 use std::alloc::Global;
 use std::fmt::Display;
 use std::sync::Arc;
-use std::sync::atomic::{AtomicU64, Ordering};
+use std::sync::atomic::Ordering;
 
 /// Standard error's number.
 const ERRORS: i32 = 2;
 
 /// Standard error, which is told what happens while the program serves, a line each with the moment. A line that isn't taken at once is
-/// dropped and counted, and how many were is told where one is taken again: nobody waits for whoever reads them.
+/// dropped and counted, and how many were is told where one is taken again: nobody waits for whoever reads them. All who hold them see what stands
+/// of the program.
 #[derive(Drop)]
 pub(crate) struct ErrorLines {
     alloc: Global,
-    /// How many were dropped of which nothing was told yet. None: there was no memory to count them.
-    dropped: Option<Arc<AtomicU64>>,
+    /// None: there was no memory for it, and then nothing is counted or known.
+    hall: Option<Arc<Hall>>,
 }
 
 impl ErrorLines {
-    pub(crate) fn new(alloc: Global) -> ErrorLines {
-        ErrorLines {
-            alloc,
-            dropped: Arc::new(alloc, AtomicU64::new(0)).ok(),
+    /// Of a program of this version.
+    pub(crate) fn new(alloc: Global, version: Option<Word>) -> ErrorLines {
+        let hall = match Hall::new(alloc, version) {
+            Ok(hall) => Arc::new(alloc, hall).ok(),
+            Err(_) => None,
+        };
+        ErrorLines { alloc, hall }
+    }
+
+    /// What all who hold them see.
+    pub(crate) fn hall(&self) -> Option<&Arc<Hall>> {
+        self.hall.as_ref()
+    }
+
+    /// What stands of the program.
+    pub(crate) fn standing(&self) -> Standing {
+        match self.hall() {
+            Some(hall) => hall.standing(),
+            None => Standing::unknown(),
         }
     }
 
     /// The same ones, for another holder.
     pub(crate) fn shared(&self) -> ErrorLines {
-        let dropped = match &self.dropped {
-            Some(dropped) => Arc::try_clone(dropped).ok(),
+        let hall = match &self.hall {
+            Some(hall) => Arc::try_clone(hall).ok(),
             None => None,
         };
         ErrorLines {
             alloc: self.alloc,
-            dropped,
+            hall,
         }
     }
 
@@ -78,15 +96,15 @@ impl ErrorLines {
     }
 
     fn take_dropped(&self) -> u64 {
-        match &self.dropped {
-            Some(dropped) => dropped.swap(0, Ordering::SeqCst),
+        match self.hall() {
+            Some(hall) => hall.dropped.swap(0, Ordering::SeqCst),
             None => 0,
         }
     }
 
     fn drop_more(&self, count: u64) {
-        if let Some(dropped) = &self.dropped {
-            dropped.fetch_add(count, Ordering::SeqCst);
+        if let Some(hall) = self.hall() {
+            hall.dropped.fetch_add(count, Ordering::SeqCst);
         }
     }
 

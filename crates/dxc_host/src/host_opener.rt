@@ -14,6 +14,7 @@ use crate::peer_watch::PeerWatch;
 use crate::staged_file::{StagedFile, is_free};
 use crate::{FileLines, HostClock, HostDisk, HostGate, PeerLink, Refusal, TcpDoor};
 use dxc_disk::FileDisk;
+use dxc_notes::Word;
 use dxc_outside::{Opened, Opener, most_shelf_bytes};
 use std::alloc::{AllocError, Global};
 use std::fs::File;
@@ -30,6 +31,8 @@ pub struct HostOpener<T> {
     changes: Option<Changes>,
     /// What all that it hands out tells standard error by, from the first of these on.
     lines: Option<ErrorLines>,
+    /// The program's, if it was told.
+    version: Option<Word>,
     faults: u64,
     /// Journals are copied, and no byte of a file is changed.
     only_looks: bool,
@@ -52,6 +55,7 @@ impl<T: Drop> HostOpener<T> {
             bound,
             changes: None,
             lines: None,
+            version: None,
             faults: 0,
             only_looks: false,
             refusal: None,
@@ -66,6 +70,15 @@ impl<T: Drop> HostOpener<T> {
         ensures looks { self.new.only_looks ≡ true }
     {
         self.only_looks = true;
+    }
+
+    /// The version of the program is this, as far as ten bytes go.
+    pub fn is_version(&mut self, version: &str)
+        ensures faults { self.new.faults ≡ self.old.faults }
+        ensures looks { self.new.only_looks ≡ self.old.only_looks }
+    {
+        let text = version.as_bytes();
+        self.version = Some(Word::of(&text[..text.len().min(10)]));
     }
 
     /// What couldn't be opened last, and why; None where all could be, or where memory to hold that was wanting.
@@ -107,7 +120,7 @@ impl<T: Files<File = File>> HostOpener<T> {
         }
         let last_sync = LastSync::new(alloc)?;
         let shared = last_sync.shared()?;
-        let lines = share_lines(alloc, &mut self.lines);
+        let lines = share_lines(alloc, self.version, &mut self.lines);
         let staged = StagedFile::new(alloc, &self.system, name, place, shared, lines)?;
         self.copied = Some(Copied::new(alloc, name, last_sync)?);
         Ok(HostDisk::staged(staged))
@@ -149,6 +162,9 @@ fn bind<T: Net<Listener = TcpListener, Stream = TcpStream>>(
     let entrance = Entrance::new(alloc, listener, standby)?;
     let held = entrance.shared()?;
     bound.push((address.to_string(alloc)?, held))?;
+    if let Some(hall) = lines.hall() {
+        hall.open();
+    }
     if let Ok(what) = format!(in alloc; "listening at {at}") {
         lines.tell(&what.as_str());
     }
@@ -167,11 +183,11 @@ fn share(alloc: Global, changes: &mut Option<Changes>) -> Result<Changes, AllocE
 }
 
 // Standard error's, for one more holder.
-fn share_lines(alloc: Global, lines: &mut Option<ErrorLines>) -> ErrorLines {
+fn share_lines(alloc: Global, version: Option<Word>, lines: &mut Option<ErrorLines>) -> ErrorLines {
     if let Some(lines) = lines {
         return lines.shared();
     }
-    let made = ErrorLines::new(alloc);
+    let made = ErrorLines::new(alloc, version);
     let shared = made.shared();
     *lines = Some(made);
     shared
@@ -287,7 +303,7 @@ impl<
             Ok(file) => file,
             Err(error) => return self.not_opened(alloc, to.as_str(), &error),
         };
-        let lines = share_lines(alloc, &mut self.lines);
+        let lines = share_lines(alloc, self.version, &mut self.lines);
         match FileLines::new(alloc, input, output, worker, lines) {
             Ok(lines) => Opened::Open(lines),
             Err(_) => Opened::NoMemory,
@@ -304,7 +320,7 @@ impl<
         let Ok(changes) = share(alloc, &mut self.changes) else {
             return Opened::NoMemory;
         };
-        let lines = share_lines(alloc, &mut self.lines);
+        let lines = share_lines(alloc, self.version, &mut self.lines);
         let standby = self
             .standby
             .as_ref()
@@ -342,7 +358,7 @@ impl<
         ensures no_fault { result ≢ Opened.Failed → self.new.faults ≡ self.old.faults }
         ensures looks { self.new.only_looks ≡ self.old.only_looks }
     {
-        let lines = share_lines(alloc, &mut self.lines);
+        let lines = share_lines(alloc, self.version, &mut self.lines);
         let opened = match (&self.standby, address.strip_suffix(".users")) {
             (Some(standby), Some(name)) => {
                 PeerLink::of_users(alloc, self.system, name, lines, standby)

@@ -11,6 +11,7 @@ mod entrance;
 mod error_lines;
 mod file_copy;
 mod file_lines;
+mod hall;
 mod held;
 mod host_clock;
 mod host_disk;

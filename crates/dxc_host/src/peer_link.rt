@@ -50,6 +50,9 @@ impl<T: Net<Listener = TcpListener, Stream = TcpStream> + SystemClock + Copy + D
         lines: ErrorLines,
     ) -> io::Result<PeerLink<T>> {
         let watch = PeerWatch::new(alloc, lines.shared())?;
+        if let Some(hall) = lines.hall() {
+            hall.lose_standby();
+        }
         let mut link = PeerLink::uncalled(alloc, system, name, CopyOf::Journal, lines, watch)?;
         match link.dialer.call_first() {
             Ok(stream) => link.take_up(stream)?,
@@ -189,6 +192,9 @@ impl<T: Net<Listener = TcpListener, Stream = TcpStream> + SystemClock + Copy + D
         if !self.is_heard {
             self.is_heard = true;
             self.dialer.was_heard();
+            if let Some(hall) = self.lines.hall() {
+                hall.join_standby(self.of);
+            }
             self.lines.tell(&match self.of {
                 CopyOf::Journal => "standby joined",
                 CopyOf::Users => "standby joined, for the users",

@@ -109,7 +109,7 @@ impl PeerWatch {
         }
     }
 
-    /// Tells standard error why the standby of that time is lost, where nobody told that before.
+    /// Tells standard error why the standby of that time is lost, and all places that it is, where nobody told that before.
     pub(crate) fn tell(&self, time: u64, why: Lost) {
         let before = time.saturating_sub(1);
         let lost = &self.watched.lost;
@@ -118,6 +118,9 @@ impl PeerWatch {
                 .compare_exchange(before, time, Ordering::SeqCst, Ordering::SeqCst)
                 .is_ok()
         {
+            if let Some(hall) = self.lines.hall() {
+                hall.lose_standby();
+            }
             self.lines.tell(&lost_text(why));
         }
     }

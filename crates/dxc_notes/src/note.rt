@@ -1,5 +1,6 @@
 use crate::command::{Command, text_of};
 use crate::word::Word;
+use dxc_model::Class;
 use std::fmt::{self, Display, Formatter, Write};
 
 /// Why a caller's session ended.
@@ -30,8 +31,10 @@ pub enum Note {
     Gone(Ending),
     /// Nobody is let in any more, since accepts went on failing.
     Closed,
-    /// The user of this name logged in.
-    LoggedIn(Word),
+    /// The user of this name and class logged in.
+    LoggedIn(Word, Class),
+    /// Who was logged in logged out.
+    LoggedOut,
     /// A log-in was denied. What was given as name and PID isn't kept.
     LogInDenied,
     /// A command that changes something was done, or denied.
@@ -59,7 +62,8 @@ impl Display for Note {
         match self {
             Note::Gone(ending) => write!(f, "caller gone, {}", ending.text()),
             Note::Closed => write!(f, "closed, accepts went on failing"),
-            Note::LoggedIn(user) => write!(f, "{} logged in", text_of(user)),
+            Note::LoggedIn(user, _) => write!(f, "{} logged in", text_of(user)),
+            Note::LoggedOut => write!(f, "its user logged out"),
             Note::LogInDenied => write!(f, "a log-in was denied"),
             Note::Asked(command) => write!(f, "{command}"),
         }

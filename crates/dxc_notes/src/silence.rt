@@ -1,8 +1,8 @@
-ghost use Rattle.std.specs.Prelude.{◌≡◌};
+ghost use Rattle.std.specs.Prelude.{◌≡◌, [], None};
 
-use crate::{Note, Notes};
+use crate::{Note, Notes, Standing};
 
-/// Where nobody is told anything.
+/// Where nobody is told anything, and nobody tells anything.
 #[derive(Clone, Copy, Drop)]
 pub struct Silence;
 
@@ -15,4 +15,13 @@ impl Notes for Silence {
 
     #[inline(always)]
     fn note(&mut self, _: Note) {}
+
+    fn standing(&self) -> Standing
+        ensures version { result.version ≡ None }
+        ensures since { result.since ≡ None }
+        ensures standby { result.standby ≡ None }
+        ensures sessions { result.sessions.items ≡ [] }
+    {
+        Standing::unknown()
+    }
 }

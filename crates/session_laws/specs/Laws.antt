@@ -29,7 +29,7 @@ use Rattle.craft_session.specs.declared.ask.Ask.TheVariants.{Changes}
 use Rattle.craft_session.specs.declared.attending.Attending.{Attending}
 use Rattle.craft_session.specs.Asks.{Language, Reply, completed, denied}
 use Rattle.session_laws.specs.Entering.{CanBeEnteredBehind, HasMiddles, IsBelowLimit}
-use Rattle.craft_session.specs.Happenings.{Happening, Happens, Request, unit, quiet, bytes_in, inputs_in}
+use Rattle.craft_session.specs.Happenings.{Happening, Happens, Request, unit, quiet, bytes_in, inputs_in, told_in}
 use Rattle.craft_session.specs.Runs.{Run, Walk}
 use Rattle.craft_session.specs.Walks.{IsUnused, begun_by}
 use Rattle.craft_session.specs.Plain.{At, Meanwhile, Plays, Replies, Said, alone, said_in, standing}
@@ -44,7 +44,7 @@ use Rattle.craft_session.specs.declared.end.SessionEnd.{SessionEnd}
 abbrev pub among : ℕ → Meanwhile
 among place a b = (es : List Entry) × Each (IsUnused place) es × (b ≡ record { table = table_after a.table es; changes = a.changes ++ changes_of es; attending = a.attending })
 
--- what happened, without what was heard
+-- what happened, without what was heard and told
 abbrev pub bare : List (Happening Request) → List (Happening Input)
 bare [] = []
 bare (unit u ∷ hs) = unit u.input ∷ bare hs
@@ -70,10 +70,11 @@ abbrev pub AreResponsesOnce : Type 0
 AreResponsesOnce = (l : Language Request Moment) (o : Opening) (commands room other_room : ℕ) (a b c : At) (hs : List (Happening Request)) (x y : Said Moment) → room_of commands < room → room_of commands < other_room
     → Plays l (LimitBehind o.first) (excused_by (Unit {0}) 0 room commands) alone a hs x b → Plays l (LimitBehind o.first) (excused_by (Unit {0}) 0 other_room commands) alone a hs y c → x.moments ≡ y.moments → (x ≡ y) × (b ≡ c)
 
--- from the same users on, on a disk that is sound, the same units of a session that is alone hear the same, and come to the same users
+-- From the same users on, on a disk that is sound, the same units of a session that is alone hear the same, and come to the same users. What stands of
+-- the program is told, as a moment is: where the same was told, what happened is the same.
 abbrev pub AreHearingsOnce : Type 0
 AreHearingsOnce = (first : SessionUser) (l : Contents) (sid : List ℕ) (commands room other_room : ℕ) (users then_users also_users : Users) (s then_s also_s : SessionUser) (hs gs : List (Happening Request)) → users_room_of commands < room → users_room_of commands < other_room
-    → PlaysUsers (language_for first l) sid (IsUsersUnsoundBy 0 room commands) users s hs then_users then_s → PlaysUsers (language_for first l) sid (IsUsersUnsoundBy 0 other_room commands) users s gs also_users also_s → bare hs ≡ bare gs
+    → PlaysUsers (language_for first l) sid (IsUsersUnsoundBy 0 room commands) users s hs then_users then_s → PlaysUsers (language_for first l) sid (IsUsersUnsoundBy 0 other_room commands) users s gs also_users also_s → bare hs ≡ bare gs → told_in hs ≡ told_in gs
     → (hs ≡ gs) × ((then_users ≡ also_users) × (then_s ≡ also_s))
 
 -- The one session of turnstiles with one pass, on the openings of two disks, wrote what the plain session writes that is alone. Where the disk tells its

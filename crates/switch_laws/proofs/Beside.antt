@@ -29,7 +29,7 @@ use Rattle.craft_session.specs.Asks.{Language, Reply, user_after}
 use Rattle.craft_session.specs.Consulting.{Consults, consults_none, others_pass, quiet_passes, unit_hears}
 use Rattle.craft_session.specs.Happenings.{Happening, quiet, unit}
 use Rattle.craft_session.specs.Hearing.{Heard, Hears, Wanted, done_with, found, nothing, refused_by, to_do, unasked}
-use Rattle.craft_session.specs.Meanings.{command_ask, command_wants, heard_ask, language, log_in, named_by, session_ask, session_wants, text_ask, text_wants, users_ask, users_want}
+use Rattle.craft_session.specs.Meanings.{asks, command_ask, command_wants, heard_ask, language, log_in, named_by, session_ask, session_wants, text_ask, text_wants, users_ask, users_want, wants}
 use Rattle.craft_session.specs.Runs.{Run, Walk, beginning, begins, passes, responds, waits, looks, with_look, with_quiet, with_response}
 use Rattle.craft_session.specs.Walks.{CutsAt, FrontOf, Serves, attending_after}
 use Rattle.switch_laws.specs.Element.{Session, answered, reported, rested, unanswered}
@@ -91,7 +91,7 @@ text_part : (s : Contents) (user : SessionUser) (x : Heard) (bs : Option (List B
 text_part s user x None = inl refl
 text_part s user x (Some bs) = command_part s user x bs (meaning s.shape s.sid user bs)
 
-input_part : (s : Contents) (user : SessionUser) (x : Heard) (i : Input) → Split ((language s).wants user (record { input = i; heard = x })) ((language s).asks user (record { input = i; heard = x }))
+input_part : (s : Contents) (user : SessionUser) (x : Heard) (i : Input) → Split (wants s user i) (asks s user x i)
 input_part s user x too_long = inl refl
 input_part s user x (whole text) = text_part s user x (blocks_of text)
 
@@ -147,7 +147,7 @@ module _ {U M : Type 0} (l : Language U M) (p : ℕ) (t : Board) (o : UsersOpeni
   none_heard g _ _ _ (others_pass hs h s e other c) is =
       let r = none_heard g hs h s c is in
       record { passed = r.passed ++ e ∷ []; others = each_more r.passed e r.others other; all = ap (λ (x : List UserEntry). x ++ e ∷ []) r.all ∙ append_assoc g r.passed (e ∷ []); user = r.user }
-  none_heard g _ _ _ (unit_hears hs h s u es got c) is = absurd (no_last hs (unit u) is)
+  none_heard g _ _ _ (unit_hears hs h s u es got told c) is = absurd (no_last hs (unit u) is)
   none_heard g _ _ _ (quiet_passes hs h s c) is = absurd (no_last hs quiet is)
 
   unit_heard : (g : List UserEntry) (fs : List (Happening U)) (v : U) (hs : List (Happening U)) (seen : List UserEntry) (s : SessionUser) → Consults l p o g hs seen s → hs ≡ fs ++ unit v ∷ [] → UnitHeard g fs v seen s
@@ -155,7 +155,7 @@ module _ {U M : Type 0} (l : Language U M) (p : ℕ) (t : Board) (o : UsersOpeni
   unit_heard g fs v _ _ _ (others_pass hs h s e other c) is =
       let r = unit_heard g fs v hs h s c is in
       record { before = r.before; who = r.who; front = r.front; entries = r.entries; got = r.got; passed = r.passed ++ e ∷ []; others = each_more r.passed e r.others other; all = ap (λ (x : List UserEntry). x ++ e ∷ []) r.all ∙ append_assoc (r.before ++ r.entries) r.passed (e ∷ []); user = r.user }
-  unit_heard g fs v _ _ _ (unit_hears hs h s u es got c) is =
+  unit_heard g fs v _ _ _ (unit_hears hs h s u es got told c) is =
       let x = snoc_once hs fs (unit u) (unit v) is in
       let same : u ≡ v = ap (unit_of_it u) x.1 in
       record {
@@ -176,7 +176,7 @@ module _ {U M : Type 0} (l : Language U M) (p : ℕ) (t : Board) (o : UsersOpeni
   quiet_heard g fs _ _ _ (others_pass hs h s e other c) is =
       let r = quiet_heard g fs hs h s c is in
       record { before = r.before; front = r.front; passed = r.passed ++ e ∷ []; others = each_more r.passed e r.others other; all = ap (λ (x : List UserEntry). x ++ e ∷ []) r.all ∙ append_assoc r.before r.passed (e ∷ []) }
-  quiet_heard g fs _ _ _ (unit_hears hs h s u es got c) is = absurd (let same : unit u ≡ quiet = (snoc_once hs fs (unit u) quiet is).1 in cc)
+  quiet_heard g fs _ _ _ (unit_hears hs h s u es got told c) is = absurd (let same : unit u ≡ quiet = (snoc_once hs fs (unit u) quiet is).1 in cc)
   quiet_heard g fs _ _ _ (quiet_passes hs h s c) is =
       let x = snoc_once hs fs quiet quiet is in
       record { before = h; front = subst (λ (y : List (Happening U)). Consults l p o g y h s) x.0 c; passed = []; others = tt; all = sym (append-nil h) }

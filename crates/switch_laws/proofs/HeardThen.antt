@@ -1,6 +1,6 @@
 -- What each place had heard at a beginning of the users' history.
 use Rattle.std.specs.List.{AllByRecursion}
-use Rattle.std.proofs.Common.{◌≡◌, ◌≢◌, ◌⊎◌, ◌≤◌, ◌<◌, ◌+◌, ℕ, suc, arith, length, length-append, List, [], ◌∷◌, ◌++◌, append-nil, append_assoc, refl, sym, ◌∙◌, ap, subst, inl, inr}
+use Rattle.std.proofs.Common.{◌≡◌, ◌≢◌, ◌⊎◌, ◌≤◌, ◌<◌, ◌+◌, ℕ, suc, true, arith, length, length-append, List, [], ◌∷◌, ◌++◌, append-nil, append_assoc, refl, sym, ◌∙◌, ap, subst, inl, inr}
 use Rattle.std.proofs.lemmas.Bool.Decides.{leb_tells}
 use Rattle.dxc_model.specs.declared.user.SessionUser.{SessionUser}
 use Rattle.user_admin.specs.declared.op.UserEntry.{UserEntry}
@@ -70,11 +70,11 @@ module _ {U M : Type 0} (l : Language U M) (place : ℕ) (o : Opening) where
   ended_others h hs g s e other c a b (y ∷ m) is p q = came_all h a (g ++ e ∷ []) hs s (whole_is g (e ∷ []) a b is (nothing_left (e ∷ []) m b y one_only q)) (others_pass hs g s e other c)
 
   -- a unit was the last that happened
-  ended_unit : (h : List UserEntry) (hs : List (Happening U)) (g : List UserEntry) (s : SessionUser) (u : U) (es : List UserEntry) → Hears o place g (l.wants s u) es (l.heard u) → Consults l place o h hs g s → (a b m : List UserEntry) → g ++ es ≡ a ++ b → a ≡ g ++ m → es ≡ m ++ b → Came l place o h a (hs ++ unit u ∷ [])
-  ended_unit h hs g s u es hears c a b [] is p q = came_on h a hs (unit u) (came_all h a g hs s (sym (p ∙ append-nil g)) c)
-  ended_unit h hs g s u es hears c a b (y ∷ m) is p q =
+  ended_unit : (h : List UserEntry) (hs : List (Happening U)) (g : List UserEntry) (s : SessionUser) (u : U) (es : List UserEntry) → Hears o place g (l.wants s u) es (l.heard u) → l.is_told s u ≡ true → Consults l place o h hs g s → (a b m : List UserEntry) → g ++ es ≡ a ++ b → a ≡ g ++ m → es ≡ m ++ b → Came l place o h a (hs ++ unit u ∷ [])
+  ended_unit h hs g s u es hears told c a b [] is p q = came_on h a hs (unit u) (came_all h a g hs s (sym (p ∙ append-nil g)) c)
+  ended_unit h hs g s u es hears told c a b (y ∷ m) is p q =
       let none = nothing_left es m b y (hears_few o place g (l.wants s u) es (l.heard u) hears) q in
-      came_all h a (g ++ es) (hs ++ unit u ∷ []) (user_after s (l.asks s u)) (whole_is g es a b is none) (unit_hears hs g s u es hears c)
+      came_all h a (g ++ es) (hs ++ unit u ∷ []) (user_after s (l.asks s u)) (whole_is g es a b is none) (unit_hears hs g s u es hears told c)
 
   came : (h : List UserEntry) (hs : List (Happening U)) (g : List UserEntry) (s : SessionUser) → Consults l place o h hs g s → (a b : List UserEntry) → g ≡ a ++ b → Came l place o h a hs
   came h _ _ _ consults_none a b is = later b is
@@ -82,8 +82,8 @@ module _ {U M : Type 0} (l : Language U M) (place : ℕ) (o : Opening) where
     | first_shorter m p q ↦ ended_others h hs g s e other c a b m is p q
     | first_longer m p q ↦ came h hs g s c a m p
   ]
-  came h _ _ _ (unit_hears hs g s u es hears c) a b is = elim (beginnings g es a b is) [
-    | first_shorter m p q ↦ ended_unit h hs g s u es hears c a b m is p q
+  came h _ _ _ (unit_hears hs g s u es hears told c) a b is = elim (beginnings g es a b is) [
+    | first_shorter m p q ↦ ended_unit h hs g s u es hears told c a b m is p q
     | first_longer m p q ↦ came_on h a hs (unit u) (came h hs g s c a m p)
   ]
   came h _ _ _ (quiet_passes hs g s c) a b is = came_on h a hs quiet (came h hs g s c a b is)

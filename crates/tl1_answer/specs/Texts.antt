@@ -1,13 +1,15 @@
 -- The texts of rows and changes.
-use Rattle.std.specs.Prelude.{ℕ, List, [], ◌∷◌, ◌++◌, codes}
+use Rattle.std.specs.Prelude.{ℕ, List, [], ◌∷◌, ◌++◌, codes, decimal}
 use Rattle.dxc_num.specs.declared.port.Middle.{Middle}
 use Rattle.dxc_num.specs.Dimensions.{Dimensions, IsModule, IsPort, IsWorking}
+use Rattle.dxc_outside.specs.declared.clock.Moment.{Moment}
 use Rattle.dxc_model.specs.declared.conn.Cct.{Cct}
 use Rattle.dxc_model.specs.declared.conn.Cct.TheVariants.{OneWay, TwoWay}
 use Rattle.dxc_model.specs.declared.conn.Conn.{Conn}
 use Rattle.dxc_model.specs.declared.op.Change.{Change}
 use Rattle.dxc_model.specs.declared.op.Change.TheVariants.{Enter, Delete, Edit, EnterModule, DeleteModule, TakeOut, PutBack}
 use Rattle.dxc_aid.specs.Names.{port_name, module_name, middle_name}
+use Rattle.tl1_answer.specs.Messages.{two}
 
 abbrev pub cct_text : Cct → List ℕ
 cct_text OneWay = codes "1WAY"
@@ -37,6 +39,20 @@ module_text m = codes "\"" ++ module_name m ++ codes ":IS\""
 
 abbrev pub middle_text : Middle → List ℕ
 middle_text m = codes "\"" ++ middle_name m ++ codes ":OOS\""
+
+-- the row of what has that value
+abbrev pub value_text : (name value : List ℕ) → List ℕ
+value_text name value = codes "\"" ++ name ++ codes "=" ++ value ++ codes "\""
+
+-- the row of since when the program serves
+abbrev pub start_text : Moment → List ℕ
+start_text m = codes "\"START="
+    ++ two m.year ++ codes "-" ++ two m.month ++ codes "-" ++ two m.day ++ codes ","
+    ++ two m.hour ++ codes ":" ++ two m.minute ++ codes ":" ++ two m.second ++ codes "\""
+
+-- the row of a session: the number of its place, and the user with the class
+abbrev pub session_text : (place : ℕ) → (user class : List ℕ) → List ℕ
+session_text place user class = codes "\"SESSION-" ++ decimal place ++ codes ":" ++ user ++ codes "," ++ class ++ codes "\""
 
 -- the ports, the module or the middle of a change are of the shape
 abbrev pub IsChangeOf : Dimensions → Change → Type 0

@@ -6,8 +6,10 @@ mod append;
 mod denials;
 pub mod laws;
 mod message;
+mod program;
 mod stamp;
 mod text;
 
 pub use answer::{Answer, Code, Fits};
+pub use program::{session_text, start_text, value_text};
 pub use text::{change_text, conn_text, middle_text, module_text, row_text};

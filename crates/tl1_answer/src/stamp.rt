@@ -115,15 +115,13 @@ fn text_of(moment: Moment) -> [u8; 20]
     ]
 }
 
-fn tens(number: u8) -> u8
-    requires { number ≤ 99 }
+pub(crate) fn tens(number: u8) -> u8
     ensures { result ≡ 48 + number / 10 }
 {
     b'0' + number / 10
 }
 
-fn ones(number: u8) -> u8
-    requires { number ≤ 99 }
+pub(crate) fn ones(number: u8) -> u8
     ensures { result ≡ 48 + number % 10 }
 {
     b'0' + number % 10

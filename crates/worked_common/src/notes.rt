@@ -1,7 +1,8 @@
 use crate::link::{Kept, leave};
 use crate::part::Part;
+use crate::standing::standing_with;
 use anyhow::Result;
-use dxc_notes::{MemNotes, Note, Notes};
+use dxc_notes::{MemNotes, Note, Notes, Standby, Standing};
 use std::alloc::Global;
 
 /// What is noted of a place. Where its sessions are over it is dropped, and leaves its notes to whoever compares them, if anybody does.
@@ -14,7 +15,7 @@ pub struct RowNotes {
 impl RowNotes {
     pub(crate) fn new(alloc: Global, kept: Option<Kept>) -> RowNotes {
         RowNotes {
-            held: MemNotes::new(Vec::new(alloc)),
+            held: MemNotes::new(Vec::new(alloc), standing_with(Standby::Lost)),
             alloc,
             kept,
         }
@@ -30,6 +31,10 @@ impl Notes for RowNotes {
 
     fn note(&mut self, note: Note) {
         self.held.note(note);
+    }
+
+    fn standing(&self) -> Standing {
+        self.held.standing()
     }
 }
 

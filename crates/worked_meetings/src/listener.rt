@@ -1,10 +1,11 @@
 ghost use Rattle.std.specs.Prelude.{[], false};
 
 use crate::link::CueLink;
-use dxc_notes::{MemNotes, Noted};
+use dxc_notes::{MemNotes, Noted, Standby};
 use dxc_outside::{Came, Listener};
 use std::alloc::Global;
 use std::sync::Wait;
+use worked_common::standing_with;
 
 /// Where one session's caller comes in, and nobody else.
 #[derive(Drop)]
@@ -48,6 +49,6 @@ impl Noted for OneCaller {
 
     /// Nobody reads them.
     fn notes(&self) -> MemNotes {
-        MemNotes::new(Vec::new(self.alloc))
+        MemNotes::new(Vec::new(self.alloc), standing_with(Standby::Joined))
     }
 }

@@ -1,0 +1,171 @@
+"""Asks a server with RTRV-SYS what stands of it, as its sessions and its standby come and go.
+
+usage: bench/run stress standing [POINT..]     (all of them where none is named)
+
+sessions  who is logged in at which place: two users at two places, of whom one logs out and another user logs in there, and one hangs up; a log-in
+          that is denied, and callers as whom nobody logs in, are not among them
+start     version and start: those of the program, from one start to the next
+standby   none is named, one is joined, and one is killed and so lost, behind a change and without one; the sessions go on
+script    a session of `script` is told of the equipment alone
+
+Each point prints a line, and ends by itself within half a minute.
+"""
+import os
+import re
+import subprocess
+import sys
+import tempfile
+import time
+
+from bench import Wrong
+from bench.shared import office, server
+from bench.shared.program import expect, run_program, version
+from bench.shared.server import Server, await_listening, free_port, until
+from bench.stress.standby import start_pair
+
+MODULES, SLOTS = 2, 2
+EQUIPMENT = ["MOD-1:IS", "MOD-2:IS"]
+START = re.compile(r"START=(\d\d-\d\d-\d\d,\d\d:\d\d:\d\d)\Z")
+SESSION = re.compile(r"SESSION-(\d+):(\w+,[RPS])\Z")
+MOMENT = "%y-%m-%d,%H:%M:%S"
+# Seconds within which the end of a connection is seen.
+SEEN = 5
+
+
+class Session(server.Caller):
+    """A caller who asks one unit after the other."""
+
+    def asked(self, unit):
+        return self.ask(unit).decode()
+
+    def named(self, user):
+        expect("COMPLD" in self.asked(f"ACT-USER::{user}:1::bc;".encode()), f"{user} wasn't logged in")
+        return self
+
+    def told(self):
+        """The rows of RTRV-SYS."""
+        return re.findall(r'   "([^"]*)"\r\n', self.asked(b"RTRV-SYS:::9;"))
+
+    def sessions(self):
+        """The users that it is told of, by their places."""
+        return {int(found[1]): found[2] for row in self.told() if (found := SESSION.match(row))}
+
+
+def sessions(folder):
+    with Server(folder) as running:
+        anna, ben, other = (Session(running.port) for _ in range(3))
+        anna.named("ANNA")
+        first = anna.sessions()
+        expect(list(first.values()) == ["ANNA,S"], f"one is logged in: {first}")
+        ben.named("BEN")
+        both = anna.sessions()
+        expect(sorted(both.values()) == ["ANNA,S", "BEN,P"] and first.items() <= both.items(), f"two are logged in: {both}")
+        expect(list(both) == sorted(both) and set(both) <= set(range(1, 17)), f"not in order of places: {both}")
+        expect(ben.sessions() == both, "another session is told otherwise")
+        expect("DENY" in other.asked(b"ACT-USER::ANNA:1::wrong;"), "a wrong PID was right")
+        expect(anna.sessions() == both, "a log-in that was denied is told")
+        expect("COMPLD" in ben.asked(b"CANC-USER::BEN:2;"), "no log-out")
+        expect(anna.sessions() == first, f"who logged out is told: {anna.sessions()}")
+        ben.named("CARA")
+        place = next(place for place, user in both.items() if user == "BEN,P")
+        expect(anna.sessions() == first | {place: "CARA,R"}, f"another at the same place: {anna.sessions()}")
+        ben.link.close()
+        expect(until(lambda: anna.sessions() == first, SEEN), f"who hung up is told: {anna.sessions()}")
+        other.named("ben")
+        expect("BEN,P" in anna.sessions().values(), "a name in lower case")
+    return "those who are logged in, at their places"
+
+
+def moment_of(rows):
+    found = [START.match(row) for row in rows if row.startswith("START")]
+    expect(len(found) == 1 and found[0], f"its start is told otherwise: {rows}")
+    return found[0][1]
+
+
+def start_and_version(folder):
+    before = time.strftime(MOMENT, time.gmtime())
+    with Server(folder) as running:
+        session = Session(running.port).named("ANNA")
+        rows = session.told()
+        expect(rows[: len(EQUIPMENT) + 1] == [*EQUIPMENT, f"VERSION={version()}"], f"the first rows are {rows}")
+        first = moment_of(rows)
+        expect(before <= first <= time.strftime(MOMENT, time.gmtime()), f"it started at {first}, not before {before}")
+        time.sleep(1.1)
+        expect("COMPLD" in session.asked(b"INIT-SYS:::3;"), "no restart")
+        expect(moment_of(session.told()) == first, "its start went on")
+    time.sleep(1.1)
+    with Server(folder) as running:
+        again = moment_of(Session(running.port).named("ANNA").told())
+    expect(first < again, f"a new start is told as {again}, behind {first}")
+    return f"version {version()}, {first} and {again}"
+
+
+def state(session):
+    return [row for row in session.told() if row.startswith("STANDBY")]
+
+
+def pair(folder):
+    """A standby, and a session of the server that it is of."""
+    names = [os.path.join(folder, name) for name in ("shelf.toml", "j", "copy", "lines")]
+    standby, running, port = start_pair(*names)
+    expect(await_listening(port, running), "the server didn't open its port")
+    return standby, running, Session(port).named("ANNA")
+
+
+def standby(folder):
+    with Server(folder) as running:
+        expect(state(Session(running.port).named("ANNA")) == ["STANDBY=NONE"], "a standby that wasn't named")
+    for units in ([], [b"ENT-CRS-T0::DS0-1-1,DS0-2-1:2;"]):
+        other, running, session = pair(folder)
+        try:
+            expect(state(session) == ["STANDBY=JOINED"], f"it is told as {state(session)}")
+            other.kill()
+            other.wait()
+            for unit in units:
+                expect("COMPLD" in session.asked(unit), "no change behind a lost standby")
+                expect(state(session) == ["STANDBY=LOST"], f"lost, it is told as {state(session)}")
+            expect(until(lambda: state(session) == ["STANDBY=LOST"], SEEN), f"lost, it is told as {state(session)}")
+        finally:
+            for process in (other, running):
+                process.kill()
+                process.wait()
+        for name in ("copy", "copy.joining"):
+            if os.path.exists(os.path.join(folder, name)):
+                os.remove(os.path.join(folder, name))
+    return "none, joined and lost"
+
+
+def script(folder):
+    told = run_program(["script", "shelf.toml", "j"], office.LOG_IN + "RTRV-SYS:::2;", cwd=folder).stdout
+    expect(re.findall(r'"([^"]*)"', told) == EQUIPMENT, f"it is told {told}")
+    return "the equipment alone"
+
+
+POINTS = {"sessions": sessions, "start": start_and_version, "standby": standby, "script": script}
+
+
+def tried(name):
+    with tempfile.TemporaryDirectory() as folder:
+        with open(os.path.join(folder, "shelf.toml"), "w", encoding="utf-8") as file:
+            file.write(office.shelf_text(MODULES, SLOTS, users=(("ANNA", "S"), ("BEN", "P"), ("CARA", "R"))))
+        with open(os.path.join(folder, "lines.in"), "wb"):
+            pass
+        try:
+            print(f"{name} passed: {POINTS[name](folder)}", flush=True)
+            return True
+        except (Wrong, OSError, subprocess.TimeoutExpired) as why:
+            print(f"{name} failed: {why}", flush=True)
+            return False
+
+
+def main():
+    named = sys.argv[1:] or list(POINTS)
+    if set(named) - set(POINTS):
+        sys.exit(__doc__)
+    passed = [tried(name) for name in named]
+    print(f"{sum(passed)} passed, {len(passed) - sum(passed)} failed")
+    sys.exit(not all(passed))
+
+
+if __name__ == "__main__":
+    main()
