@@ -4,6 +4,7 @@ usage: bench/run stress notes [POINT..]     (all of them where none is named)
 
 callers   where it listens, who came to which place, and why each went: who hung up, and one whose connection was reset
 commands  who logged in and out, a log-in that was denied, and what came of each command that changes something
+users     what came of each command that changes users, and nothing of what only reads them or is refused for its form
 worker    the frames of a worker that ended, at the input's end and within a frame
 silent    standard error is a pipe that nobody reads: hundreds of callers are served as ever, and once it is read the count of lost lines is told
 taken     standard error is closed, a full disk, or a pipe whose reader is gone: the server goes on, and its answers are the same
@@ -124,6 +125,31 @@ def commands(folder):
     return f"{len(wanted)} lines"
 
 
+def users(folder):
+    path = os.path.join(folder, "notes")
+    units = (
+        office.LOG_IN + "ENT-USER-SECU::FAY:2::first,P;ENT-USER-SECU::fay:3::other,P;ED-USER-SECU::fay:4::second;RTRV-USER-SECU:::5;ENT-USER-SECU::GUS:6;"
+        "ED-PID::ANNA:7::wrong,third;ED-PID::ANNA:8::bc,third;DLT-USER-SECU::FAY:9;DLT-USER-SECU::FAY:10;"
+    )
+    with open(path, "wb") as errors, Noted(folder, errors) as server:
+        server.answered(units.encode())
+        told = [line for line in noted(path, 13) if line.startswith("place")]
+    wanted = [
+        "ANNA logged in",
+        "ANNA 2 ENT-USER-SECU FAY: done",
+        "ANNA 3 ENT-USER-SECU fay: denied, SNVS USER ALREADY THERE",
+        "ANNA 4 ED-USER-SECU fay: done",
+        "ANNA 7 ED-PID ANNA: denied, PIUI USER OR PID INVALID",
+        "a log-in was denied",
+        "ANNA 8 ED-PID ANNA: done",
+        "ANNA 9 DLT-USER-SECU FAY: done",
+        "ANNA 10 DLT-USER-SECU FAY: denied, PIUI USER NOT KNOWN",
+    ]
+    got = [re.sub(r"place \d+: ", "", line) for line in told]
+    expect(got[1:-1] == wanted, f"it noted {got}")
+    return f"{len(wanted)} lines"
+
+
 def worker(folder):
     for more, why in ((0, "its input ended"), (5, "its input ended within a frame")):
         path = os.path.join(folder, f"notes{more}")
@@ -194,14 +220,14 @@ def taken(folder):
 def private(folder):
     path = os.path.join(folder, "notes")
     with open(path, "wb") as errors, Noted(folder, errors) as server:
-        server.answered(office.LOG_IN.encode() + b"ACT-USER::ANNA:2::secretpid;ENT-USER-SECU::BEN:3::otherpid,R;")
+        server.answered(office.LOG_IN.encode() + b"ACT-USER::ANNA:2::secretpid;ENT-USER-SECU::BEN:3::otherpid,R;ED-USER-SECU::BEN:4::thirdpid;ED-PID::ANNA:5::wrongpid,newpid;")
         time.sleep(0.5)
         text = "\n".join(noted(path, 4))
-    expect(not re.search(f"secretpid|otherpid|::bc|{office.DIGEST[:12]}", text), f"it noted {text}")
+    expect(not re.search(f"(secret|other|third|wrong|new)pid|::bc|{office.DIGEST[:12]}", text), f"it noted {text}")
     return "nothing of the kind"
 
 
-POINTS = (callers, commands, worker, silent, taken, private)
+POINTS = (callers, commands, users, worker, silent, taken, private)
 
 
 def tried(point):

@@ -1,10 +1,13 @@
 -- What a session noted, one step longer.
-use Rattle.std.proofs.Common.{◌≡◌, ℕ, List, [], ◌∷◌, ◌++◌, append-nil, append_assoc, Option, Some, refl, sym, ◌∙◌, ap, subst, inl}
+use Rattle.std.specs.Prelude.{nat_lt, if◌then◌else◌}
+use Rattle.std.proofs.Common.{◌≡◌, ℕ, Bool, true, false, List, [], ◌∷◌, ◌++◌, length, append-nil, append_assoc, Option, Some, refl, sym, ◌∙◌, ap, subst, inl, inr}
 use Rattle.dxc_num.specs.Dimensions.{Dimensions}
 use Rattle.dxc_model.specs.declared.cause.Cause.{Cause}
 use Rattle.dxc_model.specs.declared.cause.Cause.TheVariants.{BadIdentity}
 use Rattle.dxc_model.specs.declared.entry.Entry.{Entry}
 use Rattle.dxc_model.specs.declared.user.SessionUser.{SessionUser}
+use Rattle.dxc_notes.specs.declared.command.Outcome.{Outcome}
+use Rattle.dxc_notes.specs.declared.command.UserChange.{UserChange}
 use Rattle.dxc_notes.specs.declared.note.Note.{Note}
 use Rattle.dxc_notes.specs.declared.standing.Standing.{Standing}
 use Rattle.dxc_outside.specs.declared.clock.Moment.{Moment}
@@ -15,19 +18,22 @@ use Rattle.dxc_outside.specs.declared.send.Sent.{Sent}
 use Rattle.dxc_outside.specs.declared.send.Sent.TheVariants.{Whole as Sent_whole, Cut as Sent_cut}
 use Rattle.tl1_text.specs.Units.{Input}
 use Rattle.shelf_file.specs.Contents.{Contents}
+use Rattle.tl1_command.specs.Meanings.{Asked, acts, cancels, header, allows, inhibits, shows, asks_table}
+use Rattle.user_admin.specs.declared.op.UserOp.{UserOp}
 use Rattle.user_admin.specs.declared.op.UserRow.{UserRow}
+use Rattle.user_admin.specs.Commands.{is_not_logged_in}
 use Rattle.xc_core.specs.Seeing.{Saw}
 use Rattle.craft_session.specs.declared.ask.Ask.{Ask}
 use Rattle.craft_session.specs.declared.ask.Ask.TheVariants.{Refused, LogsIn, LogsOut, Completes, Allows, Inhibits, Lists, Shows, Restarts, Changes}
 use Rattle.craft_session.specs.declared.attending.Attending.{Attending}
 use Rattle.craft_session.specs.declared.end.Progress.{Progress}
 use Rattle.craft_session.specs.declared.end.Progress.TheVariants.{On, Cut, Stopped}
-use Rattle.craft_session.specs.Acting.{Acts}
+use Rattle.craft_session.specs.Acting.{Acts, Stops}
 use Rattle.craft_session.specs.Asks.{Reply, user_after}
-use Rattle.craft_session.specs.Desks.{IsReplied, IsSaidOf, IsStoppedAt}
-use Rattle.craft_session.specs.Hearing.{IsAsked, IsHeard}
-use Rattle.craft_session.specs.Meanings.{asks, tag_of, wants}
-use Rattle.craft_session.specs.Noted.{HasLooked, HasNoted, IsBeside, IsUnit, Notes, Stood, no_notes, notes_beside, notes_of, notes_on, now_in, refusal_notes, said_notes, stood, unit_notes}
+use Rattle.craft_session.specs.Desks.{IsReplied, IsSaidOf, IsStoppedBefore}
+use Rattle.craft_session.specs.Hearing.{IsAsked, IsHeard, Wanted, nothing, to_look}
+use Rattle.craft_session.specs.Meanings.{asks, session_wants, tag_of, wants}
+use Rattle.craft_session.specs.Noted.{HasLooked, HasNoted, IsBeside, IsUnit, Notes, Stood, UsersNoted, change_notes, changes_user, no_notes, notes_beside, notes_of, notes_on, now_in, refusal_notes, said_notes, stood, unit_notes, users_command_notes, users_notes}
 use Rattle.craft_session.specs.Responses.{beside}
 use Rattle.craft_session.specs.Seats.{IsSameSeat, IsSameUserSeat, SeatAt, UserSeatAt}
 use Rattle.craft_session.specs.Sessions.{Now, Writes}
@@ -67,9 +73,9 @@ module _ (s : Contents) (t : Telling) where
     noted_said u Sent_whole seat users x were = noted_unit u On (record { seat = seat; users = users; answered = x }) were
     noted_said u Sent_cut seat users x were = noted_unit u Cut (record { seat = seat; users = users; answered = x }) were
 
-    -- which a stop cut
-    pub noted_stop : (u : Input) (seat : IsSameSeat b.seat c.seat) (users : IsSameUserSeat b.users c.users) → IsStoppedAt s b.link c.link b.coming c.coming u b.seat b.users (now_in b) (now_in c) → noted [] → HasNoted s t b c noted
-    noted_stop u seat users x were = noted_unit u Stopped (record { seat = seat; users = users; answered = x }) were
+    -- which a stop cut at the users
+    pub noted_stop : (u : Input) (seat : IsSameSeat b.seat c.seat) (users : IsSameUserSeat b.users c.users) → c.link ≡ b.link → c.coming ≡ b.coming → IsStoppedBefore s u b.users (now_in b) (now_in c) → noted [] → HasNoted s t b c noted
+    noted_stop u seat users link clock x were = noted_unit u Stopped (record { seat = seat; users = users; answered = record { link = link; clock = clock; stopped = inr x } }) were
 
   -- a part in which nothing is noted
   pub noted_beside : (a b c : Stood) (noted : List Note → Type 0) → HasNoted s t a b noted → IsBeside t.told b c → HasNoted s t a c noted
@@ -110,15 +116,40 @@ pub noted_moved : {Shelf : Type 0} (value : Shelf → Contents) (t : Telling) (b
 noted_moved value t b c noted old new same x = subst (λ (y : Contents). HasNoted y t b c noted) (ap value same) x
 
 -- what was noted by what was found out of a unit is as what the unit is noted
-pub noted_so : (noted : List Note → Type 0) (d e : Dimensions) (now user : SessionUser) (tag own : Option (List ℕ)) (a b : Ask) (r : Reply) → d ≡ e → now ≡ user_after user a → tag ≡ own → a ≡ b → noted (notes_of d now tag a r) → noted (notes_of e user own b r)
-noted_so noted d e now user tag own a b r shape_is now_is tag_is ask_is x =
-    let first : notes_of d now tag a r ≡ notes_of e (user_after user a) own a r = λ i. notes_of (shape_is i) (now_is i) (tag_is i) a r in
-    subst noted (first ∙ notes_behind e user own a r ∙ ap (λ (y : Ask). notes_of e user own y r) ask_is) x
+pub noted_so : (noted : List Note → Type 0) (w : Wanted) (d e : Dimensions) (now user : SessionUser) (tag own : Option (List ℕ)) (a b : Ask) (r : Reply) → d ≡ e → now ≡ user_after user a → tag ≡ own → a ≡ b → noted (users_notes user tag w a ++ notes_of d now tag a r) → noted (users_notes user own w b ++ notes_of e user own b r)
+noted_so noted w d e now user tag own a b r shape_is now_is tag_is ask_is x =
+    let first : users_notes user tag w a ++ notes_of d now tag a r ≡ users_notes user own w a ++ notes_of e (user_after user a) own a r = λ i. users_notes user (tag_is i) w a ++ notes_of (shape_is i) (now_is i) (tag_is i) a r in
+    subst noted (first ∙ ap (λ (l : List Note). users_notes user own w a ++ l) (notes_behind e user own a r) ∙ ap (λ (y : Ask). users_notes user own w y ++ notes_of e user own y r) ask_is) x
+
+-- a unit that wants nothing of the users
+pub noted_nothing : (noted : List Note → Type 0) (user : SessionUser) (tag : Option (List ℕ)) (w : Wanted) (a : Ask) → w ≡ nothing → noted [] → UsersNoted noted user tag w (Some a)
+noted_nothing noted user tag w a is none = subst (λ (x : Wanted). UsersNoted noted user tag x (Some a)) (sym is) none
+
+-- one of the session's commands changes no users
+login_none : (user : SessionUser) (tag : Option (List ℕ)) (vacant : Bool) (uid pid : List ℕ) (a : Ask) (long : Bool) → users_notes user tag (if long then nothing else to_look vacant uid pid) a ≡ []
+login_none user tag vacant uid pid a true = refl
+login_none user tag vacant uid pid a false = refl
+
+session_none : (user : SessionUser) (tag : Option (List ℕ)) (x : Asked) (a : Ask) → users_notes user tag (session_wants x) a ≡ []
+session_none user tag (acts uid pid) a = login_none user tag (is_not_logged_in user) uid pid a (nat_lt 10 (length uid))
+session_none user tag (cancels uid) a = refl
+session_none user tag header a = refl
+session_none user tag allows a = refl
+session_none user tag inhibits a = refl
+session_none user tag (shows subject) a = refl
+session_none user tag (asks_table o) a = refl
+
+pub noted_session : (noted : List Note → Type 0) (user : SessionUser) (tag : Option (List ℕ)) (x : Asked) (a : Ask) → noted [] → UsersNoted noted user tag (session_wants x) (Some a)
+noted_session noted user tag x a none = subst noted (sym (session_none user tag x a)) none
+
+-- what came of an operation on the users
+pub noted_change : (noted : List Note → Type 0) (user : SessionUser) (tag : Option (List ℕ)) (o : UserOp) (c : Option (UserChange × List ℕ)) (x : Outcome) → c ≡ changes_user o → noted (users_command_notes user tag c x) → noted (change_notes user tag o x)
+noted_change noted user tag o c x is were = subst (λ (y : Option (UserChange × List ℕ)). noted (users_command_notes user tag y x)) is were
 
 -- a response to what was asked, behind what was heard, and what was noted of it
 module _ (s : Contents) (t : Telling) (b c : Stood) (noted : List Note → Type 0) (u : Input) (sent : Sent) (after : Now) (there : after ≡ now_in c) (seat : IsSameSeat b.seat c.seat) (users : IsSameUserSeat b.users c.users) where
   pub noted_reply : (a : Ask) (rows : List UserRow) (gate : List GatePlace → Type 0) (y : IsAsked b.users (wants s b.attending.user u) (λ h. asks s b.attending.user h u) a rows after.users gate) (tag : Option (List ℕ)) (r : Reply) (standing : Standing) → tag ≡ tag_of u → IsReplied s t.told t.clock_told b.link c.link b.coming c.coming sent tag (beside rows (Some standing)) r
-      → ((h : List Entry) → Saw b.seat.opening b.seat.seen h → Acts b.seat.opening b.seat.place h b.attending a r after.attending after.seen) → (d : Dimensions) (now : SessionUser) → d ≡ s.shape → now ≡ user_after b.attending.user a → noted (notes_of d now tag a r) → HasNoted s t b c noted
+      → ((h : List Entry) → Saw b.seat.opening b.seat.seen h → Acts b.seat.opening b.seat.place h b.attending a r after.attending after.seen) → (d : Dimensions) (now : SessionUser) → d ≡ s.shape → now ≡ user_after b.attending.user a → noted (users_notes b.attending.user tag (wants s b.attending.user u) a ++ notes_of d now tag a r) → HasNoted s t b c noted
   noted_reply a rows gate y tag r standing tag_is replied acts d now shape_is now_is were =
       noted_said s t b c noted u sent seat users (record {
         heard = y.heard;
@@ -129,4 +160,24 @@ module _ (s : Contents) (t : Telling) (b c : Stood) (noted : List Note → Type 
         acts = subst (λ (n : Now). (h : List Entry) → Saw b.seat.opening b.seat.seen h → Acts b.seat.opening b.seat.place h b.attending (asks s b.attending.user y.heard u) r n.attending n.seen) there
             (subst (λ (x : Ask). (h : List Entry) → Saw b.seat.opening b.seat.seen h → Acts b.seat.opening b.seat.place h b.attending x r after.attending after.seen) y.ask_is acts);
       })
-      (noted_so noted d s.shape now b.attending.user tag (tag_of u) a (asks s b.attending.user y.heard u) r shape_is now_is tag_is y.ask_is were)
+      (noted_so noted (wants s b.attending.user u) d s.shape now b.attending.user tag (tag_of u) a (asks s b.attending.user y.heard u) r shape_is now_is tag_is y.ask_is were)
+
+  -- one that a stop cut at the table
+  pub noted_cut : (a : Ask) (rows : List UserRow) (gate : List GatePlace → Type 0) (y : IsAsked b.users (wants s b.attending.user u) (λ h. asks s b.attending.user h u) a rows after.users gate) (tag : Option (List ℕ)) → tag ≡ tag_of u → c.link ≡ b.link → c.coming ≡ b.coming
+      → ((h : List Entry) → Saw b.seat.opening b.seat.seen h → Stops b.seat.opening b.seat.place h b.attending a after.attending after.seen) → noted (users_notes b.attending.user tag (wants s b.attending.user u) a) → HasNoted s t b c noted
+  noted_cut a rows gate y tag tag_is link clock stops were =
+      noted_unit s t b c noted u Stopped (record {
+        seat = seat;
+        users = users;
+        answered = record {
+          link = link;
+          clock = clock;
+          stopped = inl (record {
+            heard = y.heard;
+            behind = subst (λ (n : Now). IsHeard b.users (wants s b.attending.user u) y.heard n.users) there y.behind;
+            stops = subst (λ (n : Now). (h : List Entry) → Saw b.seat.opening b.seat.seen h → Stops b.seat.opening b.seat.place h b.attending (asks s b.attending.user y.heard u) n.attending n.seen) there
+                (subst (λ (x : Ask). (h : List Entry) → Saw b.seat.opening b.seat.seen h → Stops b.seat.opening b.seat.place h b.attending x after.attending after.seen) y.ask_is stops);
+          });
+        };
+      })
+      (subst (λ (w : Option (List ℕ) × Ask). noted (users_notes b.attending.user w.0 (wants s b.attending.user u) w.1)) (λ i. (tag_is i, y.ask_is i)) were)

@@ -1,5 +1,6 @@
 -- What a session notes of its units, and that it noted that.
 use Rattle.std.specs.Prelude.{◌≡◌, ◌⊎◌, ℕ, List, [], ◌∷◌, ◌++◌, Option, Some, None}
+use mathlib.Core.Logic.{inl, inr}
 use base.Stored.{Gv}
 use Rattle.dxc_num.specs.declared.port.Port.{Port}
 use Rattle.dxc_num.specs.Dimensions.{Dimensions}
@@ -18,6 +19,8 @@ use Rattle.dxc_model.specs.declared.user.SessionUser.TheVariants.{Nobody, User}
 use Rattle.dxc_notes.specs.declared.command.Outcome.{Outcome}
 use Rattle.dxc_notes.specs.declared.command.Outcome.TheVariants as outcome
 use Rattle.dxc_notes.specs.declared.command.PortAt.{PortAt}
+use Rattle.dxc_notes.specs.declared.command.UserChange.{UserChange}
+use Rattle.dxc_notes.specs.declared.command.UserChange.TheVariants as change
 use Rattle.dxc_notes.specs.declared.command.What.{What}
 use Rattle.dxc_notes.specs.declared.command.What.TheVariants as what
 use Rattle.dxc_notes.specs.declared.note.Note.{Note}
@@ -25,6 +28,8 @@ use Rattle.dxc_notes.specs.declared.note.Note.TheVariants as note
 use Rattle.tl1_text.specs.Units.{Input}
 use Rattle.shelf_file.specs.Contents.{Contents}
 use Rattle.user_admin.specs.declared.op.UserEntry.{UserEntry}
+use Rattle.user_admin.specs.declared.op.UserOp.{UserOp}
+use Rattle.user_admin.specs.declared.op.UserOp.TheVariants as users_op
 use Rattle.user_admin.specs.Turns.{Saw as SawUsers, TurnedBack}
 use Rattle.xc_core.specs.Seeing.{Saw, Turned, entry}
 use Rattle.craft_session.specs.declared.ask.Ask.{Ask}
@@ -34,9 +39,10 @@ use Rattle.craft_session.specs.declared.end.Progress.{Progress}
 use Rattle.craft_session.specs.declared.end.Progress.TheVariants.{On, Cut, Stopped}
 use Rattle.craft_session.specs.declared.lent.Lent.{Ghosts as LentOf}
 use Rattle.craft_session.specs.Asks.{Reply, completed, completed_rows, shown, restarted, denied}
-use Rattle.craft_session.specs.Desks.{IsAnswered, IsSaidOf}
+use Rattle.craft_session.specs.Desks.{IsAnswered, IsSaidOf, IsStoppedBefore, IsStoppedBehind}
+use Rattle.craft_session.specs.Hearing.{Wanted, nothing, to_look, to_do}
 use Rattle.craft_session.specs.Lending.{Things}
-use Rattle.craft_session.specs.Meanings.{asks, tag_of}
+use Rattle.craft_session.specs.Meanings.{asks, tag_of, wants}
 use Rattle.craft_session.specs.Seats.{IsSameSeat, IsSameUserSeat, SeatAt, UserSeatAt}
 use Rattle.craft_session.specs.Sessions.{Now}
 use Rattle.craft_session.specs.Timely.{Telling, telling}
@@ -87,10 +93,54 @@ what_of d (op.Look n) = what.Nothing
 what_of d op.Restart = what.Restart
 
 -- a command of a user, with its tag
-abbrev pub command_notes : SessionUser → Option (List ℕ) → What → Reply → List Note
-command_notes user tag w r = note.Asked (record { user = name_of user; tag = word_of tag; what = w; outcome = outcome_of r }) ∷ []
+abbrev pub command_notes : SessionUser → Option (List ℕ) → What → Outcome → List Note
+command_notes user tag w o = note.Asked (record { user = name_of user; tag = word_of tag; what = w; outcome = o }) ∷ []
 
--- as what a unit is noted, by what it asks and its reply: who logs in and out, what changes something, and restarts
+-- what came of an operation on the users, by what is asked then
+abbrev pub outcome_by : Ask → Outcome
+outcome_by (Refused q) = outcome.Denied q
+outcome_by (LogsIn u) = outcome.Done
+outcome_by LogsOut = outcome.Done
+outcome_by Completes = outcome.Done
+outcome_by Allows = outcome.Done
+outcome_by Inhibits = outcome.Done
+outcome_by (Lists which) = outcome.Done
+outcome_by (Shows subject) = outcome.Done
+outcome_by Restarts = outcome.Done
+outcome_by (Changes o) = outcome.Done
+
+-- what is done to the users or to their sessions, and to which
+abbrev pub changes_user : UserOp → Option (UserChange × List ℕ)
+changes_user (users_op.Enter uid pid class) = Some (change.Enter, uid)
+changes_user (users_op.Edit uid pid class) = Some (change.Edit, uid)
+changes_user (users_op.Delete uid) = Some (change.Delete, uid)
+changes_user (users_op.EditPid uid old new) = Some (change.EditPid, uid)
+changes_user (users_op.Cancel uid) = Some (change.Cancel, uid)
+changes_user (users_op.Rows which) = None
+changes_user (users_op.Look uid) = None
+changes_user (users_op.LogIn uid) = None
+
+-- a command on the users, where it changes them or ends sessions, with its tag
+abbrev pub users_command_notes : SessionUser → Option (List ℕ) → Option (UserChange × List ℕ) → Outcome → List Note
+users_command_notes user tag (Some c) o = note.UsersAsked (record { user = name_of user; tag = word_of tag; change = c.0; changed = c.1; outcome = o }) ∷ []
+users_command_notes user tag None o = []
+
+-- of an operation on the users, what came of it
+abbrev pub change_notes : SessionUser → Option (List ℕ) → UserOp → Outcome → List Note
+change_notes user tag op o = users_command_notes user tag (changes_user op) o
+
+-- as what a unit is noted that wanted this of the users and asks that then
+abbrev pub users_notes : SessionUser → Option (List ℕ) → Wanted → Ask → List Note
+users_notes user tag nothing a = []
+users_notes user tag (to_look vacant uid pid) a = []
+users_notes user tag (to_do o) a = change_notes user tag o (outcome_by a)
+
+-- so it was noted; nothing, where a stop came
+abbrev pub UsersNoted : (List Note → Type 0) → SessionUser → Option (List ℕ) → Wanted → Option Ask → Type 0
+UsersNoted noted user tag w (Some a) = noted (users_notes user tag w a)
+UsersNoted noted user tag w None = noted []
+
+-- as what a unit is noted besides, by what it asks and its reply: who logs in and out, what changes circuits or equipment, and restarts
 abbrev pub notes_of : Dimensions → SessionUser → Option (List ℕ) → Ask → Reply → List Note
 notes_of d user tag (Refused q) r = refusal_notes q
 notes_of d user tag (LogsIn u) r = login_notes u
@@ -100,8 +150,8 @@ notes_of d user tag Allows r = []
 notes_of d user tag Inhibits r = []
 notes_of d user tag (Lists which) r = []
 notes_of d user tag (Shows subject) r = []
-notes_of d user tag Restarts r = command_notes user tag what.Restart r
-notes_of d user tag (Changes o) r = command_notes user tag (what_of d o) r
+notes_of d user tag Restarts r = command_notes user tag what.Restart (outcome_of r)
+notes_of d user tag (Changes o) r = command_notes user tag (what_of d o) (outcome_of r)
 
 -- where a session stands: its link, the moments to come, its seats, and who attends
 pub record Stood : Type 0 where
@@ -137,15 +187,19 @@ module _ (s : Contents) (t : Telling) where
     pub users : IsSameUserSeat b.users c.users
     pub answered : IsAnswered s t.told t.clock_told b.link c.link b.coming c.coming u b.seat b.users (now_in b) (now_in c) how
 
-  -- as what it is noted: by who gave it, its tag, what it asks behind what was heard of the users, and the reply
+  -- as what it is noted: by who gave it, its tag, what it wanted of the users, what it asks behind what was heard of them, and the reply
   abbrev pub said_notes : (sent : Sent) (b : Stood) (u : Input) (c : Stood) → IsSaidOf s t.told t.clock_told b.link c.link b.coming c.coming sent u b.seat b.users (now_in b) (now_in c) → List Note
-  said_notes sent b u c x = notes_of s.shape b.attending.user (tag_of u) (asks s b.attending.user x.heard u) x.reply
+  said_notes sent b u c x = users_notes b.attending.user (tag_of u) (wants s b.attending.user u) (asks s b.attending.user x.heard u) ++ notes_of s.shape b.attending.user (tag_of u) (asks s b.attending.user x.heard u) x.reply
 
-  -- a unit that a stop cut is noted as nothing
+  -- one that a stop cut at the table: as what it wanted of the users before; one that it cut there: as nothing
+  abbrev pub cut_notes : (b : Stood) (u : Input) (c : Stood) → IsStoppedBehind s u b.seat b.users (now_in b) (now_in c) ⊎ IsStoppedBefore s u b.users (now_in b) (now_in c) → List Note
+  cut_notes b u c (inl x) = users_notes b.attending.user (tag_of u) (wants s b.attending.user u) (asks s b.attending.user x.heard u)
+  cut_notes b u c (inr x) = []
+
   abbrev pub unit_notes : (how : Progress) (b : Stood) (u : Input) (c : Stood) → IsUnit b u how c → List Note
   unit_notes On b u c x = said_notes Sent_whole b u c x.answered
   unit_notes Cut b u c x = said_notes Sent_cut b u c x.answered
-  unit_notes Stopped b u c x = []
+  unit_notes Stopped b u c x = cut_notes b u c x.answered.stopped
 
   -- from the one moment to the other these were its notes
   pub data Notes : Stood → List Note → Stood → Type 0 where

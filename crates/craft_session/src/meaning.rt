@@ -16,13 +16,16 @@ ghost use Rattle.craft_session.specs.Gated.{NothingAsked};
 ghost use Rattle.craft_session.specs.Hearing.{AskedIs, Heard, IsAsked, nothing, to_do};
 ghost use Rattle.tl1_command.specs.Meanings.{meaning};
 ghost use Rattle.user_admin.specs.Commands.{code_named, is_not_logged_in, user_meaning};
-ghost use Rattle.craft_session.specs.Meanings.{command_ask, command_wants, heard_ask, is_other_user as other_user, log_in, login_wants, named_by, op_wants, session_ask, session_wants, table_ask, users_ask, users_want};
+ghost use Rattle.craft_session.specs.Noted.{UsersNoted};
+ghost use Rattle.craft_session.specs.Meanings.{command_ask, command_wants, heard_ask, is_other_user as other_user, log_in, login_wants, named_by, op_wants, session_ask, session_wants, table_ask, users_ask, users_want, wants};
 ghost use Rattle.craft_session.specs.Seats.{IsSameUserSeat};
 
 use crate::ask::Ask;
+use crate::noting::{note_user_command, user_change_of};
 use crate::users::UserDesk;
 use dxc_disk::Disk;
 use dxc_model::{Cause, Cct, Class, Conn, Label, Op, SessionUser, Uid};
+use dxc_notes::{Notes, Outcome};
 use dxc_outside::{Gate, Pass1};
 use shelf_file::Shelf;
 use std::sync::Wait;
@@ -37,7 +40,7 @@ use user_admin::{UserOp, is_of_users, upper, user_command_of};
 /// Stop: the gate stopped before the users were changed.
 // What is asked is large, so it is written where it is made out, and handed on by reference.
 #[inline(always)]
-pub fn consult<U: Disk + Drop, G: Gate, R: Wait>(
+pub fn consult<U: Disk + Drop, G: Gate, N: Notes, R: Wait>(
     shelf: &Shelf,
     users: &mut UserDesk<U>,
     user: &SessionUser,
@@ -45,6 +48,7 @@ pub fn consult<U: Disk + Drop, G: Gate, R: Wait>(
     tag: &mut Option<Ctag>,
     ask: &mut Ask,
     gate: &mut G,
+    notes: &mut N,
     rt: &R,
 ) -> Pass1
     requires short { length unit.now ≤ 2047 }
@@ -53,6 +57,8 @@ pub fn consult<U: Disk + Drop, G: Gate, R: Wait>(
     ensures consulted { ConsultedIs shelf.now user.now (whole unit.now) users.old.seat
         users.new.rows.items users.new.seat.seen (G.asked gate.old gate.new) tag.new ask.new
         result }
+    ensures noted { UsersNoted (N.noted notes.old notes.new) user.now tag.new
+        (wants shelf.now user.now (whole unit.now)) (put_down result ask.new) }
     ensures apt { result ≡ Pass1.Go → IsAptAsk shelf.now.shape ask.new }
     ensures unstopped { result ≡ Pass1.Go → G.stops gate.new ≡ G.stops gate.old }
     ensures stopped { result ≡ Pass1.Stop → Rose (G.stops gate.old) (G.stops gate.new) }
@@ -69,25 +75,26 @@ pub fn consult<U: Disk + Drop, G: Gate, R: Wait>(
         on_frequent(often, ask);
         return Pass1::Go;
     }
-    ask_in(shelf, users, user, unit, &found, tagged, ask, gate, rt)
+    ask_in(shelf, users, user, unit, &found, tag, ask, gate, notes, rt)
 }
 
 /// What a unit in the grammar asks. The blocks are the unit's. One that is no command may be one of the users'.
 #[inline(never)]
-fn ask_in<U: Disk + Drop, G: Gate, R: Wait>(
+fn ask_in<U: Disk + Drop, G: Gate, N: Notes, R: Wait>(
     shelf: &Shelf,
     users: &mut UserDesk<U>,
     user: &SessionUser,
     unit: &[u8],
     found: &Blocks,
-    tagged: bool,
+    tag: &Option<Ctag>,
     ask: &mut Ask,
     gate: &mut G,
+    notes: &mut N,
     rt: &R,
 ) -> Pass1
     requires short { length unit.now ≤ 2047 }
     requires blocks { AreBlocksOf unit.now found.now.block.items }
-    requires tagged { tagged ≡ is_some (tag_in unit.now) }
+    requires tagged { is_some tag.now ≡ is_some (tag_in unit.now) }
     requires no_rows { users.old.rows.items ≡ [] }
     ensures same { IsSameUserSeat users.old.seat users.new.seat }
     ensures asked { AskedIs users.old.seat (command_wants shelf.now user.now
@@ -97,18 +104,25 @@ fn ask_in<U: Disk + Drop, G: Gate, R: Wait>(
         shelf.now.sid user.now (map (block_at unit.now) found.now.block.items)))
         users.new.rows.items users.new.seat.seen (G.asked gate.old gate.new)
         (put_down result ask.new) }
+    ensures noted { UsersNoted (N.noted notes.old notes.new) user.now tag.now
+        (command_wants shelf.now user.now (map (block_at unit.now) found.now.block.items)
+        (meaning shelf.now.shape shelf.now.sid user.now
+        (map (block_at unit.now) found.now.block.items))) (put_down result ask.new) }
     ensures apt { result ≡ Pass1.Go → IsAptAsk shelf.now.shape ask.new }
     ensures unstopped { result ≡ Pass1.Go → G.stops gate.new ≡ G.stops gate.old }
     ensures stopped { result ≡ Pass1.Stop → Rose (G.stops gate.old) (G.stops gate.new) }
     ensures later { G.stops gate.old ≤ G.stops gate.new }
 {
+    let tagged = tag.is_some();
     match &command_with(shelf.shape(), shelf.sid(), user, unit, found, tagged) {
         Ok(command) => {
             served(users, user, unit, command, ask, rt);
             Pass1::Go
         }
         Err(cause) => match cause {
-            Cause::UnknownCommand => hear_users(shelf, users, user, unit, found, ask, gate, rt),
+            Cause::UnknownCommand => hear_users(
+                shelf, users, user, unit, found, tag, ask, gate, notes, rt,
+            ),
             _ => {
                 *ask = Ask::Refused(*cause);
                 Pass1::Go
@@ -260,14 +274,16 @@ fn on_table(op: &Op, ask: &mut Ask)
 }
 
 /// Puts down what a unit asks that may be a command of the users. The blocks are the unit's.
-fn hear_users<U: Disk + Drop, G: Gate, R: Wait>(
+fn hear_users<U: Disk + Drop, G: Gate, N: Notes, R: Wait>(
     shelf: &Shelf,
     users: &mut UserDesk<U>,
     user: &SessionUser,
     unit: &[u8],
     found: &Blocks,
+    tag: &Option<Ctag>,
     ask: &mut Ask,
     gate: &mut G,
+    notes: &mut N,
     rt: &R,
 ) -> Pass1
     requires short { length unit.now ≤ 2047 }
@@ -279,6 +295,9 @@ fn hear_users<U: Disk + Drop, G: Gate, R: Wait>(
         (user_meaning shelf.now.sid user.now (map (block_at unit.now) found.now.block.items)))
         users.new.rows.items users.new.seat.seen (G.asked gate.old gate.new)
         (put_down result ask.new) }
+    ensures noted { UsersNoted (N.noted notes.old notes.new) user.now tag.now
+        (users_want (user_meaning shelf.now.sid user.now
+        (map (block_at unit.now) found.now.block.items))) (put_down result ask.new) }
     ensures apt { (d : Dimensions) → result ≡ Pass1.Go → IsAptAsk d ask.new }
     ensures unstopped { result ≡ Pass1.Go → G.stops gate.new ≡ G.stops gate.old }
     ensures stopped { result ≡ Pass1.Stop → Rose (G.stops gate.old) (G.stops gate.new) }
@@ -288,7 +307,7 @@ fn hear_users<U: Disk + Drop, G: Gate, R: Wait>(
         *ask = Ask::Refused(Cause::UnknownCommand);
         return Pass1::Go;
     }
-    match ask_users(shelf, users, user, unit, found, gate, rt) {
+    match ask_users(shelf, users, user, unit, found, tag, gate, notes, rt) {
         Some(heard) => {
             *ask = heard;
             Pass1::Go
@@ -300,13 +319,15 @@ fn hear_users<U: Disk + Drop, G: Gate, R: Wait>(
 /// What a unit asks that may be a command of the users. The blocks are the unit's.
 // Apart, since an operation on them holds a PID, and a unit that asks for none clears no room of it.
 #[inline(never)]
-fn ask_users<U: Disk + Drop, G: Gate, R: Wait>(
+fn ask_users<U: Disk + Drop, G: Gate, N: Notes, R: Wait>(
     shelf: &Shelf,
     users: &mut UserDesk<U>,
     user: &SessionUser,
     unit: &[u8],
     found: &Blocks,
+    tag: &Option<Ctag>,
     gate: &mut G,
+    notes: &mut N,
     rt: &R,
 ) -> Option<Ask>
     requires short { length unit.now ≤ 2047 }
@@ -317,6 +338,9 @@ fn ask_users<U: Disk + Drop, G: Gate, R: Wait>(
         (map (block_at unit.now) found.now.block.items))) (λ x. users_ask x
         (user_meaning shelf.now.sid user.now (map (block_at unit.now) found.now.block.items)))
         users.new.rows.items users.new.seat.seen (G.asked gate.old gate.new) result }
+    ensures noted { UsersNoted (N.noted notes.old notes.new) user.now tag.now
+        (users_want (user_meaning shelf.now.sid user.now
+        (map (block_at unit.now) found.now.block.items))) result }
     ensures apt { (d : Dimensions) → IfSome result (IsAptAsk d) }
     ensures unstopped { result ≢ None → G.stops gate.new ≡ G.stops gate.old }
     ensures stopped { result ≡ None → Rose (G.stops gate.old) (G.stops gate.new) }
@@ -324,16 +348,19 @@ fn ask_users<U: Disk + Drop, G: Gate, R: Wait>(
 {
     users.secrets.hear_command();
     match user_command_of(shelf.sid(), *user, unit, found) {
-        Ok(op) => on_users(users, op, gate, rt),
+        Ok(op) => on_users(users, user, tag, op, gate, notes, rt),
         Err(cause) => Some(Ask::Refused(cause)),
     }
 }
 
 /// Does an operation on the users; one that ends sessions ends this one too where it is that user's. A command never asks for a look or a log-in.
-fn on_users<U: Disk + Drop, G: Gate, R: Wait>(
+fn on_users<U: Disk + Drop, G: Gate, N: Notes, R: Wait>(
     users: &mut UserDesk<U>,
+    user: &SessionUser,
+    tag: &Option<Ctag>,
     op: UserOp,
     gate: &mut G,
+    notes: &mut N,
     rt: &R,
 ) -> Option<Ask>
     requires named { NamesUid op }
@@ -341,6 +368,8 @@ fn on_users<U: Disk + Drop, G: Gate, R: Wait>(
     ensures same { IsSameUserSeat users.old.seat users.new.seat }
     ensures asked { AskedIs users.old.seat (op_wants op) heard_ask users.new.rows.items
         users.new.seat.seen (G.asked gate.old gate.new) result }
+    ensures noted { UsersNoted (N.noted notes.old notes.new) user.now tag.now (op_wants op)
+        result }
     ensures apt { (d : Dimensions) → IfSome result (IsAptAsk d) }
     ensures unstopped { result ≢ None → G.stops gate.new ≡ G.stops gate.old }
     ensures stopped { result ≡ None → Rose (G.stops gate.old) (G.stops gate.new) }
@@ -350,10 +379,12 @@ fn on_users<U: Disk + Drop, G: Gate, R: Wait>(
         UserOp::Rows(which) => Some(list_users(users, which, rt)),
         UserOp::Cancel(uid) => {
             users.seat.cancel(uid, rt);
+            let change = Some((UserChange::Cancel, Word::of(uid.bytes())));
+            note_user_command(notes, user, tag, change, Outcome::Done);
             Some(Ask::Completes)
         }
         UserOp::Look(_) | UserOp::LogIn(_) => Some(Ask::Refused(Cause::UnknownCommand)),
-        op => change_users(users, op, gate, rt),
+        op => change_users(users, user, tag, op, gate, notes, rt),
     }
 }
 
@@ -374,11 +405,14 @@ fn list_users<U: Disk + Drop, R: Wait>(users: &mut UserDesk<U>, which: Option<Ui
     }
 }
 
-/// Makes a change of the users.
-fn change_users<U: Disk + Drop, G: Gate, R: Wait>(
+/// Makes a change of the users, and notes what came of it.
+fn change_users<U: Disk + Drop, G: Gate, N: Notes, R: Wait>(
     users: &mut UserDesk<U>,
+    user: &SessionUser,
+    tag: &Option<Ctag>,
     op: UserOp,
     gate: &mut G,
+    notes: &mut N,
     rt: &R,
 ) -> Option<Ask>
     requires changing { IsChanging op }
@@ -387,14 +421,22 @@ fn change_users<U: Disk + Drop, G: Gate, R: Wait>(
     ensures same { IsSameUserSeat users.old.seat users.new.seat }
     ensures asked { AskedIs users.old.seat (to_do op) heard_ask users.new.rows.items
         users.new.seat.seen (G.asked gate.old gate.new) result }
+    ensures noted { UsersNoted (N.noted notes.old notes.new) user.now tag.now (to_do op) result }
     ensures apt { (d : Dimensions) → IfSome result (IsAptAsk d) }
     ensures unstopped { result ≢ None → G.stops gate.new ≡ G.stops gate.old }
     ensures stopped { result ≡ None → Rose (G.stops gate.old) (G.stops gate.new) }
     ensures later { G.stops gate.old ≤ G.stops gate.new }
 {
+    let change = user_change_of(&op);
     match users.seat.change(op, gate, rt) {
-        UserTook::Done => Some(Ask::Completes),
-        UserTook::Denied(cause) => Some(Ask::Refused(cause)),
+        UserTook::Done => {
+            note_user_command(notes, user, tag, change, Outcome::Done);
+            Some(Ask::Completes)
+        }
+        UserTook::Denied(cause) => {
+            note_user_command(notes, user, tag, change, Outcome::Denied(cause));
+            Some(Ask::Refused(cause))
+        }
         UserTook::Stopped => None,
     }
 }

@@ -2,14 +2,15 @@
 ghost use Rattle.std.specs.Prelude.{◌≡◌, List};
 ghost use Rattle.dxc_model.specs.declared.conn.Conn.{Conn};
 ghost use Rattle.craft_session.specs.Asks.{reply_of};
-ghost use Rattle.craft_session.specs.Noted.{command_notes, login_notes, name_of as user_name, notes_of, port_at as port_in, refusal_notes, what_of as what_is, word_of as word_in};
+ghost use Rattle.craft_session.specs.Noted.{changes_user, command_notes, login_notes, name_of as user_name, notes_of, outcome_of as outcome_is, port_at as port_in, refusal_notes, users_command_notes, what_of as what_is, word_of as word_in};
 
 use crate::ask::{Acted, Ask};
 use dxc_model::{Cause, Op, SessionUser};
-use dxc_notes::{Command, Note, Notes, Outcome, PortAt, Standing, What, Word};
+use dxc_notes::{Command, Note, Notes, Outcome, PortAt, Standing, UserChange, UserCommand, What, Word};
 use dxc_num::{Port, Shape};
 use tl1_command::Subject;
 use tl1_text::Ctag;
+use user_admin::UserOp;
 
 /// Notes what came of what a unit of this user asked, where that is noted, and asks what stands of the program, where the unit does. The ports are of
 /// this shape.
@@ -29,8 +30,10 @@ pub(crate) fn note_unit<N: Notes>(
     match ask {
         Ask::LogsIn(user) => note_login(notes, user),
         Ask::Refused(cause) => note_refusal(notes, *cause),
-        Ask::Restarts => note_command(notes, user, tag, What::Restart, acted),
-        Ask::Changes(op) => note_command(notes, user, tag, what_of(shape, op), acted),
+        Ask::Restarts => note_command(notes, user, tag, What::Restart, outcome_of(acted)),
+        Ask::Changes(op) => {
+            note_command(notes, user, tag, what_of(shape, op), outcome_of(acted));
+        }
         Ask::LogsOut => notes.note(Note::LoggedOut),
         Ask::Completes => {}
         Ask::Allows => {}
@@ -75,24 +78,65 @@ fn note_command<N: Notes>(
     user: &SessionUser,
     tag: &Option<Ctag>,
     what: What,
-    acted: &Acted,
+    outcome: Outcome,
 )
-    ensures { (rows : List Conn) → N.noted notes.old notes.new
-        (command_notes user.now tag.now what (reply_of acted.now rows)) }
+    ensures { N.noted notes.old notes.new (command_notes user.now tag.now what outcome) }
 {
-    let outcome = match acted {
-        Acted::Denied(cause) => Outcome::Denied(*cause),
-        Acted::Completed => Outcome::Done,
-        Acted::Listed => Outcome::Done,
-        Acted::Shown(_, _) => Outcome::Done,
-        Acted::Restarted => Outcome::Done,
-    };
     notes.note(Note::Asked(Command {
         user: name_of(user),
         tag: word_of(tag),
         what,
         outcome,
     }));
+}
+
+/// What an operation does to the users or to their sessions, and to which, where it does.
+pub(crate) fn user_change_of(op: &UserOp) -> Option<(UserChange, Word)>
+    ensures { result ≡ changes_user op.now }
+{
+    match op {
+        UserOp::Enter { uid, .. } => Some((UserChange::Enter, Word::of(uid.bytes()))),
+        UserOp::Edit { uid, .. } => Some((UserChange::Edit, Word::of(uid.bytes()))),
+        UserOp::Delete(uid) => Some((UserChange::Delete, Word::of(uid.bytes()))),
+        UserOp::EditPid { uid, .. } => Some((UserChange::EditPid, Word::of(uid.bytes()))),
+        UserOp::Cancel(uid) => Some((UserChange::Cancel, Word::of(uid.bytes()))),
+        UserOp::Rows(_) | UserOp::Look(_) | UserOp::LogIn(_) => None,
+    }
+}
+
+/// Notes what came of an operation on the users, where it does something to them.
+pub(crate) fn note_user_command<N: Notes>(
+    notes: &mut N,
+    user: &SessionUser,
+    tag: &Option<Ctag>,
+    change: Option<(UserChange, Word)>,
+    outcome: Outcome,
+)
+    ensures { N.noted notes.old notes.new
+        (users_command_notes user.now tag.now change outcome) }
+{
+    match change {
+        Some((change, changed)) => notes.note(Note::UsersAsked(UserCommand {
+            user: name_of(user),
+            tag: word_of(tag),
+            change,
+            changed,
+            outcome,
+        })),
+        None => {}
+    }
+}
+
+fn outcome_of(acted: &Acted) -> Outcome
+    ensures { (rows : List Conn) → result ≡ outcome_is (reply_of acted.now rows) }
+{
+    match acted {
+        Acted::Denied(cause) => Outcome::Denied(*cause),
+        Acted::Completed => Outcome::Done,
+        Acted::Listed => Outcome::Done,
+        Acted::Shown(_, _) => Outcome::Done,
+        Acted::Restarted => Outcome::Done,
+    }
 }
 
 fn word_of(tag: &Option<Ctag>) -> Word

@@ -9,9 +9,9 @@ ghost use Rattle.std.specs.Arc.{arc_value};
 ghost use Rattle.craft_session.specs.Asks.{IsAptAsk};
 ghost use Rattle.craft_session.specs.Cancelling.{IsHeeding};
 ghost use Rattle.craft_session.specs.Gated.{AreEntered};
-ghost use Rattle.craft_session.specs.Meanings.{language_for};
-ghost use Rattle.craft_session.specs.Desks.{now, place_of, input_of, ConsultedIs, IsAnswered};
-ghost use Rattle.craft_session.specs.Noted.{HasNoted, stood};
+ghost use Rattle.craft_session.specs.Meanings.{language_for, wants};
+ghost use Rattle.craft_session.specs.Desks.{now, place_of, input_of, put_down, ConsultedIs, IsAnswered};
+ghost use Rattle.craft_session.specs.Noted.{HasNoted, UsersNoted, stood};
 ghost use Rattle.craft_session.specs.Pieces.{GoesOver, desk_at};
 ghost use Rattle.craft_session.specs.Seats.{IsSameSeat, IsSameUserSeat};
 ghost use Rattle.craft_session.specs.Sessions.{Beginning, IsAt, Writes, Stands, Goes, IsPrompt, IsServed};
@@ -253,7 +253,7 @@ fn answer<K: Link, C: Timestamps, G: Gate, N: Notes, D: Disk + Drop, U: Disk + D
 {
     let mut tag = None;
     let mut ask = Ask::Completes;
-    match ask_of(desk, &mut tag, &mut ask, gate, rt, kind) {
+    match ask_of(desk, &mut tag, &mut ask, gate, notes, rt, kind) {
         Pass1::Go => {}
         Pass1::Stop => return Progress::Stopped,
     }
@@ -283,11 +283,12 @@ fn answer<K: Link, C: Timestamps, G: Gate, N: Notes, D: Disk + Drop, U: Disk + D
 }
 
 /// Puts down the tag of the unit that ended, and what it asks behind what the users answer to it. Stop: the gate stopped before they were changed.
-fn ask_of<G: Gate, D: Disk + Drop, U: Disk + Drop, R: Wait>(
+fn ask_of<G: Gate, N: Notes, D: Disk + Drop, U: Disk + Drop, R: Wait>(
     desk: &mut Desk<D, U>,
     tag: &mut Option<Ctag>,
     ask: &mut Ask,
     gate: &mut G,
+    notes: &mut N,
     rt: &R,
     kind: UnitKind,
 ) -> Pass1
@@ -300,6 +301,9 @@ fn ask_of<G: Gate, D: Disk + Drop, U: Disk + Drop, R: Wait>(
     ensures consulted { ConsultedIs (arc_value desk.old.shelf) desk.old.attending.user
         (input_of kind desk.old.reader) desk.old.users.seat desk.new.users.rows.items
         desk.new.users.seat.seen (G.asked gate.old gate.new) tag.new ask.new result }
+    ensures noted { UsersNoted (N.noted notes.old notes.new) desk.old.attending.user tag.new
+        (wants (arc_value desk.old.shelf) desk.old.attending.user (input_of kind desk.old.reader))
+        (put_down result ask.new) }
     ensures apt { result ≡ Pass1.Go → IsAptAsk (arc_value desk.old.shelf).shape ask.new }
     ensures unstopped { result ≡ Pass1.Go → G.stops gate.new ≡ G.stops gate.old }
     ensures stopped { result ≡ Pass1.Stop → Rose (G.stops gate.old) (G.stops gate.new) }
@@ -315,6 +319,7 @@ fn ask_of<G: Gate, D: Disk + Drop, U: Disk + Drop, R: Wait>(
             tag,
             ask,
             gate,
+            notes,
             rt,
         ),
         UnitKind::TooLong | UnitKind::More => {

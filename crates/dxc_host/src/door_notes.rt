@@ -21,7 +21,7 @@ impl DoorNotes {
         match note {
             Note::LoggedIn(user, class) => hall.come(self.place, user, *class),
             Note::LoggedOut | Note::Gone(_) => hall.go(self.place),
-            Note::Closed | Note::LogInDenied | Note::Asked(_) => {}
+            Note::Closed | Note::LogInDenied | Note::Asked(_) | Note::UsersAsked(_) => {}
         }
     }
 }

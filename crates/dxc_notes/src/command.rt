@@ -44,6 +44,30 @@ pub struct Command {
     pub outcome: Outcome,
 }
 
+/// What is done to a user.
+#[derive(Clone, Copy)]
+pub enum UserChange {
+    Enter,
+    Edit,
+    Delete,
+    EditPid,
+    /// Their sessions are ended.
+    Cancel,
+}
+
+/// A command that changes the users or ends a user's sessions, and what came of it.
+#[derive(Clone, Copy)]
+pub struct UserCommand {
+    /// Who gave it; empty for nobody.
+    pub user: Word,
+    /// Empty where it had none.
+    pub tag: Word,
+    pub change: UserChange,
+    /// The user whom it names, as the name was given.
+    pub changed: Word,
+    pub outcome: Outcome,
+}
+
 pub(crate) fn text_of(word: &Word) -> &str {
     match str::from_utf8(word.bytes()) {
         Ok(text) => text,
@@ -85,6 +109,19 @@ impl Display for What {
     }
 }
 
+/// A command's code.
+impl Display for UserChange {
+    fn fmt<W: Write>(&self, f: &mut Formatter<W>) -> fmt::Result {
+        f.write_str(match self {
+            UserChange::Enter => "ENT-USER-SECU",
+            UserChange::Edit => "ED-USER-SECU",
+            UserChange::Delete => "DLT-USER-SECU",
+            UserChange::EditPid => "ED-PID",
+            UserChange::Cancel => "CANC-USER-SECU",
+        })
+    }
+}
+
 impl Display for Outcome {
     fn fmt<W: Write>(&self, f: &mut Formatter<W>) -> fmt::Result {
         match self {
@@ -99,5 +136,18 @@ impl Display for Command {
     fn fmt<W: Write>(&self, f: &mut Formatter<W>) -> fmt::Result {
         let (user, tag) = (text_of(&self.user), text_of(&self.tag));
         write!(f, "{user} {tag} {}: {}", self.what, self.outcome)
+    }
+}
+
+/// Who gave which command with which tag on whom, and what came of it.
+impl Display for UserCommand {
+    fn fmt<W: Write>(&self, f: &mut Formatter<W>) -> fmt::Result {
+        let (user, tag) = (text_of(&self.user), text_of(&self.tag));
+        let changed = text_of(&self.changed);
+        write!(
+            f,
+            "{user} {tag} {} {changed}: {}",
+            self.change, self.outcome
+        )
     }
 }

@@ -10,7 +10,7 @@ mod silence;
 mod standing;
 mod word;
 
-pub use command::{Command, Outcome, PortAt, What};
+pub use command::{Command, Outcome, PortAt, UserChange, UserCommand, What};
 pub use mem_notes::MemNotes;
 pub use note::{Ending, Note};
 pub use notes::{Noted, Notes};

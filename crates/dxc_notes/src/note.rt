@@ -1,4 +1,4 @@
-use crate::command::{Command, text_of};
+use crate::command::{Command, UserCommand, text_of};
 use crate::word::Word;
 use dxc_model::Class;
 use std::fmt::{self, Display, Formatter, Write};
@@ -39,6 +39,8 @@ pub enum Note {
     LogInDenied,
     /// A command that changes something was done, or denied.
     Asked(Command),
+    /// The same of one that changes the users, or ends a user's sessions.
+    UsersAsked(UserCommand),
 }
 
 impl Ending {
@@ -66,6 +68,7 @@ impl Display for Note {
             Note::LoggedOut => write!(f, "its user logged out"),
             Note::LogInDenied => write!(f, "a log-in was denied"),
             Note::Asked(command) => write!(f, "{command}"),
+            Note::UsersAsked(command) => write!(f, "{command}"),
         }
     }
 }

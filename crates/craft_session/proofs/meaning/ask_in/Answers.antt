@@ -1,5 +1,5 @@
 use Rattle.std.specs.Prelude.{IfOk, MatchResult}
-use Rattle.std.proofs.Common.{◌≡◌, ℕ, List, Ok, Err, Result, map, refl, sym, ◌∙◌, ap, ap₂, subst}
+use Rattle.std.proofs.Common.{◌≡◌, ℕ, List, Ok, Err, Result, Some, map, refl, sym, ◌∙◌, ap, ap₂, subst}
 use Rattle.dxc_num.specs.Dimensions.{Dimensions}
 use Rattle.dxc_model.specs.declared.cause.Cause.{Cause}
 use Rattle.tl1_text.specs.Spans.{block_at}
@@ -11,9 +11,11 @@ use Rattle.craft_session.specs.Desks.{put_down}
 use Rattle.craft_session.specs.Gated.{NothingAsked}
 use Rattle.craft_session.specs.Hearing.{AskedIs, IsAsked, unasked}
 use Rattle.craft_session.specs.Meanings.{command_ask, command_wants}
+use Rattle.craft_session.specs.Noted.{UsersNoted}
 use Rattle.craft_session.proofs.Asking.{asked_beside, refused_ask, refused_wants}
 use Rattle.craft_session.proofs.Consulted.{asked_nothing}
 use Rattle.craft_session.proofs.Ends.{stayed, stop_went}
+use Rattle.craft_session.proofs.Noted.{noted_nothing, noted_session}
 use Rattle.craft_session.proofs.meaning.ask_in.Goals as goal
 
 pub served-requires-clause-within : goal.served-requires-clause-within
@@ -32,6 +34,7 @@ returns-in-Ok g c =
       same = r.same;
       asked = asked_beside c.args.users.now.seat (command_wants s user bs (meaning s.shape s.sid user bs)) (λ x. command_ask s user x bs (meaning s.shape s.sid user bs)) c.served.new.ask c.served.new.users.rows.items c.served.new.users.seat.seen (g.G.Gate.asked c.args.gate.now c.args.gate.now) (g.G.Gate.unasked c.args.gate.now)
           (subst (λ (m : Result Asked Cause). IsAsked c.args.users.now.seat (command_wants s user bs m) (λ x. command_ask s user x bs m) c.served.new.ask c.served.new.users.rows.items c.served.new.users.seat.seen NothingAsked) (sym is) r.asked);
+      noted = subst (λ (m : Result Asked Cause). UsersNoted (g.N.Notes.noted c.args.notes.now c.args.notes.now) user c.args.tag.now (command_wants s user bs m) (Some c.served.new.ask)) (sym is) (noted_session (g.N.Notes.noted c.args.notes.now c.args.notes.now) user c.args.tag.now (asked_by c.args.unit.now c.in-Ok.command) c.served.new.ask (g.N.Notes.unnoted c.args.notes.now));
       apt = λ _. subst (λ (d : Dimensions). IsAptAsk d c.served.new.ask) c.shape.ensures (r.apt c.shape.result fit);
       unstopped = λ _. refl;
       stopped = λ is_stop. stop_went is_stop;
@@ -49,6 +52,7 @@ returns-in-UnknownCommand g c =
     record {
       same = r.same;
       asked = subst (λ (m : Result Asked Cause). AskedIs c.args.users.now.seat (command_wants s user bs m) (λ x. command_ask s user x bs m) c.hear_users.new.users.rows.items c.hear_users.new.users.seat.seen (g.G.Gate.asked c.args.gate.now c.hear_users.new.gate) (put_down c.hear_users.result c.hear_users.new.ask)) (sym (is ∙ ap Err c.in-UnknownCommand.is)) r.asked;
+      noted = subst (λ (m : Result Asked Cause). UsersNoted (g.N.Notes.noted c.args.notes.now c.hear_users.new.notes) user c.args.tag.now (command_wants s user bs m) (put_down c.hear_users.result c.hear_users.new.ask)) (sym (is ∙ ap Err c.in-UnknownCommand.is)) r.noted;
       apt = r.apt s.shape;
       unstopped = r.unstopped;
       stopped = r.stopped;
@@ -66,6 +70,7 @@ returns-in_default g c =
     record {
       same = (refl, refl, refl, refl);
       asked = asked_nothing _ _ _ _ _ (g.G.Gate.asked c.args.gate.now c.args.gate.now) (g.G.Gate.unasked c.args.gate.now) (ap (command_wants s user bs) is ∙ refused_wants s user bs c.in-Err.cause not) (sym (ap (command_ask s user unasked bs) is ∙ refused_ask s user unasked bs c.in-Err.cause not)) c.requires.no_rows;
+      noted = noted_nothing (g.N.Notes.noted c.args.notes.now c.args.notes.now) user c.args.tag.now _ _ (ap (command_wants s user bs) is ∙ refused_wants s user bs c.in-Err.cause not) (g.N.Notes.unnoted c.args.notes.now);
       apt = λ _. tt;
       unstopped = λ _. refl;
       stopped = λ is_stop. stop_went is_stop;

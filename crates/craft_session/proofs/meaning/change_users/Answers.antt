@@ -1,4 +1,5 @@
 use Rattle.craft_session.proofs.Asking.{asked_denied, asked_done, asked_stopped}
+use Rattle.craft_session.proofs.Noted.{noted_change}
 use Rattle.craft_session.proofs.meaning.change_users.Goals as goal
 
 pub returns-in-Done-clause-asked : goal.returns-in-Done-clause-asked
@@ -9,3 +10,9 @@ returns-in-Denied-clause-asked g c = asked_denied c.args.users.now.seat c.change
 
 pub returns-in-Stopped-clause-asked : goal.returns-in-Stopped-clause-asked
 returns-in-Stopped-clause-asked g c = asked_stopped c.args.users.now.seat c.change.new.self.seen (g.G.Gate.asked c.args.gate.now c.change.new.gate) c.args.op c.requires.changing c.in-Stopped.ensures.asked (λ h saw. c.in-Stopped.ensures.took h saw)
+
+pub returns-in-Done-clause-noted : goal.returns-in-Done-clause-noted
+returns-in-Done-clause-noted g c = noted_change (g.N.Notes.noted c.args.notes.now c.note_user_command.new.notes) c.args.user.now c.args.tag.now c.args.op _ _ c.user_change_of.ensures c.note_user_command.ensures
+
+pub returns-in-Denied-clause-noted : goal.returns-in-Denied-clause-noted
+returns-in-Denied-clause-noted g c = noted_change (g.N.Notes.noted c.args.notes.now c.note_user_command.new.notes) c.args.user.now c.args.tag.now c.args.op _ _ c.user_change_of.ensures c.note_user_command.ensures

@@ -13,8 +13,10 @@ use Rattle.craft_session.specs.Asks.{IsAptAsk}
 use Rattle.craft_session.specs.Desks.{put_down}
 use Rattle.craft_session.specs.Hearing.{AskedIs, unasked}
 use Rattle.craft_session.specs.Meanings.{command_ask, command_wants, text_ask, text_wants}
+use Rattle.craft_session.specs.Noted.{UsersNoted}
 use Rattle.craft_session.proofs.Consulted.{asked_nothing, consulted_by}
 use Rattle.craft_session.proofs.Ends.{stop_went, stayed}
+use Rattle.craft_session.proofs.Noted.{noted_nothing}
 use Rattle.craft_session.proofs.meaning.consult.Goals as goal
 
 pub returns-in_default : goal.returns-in_default
@@ -24,6 +26,7 @@ returns-in_default g c =
     record {
       same = (refl, refl, refl, refl);
       consulted = (c.ctag_of.ensures, asked_nothing _ _ _ _ _ (g.G.Gate.asked c.args.gate.now c.args.gate.now) (g.G.Gate.unasked c.args.gate.now) (ap (λ (o : Option (List Block)). text_wants s user o) c.in_default.ensures) (sym (ap (λ (o : Option (List Block)). text_ask s user unasked o) c.in_default.ensures)) c.requires.no_rows);
+      noted = noted_nothing (g.N.Notes.noted c.args.notes.now c.args.notes.now) user _ _ _ (ap (λ (o : Option (List Block)). text_wants s user o) c.in_default.ensures) (g.N.Notes.unnoted c.args.notes.now);
       apt = λ _. tt;
       unstopped = λ _. refl;
       stopped = λ is. stop_went is;
@@ -32,6 +35,9 @@ returns-in_default g c =
 
 pub frequent_of-requires-clause-tagged : goal.frequent_of-requires-clause-tagged
 frequent_of-requires-clause-tagged g c = c.is_some-tagged.ensures ∙ (ap (λ (t : Option (List ℕ)). is_some t) c.ctag_in.ensures ∙ tagged_is c.args.unit.now c.in-Ok.found.block.items c.in-Ok.ensures)
+
+pub ask_in-requires-clause-tagged : goal.ask_in-requires-clause-tagged
+ask_in-requires-clause-tagged g c = ap (λ (t : Option (List ℕ)). is_some t) c.ctag_in.ensures ∙ tagged_is c.args.unit.now c.in-Ok.found.block.items c.in-Ok.ensures
 
 pub returns-in-Some : goal.returns-in-Some
 returns-in-Some g c =
@@ -51,6 +57,7 @@ returns-in-Some g c =
             (sym (ap (λ (o : Option (List Block)). text_ask s user unasked o) c.in-Ok.ensures.reading ∙ (ap (command_ask s user unasked bs) is ∙ often.asked user unasked)))
             c.requires.no_rows,
       );
+      noted = noted_nothing (g.N.Notes.noted c.args.notes.now c.args.notes.now) user _ _ _ (ap (λ (o : Option (List Block)). text_wants s user o) c.in-Ok.ensures.reading ∙ (ap (command_wants s user bs) is ∙ often.unasked)) (g.N.Notes.unnoted c.args.notes.now);
       apt = λ _. subst (λ (d : Dimensions). IsAptAsk d c.on_frequent.new.ask) c.shape.ensures (often.apt c.shape.result fit);
       unstopped = λ _. refl;
       stopped = λ is. stop_went is;
@@ -66,6 +73,7 @@ returns g c =
       same = r.same;
       consulted = consulted_by s user (whole c.args.unit.now) c.args.users.now.seat c.ask_in.new.users.rows.items c.ask_in.new.users.seat.seen (g.G.Gate.asked c.args.gate.now c.ask_in.new.gate) c.ctag_in.result c.ask_in.new.ask c.ask_in.result c.ctag_in.ensures
           (subst (λ (o : Option (List Block)). AskedIs c.args.users.now.seat (text_wants s user o) (λ x. text_ask s user x o) c.ask_in.new.users.rows.items c.ask_in.new.users.seat.seen (g.G.Gate.asked c.args.gate.now c.ask_in.new.gate) (put_down c.ask_in.result c.ask_in.new.ask)) (sym c.in-Ok.ensures.reading) r.asked);
+      noted = subst (λ (o : Option (List Block)). UsersNoted (g.N.Notes.noted c.args.notes.now c.ask_in.new.notes) user c.ctag_in.result (text_wants s user o) (put_down c.ask_in.result c.ask_in.new.ask)) (sym c.in-Ok.ensures.reading) r.noted;
       apt = r.apt;
       unstopped = r.unstopped;
       stopped = r.stopped;

@@ -5,6 +5,7 @@ use Rattle.craft_session.specs.Meanings.{users_ask, users_want}
 use Rattle.craft_session.proofs.Codes.{none_is_unknown, unnamed}
 use Rattle.craft_session.proofs.Consulted.{asked_nothing}
 use Rattle.craft_session.proofs.Ends.{some_there, stayed, stop_goes, stop_went}
+use Rattle.craft_session.proofs.Noted.{noted_nothing}
 use Rattle.craft_session.proofs.meaning.hear_users.Goals as goal
 
 pub returns-then-not-is_of_users : goal.returns-then-not-is_of_users
@@ -14,6 +15,7 @@ returns-then-not-is_of_users g c =
     record {
       same = (refl, refl, refl, refl);
       asked = asked_nothing _ _ _ _ _ (g.G.Gate.asked c.args.gate.now c.args.gate.now) (g.G.Gate.unasked c.args.gate.now) (ap users_want is) (sym (ap (users_ask unasked) is)) c.requires.no_rows;
+      noted = noted_nothing (g.N.Notes.noted c.args.notes.now c.args.notes.now) c.args.user.now c.args.tag.now _ _ (ap users_want is) (g.N.Notes.unnoted c.args.notes.now);
       apt = λ d _. tt;
       unstopped = λ _. refl;
       stopped = λ is_stop. stop_went is_stop;
@@ -26,6 +28,7 @@ returns-in-Some g c =
     record {
       same = r.same;
       asked = c.in-Some.ensures.asked;
+      noted = c.in-Some.ensures.noted;
       apt = λ d _. c.in-Some.ensures.apt d;
       unstopped = λ _. r.unstopped (some_there _ _ c.in-Some.is);
       stopped = λ is. stop_went is;
@@ -38,6 +41,7 @@ returns-in-None g c =
     record {
       same = r.same;
       asked = c.in-None.ensures.asked;
+      noted = c.in-None.ensures.noted;
       apt = λ d is. stop_goes is;
       unstopped = λ is. stop_goes is;
       stopped = λ _. r.stopped c.in-None.is;

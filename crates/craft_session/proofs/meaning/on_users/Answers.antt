@@ -1,10 +1,13 @@
-use Rattle.std.proofs.Common.{refl, ap, sym, subst, inl, inr}
+use Rattle.std.proofs.Common.{Some, refl, ap, sym, subst, inl, inr}
 use Rattle.craft_session.specs.declared.ask.Ask.TheVariants.{Completes}
 use Rattle.craft_session.specs.Gated.{NothingAsked}
 use Rattle.craft_session.specs.Hearing.{IsAsked, Wanted}
 use Rattle.craft_session.specs.Meanings.{heard_ask, op_wants}
+use Rattle.craft_session.specs.Noted.{UsersNoted}
+use Rattle.user_admin.specs.declared.op.UserOp.{UserOp}
 use Rattle.craft_session.proofs.Asking.{asked_beside, asked_cancelled}
 use Rattle.craft_session.proofs.Consulted.{asked_nothing}
+use Rattle.craft_session.proofs.Noted.{noted_nothing}
 use Rattle.craft_session.proofs.meaning.on_users.Goals as goal
 
 pub returns-in-Rows-clause-asked : goal.returns-in-Rows-clause-asked
@@ -17,3 +20,12 @@ returns-in-Cancel-clause-asked g c = asked_beside c.args.users.now.seat (op_want
 
 pub returns-in-Look-clause-asked : goal.returns-in-Look-clause-asked
 returns-in-Look-clause-asked g c = asked_nothing _ _ _ _ _ (g.G.Gate.asked c.args.gate.now c.args.gate.now) (g.G.Gate.unasked c.args.gate.now) (elim c.in-Look.is [ inl look ↦ ap op_wants look.1 | inr log_in ↦ ap op_wants log_in.1 ]) refl c.requires.no_rows
+
+pub returns-in-Rows-clause-noted : goal.returns-in-Rows-clause-noted
+returns-in-Rows-clause-noted g c = subst (λ (o : UserOp). UsersNoted (g.N.Notes.noted c.args.notes.now c.args.notes.now) c.args.user.now c.args.tag.now (op_wants o) (Some c.list_users.result)) (sym c.in-Rows.is) (g.N.Notes.unnoted c.args.notes.now)
+
+pub returns-in-Cancel-clause-noted : goal.returns-in-Cancel-clause-noted
+returns-in-Cancel-clause-noted g c = subst (λ (o : UserOp). UsersNoted (g.N.Notes.noted c.args.notes.now c.note_user_command.new.notes) c.args.user.now c.args.tag.now (op_wants o) (Some Completes)) (sym c.in-Cancel.is) c.note_user_command.ensures
+
+pub returns-in-Look-clause-noted : goal.returns-in-Look-clause-noted
+returns-in-Look-clause-noted g c = noted_nothing (g.N.Notes.noted c.args.notes.now c.args.notes.now) c.args.user.now c.args.tag.now _ _ (elim c.in-Look.is [ inl look ↦ ap op_wants look.1 | inr log_in ↦ ap op_wants log_in.1 ]) (g.N.Notes.unnoted c.args.notes.now)

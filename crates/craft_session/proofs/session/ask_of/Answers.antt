@@ -5,12 +5,14 @@ use Rattle.tl1_text.specs.declared.reader.UnitKind.{UnitKind}
 use Rattle.tl1_text.specs.Units.{Input, whole}
 use Rattle.shelf_file.specs.Contents.{Contents}
 use Rattle.craft_session.specs.Asks.{IsAptAsk}
-use Rattle.craft_session.specs.Desks.{ConsultedIs, input_of}
+use Rattle.craft_session.specs.Desks.{ConsultedIs, input_of, put_down}
 use Rattle.craft_session.specs.Hearing.{unasked}
 use Rattle.craft_session.specs.Meanings.{asks, tag_of, wants}
+use Rattle.craft_session.specs.Noted.{UsersNoted}
 use Rattle.craft_session.proofs.Asking.{input_long}
 use Rattle.craft_session.proofs.Consulted.{asked_nothing}
 use Rattle.craft_session.proofs.Ends.{stayed, stop_went}
+use Rattle.craft_session.proofs.Noted.{noted_nothing}
 use Rattle.craft_session.proofs.session.ask_of.Goals as goal
 
 pub consult-requires-clause-short : goal.consult-requires-clause-short
@@ -29,6 +31,7 @@ returns-in-Whole g c =
       attending = refl;
       reader = refl;
       consulted = subst (λ (w : Contents × Input). ConsultedIs w.0 desk.attending.user w.1 desk.users.seat c.consult.new.users.rows.items c.consult.new.users.seat.seen (g.G.Gate.asked c.args.gate.now c.consult.new.gate) c.consult.new.tag c.consult.new.ask c.consult.result) (λ i. (c.deref.ensures i, whole_is i)) r.consulted;
+      noted = subst (λ (w : Contents × Input). UsersNoted (g.N.Notes.noted c.args.notes.now c.consult.new.notes) desk.attending.user c.consult.new.tag (wants w.0 desk.attending.user w.1) (put_down c.consult.result c.consult.new.ask)) (λ i. (c.deref.ensures i, whole_is i)) r.noted;
       apt = subst (λ (x : Contents). c.consult.result ≡ Go → IsAptAsk x.shape c.consult.new.ask) c.deref.ensures r.apt;
       unstopped = r.unstopped;
       stopped = r.stopped;
@@ -47,6 +50,7 @@ returns-in-TooLong g c =
       attending = refl;
       reader = refl;
       consulted = (sym (ap tag_of long), asked_nothing _ _ _ _ _ (g.G.Gate.asked c.args.gate.now c.args.gate.now) (g.G.Gate.unasked c.args.gate.now) (ap (wants s desk.attending.user) long) (sym (ap (asks s desk.attending.user unasked) long)) c.clear.ensures);
+      noted = noted_nothing (g.N.Notes.noted c.args.notes.now c.args.notes.now) desk.attending.user _ _ _ (ap (wants s desk.attending.user) long) (g.N.Notes.unnoted c.args.notes.now);
       apt = λ _. tt;
       unstopped = λ _. refl;
       stopped = λ is. stop_went is;
