@@ -25,6 +25,8 @@ mod serving;
 mod session;
 mod shown;
 mod timestamps;
+mod unit;
+mod user_commands;
 mod users;
 
 pub use end::SessionEnd;

@@ -6,7 +6,9 @@ ghost use Rattle.craft_session.specs.Noted.{changes_user, command_notes, login_n
 
 use crate::ask::{Acted, Ask};
 use dxc_model::{Cause, Op, SessionUser};
-use dxc_notes::{Command, Note, Notes, Outcome, PortAt, Standing, UserChange, UserCommand, What, Word};
+use dxc_notes::{
+    Command, Note, Notes, Outcome, PortAt, Standing, UserChange, UserCommand, What, Word,
+};
 use dxc_num::{Port, Shape};
 use tl1_command::Subject;
 use tl1_text::Ctag;

@@ -1,4 +1,4 @@
-ghost use Rattle.std.specs.Prelude.{◌≡◌, ◌≢◌, ◌≤◌, ◌<◌, ◌+◌, ◌^◌, ◌↔◌, false, ℕ, List, [], length, take, IsTrue};
+ghost use Rattle.std.specs.Prelude.{◌≡◌, ◌≢◌, ◌≤◌, ◌<◌, ◌+◌, ◌^◌, ◌↔◌, false, List, [], length, take, IsTrue};
 ghost use Rattle.dxc_causes.specs.Causes.{Rose, Counted};
 ghost use Rattle.dxc_outside.specs.declared.clock.Moment.{Moment};
 ghost use Rattle.dxc_model.specs.declared.user.SessionUser.{SessionUser as AUser};
@@ -6,12 +6,11 @@ ghost use Rattle.dxc_outside.specs.Links.{LinkState};
 ghost use Rattle.tl1_text.specs.declared.reader.UnitKind.TheVariants.{More};
 ghost use Rattle.tl1_text.specs.Reading.{Holds, hand};
 ghost use Rattle.std.specs.Arc.{arc_value};
-ghost use Rattle.craft_session.specs.Asks.{IsAptAsk};
 ghost use Rattle.craft_session.specs.Cancelling.{IsHeeding};
 ghost use Rattle.craft_session.specs.Gated.{AreEntered};
-ghost use Rattle.craft_session.specs.Meanings.{language_for, wants};
-ghost use Rattle.craft_session.specs.Desks.{now, place_of, input_of, put_down, ConsultedIs, IsAnswered};
-ghost use Rattle.craft_session.specs.Noted.{HasNoted, UsersNoted, stood};
+ghost use Rattle.craft_session.specs.Meanings.{language_for};
+ghost use Rattle.craft_session.specs.Desks.{now, place_of};
+ghost use Rattle.craft_session.specs.Noted.{HasNoted, stood};
 ghost use Rattle.craft_session.specs.Pieces.{GoesOver, desk_at};
 ghost use Rattle.craft_session.specs.Seats.{IsSameSeat, IsSameUserSeat};
 ghost use Rattle.craft_session.specs.Sessions.{Beginning, IsAt, Writes, Stands, Goes, IsPrompt, IsServed};
@@ -21,24 +20,18 @@ ghost use Rattle.craft_session.specs.Idling.{IsAwake, IsIdle};
 ghost use Rattle.craft_session.specs.Waiting.{IsLetGo, IsUnattended};
 ghost use Rattle.craft_session.specs.Walks.{begun_by};
 
-use crate::act::act;
-use crate::ask::Ask;
 use crate::cancelled::is_cancelled;
 use crate::desk::Desk;
 use crate::end::{Progress, SessionEnd};
 use crate::lent::Lent;
-use crate::meaning::consult;
-use crate::noting::note_unit;
 use crate::patience::{BYTES, Patience, QUIET, silent_after, waited_after};
 use crate::reports::report;
-use crate::say::say;
 use crate::timestamps::Timestamps;
+use crate::unit::serve_unit;
 use dxc_disk::Disk;
-use dxc_model::Cause;
 use dxc_notes::Notes;
-use dxc_outside::{Gate, Got, Link, Pass1};
+use dxc_outside::{Gate, Got, Link};
 use std::sync::Wait;
-use tl1_text::{Ctag, UnitKind};
 
 const READS: u64 = 1 << 32;
 
@@ -128,206 +121,6 @@ fn serve_units<K: Link, C: Timestamps, G: Gate, N: Notes, D: Disk + Drop, U: Dis
         }
     }
     Progress::On
-}
-
-/// Answers the unit that ended, if one did, and reports what changed.
-fn serve_unit<K: Link, C: Timestamps, G: Gate, N: Notes, D: Disk + Drop, U: Disk + Drop, R: Wait>(
-    desk: &mut Desk<D, U>,
-    link: &mut K,
-    clock: &mut C,
-    gate: &mut G,
-    notes: &mut N,
-    rt: &R,
-    kind: UnitKind,
-) -> Progress
-    requires short { kind ≡ UnitKind.Whole → length desk.old.reader.kept ≤ 2047 }
-    ensures shelf { desk.new.shelf ≡ desk.old.shelf }
-    ensures seat { IsSameSeat desk.old.seat desk.new.seat }
-    ensures users { IsSameUserSeat desk.old.users.seat desk.new.users.seat }
-    ensures reader { desk.new.reader ≡ desk.old.reader }
-    ensures link { Writes K.told (K.state link.old) (K.state link.new) }
-    ensures hung_up { K.hung_up link.new ≡ K.hung_up link.old }
-    ensures goes { (first : AUser) → (k : LinkState) → (c : List Moment) → (b : Beginning)
-        → (ahead : List ℕ) → IsAt b desk.old.seat desk.old.users.seat
-        → Stands (language_for first (arc_value desk.old.shelf)) K.told C.told k (K.state link.old)
-        c (C.coming clock.old) b (now desk.old) false kind desk.old.reader ahead
-        → Goes (language_for first (arc_value desk.old.shelf)) K.told C.told k (K.state link.new) c
-        (C.coming clock.new) b (now desk.new) result false desk.old.reader ahead }
-    ensures timely { (ahead : List ℕ)
-        → IsTimelyFrom (arc_value desk.old.shelf) (telling K.told C.told C.stamped)
-        (stamp_at (C.coming clock.old) (K.state link.old) desk.old.seat desk.old.users.seat)
-        (in_hand desk.old.attending false kind desk.old.reader ahead)
-        (reached (K.state link.new).written desk.new.seat.seen desk.new.users.seat.seen) }
-    ensures stopped { result ≡ Progress.Stopped → Rose (G.stops gate.old) (G.stops gate.new) }
-    ensures unstopped { result ≢ Progress.Stopped → G.stops gate.new ≡ G.stops gate.old }
-    ensures later { G.stops gate.old ≤ G.stops gate.new }
-    ensures asked { AreEntered desk.old.seat desk.old.users.seat (G.asked gate.old gate.new)
-        desk.new.seat.seen desk.new.users.seat.seen }
-    ensures noted { HasNoted (arc_value desk.old.shelf) (telling K.told C.told C.stamped)
-        (stood (K.state link.old) (C.coming clock.old) desk.old.seat desk.old.users.seat
-        desk.old.attending) (stood (K.state link.new) (C.coming clock.new) desk.new.seat
-        desk.new.users.seat desk.new.attending) (N.noted notes.old notes.new) }
-{
-    match kind {
-        UnitKind::More => Progress::On,
-        UnitKind::Whole | UnitKind::TooLong => attend(desk, link, clock, gate, notes, rt, kind),
-    }
-}
-
-/// Does what the unit that ended asks, answers it, and reports what changed.
-fn attend<K: Link, C: Timestamps, G: Gate, N: Notes, D: Disk + Drop, U: Disk + Drop, R: Wait>(
-    desk: &mut Desk<D, U>,
-    link: &mut K,
-    clock: &mut C,
-    gate: &mut G,
-    notes: &mut N,
-    rt: &R,
-    kind: UnitKind,
-) -> Progress
-    requires ended { kind ≢ UnitKind.More }
-    requires short { kind ≡ UnitKind.Whole → length desk.old.reader.kept ≤ 2047 }
-    ensures shelf { desk.new.shelf ≡ desk.old.shelf }
-    ensures seat { IsSameSeat desk.old.seat desk.new.seat }
-    ensures users { IsSameUserSeat desk.old.users.seat desk.new.users.seat }
-    ensures reader { desk.new.reader ≡ desk.old.reader }
-    ensures link { Writes K.told (K.state link.old) (K.state link.new) }
-    ensures hung_up { K.hung_up link.new ≡ K.hung_up link.old }
-    ensures goes { (first : AUser) → (k : LinkState) → (c : List Moment) → (b : Beginning)
-        → (ahead : List ℕ) → IsAt b desk.old.seat desk.old.users.seat
-        → Stands (language_for first (arc_value desk.old.shelf)) K.told C.told k (K.state link.old)
-        c (C.coming clock.old) b (now desk.old) false kind desk.old.reader ahead
-        → Goes (language_for first (arc_value desk.old.shelf)) K.told C.told k (K.state link.new) c
-        (C.coming clock.new) b (now desk.new) result false desk.old.reader ahead }
-    ensures timely { (ahead : List ℕ)
-        → IsTimelyFrom (arc_value desk.old.shelf) (telling K.told C.told C.stamped)
-        (stamp_at (C.coming clock.old) (K.state link.old) desk.old.seat desk.old.users.seat)
-        (in_hand desk.old.attending false kind desk.old.reader ahead)
-        (reached (K.state link.new).written desk.new.seat.seen desk.new.users.seat.seen) }
-    ensures stopped { result ≡ Progress.Stopped → Rose (G.stops gate.old) (G.stops gate.new) }
-    ensures unstopped { result ≢ Progress.Stopped → G.stops gate.new ≡ G.stops gate.old }
-    ensures later { G.stops gate.old ≤ G.stops gate.new }
-    ensures asked { AreEntered desk.old.seat desk.old.users.seat (G.asked gate.old gate.new)
-        desk.new.seat.seen desk.new.users.seat.seen }
-    ensures noted { HasNoted (arc_value desk.old.shelf) (telling K.told C.told C.stamped)
-        (stood (K.state link.old) (C.coming clock.old) desk.old.seat desk.old.users.seat
-        desk.old.attending) (stood (K.state link.new) (C.coming clock.new) desk.new.seat
-        desk.new.users.seat desk.new.attending) (N.noted notes.old notes.new) }
-{
-    match answer(desk, link, clock, gate, notes, rt, kind) {
-        Progress::On => report(desk, link, clock, rt),
-        end => end,
-    }
-}
-
-/// Does what the unit that ended asks, and writes the response with the next moment. Where the gate stops there is no response.
-fn answer<K: Link, C: Timestamps, G: Gate, N: Notes, D: Disk + Drop, U: Disk + Drop, R: Wait>(
-    desk: &mut Desk<D, U>,
-    link: &mut K,
-    clock: &mut C,
-    gate: &mut G,
-    notes: &mut N,
-    rt: &R,
-    kind: UnitKind,
-) -> Progress
-    requires short { kind ≡ UnitKind.Whole → length desk.old.reader.kept ≤ 2047 }
-    ensures shelf { desk.new.shelf ≡ desk.old.shelf }
-    ensures seat { IsSameSeat desk.old.seat desk.new.seat }
-    ensures users { IsSameUserSeat desk.old.users.seat desk.new.users.seat }
-    ensures reader { desk.new.reader ≡ desk.old.reader }
-    ensures link { Writes K.told (K.state link.old) (K.state link.new) }
-    ensures hung_up { K.hung_up link.new ≡ K.hung_up link.old }
-    ensures answered { IsAnswered (arc_value desk.old.shelf) K.told C.told (K.state link.old)
-        (K.state link.new) (C.coming clock.old) (C.coming clock.new) (input_of kind desk.old.reader)
-        desk.old.seat desk.old.users.seat (now desk.old) (now desk.new) result }
-    ensures stamped { result ≢ Progress.Stopped → C.stamped (stamp_at (C.coming clock.old)
-        (K.state link.old) desk.new.seat desk.new.users.seat) }
-    ensures stopped { result ≡ Progress.Stopped → Rose (G.stops gate.old) (G.stops gate.new) }
-    ensures unstopped { result ≢ Progress.Stopped → G.stops gate.new ≡ G.stops gate.old }
-    ensures later { G.stops gate.old ≤ G.stops gate.new }
-    ensures asked { AreEntered desk.old.seat desk.old.users.seat (G.asked gate.old gate.new)
-        desk.new.seat.seen desk.new.users.seat.seen }
-    ensures noted { HasNoted (arc_value desk.old.shelf) (telling K.told C.told C.stamped)
-        (stood (K.state link.old) (C.coming clock.old) desk.old.seat desk.old.users.seat
-        desk.old.attending) (stood (K.state link.new) (C.coming clock.new) desk.new.seat
-        desk.new.users.seat desk.new.attending) (N.noted notes.old notes.new) }
-{
-    let mut tag = None;
-    let mut ask = Ask::Completes;
-    match ask_of(desk, &mut tag, &mut ask, gate, notes, rt, kind) {
-        Pass1::Go => {}
-        Pass1::Stop => return Progress::Stopped,
-    }
-    let acted = act(
-        &mut desk.seat,
-        &mut desk.attending,
-        &mut desk.rows,
-        &ask,
-        gate,
-        rt,
-    );
-    match acted {
-        Some(acted) => {
-            note_unit(
-                notes,
-                desk.shelf.shape(),
-                &desk.attending.user,
-                &tag,
-                &ask,
-                &acted,
-                &mut desk.standing,
-            );
-            Progress::of(say(desk, link, clock, &tag, acted))
-        }
-        None => Progress::Stopped,
-    }
-}
-
-/// Puts down the tag of the unit that ended, and what it asks behind what the users answer to it. Stop: the gate stopped before they were changed.
-fn ask_of<G: Gate, N: Notes, D: Disk + Drop, U: Disk + Drop, R: Wait>(
-    desk: &mut Desk<D, U>,
-    tag: &mut Option<Ctag>,
-    ask: &mut Ask,
-    gate: &mut G,
-    notes: &mut N,
-    rt: &R,
-    kind: UnitKind,
-) -> Pass1
-    requires short { kind ≡ UnitKind.Whole → length desk.old.reader.kept ≤ 2047 }
-    ensures shelf { desk.new.shelf ≡ desk.old.shelf }
-    ensures seat { desk.new.seat ≡ desk.old.seat }
-    ensures users { IsSameUserSeat desk.old.users.seat desk.new.users.seat }
-    ensures attending { desk.new.attending ≡ desk.old.attending }
-    ensures reader { desk.new.reader ≡ desk.old.reader }
-    ensures consulted { ConsultedIs (arc_value desk.old.shelf) desk.old.attending.user
-        (input_of kind desk.old.reader) desk.old.users.seat desk.new.users.rows.items
-        desk.new.users.seat.seen (G.asked gate.old gate.new) tag.new ask.new result }
-    ensures noted { UsersNoted (N.noted notes.old notes.new) desk.old.attending.user tag.new
-        (wants (arc_value desk.old.shelf) desk.old.attending.user (input_of kind desk.old.reader))
-        (put_down result ask.new) }
-    ensures apt { result ≡ Pass1.Go → IsAptAsk (arc_value desk.old.shelf).shape ask.new }
-    ensures unstopped { result ≡ Pass1.Go → G.stops gate.new ≡ G.stops gate.old }
-    ensures stopped { result ≡ Pass1.Stop → Rose (G.stops gate.old) (G.stops gate.new) }
-    ensures later { G.stops gate.old ≤ G.stops gate.new }
-{
-    desk.users.rows.clear();
-    match kind {
-        UnitKind::Whole => consult(
-            &desk.shelf,
-            &mut desk.users,
-            &desk.attending.user,
-            desk.reader.unit(),
-            tag,
-            ask,
-            gate,
-            notes,
-            rt,
-        ),
-        UnitKind::TooLong | UnitKind::More => {
-            *tag = None;
-            *ask = Ask::Refused(Cause::TooLong);
-            Pass1::Go
-        }
-    }
 }
 
 /// Serves the link from a desk that has read nothing yet.

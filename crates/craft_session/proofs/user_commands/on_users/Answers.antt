@@ -8,7 +8,7 @@ use Rattle.user_admin.specs.declared.op.UserOp.{UserOp}
 use Rattle.craft_session.proofs.Asking.{asked_beside, asked_cancelled}
 use Rattle.craft_session.proofs.Consulted.{asked_nothing}
 use Rattle.craft_session.proofs.Noted.{noted_nothing}
-use Rattle.craft_session.proofs.meaning.on_users.Goals as goal
+use Rattle.craft_session.proofs.user_commands.on_users.Goals as goal
 
 pub returns-in-Rows-clause-asked : goal.returns-in-Rows-clause-asked
 returns-in-Rows-clause-asked g c = asked_beside c.args.users.now.seat (op_wants c.args.op) heard_ask c.list_users.result c.list_users.new.users.rows.items c.list_users.new.users.seat.seen (g.G.Gate.asked c.args.gate.now c.args.gate.now) (g.G.Gate.unasked c.args.gate.now)

@@ -1,6 +1,6 @@
 use Rattle.craft_session.proofs.Asking.{asked_denied, asked_done, asked_stopped}
 use Rattle.craft_session.proofs.Noted.{noted_change}
-use Rattle.craft_session.proofs.meaning.change_users.Goals as goal
+use Rattle.craft_session.proofs.user_commands.change_users.Goals as goal
 
 pub returns-in-Done-clause-asked : goal.returns-in-Done-clause-asked
 returns-in-Done-clause-asked g c = asked_done c.args.users.now.seat c.change.new.self.seen (g.G.Gate.asked c.args.gate.now c.change.new.gate) c.args.op _ c.requires.no_rows c.in-Done.ensures.asked (λ h saw. c.in-Done.ensures.took h saw)

@@ -18,7 +18,7 @@ use Rattle.craft_session.proofs.Gated.{are_entered_beside}
 use Rattle.craft_session.proofs.Noted.{beside_reports, noted_beside}
 use Rattle.craft_session.proofs.SessionSteps.{goes_ended_is, writes_more}
 use Rattle.craft_session.proofs.Timely.{looked_to, timely_more}
-use Rattle.craft_session.proofs.session.attend.Goals as goal
+use Rattle.craft_session.proofs.unit.attend.Goals as goal
 
 pub returns-in-On : goal.returns-in-On
 returns-in-On g c =

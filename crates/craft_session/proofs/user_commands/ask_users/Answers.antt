@@ -5,7 +5,7 @@ use Rattle.craft_session.specs.Hearing.{unasked}
 use Rattle.craft_session.specs.Meanings.{users_ask, users_want}
 use Rattle.craft_session.proofs.Consulted.{asked_nothing}
 use Rattle.craft_session.proofs.Noted.{noted_nothing}
-use Rattle.craft_session.proofs.meaning.ask_users.Goals as goal
+use Rattle.craft_session.proofs.user_commands.ask_users.Goals as goal
 
 pub returns-in-Err-clause-asked : goal.returns-in-Err-clause-asked
 returns-in-Err-clause-asked g c =

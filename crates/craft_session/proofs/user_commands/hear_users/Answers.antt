@@ -6,7 +6,7 @@ use Rattle.craft_session.proofs.Codes.{none_is_unknown, unnamed}
 use Rattle.craft_session.proofs.Consulted.{asked_nothing}
 use Rattle.craft_session.proofs.Ends.{some_there, stayed, stop_goes, stop_went}
 use Rattle.craft_session.proofs.Noted.{noted_nothing}
-use Rattle.craft_session.proofs.meaning.hear_users.Goals as goal
+use Rattle.craft_session.proofs.user_commands.hear_users.Goals as goal
 
 pub returns-then-not-is_of_users : goal.returns-then-not-is_of_users
 returns-then-not-is_of_users g c =

@@ -13,7 +13,7 @@ use Rattle.craft_session.proofs.Asking.{input_long}
 use Rattle.craft_session.proofs.Consulted.{asked_nothing}
 use Rattle.craft_session.proofs.Ends.{stayed, stop_went}
 use Rattle.craft_session.proofs.Noted.{noted_nothing}
-use Rattle.craft_session.proofs.session.ask_of.Goals as goal
+use Rattle.craft_session.proofs.unit.ask_of.Goals as goal
 
 pub consult-requires-clause-short : goal.consult-requires-clause-short
 consult-requires-clause-short g c = subst (λ (bs : List ℕ). length bs ≤ 2047) (sym c.unit.ensures) (c.requires.short c.in-Whole.is)
