@@ -10,7 +10,7 @@ use Rattle.dxc_outside.specs.declared.send.Sent.TheVariants.{Whole, Cut}
 use Rattle.dxc_outside.specs.Links.{LinkState, IsSent, Wrote}
 use Rattle.dxc_notes.specs.declared.standing.SessionAt.{SessionAt}
 use Rattle.dxc_notes.specs.declared.standing.Standby.{Standby}
-use Rattle.dxc_notes.specs.declared.standing.Standby.TheVariants.{Unnamed, Joined, Lost}
+use Rattle.dxc_notes.specs.declared.standing.Standby.TheVariants.{Unnamed, Joined, Circuits, Lost}
 use Rattle.dxc_notes.specs.declared.standing.Standing.{Standing}
 use Rattle.tl1_answer.specs.declared.answer.Code.{Code}
 use Rattle.tl1_answer.specs.declared.answer.Code.TheVariants.{Compld, Deny}
@@ -48,6 +48,7 @@ version_text v = value_text (codes "VERSION") v
 abbrev pub state_text : Standby → List ℕ
 state_text Unnamed = codes "NONE"
 state_text Joined = codes "JOINED"
+state_text Circuits = codes "CIRCUITS"
 state_text Lost = codes "LOST"
 
 abbrev pub standby_text : Standby → List ℕ

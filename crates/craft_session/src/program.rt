@@ -60,11 +60,12 @@ fn add_start<K: Link>(
 
 fn state_text(standby: Standby) -> &'static [u8]
     ensures text { result.now ≡ text_of_state standby }
-    ensures short { length result.now ≤ 6 }
+    ensures short { length result.now ≤ 8 }
 {
     match standby {
         Standby::Unnamed => b"NONE",
         Standby::Joined => b"JOINED",
+        Standby::Circuits => b"CIRCUITS",
         Standby::Lost => b"LOST",
     }
 }

@@ -177,6 +177,8 @@ impl Hall {
             Standby::Unnamed
         } else if standby == NAMED | JOURNAL | USERS {
             Standby::Joined
+        } else if standby == NAMED | JOURNAL {
+            Standby::Circuits
         } else {
             Standby::Lost
         }

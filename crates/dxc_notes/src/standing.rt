@@ -10,6 +10,8 @@ pub enum Standby {
     Unnamed,
     /// It is joined: it has each change before that is answered.
     Joined,
+    /// So it has each change of circuits and equipment; its copy of the users isn't joined.
+    Circuits,
     /// It is lost: the program serves alone.
     Lost,
 }
