@@ -1,5 +1,6 @@
 /* A library that is loaded before the C library: each fdatasync fails while the file that FAILING names is there, and takes
-   longer while the file that SLOW names is: by the seconds that SECONDS has, else by three. */
+   longer while the file that SLOW names is: by the seconds that SECONDS has, else by three; and each by the milliseconds
+   that MILLISECONDS has. */
 #define _GNU_SOURCE
 #include <dlfcn.h>
 #include <errno.h>
@@ -21,6 +22,10 @@ int fdatasync(int file)
     if (is_there("SLOW")) {
         const char *seconds = getenv("SECONDS");
         sleep(seconds ? atoi(seconds) : 3);
+    }
+    const char *milliseconds = getenv("MILLISECONDS");
+    if (milliseconds) {
+        usleep(1000 * atoi(milliseconds));
     }
     return ((int (*)(int))dlsym(RTLD_NEXT, "fdatasync"))(file);
 }

@@ -4,14 +4,16 @@ usage: bench/run measure goals [--runs COUNT] [--units COUNT] [--disk FOLDER] [-
 
 A run measures, one after the other: retrievals, denials and changes of 1, 4 and 16 callers, one and fifty at a time, with the journal in memory;
 changes of 1, 4 and 16 callers with the journal on a disk, each between two runs of a plain C loop (bench/c/appends.c) of the same writes and syncs in
-the same folder; retrievals beside a change whose syncs take ten seconds each, and beside one that waits for a standby that is stopped. Where perf is
-there, it counts calls of futex in a second pass, which slows nothing down. All figures are printed as the range over the runs (3 where nothing is
-said); a goal that compares two of a run has the range of their ratio, and is reached where each run reaches it.
+the same folder, and the same with syncs that take a millisecond longer; retrievals beside a change whose syncs take ten seconds each, and beside one
+that waits for a standby that is stopped. Where perf is there, it counts calls of futex in a second pass, which slows nothing down. All figures are
+printed as the range over the runs (3 where nothing is said); a goal that compares two of a run has the range of their ratio, and is reached where each
+run reaches it.
 
 UNITS: of all callers together (160000); changes are a tenth of them, and a twentieth on a disk. FOLDER: where the journal on a disk lies, the place
-of temporary files where nothing is said. PROGRAM: one caller's figures of an older program are measured beside, as of `git show COMMIT:dist/dxc.gz`.
+of temporary files where nothing is said. PROGRAM: an older one, as of `git show COMMIT:dist/dxc.gz`: one caller's figures of it and of ours are measured
+five times each, in turn, and the best are compared.
 What the conventional program did isn't measured here: bench/measure/conventional.json has its changes of sixteen callers, one at a time, as a
-share of what one caller of ours got of retrievals by fifty in the same hour. Wants a quiet machine of four processors, and takes about two minutes a run.
+share of what one caller of ours got of retrievals by fifty in the same hour. Wants a quiet machine of four processors, and takes about three minutes a run.
 """
 import argparse
 import collections
@@ -34,9 +36,12 @@ KINDS = (("retrievals", 1), ("denials", 1), ("changes", 10))
 BATCHES = (1, 50)
 # Seconds that a sync takes that is slow, and in which retrievals are asked beside it; a standby that is stopped is given up after five.
 SLOW, BESIDE_SYNC, BESIDE_STANDBY = 10, 15, 4
+# How often one caller's figures are measured of each program, and how much longer the syncs of a slower disk take, in milliseconds.
+TURNS, LONGER = 5, 1
 # Seconds between two retrievals.
 PAUSE = 0.01
 ENTRY, RETRIEVAL = b"ENT-CRS-T0::DS0-1-1,DS0-2-1:2;", b"RTRV-CRS-T0::DS0-1-1:3;"
+DISKS = (("disk", "a disk"), ("slower disk", f"one whose syncs take {LONGER} ms longer"))
 LONGEST_MS, FUTEXES, OF_SYNCS, OF_CONVENTIONAL = 50, 0.1, 0.8, 0.8
 
 
@@ -80,23 +85,39 @@ class Bench:
                     self.figures.add((kind, batch, count), rate)
                     self.figures.add(("futex", kind, batch, count), calls)
                 if self.older:
-                    with served(MEMORY, program=self.older) as server:
-                        self.figures.add(("older", kind, batch), self.rate(server, kind, 1, self.units // part, batch)[0])
+                    self.beside_older(kind, batch, self.units // part)
 
-    def allowed(self, changes):
+    def beside_older(self, kind, batch, units):
+        """The best of what one caller gets of this program and of the older one, in turn."""
+        best = {PROGRAM: 0.0, self.older: 0.0}
+        for _ in range(TURNS):
+            for program in best:
+                with served(MEMORY, program=program) as server:
+                    words, _ = words_of(self.callers, server, kind, 1, units, batch)
+                    told = subprocess.run(words, stdout=subprocess.PIPE, text=True, check=True).stdout
+                best[program] = max(best[program], float(told.split()[0]))
+        self.figures.add(("best", kind, batch), best[PROGRAM])
+        self.figures.add(("older", kind, batch), best[self.older])
+
+    def allowed(self, changes, **more):
         """Changes a second of the plain loop."""
         with tempfile.TemporaryDirectory(dir=self.disk) as folder:
             words = [self.appends, os.path.join(folder, "file"), str(changes)]
-            return float(subprocess.run(words, stdout=subprocess.PIPE, check=True).stdout)
+            return float(subprocess.run(words, stdout=subprocess.PIPE, check=True, **more).stdout)
+
+    def changes_on(self, disk, changes, **more):
+        for count in CALLERS:
+            before = self.allowed(changes, **more)
+            with served(self.disk, **more) as server:
+                rate, _ = self.rate(server, "changes", count, changes, 1)
+            self.figures.add((disk, count), rate)
+            self.figures.add((disk, "allows", count), (before + self.allowed(changes, **more)) / 2)
 
     def on_disk(self):
-        changes = self.units // 20
-        for count in CALLERS:
-            before = self.allowed(changes)
-            with served(self.disk) as server:
-                rate, _ = self.rate(server, "changes", count, changes, 1)
-            self.figures.add(("disk", count), rate)
-            self.figures.add(("allowed", count), (before + self.allowed(changes)) / 2)
+        self.changes_on("disk", self.units // 20)
+
+    def on_slower_disk(self):
+        self.changes_on("slower disk", self.units // 200, env=dict(os.environ, LD_PRELOAD=self.slow, MILLISECONDS=str(LONGER)))
 
     def longest(self, reader, seconds):
         """The longest of the retrievals of some seconds, in milliseconds."""
@@ -149,7 +170,7 @@ class Bench:
                 caller.close()
 
     def run(self):
-        for step in (self.in_memory, self.on_disk, self.beside_sync, self.beside_standby):
+        for step in (self.in_memory, self.on_disk, self.on_slower_disk, self.beside_sync, self.beside_standby):
             step()
 
 
@@ -170,8 +191,9 @@ def tables(figures):
                 calls = figures.found[("futex", kind, batch, count)]
                 cells.append(span(figures.found[(kind, batch, count)]) + (f"; {span(calls, '.3f')} futex calls an answer" if calls else ""))
             print(f"| {kind}, {batch} at a time | {' | '.join(cells)} |")
-    cells = [f"{span(figures.found[('disk', count)])}; the plain loop {span(figures.found[('allowed', count)])}" for count in CALLERS]
-    print(f"| changes, one at a time, the journal on a disk | {' | '.join(cells)} |")
+    for disk, what in DISKS:
+        cells = [f"{span(figures.found[(disk, count)])}; the plain loop {span(figures.found[(disk, 'allows', count)])}" for count in CALLERS]
+        print(f"| changes, one at a time, the journal on {what} | {' | '.join(cells)} |")
 
 
 def goals(figures, conventional):
@@ -181,12 +203,13 @@ def goals(figures, conventional):
     yield "retrievals of sixteen by fifty, to those of one by fifty: 1", ".2f", figures.ratio(("retrievals", 50, 16), alone), at_least(1)
     ratio = figures.ratio(("changes", 1, 16), alone, of_conventional)
     yield f"changes of sixteen, one at a time, to the conventional program's: {OF_CONVENTIONAL}", ".2f", ratio, at_least(OF_CONVENTIONAL)
-    for count in CALLERS:
-        ratio = figures.ratio(("disk", count), ("allowed", count))
-        yield f"changes of {count} on a disk, to what its syncs allow: {OF_SYNCS}", ".2f", ratio, at_least(OF_SYNCS)
+    for disk, what in DISKS:
+        for count in CALLERS:
+            ratio = figures.ratio((disk, count), (disk, "allows", count))
+            yield f"changes of {count} on {what}, to what its syncs allow: {OF_SYNCS}", ".2f", ratio, at_least(OF_SYNCS)
     for kind, _ in KINDS:
         for batch in BATCHES:
-            ratio = figures.ratio((kind, batch, 1), ("older", kind, batch))
+            ratio = figures.ratio(("best", kind, batch), ("older", kind, batch))
             yield f"one caller's {kind}, {batch} at a time, to the older program's: 1", ".2f", ratio, at_least(1)
     for kind, _ in KINDS:
         calls = figures.found[("futex", kind, 50, 16)]
