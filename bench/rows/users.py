@@ -173,6 +173,10 @@ class Kept:
             return INVALID
         return self.keep(9, new_user(name, self.users[name].letter, new))
 
+    def end_sessions(self, _):
+        """Nothing of it is kept, and no row tells of it."""
+        return ""
+
     def rows(self, uid=""):
         name = uid.upper()
         if not name:
@@ -193,6 +197,7 @@ UNITS = {
     "delete": lambda uid: f"DLT-USER-SECU::{uid}:1",
     "rows": lambda uid="": f"RTRV-USER-SECU::{uid}:1",
     "change_pid": lambda uid, old, new: f"ED-PID::{uid}:1::{old},{new}",
+    "end_sessions": lambda uid: f"CANC-USER-SECU::{uid}:1",
 }
 
 
@@ -206,7 +211,7 @@ def show(kept, steps):
         elif word == "list":
             print(f"list\nwant {listed(kept.users)}")
         else:
-            print(f"ask {UNITS[word](*given)}\nwant {getattr(kept, word)(*given)}")
+            print(f"ask {UNITS[word](*given)}\n" + f"want {getattr(kept, word)(*given)}".rstrip())
 
 
 def row(name, *runs, after=True):
@@ -239,6 +244,9 @@ def worked():
         [("list",), ("login", "CARA", "long")])
     row("what a unit decides by itself comes first",
         [("raw", "ENT-USER-SECU::FAY:1::x9,p", "VALUE NOT KNOWN"), ("raw", "ENT-USER-SECU::ABCDEFGHIJK:1::x9,P", "AID INVALID"), ("raw", "ED-PID::ANNA:1::bc", "PARAMETER MISSING"), ("raw", "ED-PID::ANNA:1::,k2", "PARAMETER MISSING"), ("raw", "ED-PID:::1::bc,k2", "PARAMETER MISSING"), ("raw", "ED-PID::ANNA:1::bc,k2,k2", "PARAMETER TOO MANY"), ("raw", "ED-PID::1ANNA:1::bc,k2", "AID INVALID"), ("login", "ABCDEFGHIJK", "x9"), ("list",)])
+    row("the end of a user's sessions leaves nothing in the journal, whether the user is there or not",
+        [("end_sessions", "CARA"), ("end_sessions", "anna"), ("end_sessions", "ZOE"), ("raw", "CANC-USER-SECU:::1", "PARAMETER MISSING"), ("raw", "CANC-USER-SECU::CARA:1::x", "PARAMETER TOO MANY"), ("raw", "CANC-USER-SECU::CARA,ANNA:1", "PARAMETER TOO MANY"), ("raw", "CANC-USER-SECU::CARA:1:x", "GENERAL BLOCK NOT EMPTY"), ("raw", "CANC-USER-SECU::1CARA:1", "AID INVALID"), ("raw", "CANC-USER-SECU::ABCDEFGHIJK:1", "AID INVALID"), ("login", "CARA", "long"), ("list",)],
+        [("login", "ANNA", "bc"), ("list",)])
     many = [f"U{number:02}" for number in range(62)]
     row("64 users are kept", [("enter", uid, f"p{uid}", "RPS"[number % 3]) for number, uid in enumerate(many)] + [("enter", "ONEMORE", "x", "R"), ("enter", "U00", "x", "R"), ("delete", "U31"), ("enter", "ONEMORE", "x", "R"), ("login", "U61", "pU61"), ("login", "ONEMORE", "x")],
         [("list",), ("login", "U30", "pU30"), ("login", "U31", "pU31")], after=False)
@@ -303,7 +311,7 @@ def rows():
     print("#   row TEXT       begins a row                front N     of its journal only the first bytes")
     print("#   byte N B       one byte of it is this      open TEXT   an opening, and what it must come to")
     print("#   ask UNIT       ANNA of class S asks        login UID PID")
-    print("#   list           the users in order          want TEXT   what must come of the line before")
+    print("#   list           the users in order          want TEXT   what must come of the line before; none: nothing is told")
     print("#   after HEX      what the journal is then")
     print("#   images N M     at each Mth call from N on a crash leaves one of these:   users TEXT")
     worked()
