@@ -5,6 +5,8 @@ usage: bench/run stress notes [POINT..]     (all of them where none is named)
 callers   where it listens, who came to which place, and why each went: who hung up, and one whose connection was reset
 commands  who logged in and out, a log-in that was denied, and what came of each command that changes something
 users     what came of each command that changes users, and nothing of what only reads them or is refused for its form
+ended     who ended whose sessions, and that those ended so; nothing of who may not, or names nobody
+disk      what the disk failed of circuits and of users, each with its cause
 worker    the frames of a worker that ended, at the input's end and within a frame
 silent    standard error is a pipe that nobody reads: hundreds of callers are served as ever, and once it is read the count of lost lines is told
 taken     standard error is closed, a full disk, or a pipe whose reader is gone: the server goes on, and its answers are the same
@@ -24,6 +26,7 @@ import time
 
 from bench import Wrong
 from bench.shared import office
+from bench.shared.compiled import library
 from bench.shared.program import PROGRAM, expect
 from bench.shared.server import Server, free_port
 
@@ -52,13 +55,19 @@ class Noted(Server):
     def answered(self, units):
         """What a caller is answered who then hangs up."""
         with self.call() as caller:
-            caller.sendall(units)
-            got = b""
-            while got.count(b"\n;") < units.count(b";"):
-                piece = caller.recv(65536)
-                expect(piece, f"the connection ended after {got!r}")
-                got += piece
+            got = asked(caller, units.decode())
         return re.sub(rb"\d\d-\d\d-\d\d \d\d:\d\d:\d\d", b"MOMENT", got)
+
+
+def asked(caller, units):
+    """What a caller is answered."""
+    caller.sendall(units.encode())
+    got = b""
+    while got.count(b"\n;") < units.count(";"):
+        piece = caller.recv(65536)
+        expect(piece, f"the connection ended after {got!r}")
+        got += piece
+    return got
 
 
 def reset(caller):
@@ -150,6 +159,49 @@ def users(folder):
     return f"{len(wanted)} lines"
 
 
+def ended(folder):
+    path = os.path.join(folder, "notes")
+    with open(path, "wb") as errors, Noted(folder, errors) as server, server.call() as anna, server.call() as ben:
+        asked(anna, office.LOG_IN + "ENT-USER-SECU::BEN:2::first,P;CANC-USER-SECU::BEN:3;")
+        asked(ben, "ACT-USER::BEN:1::first;CANC-USER-SECU::ANNA:2;")
+        asked(anna, "CANC-USER-SECU:::4;CANC-USER-SECU::1BEN:5;CANC-USER-SECU::BEN:6;")
+        expect(ben.recv(4096).startswith(b"dxc: your sessions were ended"), "BEN's session goes on")
+        # Only once that is noted, so that the lines come in one order.
+        noted(path, 10)
+        asked(anna, "CANC-USER-SECU::ANNA:7;")
+        told = [line for line in noted(path, 12) if line.startswith("place")]
+    gone = "caller gone, its user's sessions were ended"
+    wanted = [
+        "ANNA logged in",
+        "ANNA 2 ENT-USER-SECU BEN: done",
+        "ANNA 3 CANC-USER-SECU BEN: done",
+        "BEN logged in",
+        "ANNA 6 CANC-USER-SECU BEN: done",
+        gone,
+        "ANNA 7 CANC-USER-SECU ANNA: done",
+        gone,
+    ]
+    got = [re.sub(r"place \d+: ", "", line) for line in told]
+    expect([line for line in got if not line.startswith("caller from")] == wanted, f"it noted {got}")
+    return f"{len(wanted)} lines"
+
+
+def disk(folder):
+    path, failing = os.path.join(folder, "notes"), os.path.join(folder, "failing")
+    world = dict(os.environ, LD_PRELOAD=library("syncs", folder), FAILING=failing)
+    with open(path, "wb") as errors, Noted(folder, errors, env=world) as server, server.call() as anna:
+        asked(anna, office.LOG_IN)
+        with open(failing, "wb"):
+            asked(anna, "ENT-CRS-T0::DS0-1-1,DS0-2-1:2;INIT-SYS:::3;DLT-CRS-T0::DS0-1-1,DS0-2-1:4;ENT-USER-SECU::BEN:5::first,P;")
+        told = [line for line in noted(path, 8) if line.startswith("place")]
+    why = "denied, SROF JOURNAL WRITE FAILED"
+    wanted = ["ANNA logged in", f"ANNA 2 ENT-CRS-T0 DS0-1-1,DS0-2-1: {why}", f"ANNA 3 INIT-SYS: {why}"]
+    wanted += [f"ANNA 4 DLT-CRS-T0 DS0-1-1,DS0-2-1: {why}", f"ANNA 5 ENT-USER-SECU BEN: {why}"]
+    got = [re.sub(r"place \d+: ", "", line) for line in told]
+    expect(got[1:] == wanted, f"it noted {got}")
+    return f"{len(wanted) - 1} denials"
+
+
 def worker(folder):
     for more, why in ((0, "its input ended"), (5, "its input ended within a frame")):
         path = os.path.join(folder, f"notes{more}")
@@ -227,7 +279,7 @@ def private(folder):
     return "nothing of the kind"
 
 
-POINTS = (callers, commands, users, worker, silent, taken, private)
+POINTS = (callers, commands, users, ended, disk, worker, silent, taken, private)
 
 
 def tried(point):

@@ -69,9 +69,9 @@ class Listener(threading.Thread):
         return max(self.text.count(b"\r\n;") - 1, 0)
 
 
-def start_standby(copy):
-    """A standby, which has the one of the users' journal beside it, and its port."""
-    peer = free_pair()
+def start_standby(copy, peer=None):
+    """A standby, which has the one of the users' journal beside it, and its port; at this port where one is given."""
+    peer = peer or free_pair()
     standby = start("standby", copy, f"127.0.0.1:{peer}")
     standby.users = start("standby", f"{copy}.users", f"127.0.0.1:{peer + 1}")
     atexit.register(standby.users.kill)

@@ -6,6 +6,7 @@ sessions  who is logged in at which place: two users at two places, of whom one 
           that is denied, and callers as whom nobody logs in, are not among them
 start     version and start: those of the program, from one start to the next
 standby   none is named, one is joined, and one is killed and so lost, behind a change and without one; the sessions go on
+again     one that comes back has the circuits alone until users are changed, and is joined then; where nobody stands by at a start it is lost
 script    a session of `script` is told of the equipment alone
 
 Each point prints a line, and ends by itself within half a minute.
@@ -20,8 +21,8 @@ import time
 from bench import Wrong
 from bench.shared import office, server
 from bench.shared.program import expect, run_program, version
-from bench.shared.server import Server, await_listening, free_port, until
-from bench.stress.standby import start_pair
+from bench.shared.server import Server, await_listening, free_pair, free_port, until
+from bench.stress.standby import start, start_pair, start_standby
 
 MODULES, SLOTS = 2, 2
 EQUIPMENT = ["MOD-1:IS", "MOD-2:IS"]
@@ -119,20 +120,48 @@ def standby(folder):
         other, running, session = pair(folder)
         try:
             expect(state(session) == ["STANDBY=JOINED"], f"it is told as {state(session)}")
-            other.kill()
-            other.wait()
+            end(other)
             for unit in units:
                 expect("COMPLD" in session.asked(unit), "no change behind a lost standby")
                 expect(state(session) == ["STANDBY=LOST"], f"lost, it is told as {state(session)}")
             expect(until(lambda: state(session) == ["STANDBY=LOST"], SEEN), f"lost, it is told as {state(session)}")
         finally:
-            for process in (other, running):
-                process.kill()
-                process.wait()
-        for name in ("copy", "copy.joining"):
+            end(other, other.users, running)
+        for name in ("copy", "copy.joining", "copy.users", "copy.users.joining"):
             if os.path.exists(os.path.join(folder, name)):
                 os.remove(os.path.join(folder, name))
     return "none, joined and lost"
+
+
+def end(*programs):
+    for program in programs:
+        program.kill()
+        program.wait()
+
+
+def again(folder):
+    shelf, journal, lines = (os.path.join(folder, name) for name in ("shelf.toml", "j", "lines"))
+    peer, port = free_pair(), free_port()
+    running = start("serve", shelf, journal, f"127.0.0.1:{port}", lines, "1", f"127.0.0.1:{peer}")
+    try:
+        expect(await_listening(port, running), "the server didn't open its port")
+        session = Session(port).named("ANNA")
+        for copy in ("one", "two"):
+            expect(state(session) == ["STANDBY=LOST"], f"where nobody stands by it is told as {state(session)}")
+            other, _ = start_standby(os.path.join(folder, copy), peer)
+            for unit, wanted in ((b"INIT-SYS:::3;", "CIRCUITS"), (b"ED-USER-SECU::BEN:4::,P;", "JOINED")):
+                expect(until(lambda u=unit, w=wanted: called_by(session, u) == [f"STANDBY={w}"], SEEN), f"after {unit} it is told as {state(session)}")
+            end(other, other.users)
+            expect(until(lambda: state(session) == ["STANDBY=LOST"], SEEN), f"lost, it is told as {state(session)}")
+    finally:
+        end(running)
+    return "lost, of the circuits alone and joined, twice"
+
+
+def called_by(session, unit):
+    """What it is told of the standby behind a change, which lets the server call."""
+    expect("COMPLD" in session.asked(unit), f"{unit} was denied")
+    return state(session)
 
 
 def script(folder):
@@ -141,7 +170,7 @@ def script(folder):
     return "the equipment alone"
 
 
-POINTS = {"sessions": sessions, "start": start_and_version, "standby": standby, "script": script}
+POINTS = {"sessions": sessions, "start": start_and_version, "standby": standby, "again": again, "script": script}
 
 
 def tried(name):
