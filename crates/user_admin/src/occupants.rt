@@ -69,6 +69,8 @@ fn cancel(occupants: &mut Occupants, uid: Uid)
 }
 
 /// Puts down who is where behind an operation of the place that is answered.
+// In line, so that an operation which names a user alone needs no room: the room of any other, which has two PIDs, is cleared.
+#[inline(always)]
 pub(crate) fn answer(occupants: &mut Occupants, place: u16, op: &UserOp)
     ensures { occupants.new ≡ answered place op.now occupants.old }
 {

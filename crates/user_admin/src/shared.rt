@@ -136,6 +136,7 @@ impl<D: Disk + Drop> SharedUsers<D> {
     }
 
     /// Puts down who is where behind an operation of the place that is answered.
+    #[inline(always)]
     pub(crate) fn answer(&mut self, place: u16, op: &UserOp)
         ensures { self.new ≡ record self.old
             { occupants = answered place op.now self.old.occupants } }
