@@ -130,7 +130,7 @@ login_none : (user : SessionUser) (tag : Option (List ℕ)) (vacant : Bool) (uid
 login_none user tag vacant uid pid a true = refl
 login_none user tag vacant uid pid a false = refl
 
-session_none : (user : SessionUser) (tag : Option (List ℕ)) (x : Asked) (a : Ask) → users_notes user tag (session_wants x) a ≡ []
+session_none : (user : SessionUser) (tag : Option (List ℕ)) (x : Asked) (a : Ask) → users_notes user tag (session_wants user x) a ≡ []
 session_none user tag (acts uid pid) a = login_none user tag (is_not_logged_in user) uid pid a (nat_lt 10 (length uid))
 session_none user tag (cancels uid) a = refl
 session_none user tag header a = refl
@@ -139,7 +139,7 @@ session_none user tag inhibits a = refl
 session_none user tag (shows subject) a = refl
 session_none user tag (asks_table o) a = refl
 
-pub noted_session : (noted : List Note → Type 0) (user : SessionUser) (tag : Option (List ℕ)) (x : Asked) (a : Ask) → noted [] → UsersNoted noted user tag (session_wants x) (Some a)
+pub noted_session : (noted : List Note → Type 0) (user : SessionUser) (tag : Option (List ℕ)) (x : Asked) (a : Ask) → noted [] → UsersNoted noted user tag (session_wants user x) (Some a)
 noted_session noted user tag x a none = subst noted (sym (session_none user tag x a)) none
 
 -- what came of an operation on the users
@@ -150,7 +150,7 @@ noted_change noted user tag o c x is were = subst (λ (y : Option (UserChange ×
 module _ (s : Contents) (t : Telling) (b c : Stood) (noted : List Note → Type 0) (u : Input) (sent : Sent) (after : Now) (there : after ≡ now_in c) (seat : IsSameSeat b.seat c.seat) (users : IsSameUserSeat b.users c.users) where
   pub noted_reply : (a : Ask) (rows : List UserRow) (gate : List GatePlace → Type 0) (y : IsAsked b.users (wants s b.attending.user u) (λ h. asks s b.attending.user h u) a rows after.users gate) (tag : Option (List ℕ)) (r : Reply) (standing : Standing) → tag ≡ tag_of u → IsReplied s t.told t.clock_told b.link c.link b.coming c.coming sent tag (beside rows (Some standing)) r
       → ((h : List Entry) → Saw b.seat.opening b.seat.seen h → Acts b.seat.opening b.seat.place h b.attending a r after.attending after.seen) → (d : Dimensions) (now : SessionUser) → d ≡ s.shape → now ≡ user_after b.attending.user a → noted (users_notes b.attending.user tag (wants s b.attending.user u) a ++ notes_of d now tag a r) → HasNoted s t b c noted
-  noted_reply a rows gate y tag r standing tag_is replied acts d now shape_is now_is were =
+  noted_reply a rows gate y tag r standing tag_is replied made d now shape_is now_is were =
       noted_said s t b c noted u sent seat users (record {
         heard = y.heard;
         behind = subst (λ (n : Now). IsHeard b.users (wants s b.attending.user u) y.heard n.users) there y.behind;
@@ -158,7 +158,7 @@ module _ (s : Contents) (t : Telling) (b c : Stood) (noted : List Note → Type 
         standing = standing;
         said = subst (λ (w : Option (List ℕ) × List UserRow). IsReplied s t.told t.clock_told b.link c.link b.coming c.coming sent w.0 (beside w.1 (Some standing)) r) (λ i. (tag_is i, y.rows_are i)) replied;
         acts = subst (λ (n : Now). (h : List Entry) → Saw b.seat.opening b.seat.seen h → Acts b.seat.opening b.seat.place h b.attending (asks s b.attending.user y.heard u) r n.attending n.seen) there
-            (subst (λ (x : Ask). (h : List Entry) → Saw b.seat.opening b.seat.seen h → Acts b.seat.opening b.seat.place h b.attending x r after.attending after.seen) y.ask_is acts);
+            (subst (λ (x : Ask). (h : List Entry) → Saw b.seat.opening b.seat.seen h → Acts b.seat.opening b.seat.place h b.attending x r after.attending after.seen) y.ask_is made);
       })
       (noted_so noted (wants s b.attending.user u) d s.shape now b.attending.user tag (tag_of u) a (asks s b.attending.user y.heard u) r shape_is now_is tag_is y.ask_is were)
 

@@ -9,6 +9,8 @@ use Rattle.tl1_command.specs.declared.frequent.Frequent.{Frequent}
 use Rattle.tl1_command.specs.Commands.{asked_often, IsAptOften}
 use Rattle.tl1_command.specs.Meanings.{meaning}
 use Rattle.tl1_command.proofs.TagFacts.{tagged_is}
+use Rattle.dxc_model.specs.declared.cause.Cause.TheVariants.{BadText}
+use Rattle.craft_session.specs.declared.ask.Ask.TheVariants.{Refused}
 use Rattle.craft_session.specs.Asks.{IsAptAsk}
 use Rattle.craft_session.specs.Desks.{put_down}
 use Rattle.craft_session.specs.Hearing.{AskedIs, unasked}
@@ -26,7 +28,7 @@ returns-in_default g c =
     record {
       same = (refl, refl, refl, refl);
       consulted = (c.ctag_of.ensures, asked_nothing _ _ _ _ _ (g.G.Gate.asked c.args.gate.now c.args.gate.now) (g.G.Gate.unasked c.args.gate.now) (ap (λ (o : Option (List Block)). text_wants s user o) c.in_default.ensures) (sym (ap (λ (o : Option (List Block)). text_ask s user unasked o) c.in_default.ensures)) c.requires.no_rows);
-      noted = noted_nothing (g.N.Notes.noted c.args.notes.now c.args.notes.now) user _ _ _ (ap (λ (o : Option (List Block)). text_wants s user o) c.in_default.ensures) (g.N.Notes.unnoted c.args.notes.now);
+      noted = noted_nothing (g.N.Notes.noted c.args.notes.now c.args.notes.now) user c.ctag_of.result _ (Refused BadText) (ap (λ (o : Option (List Block)). text_wants s user o) c.in_default.ensures) (g.N.Notes.unnoted c.args.notes.now);
       apt = λ _. tt;
       unstopped = λ _. refl;
       stopped = λ is. stop_went is;
@@ -37,7 +39,7 @@ pub frequent_of-requires-clause-tagged : goal.frequent_of-requires-clause-tagged
 frequent_of-requires-clause-tagged g c = c.is_some-tagged.ensures ∙ (ap (λ (t : Option (List ℕ)). is_some t) c.ctag_in.ensures ∙ tagged_is c.args.unit.now c.in-Ok.found.block.items c.in-Ok.ensures)
 
 pub ask_in-requires-clause-tagged : goal.ask_in-requires-clause-tagged
-ask_in-requires-clause-tagged g c = ap (λ (t : Option (List ℕ)). is_some t) c.ctag_in.ensures ∙ tagged_is c.args.unit.now c.in-Ok.found.block.items c.in-Ok.ensures
+ask_in-requires-clause-tagged g c = ap (λ (t : Option (List ℕ)). is_some t) c.ctag_in.ensures
 
 pub returns-in-Some : goal.returns-in-Some
 returns-in-Some g c =
@@ -57,7 +59,7 @@ returns-in-Some g c =
             (sym (ap (λ (o : Option (List Block)). text_ask s user unasked o) c.in-Ok.ensures.reading ∙ (ap (command_ask s user unasked bs) is ∙ often.asked user unasked)))
             c.requires.no_rows,
       );
-      noted = noted_nothing (g.N.Notes.noted c.args.notes.now c.args.notes.now) user _ _ _ (ap (λ (o : Option (List Block)). text_wants s user o) c.in-Ok.ensures.reading ∙ (ap (command_wants s user bs) is ∙ often.unasked)) (g.N.Notes.unnoted c.args.notes.now);
+      noted = noted_nothing (g.N.Notes.noted c.args.notes.now c.args.notes.now) user c.ctag_in.result _ c.on_frequent.new.ask (ap (λ (o : Option (List Block)). text_wants s user o) c.in-Ok.ensures.reading ∙ (ap (command_wants s user bs) is ∙ often.unasked user)) (g.N.Notes.unnoted c.args.notes.now);
       apt = λ _. subst (λ (d : Dimensions). IsAptAsk d c.on_frequent.new.ask) c.shape.ensures (often.apt c.shape.result fit);
       unstopped = λ _. refl;
       stopped = λ is. stop_went is;

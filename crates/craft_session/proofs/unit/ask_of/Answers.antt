@@ -1,9 +1,11 @@
-use Rattle.std.proofs.Common.{◌≡◌, ◌≤◌, List, ℕ, length, refl, sym, ◌∙◌, ap, subst}
+use Rattle.std.proofs.Common.{◌≡◌, ◌≤◌, List, None, ℕ, length, refl, sym, ◌∙◌, ap, subst}
 use Rattle.std.specs.Arc.{arc_value}
 use Rattle.dxc_outside.specs.declared.gate.Pass1.TheVariants.{Go}
 use Rattle.tl1_text.specs.declared.reader.UnitKind.{UnitKind}
 use Rattle.tl1_text.specs.Units.{Input, whole}
 use Rattle.shelf_file.specs.Contents.{Contents}
+use Rattle.dxc_model.specs.declared.cause.Cause.TheVariants.{TooLong}
+use Rattle.craft_session.specs.declared.ask.Ask.TheVariants.{Refused}
 use Rattle.craft_session.specs.Asks.{IsAptAsk}
 use Rattle.craft_session.specs.Desks.{ConsultedIs, input_of, put_down}
 use Rattle.craft_session.specs.Hearing.{unasked}
@@ -50,7 +52,7 @@ returns-in-TooLong g c =
       attending = refl;
       reader = refl;
       consulted = (sym (ap tag_of long), asked_nothing _ _ _ _ _ (g.G.Gate.asked c.args.gate.now c.args.gate.now) (g.G.Gate.unasked c.args.gate.now) (ap (wants s desk.attending.user) long) (sym (ap (asks s desk.attending.user unasked) long)) c.clear.ensures);
-      noted = noted_nothing (g.N.Notes.noted c.args.notes.now c.args.notes.now) desk.attending.user _ _ _ (ap (wants s desk.attending.user) long) (g.N.Notes.unnoted c.args.notes.now);
+      noted = noted_nothing (g.N.Notes.noted c.args.notes.now c.args.notes.now) desk.attending.user None _ (Refused TooLong) (ap (wants s desk.attending.user) long) (g.N.Notes.unnoted c.args.notes.now);
       apt = λ _. tt;
       unstopped = λ _. refl;
       stopped = λ is. stop_went is;
