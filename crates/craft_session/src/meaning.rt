@@ -66,9 +66,20 @@ pub fn consult<U: Disk + Drop, G: Gate, N: Notes, R: Wait>(
     };
     *tag = ctag_in(unit, &found);
     let tagged = tag.is_some();
-    if let Some(often) = frequent_of(shelf.shape(), shelf.sid(), user, unit, &found, tagged) {
-        on_frequent(often, ask);
-        return Pass1::Go;
+    match frequent_of(shelf.shape(), shelf.sid(), user, unit, &found, tagged) {
+        Ok(often) => {
+            on_frequent(often, ask);
+            return Pass1::Go;
+        }
+        Err(None) => {}
+        Err(Some(cause)) => match cause {
+            // The users may know a command that this language doesn't.
+            Cause::UnknownCommand => {}
+            cause => {
+                *ask = Ask::Refused(cause);
+                return Pass1::Go;
+            }
+        },
     }
     ask_in(shelf, users, user, unit, &found, tag, ask, gate, notes, rt)
 }

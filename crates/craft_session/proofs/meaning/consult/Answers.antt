@@ -1,7 +1,8 @@
-use Rattle.std.specs.Prelude.{IfSome}
+use Rattle.std.specs.Prelude.{IfOk, IfSome, MatchResult}
 use Rattle.std.specs.Option.{is_some}
-use Rattle.std.proofs.Common.{◌≡◌, List, Option, Ok, map, refl, ap, ap₂, sym, subst, ◌∙◌, ℕ}
+use Rattle.std.proofs.Common.{◌≡◌, List, Option, Result, Ok, Err, map, refl, ap, ap₂, sym, subst, ◌∙◌, ℕ}
 use Rattle.dxc_num.specs.Dimensions.{Dimensions}
+use Rattle.dxc_model.specs.declared.cause.Cause.{Cause}
 use Rattle.tl1_text.specs.Grammar.{Block}
 use Rattle.tl1_text.specs.Units.{whole}
 use Rattle.tl1_text.specs.Spans.{block_at}
@@ -16,6 +17,7 @@ use Rattle.craft_session.specs.Desks.{put_down}
 use Rattle.craft_session.specs.Hearing.{AskedIs, unasked}
 use Rattle.craft_session.specs.Meanings.{command_ask, command_wants, text_ask, text_wants}
 use Rattle.craft_session.specs.Noted.{UsersNoted}
+use Rattle.craft_session.proofs.Asking.{refused_ask, refused_wants}
 use Rattle.craft_session.proofs.Consulted.{asked_nothing, consulted_by}
 use Rattle.craft_session.proofs.Ends.{stop_went, stayed}
 use Rattle.craft_session.proofs.Noted.{noted_nothing}
@@ -41,14 +43,14 @@ frequent_of-requires-clause-tagged g c = c.is_some-tagged.ensures ∙ (ap (λ (t
 pub ask_in-requires-clause-tagged : goal.ask_in-requires-clause-tagged
 ask_in-requires-clause-tagged g c = ap (λ (t : Option (List ℕ)). is_some t) c.ctag_in.ensures
 
-pub returns-in-Some : goal.returns-in-Some
-returns-in-Some g c =
+pub returns-in-Ok-frequent_of : goal.returns-in-Ok-frequent_of
+returns-in-Ok-frequent_of g c =
     let s = c.args.shelf.now in
     let user = c.args.user.now in
     let bs = map (block_at c.args.unit.now) c.in-Ok.found.block.items in
-    let meant : meaning c.shape.result c.sid.result.now user bs ≡ Ok (asked_often c.in-Some.often) = subst (λ (o : Option Frequent). IfSome o (λ f. meaning c.shape.result c.sid.result.now user bs ≡ Ok (asked_often f))) c.in-Some.is c.frequent_of.ensures.meaning in
-    let is : meaning s.shape s.sid user bs ≡ Ok (asked_often c.in-Some.often) = sym (ap₂ (λ (d : Dimensions) (sid : List ℕ). meaning d sid user bs) c.shape.ensures c.sid.ensures) ∙ meant in
-    let fit = subst (λ (o : Option Frequent). IfSome o (IsAptOften c.shape.result)) c.in-Some.is c.frequent_of.ensures.apt in
+    let meant : meaning c.shape.result c.sid.result.now user bs ≡ Ok (asked_often c.in-Ok-frequent_of.often) = subst (λ (r : Result Frequent (Option Cause)). MatchResult r (λ f. meaning c.shape.result c.sid.result.now user bs ≡ Ok (asked_often f)) (λ w. IfSome w (λ q. meaning c.shape.result c.sid.result.now user bs ≡ Err q))) c.in-Ok-frequent_of.is c.frequent_of.ensures.meaning in
+    let is : meaning s.shape s.sid user bs ≡ Ok (asked_often c.in-Ok-frequent_of.often) = sym (ap₂ (λ (d : Dimensions) (sid : List ℕ). meaning d sid user bs) c.shape.ensures c.sid.ensures) ∙ meant in
+    let fit = subst (λ (r : Result Frequent (Option Cause)). IfOk r (IsAptOften c.shape.result)) c.in-Ok-frequent_of.is c.frequent_of.ensures.apt in
     let often = c.on_frequent.ensures in
     record {
       same = (refl, refl, refl, refl);
@@ -61,6 +63,30 @@ returns-in-Some g c =
       );
       noted = noted_nothing (g.N.Notes.noted c.args.notes.now c.args.notes.now) user c.ctag_in.result _ c.on_frequent.new.ask (ap (λ (o : Option (List Block)). text_wants s user o) c.in-Ok.ensures.reading ∙ (ap (command_wants s user bs) is ∙ often.unasked user)) (g.N.Notes.unnoted c.args.notes.now);
       apt = λ _. subst (λ (d : Dimensions). IsAptAsk d c.on_frequent.new.ask) c.shape.ensures (often.apt c.shape.result fit);
+      unstopped = λ _. refl;
+      stopped = λ is. stop_went is;
+      later = stayed _ _ refl;
+    }
+
+pub returns-in_default-cause : goal.returns-in_default-cause
+returns-in_default-cause g c =
+    let s = c.args.shelf.now in
+    let user = c.args.user.now in
+    let bs = map (block_at c.args.unit.now) c.in-Ok.found.block.items in
+    let not = c.in_default-cause.not-UnknownCommand in
+    let meant : meaning c.shape.result c.sid.result.now user bs ≡ Err c.in-Err-Some.cause = subst (λ (r : Result Frequent (Option Cause)). MatchResult r (λ f. meaning c.shape.result c.sid.result.now user bs ≡ Ok (asked_often f)) (λ w. IfSome w (λ q. meaning c.shape.result c.sid.result.now user bs ≡ Err q))) (c.in-Err-Some.is ∙ ap Err c.in-Err-Some.field-0-is) c.frequent_of.ensures.meaning in
+    let is : meaning s.shape s.sid user bs ≡ Err c.in-Err-Some.cause = sym (ap₂ (λ (d : Dimensions) (sid : List ℕ). meaning d sid user bs) c.shape.ensures c.sid.ensures) ∙ meant in
+    let wanted = ap (λ (o : Option (List Block)). text_wants s user o) c.in-Ok.ensures.reading ∙ (ap (command_wants s user bs) is ∙ refused_wants s user bs c.in-Err-Some.cause not) in
+    record {
+      same = (refl, refl, refl, refl);
+      consulted = (
+        c.ctag_in.ensures,
+        asked_nothing _ _ _ _ _ (g.G.Gate.asked c.args.gate.now c.args.gate.now) (g.G.Gate.unasked c.args.gate.now) wanted
+            (sym (ap (λ (o : Option (List Block)). text_ask s user unasked o) c.in-Ok.ensures.reading ∙ (ap (command_ask s user unasked bs) is ∙ refused_ask s user unasked bs c.in-Err-Some.cause not)))
+            c.requires.no_rows,
+      );
+      noted = noted_nothing (g.N.Notes.noted c.args.notes.now c.args.notes.now) user c.ctag_in.result _ (Refused c.in-Err-Some.cause) wanted (g.N.Notes.unnoted c.args.notes.now);
+      apt = λ _. tt;
       unstopped = λ _. refl;
       stopped = λ is. stop_went is;
       later = stayed _ _ refl;
