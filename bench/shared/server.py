@@ -73,11 +73,11 @@ def until(fact, seconds):
 class Server:
     """The program as a server in a folder that has its shelf file and lines; `more` goes to its process."""
 
-    def __init__(self, folder, workers=1, journal="j", lines="lines", program=PROGRAM, **more):
+    def __init__(self, folder, workers=1, journal="j", lines="lines", program=PROGRAM, errors=subprocess.PIPE, **more):
         self.folder, self.port, self.workers = folder, free_port(), workers
         words = [program, *self.words(journal=journal, lines=lines)]
         self.started = time.monotonic()
-        self.process = subprocess.Popen(words, cwd=folder, stderr=subprocess.PIPE, **more)
+        self.process = subprocess.Popen(words, cwd=folder, stderr=errors, **more)
         self.wait_until_open()
 
     def words(self, **other):

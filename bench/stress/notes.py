@@ -94,6 +94,7 @@ def callers(folder):
     path = os.path.join(folder, "notes")
     with open(path, "wb") as errors, Noted(folder, errors) as server:
         at = []
+        noted(path, 2)
         with server.call() as caller:
             at.append(caller.getsockname()[1])
             noted(path, 3)

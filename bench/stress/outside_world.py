@@ -15,6 +15,7 @@ idle         who is logged in and silent is let go by the minutes that the shelf
 full         the seventeenth caller is told so and let go, and comes in once a place is free
 slow         a caller that takes nothing is given up after ten seconds
 descriptors  a shortage of descriptors ends no place: after it sixteen callers are served again
+accepts      so it is of each error of an accept that passes, and each place tells why it lets nobody in, once
 told         each cause of "cannot open" is told by name, in a second line on any stream
 users        a shelf file and a users' journal that disagree are told by the user's name, whatever the edit, and bear all others
 lines        a FIFO without a writer, or whose writer comes again, stops nothing; one program at a time has an output, and keeps its bytes
@@ -25,6 +26,7 @@ the one that DXC_PROGRAM names. Nothing leaves the loopback.
 """
 import contextlib
 import ctypes
+import errno
 import os
 import resource
 import select
@@ -449,6 +451,25 @@ def descriptors(folder):
     return "no place was lost"
 
 
+def accepts(folder):
+    refusing, notes = (os.path.join(folder, name) for name in ("refusing", "notes"))
+    world = dict(os.environ, LD_PRELOAD=library("accepts", folder), REFUSING=refusing)
+    passing = (errno.EMFILE, errno.ENFILE, errno.ENOMEM, errno.ECONNABORTED)
+    with open(notes, "wb") as errors, Element(folder, errors=errors, env=world) as server:
+        for number in passing:
+            write(refusing + ".new", str(number).encode())
+            os.rename(refusing + ".new", refusing)
+            with contextlib.ExitStack() as held:
+                callers = [held.enter_context(server.call()) for _ in range(PLACES)]
+                # Longer than sixteen failed accepts take, which would close a place.
+                time.sleep(2)
+                os.remove(refusing)
+                expect(all(map(is_served, callers)), f"not all are served behind {os.strerror(number)}")
+            count = content(notes).decode().count(f": nobody can be let in: {os.strerror(number)} ")
+            expect(1 <= count <= PLACES, f"{os.strerror(number)} was told {count} times")
+    return f"{len(passing)} errors passed over"
+
+
 def told_lines(folder, words, name, text):
     status, wrote, lines = run(folder, words)
     wanted = (CANNOT_OPEN[0], "", [CANNOT_OPEN[1], f"dxc: {name}: {text}"])
@@ -537,7 +558,7 @@ def users(folder):
     return f"{len(edits)} edits told by name, the way back taken"
 
 
-POINTS = (peer, check, sync, waiting, guesses, dead, unattended, idle, full, slow, descriptors, told, users, lines)
+POINTS = (peer, check, sync, waiting, guesses, dead, unattended, idle, full, slow, descriptors, accepts, told, users, lines)
 
 
 def tried(point):

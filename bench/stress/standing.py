@@ -3,7 +3,7 @@
 usage: bench/run stress standing [POINT..]     (all of them where none is named)
 
 sessions  who is logged in at which place: two users at two places, of whom one logs out and another user logs in there, and one hangs up; a log-in
-          that is denied, and callers as whom nobody logs in, are not among them
+          that is denied, callers as whom nobody logs in, and a user whose sessions were ended are not among them; one who was deleted is until then
 start     version and start: those of the program, from one start to the next
 standby   none is named, one is joined, and one is killed and so lost, behind a change and without one; the sessions go on
 again     one that comes back has the circuits alone until users are changed, and is joined then; where nobody stands by at a start it is lost
@@ -25,6 +25,8 @@ from bench.shared.server import Server, await_listening, free_pair, free_port, u
 from bench.stress.standby import start, start_pair, start_standby
 
 MODULES, SLOTS = 2, 2
+# The longest name that a user may have.
+LONG = "PATRICIA12"
 EQUIPMENT = ["MOD-1:IS", "MOD-2:IS"]
 START = re.compile(r"START=(\d\d-\d\d-\d\d,\d\d:\d\d:\d\d)\Z")
 SESSION = re.compile(r"SESSION-(\d+):(\w+,[RPS])\Z")
@@ -72,8 +74,11 @@ def sessions(folder):
         expect(anna.sessions() == first | {place: "CARA,R"}, f"another at the same place: {anna.sessions()}")
         ben.link.close()
         expect(until(lambda: anna.sessions() == first, SEEN), f"who hung up is told: {anna.sessions()}")
-        other.named("ben")
-        expect("BEN,P" in anna.sessions().values(), "a name in lower case")
+        other.named(LONG.lower())
+        expect(f"{LONG},P" in anna.sessions().values(), "a name of ten letters, given in lower case")
+        expect("COMPLD" in anna.asked(f"DLT-USER-SECU::{LONG}:3;".encode()) and f"{LONG},P" in anna.sessions().values(), "one who was deleted, and goes on")
+        expect("COMPLD" in anna.asked(f"CANC-USER-SECU::{LONG}:4;".encode()), "no end of the sessions")
+        expect(until(lambda: anna.sessions() == first, SEEN), f"whose sessions were ended is told: {anna.sessions()}")
     return "those who are logged in, at their places"
 
 
@@ -176,7 +181,7 @@ POINTS = {"sessions": sessions, "start": start_and_version, "standby": standby, 
 def tried(name):
     with tempfile.TemporaryDirectory() as folder:
         with open(os.path.join(folder, "shelf.toml"), "w", encoding="utf-8") as file:
-            file.write(office.shelf_text(MODULES, SLOTS, users=(("ANNA", "S"), ("BEN", "P"), ("CARA", "R"))))
+            file.write(office.shelf_text(MODULES, SLOTS, users=(("ANNA", "S"), ("BEN", "P"), ("CARA", "R"), (LONG, "P"))))
         with open(os.path.join(folder, "lines.in"), "wb"):
             pass
         try:
