@@ -6,6 +6,8 @@ paused      the standby is stopped by SIGSTOP: a change waits for it five second
             up, says so and goes on alone; let go on, the standby ends by itself, says when it was synced last, and its copy has every
             change that was answered while joined
 killed      the standby is killed: the primary says so
+one         one of the standby's two programs is killed, while nobody changes anything: the primary says so, and the other one ends
+            within some seconds and says so too
 ended       the primary is killed: the standby says so, and that its copy is whole
 cut         a joining is cut off after each of some pieces: the copy opens as no journal, the standby says that it holds nothing, and
             another standby of the same name takes its place
@@ -34,6 +36,8 @@ MOMENT = rb"\d{4}-\d\d-\d\d \d\d:\d\d:\d\d UTC"
 LONGEST = 8
 # Who only reads doesn't wait for a standby: a few milliseconds, and what a busy machine adds.
 PROMPT = 1
+# Whoever waits for callers looks after both connections at least every two seconds, and a busy machine adds to that.
+SOON = 4
 # Bytes of an item.
 PIECE = 256
 WHOLE = rb"dxc: " + MOMENT + rb": standby ended, (its primary hung up|its connection failed); \S+ is whole, and was synced last at " + MOMENT + rb"\n"
@@ -119,6 +123,21 @@ def killed_standby(folder):
     says(killed(server), lost(rb"(it hung up|the connection failed)"), "the primary of a standby that was killed")
 
 
+def killed_one(folder):
+    for is_users in (True, False):
+        standby, server, _ = begun(folder)
+        gone, left = (standby.users, standby) if is_users else (standby, standby.users)
+        killed(gone)
+        since = time.monotonic()
+        says(ended(left, "the standby's other program", 0, 9), WHOLE, "the standby's other program")
+        if time.monotonic() - since > SOON:
+            sys.exit(f"the standby's other program ended after {time.monotonic() - since:.1f} s")
+        says(killed(server), lost(rb"(it hung up|the connection failed)"), "the primary of a standby of which one program was killed")
+        for name in os.listdir(folder):
+            if "journal" in name:
+                os.remove(os.path.join(folder, name))
+
+
 def killed_primary(folder):
     standby, server, ((changer, changed), _) = begun(folder)
     changer.sendall(b"ENT-CRS-T0::DS0-1-1,DS0-2-1:2;")
@@ -201,9 +220,10 @@ def main():
     trial(scanned)
     trial(again)
     trial(killed_standby)
+    trial(killed_one)
     trial(killed_primary)
     listed, waited = trial(paused)
-    print(f"standbys lost: stopped (a change waited {waited:.1f} s for it, a retrieval {1000 * listed:.0f} ms), killed, and cut off behind {cuts} pieces; both ends said so; callers that left nothing were passed over")
+    print(f"standbys lost: stopped (a change waited {waited:.1f} s for it, a retrieval {1000 * listed:.0f} ms), killed, one of its programs killed, and cut off behind {cuts} pieces; both ends said so; callers that left nothing were passed over")
 
 
 if __name__ == "__main__":

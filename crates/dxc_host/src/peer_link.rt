@@ -129,10 +129,11 @@ impl<T: Net<Listener = TcpListener, Stream = TcpStream> + SystemClock + Copy + D
     {
         keepalive::hold_little(&stream)?;
         let number = stream.as_raw_fd();
+        let second = stream.try_clone().ok();
         self.line = Some(Caller::new(stream, None, FarEnd::Peer)?);
         self.outbox = Outbox::new(self.alloc, Changes::new(self.alloc)?)?;
         self.is_heard = false;
-        self.time = self.watch.begin(self.of, number);
+        self.time = self.watch.begin(self.of, number, second);
         self.tell_called();
         Ok(())
     }

@@ -3,8 +3,9 @@ use dxc_outside::Lost;
 use libc::net::{POLLERR, POLLRDHUP};
 use libc::types::pollfd;
 use std::alloc::{AllocError, Global};
-use std::sync::Arc;
+use std::net::{Shutdown, TcpStream};
 use std::sync::atomic::{AtomicU64, Ordering};
+use std::sync::{Arc, Mutex};
 
 /// Which of the two journals a connection copies.
 #[derive(Clone, Copy)]
@@ -18,6 +19,34 @@ pub(crate) enum CopyOf {
 struct Seen {
     descriptor: AtomicU64,
     time: AtomicU64,
+    /// A second handle of it, by which it ends where the other one has ended.
+    second: Mutex<Option<TcpStream>>,
+}
+
+impl Seen {
+    fn new() -> Seen {
+        Seen {
+            descriptor: AtomicU64::new(0),
+            time: AtomicU64::new(0),
+            second: Mutex::new(None),
+        }
+    }
+
+    // Who finds the lock taken leaves it: it is held for a moment alone, by who ends the connection or begins a new one.
+    fn keep(&self, second: Option<TcpStream>) {
+        if let Some(mut kept) = self.second.try_lock() {
+            *kept = second;
+        }
+    }
+
+    // Ends both directions, so that the standby knows, also where nobody sends it anything.
+    fn end(&self) {
+        if let Some(mut kept) = self.second.try_lock() {
+            if let Some(stream) = kept.take() {
+                let _ = stream.shutdown(Shutdown::Both);
+            }
+        }
+    }
 }
 
 /// The connections for the journal and for the users' journal, and how often the standby was lost.
@@ -40,8 +69,8 @@ impl PeerWatch {
     /// Of no connection yet.
     pub(crate) fn new(alloc: Global, lines: ErrorLines) -> Result<PeerWatch, AllocError> {
         let watched = Watched {
-            journal: none_seen(),
-            users: none_seen(),
+            journal: Seen::new(),
+            users: Seen::new(),
             lost: AtomicU64::new(0),
         };
         let watched = Arc::new(alloc, watched)?;
@@ -55,13 +84,18 @@ impl PeerWatch {
         Ok(PeerWatch { watched, lines })
     }
 
-    /// A new connection is there, of that descriptor; which time this is.
-    pub(crate) fn begin(&self, of: CopyOf, descriptor: i32) -> u64 {
+    /// A new connection is there, of that descriptor, with a second handle of it; which time this is.
+    pub(crate) fn begin(&self, of: CopyOf, descriptor: i32, second: Option<TcpStream>) -> u64 {
         let time = self.watched.lost.load(Ordering::SeqCst).saturating_add(1);
         let seen = self.seen(of);
         let descriptor = u64::from(descriptor.unsigned_abs());
         seen.descriptor.store(descriptor, Ordering::SeqCst);
         seen.time.store(time, Ordering::SeqCst);
+        seen.keep(second);
+        // Somebody may have met the other one's end meanwhile.
+        if self.is_over(time) {
+            seen.end();
+        }
         time
     }
 
@@ -109,7 +143,7 @@ impl PeerWatch {
         }
     }
 
-    /// Tells standard error why the standby of that time is lost, and all places that it is, where nobody told that before.
+    /// Tells standard error why the standby of that time is lost, and all places that it is, and ends both connections, where nobody did before.
     pub(crate) fn tell(&self, time: u64, why: Lost) {
         let before = time.saturating_sub(1);
         let lost = &self.watched.lost;
@@ -121,6 +155,8 @@ impl PeerWatch {
             if let Some(hall) = self.lines.hall() {
                 hall.lose_standby();
             }
+            self.watched.journal.end();
+            self.watched.users.end();
             self.lines.tell(&lost_text(why));
         }
     }
@@ -130,13 +166,6 @@ impl PeerWatch {
             CopyOf::Journal => &self.watched.journal,
             CopyOf::Users => &self.watched.users,
         }
-    }
-}
-
-fn none_seen() -> Seen {
-    Seen {
-        descriptor: AtomicU64::new(0),
-        time: AtomicU64::new(0),
     }
 }
 
