@@ -38,6 +38,19 @@ pub record IsCarried (z : Size) (w : ℕ) (input : List ℕ) (y : Port) (ns : Li
 abbrev pub CarriesOne : Size → ℕ → List ℕ → Port → List Note → ℕ → Type 0
 CarriesOne z w input y ns b = IsOthers z w y ns b ⊎ IsIdle z w y ns b ⊎ IsCarried z w input y ns b
 
+-- a worker, by the fabric's size and its number, and the frame that it carries
+pub record Feed : Type 0 where
+  pub size : Size
+  pub worker : ℕ
+  pub input : List ℕ
+
+abbrev pub fed : Size → ℕ → List ℕ → Feed
+fed z w input = record { size = z; worker = w; input = input }
+
+-- the worker's byte of one output, and what it notes
+abbrev pub Carries : Feed → Port → List Note → ℕ → Type 0
+Carries f y ns b = CarriesOne f.size f.worker f.input y ns b
+
 -- the outputs from y on, in order
 abbrev pub CarriesFrom : Size → ℕ → List ℕ → ℕ → List ℕ → List Note → Type 0
 CarriesFrom z w input y [] ns = ns ≡ []

@@ -52,3 +52,23 @@ pub record IsRun (z : Size) (told : Type 0) (n : ℕ) (end : LinesEnd) (old new 
   pub number : v'.number ≡ v.number
   pub frame : v'.frame ≡ v.frame + 2 * carried end n
   pub noted : v'.notes ≡ v.notes ++ (notes ++ last_notes)
+
+-- how many frames were written, and why no more
+pub record Stretch : Type 0 where
+  pub frames : ℕ
+  pub end : LinesEnd
+
+abbrev pub written_till : ℕ → LinesEnd → Stretch
+written_till n end = record { frames = n; end = end }
+
+-- a worker, and the lines that it carries frames of
+pub record Carrier : Type 0 where
+  pub lines : LinesState
+  pub worker : Worker
+
+abbrev pub carrier_at : LinesState → Worker → Carrier
+carrier_at lines worker = record { lines = lines; worker = worker }
+
+-- such a run, from one moment of worker and lines to the other
+abbrev pub Ran : Size → (told : Type 0) → Stretch → (old new : Carrier) → Type 0
+Ran z told s old new = IsRun z told s.frames s.end old.lines new.lines old.worker new.worker

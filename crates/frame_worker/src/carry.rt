@@ -3,8 +3,8 @@ ghost use Rattle.dxc_num.specs.Dimensions.{ports};
 ghost use Rattle.fabric_core.specs.declared.size.Size.{Size};
 ghost use Rattle.fabric_core.specs.declared.worker.Note.{Note};
 ghost use Rattle.fabric_core.specs.Working.{CanBegin};
-ghost use Rattle.frame_worker.specs.Frames.{IsFrame, after_frame};
-ghost use Rattle.frame_worker.specs.Rows.{IsWritten};
+ghost use Rattle.frame_worker.specs.Frames.{IsFrame, after_frame, fed};
+ghost use Rattle.frame_worker.specs.Rows.{IsRowWritten, row_from};
 
 use crate::outputs::{IDLE, Lanes, carry_outputs};
 use dxc_num::Shape;
@@ -48,7 +48,8 @@ fn idle_outputs(shape: Shape, output_module: u16, output: &mut [u8])
     requires place { output_module < shape.modules }
     requires room { length output.old ≡ ports shape }
     ensures { (z : Size) (w : ℕ) (input : List ℕ) → z.shape ≡ shape → output_module % z.workers ≢ w
-        → IsWritten z w input (output_module * shape.slots) shape.slots output.old output.new [] }
+        → IsRowWritten (fed z w input) (row_from (output_module * shape.slots) shape.slots)
+        output.old output.new [] }
 {
     let first = output_module * shape.slots();
     for port in first..first + shape.slots() {

@@ -2,7 +2,7 @@ ghost use Rattle.std.specs.Prelude.{◌≡◌, ◌≢◌, ◌<◌, ◌≤◌, �
 ghost use Rattle.dxc_causes.specs.Causes.{Rose, HasCause};
 ghost use Rattle.dxc_num.specs.Dimensions.{ports};
 ghost use Rattle.fabric_core.specs.Working.{CanBegin};
-ghost use Rattle.frame_worker.specs.Lines.{IsRun, askings};
+ghost use Rattle.frame_worker.specs.Lines.{Ran, askings, carrier_at, written_till};
 
 use crate::carry::carry_frame;
 use dxc_outside::{Frame, Gate, GatePlace, Lines, Pass1, Put};
@@ -41,8 +41,9 @@ pub fn run_lines<N: Lines, G: Gate>(
     requires room { (length input.old ≡ ports fabric.now.size.shape)
         × (length output.old ≡ ports fabric.now.size.shape) }
     ensures fabric { seat.new.reader.fabric ≡ seat.old.reader.fabric }
-    ensures run { (n : ℕ) × IsRun fabric.now.size N.told n result (N.state lines.old)
-        (N.state lines.new) seat.old.reader.worker seat.new.reader.worker
+    ensures run { (n : ℕ) × Ran fabric.now.size N.told (written_till n result)
+        (carrier_at (N.state lines.old) seat.old.reader.worker)
+        (carrier_at (N.state lines.new) seat.new.reader.worker)
         × ((result ≡ LinesEnd.Spent) ↔ (n ≡ 2 ^ 61))
         × G.asked gate.old gate.new (replicate (askings result n) GatePlace.Frame) }
     ensures end { result ≡ LinesEnd.End → (N.state lines.new).ended ≡ true }
@@ -91,10 +92,12 @@ fn run_frame<N: Lines, G: Gate>(
     requires room { (length input.old ≡ ports fabric.now.size.shape)
         × (length output.old ≡ ports fabric.now.size.shape) }
     ensures fabric { seat.new.reader.fabric ≡ seat.old.reader.fabric }
-    ensures run { MatchOption result (IsRun fabric.now.size N.told 1 LinesEnd.Spent
-        (N.state lines.old) (N.state lines.new) seat.old.reader.worker seat.new.reader.worker)
-        (λ e. (e ≢ LinesEnd.Spent) × IsRun fabric.now.size N.told 0 e (N.state lines.old)
-        (N.state lines.new) seat.old.reader.worker seat.new.reader.worker) }
+    ensures run { let before = carrier_at (N.state lines.old) seat.old.reader.worker in
+        let after = carrier_at (N.state lines.new) seat.new.reader.worker in
+        MatchOption result
+        (Ran fabric.now.size N.told (written_till 1 LinesEnd.Spent) before after)
+        (λ e. (e ≢ LinesEnd.Spent)
+        × Ran fabric.now.size N.told (written_till 0 e) before after) }
     ensures end { result ≡ Some LinesEnd.End → (N.state lines.new).ended ≡ true }
     ensures said_end { (N.state lines.new).ended ≡ true
         → (result ≡ Some LinesEnd.End) ⊎ ((N.state lines.old).ended ≡ true) }

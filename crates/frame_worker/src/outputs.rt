@@ -6,8 +6,8 @@ ghost use Rattle.fabric_core.specs.declared.worker.Note.{Note};
 ghost use Rattle.fabric_core.specs.State.{IsSize};
 ghost use Rattle.fabric_core.specs.Working.{Runs, CanLoadOut};
 ghost use Rattle.fabric_words.specs.Places.{out_place};
-ghost use Rattle.frame_worker.specs.Frames.{CarriesOne, with_notes};
-ghost use Rattle.frame_worker.specs.Rows.{lanes_of, IsWritten};
+ghost use Rattle.frame_worker.specs.Frames.{Carries, fed, with_notes};
+ghost use Rattle.frame_worker.specs.Rows.{lanes_of, IsRowWritten, row_from};
 
 use dxc_num::{Port, Shape};
 use fabric_core::cell;
@@ -89,7 +89,7 @@ fn carry_one(
     requires room { length input.now ≡ ports reader.old.fabric.size.shape }
     ensures fabric { reader.new.fabric ≡ reader.old.fabric }
     ensures carried { (ns : List Note) × (reader.new.worker ≡ with_notes ns reader.old.worker)
-        × CarriesOne reader.old.fabric.size reader.old.worker.number input.now output ns result }
+        × Carries (fed reader.old.fabric.size reader.old.worker.number input.now) output ns result }
 {
     let word = reader.load_out(fabric, output, place);
     if word == 0 {
@@ -121,9 +121,9 @@ pub(crate) fn carry_outputs(
         × (length output.old ≡ ports reader.old.fabric.size.shape) }
     ensures fabric { reader.new.fabric ≡ reader.old.fabric }
     ensures carried { (ns : List Note) × (reader.new.worker ≡ with_notes ns reader.old.worker)
-        × IsWritten reader.old.fabric.size reader.old.worker.number input.now
-        (output_module * reader.old.fabric.size.shape.slots) reader.old.fabric.size.shape.slots
-        output.old output.new ns }
+        × IsRowWritten (fed reader.old.fabric.size reader.old.worker.number input.now)
+        (row_from (output_module * reader.old.fabric.size.shape.slots)
+        reader.old.fabric.size.shape.slots) output.old output.new ns }
 {
     let _ = output_module;
     for place in lanes.first..lanes.end {

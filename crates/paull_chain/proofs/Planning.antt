@@ -15,10 +15,10 @@ use Rattle.paull_matrix.specs.Colourings.{Colouring, IsEmpty, IsFree, IsFreeFor,
 use Rattle.paull_matrix.proofs.Legs.{both_sides, module_low}
 use Rattle.paull_chain.specs.Choices.{choice_on, other_middle, IsChosen, IsChainOf, JoinsAfter, JoinsBy, NeedsChain, Plans}
 use Rattle.paull_matrix.specs.Middles.{IsLowest}
-use Rattle.paull_chain.specs.Chains.{Chain, leave}
+use Rattle.paull_chain.specs.Chains.{Chain, leave, pair_of}
 use Rattle.paull_chain.specs.Exchanges.{exchange}
 use Rattle.paull_chain.specs.Paull.{CanJoin}
-use Rattle.paull_chain.specs.Walks.{IsShorter}
+use Rattle.paull_chain.specs.Walks.{IsShorter, row_and_column}
 use Rattle.paull_chain.proofs.Bound.{short}
 use Rattle.paull_chain.proofs.Seconds.{chain_walk}
 use Rattle.paull_chain.proofs.Exchanging.{length_exchange}
@@ -49,14 +49,14 @@ module _ (c : Colouring) (l : Leg) (a b : ℕ) (p : IsProperColouring c) (i : Is
   column_low : module_on c.shape Column l < c.shape.modules
   column_low = module_low c.shape Column l i
 
-  pub shorter_low : (s : Side) (ls : List Leg) → IsShorter c a b (module_on c.shape Row l) (module_on c.shape Column l) s ls → length ls + 1 ≤ c.shape.modules
+  pub shorter_low : (s : Side) (ls : List Leg) → IsShorter c (pair_of a b) (row_and_column (module_on c.shape Row l) (module_on c.shape Column l)) s ls → length ls + 1 ≤ c.shape.modules
   shorter_low Row ls h =
       let f = short c a b p (module_on c.shape Row l) (module_on c.shape Column l) ls h.1.0 n.in_row.1 n.in_column.1 row_low column_low (chain_walk c a b Row (module_on c.shape Row l) ls h.0) h.1.1 in let e = h.1.2 in omega arith
   shorter_low Column ls h =
       let f = short c a b p (module_on c.shape Row l) (module_on c.shape Column l) h.1.0 ls n.in_row.1 n.in_column.1 row_low column_low h.1.1 (chain_walk c a b Column (module_on c.shape Column l) ls h.0) in let e = h.1.2 in omega arith
 
   -- the shorter chain is the one that is chosen
-  pub chosen : (s : Side) (ls : List Leg) → IsShorter c a b (module_on c.shape Row l) (module_on c.shape Column l) s ls → IsChosen c l (leave a b s) (choice_on s (record { 0 = a }) (record { 0 = b })).chain
+  pub chosen : (s : Side) (ls : List Leg) → IsShorter c (pair_of a b) (row_and_column (module_on c.shape Row l) (module_on c.shape Column l)) s ls → IsChosen c l (leave a b s) (choice_on s (record { 0 = a }) (record { 0 = b })).chain
   chosen Row ls h =
       let whole = column_chain c a b p (module_on c.shape Row l) (module_on c.shape Column l) n.in_row.1 n.in_column.1 row_low column_low in
       let le = walk_within c a b p Column (module_on c.shape Column l) h.1.0 whole.0 h.1.1 whole.1 in
@@ -66,7 +66,7 @@ module _ (c : Colouring) (l : Leg) (a b : ℕ) (p : IsProperColouring c) (i : Is
       let le = walk_within c a b p Row (module_on c.shape Row l) h.1.0 whole.0 h.1.1 whole.1 in
       let size = h.1.2 in (n, (whole.0, ls, record { row = whole.1; column = h.0 }, omega arith))
 
-  pub whole : (s : Side) (ls : List Leg) → IsShorter c a b (module_on c.shape Row l) (module_on c.shape Column l) s ls → Chain c a b s (module_on c.shape s l) ls
+  pub whole : (s : Side) (ls : List Leg) → IsShorter c (pair_of a b) (row_and_column (module_on c.shape Row l) (module_on c.shape Column l)) s ls → Chain c a b s (module_on c.shape s l) ls
   whole Row ls h = h.0
   whole Column ls h = h.0
 
@@ -89,7 +89,7 @@ module _ (c : Colouring) (l : Leg) (a b : Middle) (p : IsProperColouring c) (i :
   joins_after Column ls op h short is = joined c l (choice_on Column a b) ls op h short (by_chain c a.0 b.0 p Column l ls i u e la lb ab free clear h (omega arith)) is
 
   -- the shorter chain gives the plan
-  pub plans : NeedsChain c l a.0 b.0 → (s : Side) (ls : List Leg) (op : LegOp) → IsShorter c a.0 b.0 (module_on c.shape Row l) (module_on c.shape Column l) s ls → JoinsAfter l (choice_on s a b) ls c.shape.slots op → Plans c l op
+  pub plans : NeedsChain c l a.0 b.0 → (s : Side) (ls : List Leg) (op : LegOp) → IsShorter c (pair_of a.0 b.0) (row_and_column (module_on c.shape Row l) (module_on c.shape Column l)) s ls → JoinsAfter l (choice_on s a b) ls c.shape.slots op → Plans c l op
   plans n Row ls op h is = let short = shorter_low c l a.0 b.0 p i n Row ls h in (choice_on Row a b, chosen c l a.0 b.0 p i n Row ls h, joins_after Row ls op (whole c l a.0 b.0 p i n Row ls h) (omega arith) is)
   plans n Column ls op h is = let short = shorter_low c l a.0 b.0 p i n Column ls h in (choice_on Column a b, chosen c l a.0 b.0 p i n Column ls h, joins_after Column ls op (whole c l a.0 b.0 p i n Column ls h) (omega arith) is)
 

@@ -10,6 +10,14 @@ abbrev pub other : Side → Side
 other Row = Column
 other Column = Row
 
+-- two middles, on which the legs of a chain stand in turn
+pub record MiddlePair : Type 0 where
+  pub a : ℕ
+  pub b : ℕ
+
+abbrev pub pair_of : ℕ → ℕ → MiddlePair
+pair_of a b = record { a = a; b = b }
+
 -- a chain leaves a row on b, and a column on a
 abbrev pub leave : ℕ → ℕ → Side → ℕ
 leave a b Row = b

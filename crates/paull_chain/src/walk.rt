@@ -6,8 +6,8 @@ ghost use Rattle.dxc_num.specs.declared.port.Leg.{Leg};
 ghost use Rattle.dxc_num.specs.Dimensions.{IsInside};
 ghost use Rattle.paull_matrix.specs.declared.side.Side.TheVariants.{Row, Column};
 ghost use Rattle.paull_matrix.specs.Colourings.{IsFree, IsOn, module_on};
-ghost use Rattle.paull_chain.specs.Chains.{leave, other};
-ghost use Rattle.paull_chain.specs.Walks.{GoesOn, IsShortChain, IsShorter, legs_on};
+ghost use Rattle.paull_chain.specs.Chains.{leave, other, pair_of};
+ghost use Rattle.paull_chain.specs.Walks.{GoesOn, IsShortChain, IsShorter, lane_on, legs_on, row_and_column};
 
 use arrayvec::ArrayVec;
 use dxc_num::{Leg, Middle, Shape};
@@ -60,7 +60,8 @@ fn extend(
     ensures whole { IfNone result (IsFree matrix.now side «module» (leave a.0 b.0 side)
         × (legs.new.items ≡ legs.old.items)) }
     ensures more { IfSome result
-        (GoesOn matrix.now a.0 b.0 side «module» legs.old.items legs.new.items) }
+        (GoesOn matrix.now (pair_of a.0 b.0) (lane_on side «module») legs.old.items
+        legs.new.items) }
     ensures low { IfSome result (λ n. n < matrix.now.shape.modules) }
 {
     let shape = matrix.shape();
@@ -88,7 +89,7 @@ pub fn shorter(
         × (a.0 ≤ matrix.now.shape.slots) × (b.0 ≤ matrix.now.shape.slots) }
     requires free { IsFree matrix.now Row row a.0 × IsFree matrix.now Column column b.0 }
     requires none { (rows.old.items ≡ []) × (columns.old.items ≡ []) }
-    ensures { IsShorter matrix.now a.0 b.0 row column result
+    ensures { IsShorter matrix.now (pair_of a.0 b.0) (row_and_column row column) result
         (legs_on result rows.new.items columns.new.items) }
 {
     let _shape = matrix.shape();
@@ -142,9 +143,10 @@ pub fn short_chain(
         × (a.0 ≤ matrix.now.shape.slots) × (b.0 ≤ matrix.now.shape.slots) }
     requires none { legs.old.items ≡ [] }
     ensures whole { let m = module_on matrix.now.shape side leg in
-        OnTrue result (IsShortChain matrix.now a.0 b.0 side m legs.new.items) }
+        OnTrue result (IsShortChain matrix.now (pair_of a.0 b.0) side m legs.new.items) }
     ensures longer { let m = module_on matrix.now.shape side leg in
-        OnFalse result ((ls : List Leg) → ¬ IsShortChain matrix.now a.0 b.0 side m ls) }
+        OnFalse result
+        ((ls : List Leg) → ¬ IsShortChain matrix.now (pair_of a.0 b.0) side m ls) }
 {
     let shape = matrix.shape();
     let mut module = module_of(shape, side, leg);

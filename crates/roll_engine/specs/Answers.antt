@@ -63,6 +63,18 @@ AnswerIs z before left m m' answer.Done = left ≡ []
 AnswerIs z before left m m' (answer.InFrame f) = IsInFrame z before left m m' f
 AnswerIs z before left m m' answer.Stopped = left ≢ []
 
+-- the writes that are left to a mover
+pub record Ahead : Type 0 where
+  pub mover : Mover
+  pub writes : List RegWrite
+
+abbrev pub ahead_of : Mover → List RegWrite → Ahead
+ahead_of m writes = record { mover = m; writes = writes }
+
+-- the same by what was left before and after
+abbrev pub IsAnswer : Size → (old new : Ahead) → Advance → Type 0
+IsAnswer z old new a = AnswerIs z old.writes new.writes old.mover new.mover a
+
 -- what came of one write
 abbrev pub StepIs : Size → RegWrite → Mover → Mover → Step → Type 0
 StepIs z w m m' step.Made = (fs : List (ℕ × ℕ)) × (a : Mover) × Looks z fs m a × Makes z w a m'

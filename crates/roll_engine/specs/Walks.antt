@@ -2,6 +2,7 @@
 use Rattle.std.specs.Prelude.{◌≡◌, ◌≢◌, ℕ, List, []}
 use Rattle.dxc_causes.specs.Stops.{RoseOnlyFor}
 use Rattle.dxc_num.specs.declared.register.RegWrite.{RegWrite}
+use Rattle.dxc_outside.specs.declared.gate.Gate.{Ghosts as GateOf}
 use Rattle.dxc_outside.specs.declared.gate.GatePlace.{GatePlace}
 use Rattle.fabric_core.specs.declared.size.Size.{Size}
 use Rattle.fabric_core.specs.declared.mover.Mover.{Mover}
@@ -24,3 +25,16 @@ pub record Walks {G : Type 0} (stops : G → ℕ) (asks : G → G → List GateP
   pub halted : IsHalted z (rest_of old) (rest_of new) m m' a
   pub stopped : RoseOnlyFor (stops g) (stops g') (a ≡ answer.Stopped)
   pub asked : asks g g' (asked_at (rest_of old) (rest_of new) a)
+
+-- the work in hand, the mover that makes its writes, and the gate that is asked before each
+pub record Walker (G : Type 0) : Type 0 where
+  pub rolling : RollingAt
+  pub mover : Mover
+  pub gate : G
+
+abbrev pub walker_at : {G : Type 0} → RollingAt → Mover → G → Walker G
+walker_at r m g = record { rolling = r; mover = m; gate = g }
+
+-- the same of one moment and the other
+abbrev pub WalksOn : {G : Type 0} → GateOf G → Size → (old new : Walker G) → Advance → Type 0
+WalksOn gate z old new a = Walks gate.stops gate.asked z old.rolling new.rolling old.mover new.mover old.gate new.gate a

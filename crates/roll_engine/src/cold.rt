@@ -2,7 +2,7 @@
 ghost use Rattle.std.specs.Prelude.{◌≡◌, ◌≢◌, ◌++◌, ℕ};
 ghost use Rattle.dxc_causes.specs.Stops.{RoseOnlyFor};
 ghost use Rattle.roll_engine.specs.Stages.{IsAtRestOn};
-ghost use Rattle.roll_engine.specs.Answers.{Advances, AnswerIs, asked_at};
+ghost use Rattle.roll_engine.specs.Answers.{Advances, IsAnswer, ahead_of, asked_at};
 ghost use Rattle.roll_engine.specs.Cold.{IsCold, IsColdAt, left_of};
 ghost use Rattle.roll_engine.specs.Leading.{IsColdLeading};
 
@@ -33,8 +33,9 @@ pub fn advance_cold<G: Gate>(
     ensures written { mover.new.mover.written ++ left_of matrix.now mover.new.mover rolling.new
         ≡ mover.old.mover.written ++ left_of matrix.now mover.old.mover rolling.old }
     ensures kept { IsCold rolling.old → IsCold rolling.new }
-    ensures answer { AnswerIs mover.old.fabric.size (left_of matrix.now mover.old.mover rolling.old)
-        (left_of matrix.now mover.new.mover rolling.new) mover.old.mover mover.new.mover result }
+    ensures answer { IsAnswer mover.old.fabric.size
+        (ahead_of mover.old.mover (left_of matrix.now mover.old.mover rolling.old))
+        (ahead_of mover.new.mover (left_of matrix.now mover.new.mover rolling.new)) result }
     ensures done { result ≡ Advance.Done
         → IsAtRestOn mover.old.fabric.size matrix.now mover.new.mover }
     ensures cold { IsColdAt mover.old.fabric.size matrix.now rolling.old mover.old.mover

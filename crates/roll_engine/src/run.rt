@@ -5,8 +5,8 @@ ghost use Rattle.roll_plan.specs.Works.{writes_of};
 ghost use Rattle.roll_plan.specs.Nexts.{Begins, BeginsMove, IsNext};
 ghost use Rattle.roll_engine.specs.Courses.{IsReady};
 ghost use Rattle.roll_engine.specs.Rollings.{at_step, rest_of};
-ghost use Rattle.roll_engine.specs.Answers.{AnswerIs, GoesOn, asked_at};
-ghost use Rattle.roll_engine.specs.Walks.{Walks};
+ghost use Rattle.roll_engine.specs.Answers.{GoesOn, IsAnswer, ahead_of, asked_at};
+ghost use Rattle.roll_engine.specs.Walks.{WalksOn, walker_at};
 
 use crate::answer::{Advance, Step};
 use crate::make::step_on;
@@ -32,8 +32,9 @@ fn write_on<G: Gate>(
     requires ready { IsReady fabric.now.size (rest_of (at_step made.old rolling.now))
         mover.old.mover }
     ensures own { mover.new.fabric ≡ fabric.now }
-    ensures walks { Walks G.stops G.asked fabric.now.size (at_step made.old rolling.now)
-        (at_step made.new rolling.now) mover.old.mover mover.new.mover gate.old gate.new result }
+    ensures walks { WalksOn G.Gate fabric.now.size
+        (walker_at (at_step made.old rolling.now) mover.old.mover gate.old)
+        (walker_at (at_step made.new rolling.now) mover.new.mover gate.new) result }
     ensures one { result ≡ Advance.Done → made.new ≡ made.old + 1 }
 {
     // Whose write it is only the contract asks.
@@ -66,8 +67,9 @@ fn write_two<G: Gate>(
     requires ready { IsReady fabric.now.size (rest_of (at_step made.old rolling.now))
         mover.old.mover }
     ensures own { mover.new.fabric ≡ fabric.now }
-    ensures walks { Walks G.stops G.asked fabric.now.size (at_step made.old rolling.now)
-        (at_step made.new rolling.now) mover.old.mover mover.new.mover gate.old gate.new result }
+    ensures walks { WalksOn G.Gate fabric.now.size
+        (walker_at (at_step made.old rolling.now) mover.old.mover gate.old)
+        (walker_at (at_step made.new rolling.now) mover.new.mover gate.new) result }
     ensures two { result ≡ Advance.Done → made.new ≡ made.old + 2 }
 {
     match write_on(fabric, mover, rolling, made, first, gate) {
@@ -94,8 +96,9 @@ fn move_on<G: Gate>(
     requires ready { IsReady fabric.now.size (rest_of (at_step made.old rolling.now))
         mover.old.mover }
     ensures own { mover.new.fabric ≡ fabric.now }
-    ensures walks { Walks G.stops G.asked fabric.now.size (at_step made.old rolling.now)
-        (at_step made.new rolling.now) mover.old.mover mover.new.mover gate.old gate.new result }
+    ensures walks { WalksOn G.Gate fabric.now.size
+        (walker_at (at_step made.old rolling.now) mover.old.mover gate.old)
+        (walker_at (at_step made.new rolling.now) mover.new.mover gate.new) result }
     ensures all { result ≡ Advance.Done → made.new ≡ made.old + 5 }
 {
     let set_in = move_write(step, 0);
@@ -130,8 +133,9 @@ fn three_on<G: Gate>(
     requires ready { IsReady fabric.now.size (rest_of (at_step made.old rolling.now))
         mover.old.mover }
     ensures own { mover.new.fabric ≡ fabric.now }
-    ensures walks { Walks G.stops G.asked fabric.now.size (at_step made.old rolling.now)
-        (at_step made.new rolling.now) mover.old.mover mover.new.mover gate.old gate.new result }
+    ensures walks { WalksOn G.Gate fabric.now.size
+        (walker_at (at_step made.old rolling.now) mover.old.mover gate.old)
+        (walker_at (at_step made.new rolling.now) mover.new.mover gate.new) result }
     ensures all { result ≡ Advance.Done → made.new ≡ made.old + 3 }
 {
     match write_two(fabric, mover, rolling, made, writes[0], writes[1], gate) {
@@ -157,8 +161,9 @@ fn one_on<G: Gate>(
     requires next { slice_get (writes_of rolling.now.work) made ≡ Some write }
     requires ready { IsReady fabric.now.size (rest_of (at_step made rolling.now)) mover.old.mover }
     ensures own { mover.new.fabric ≡ fabric.now }
-    ensures walks { Walks G.stops G.asked fabric.now.size (at_step made rolling.now)
-        (at_step result.1 rolling.now) mover.old.mover mover.new.mover gate.old gate.new result.0 }
+    ensures walks { WalksOn G.Gate fabric.now.size
+        (walker_at (at_step made rolling.now) mover.old.mover gate.old)
+        (walker_at (at_step result.1 rolling.now) mover.new.mover gate.new) result.0 }
     ensures one { result.0 ≡ Advance.Done → result.1 ≡ made + 1 }
 {
     let mut count = made;
@@ -182,8 +187,9 @@ fn next_on<G: Gate>(
     requires ready { IsReady fabric.now.size (rest_of (at_step made.old rolling.now))
         mover.old.mover }
     ensures own { mover.new.fabric ≡ fabric.now }
-    ensures walks { Walks G.stops G.asked fabric.now.size (at_step made.old rolling.now)
-        (at_step made.new rolling.now) mover.old.mover mover.new.mover gate.old gate.new result }
+    ensures walks { WalksOn G.Gate fabric.now.size
+        (walker_at (at_step made.old rolling.now) mover.old.mover gate.old)
+        (walker_at (at_step made.new rolling.now) mover.new.mover gate.new) result }
     ensures more { result ≡ Advance.Done → made.old < made.new }
 {
     match next {
@@ -229,8 +235,9 @@ fn moves_on<G: Gate>(
     requires ready { IsReady fabric.now.size (rest_of (at_step made.old rolling.now))
         mover.old.mover }
     ensures own { mover.new.fabric ≡ fabric.now }
-    ensures walks { Walks G.stops G.asked fabric.now.size (at_step made.old rolling.now)
-        (at_step made.new rolling.now) mover.old.mover mover.new.mover gate.old gate.new result }
+    ensures walks { WalksOn G.Gate fabric.now.size
+        (walker_at (at_step made.old rolling.now) mover.old.mover gate.old)
+        (walker_at (at_step made.new rolling.now) mover.new.mover gate.new) result }
 {
     if *made != 0 {
         return Advance::Done;
@@ -257,8 +264,9 @@ fn writes_on<G: Gate>(
     requires ready { IsReady fabric.now.size (rest_of (at_step made.old rolling.now))
         mover.old.mover }
     ensures own { mover.new.fabric ≡ fabric.now }
-    ensures walks { Walks G.stops G.asked fabric.now.size (at_step made.old rolling.now)
-        (at_step made.new rolling.now) mover.old.mover mover.new.mover gate.old gate.new result }
+    ensures walks { WalksOn G.Gate fabric.now.size
+        (walker_at (at_step made.old rolling.now) mover.old.mover gate.old)
+        (walker_at (at_step made.new rolling.now) mover.new.mover gate.new) result }
     ensures all { result ≡ Advance.Done → rest_of (at_step made.new rolling.now) ≡ [] }
 {
     match moves_on(fabric, mover, rolling, made, gate) {
@@ -288,8 +296,9 @@ pub fn advance<G: Gate>(
     ensures goes_on { GoesOn mover.old.fabric.size rolling.old rolling.new mover.old.mover
         mover.new.mover }
     ensures ready { IsReady mover.old.fabric.size (rest_of rolling.new) mover.new.mover }
-    ensures answer { AnswerIs mover.old.fabric.size (rest_of rolling.old) (rest_of rolling.new)
-        mover.old.mover mover.new.mover result }
+    ensures answer { IsAnswer mover.old.fabric.size
+        (ahead_of mover.old.mover (rest_of rolling.old))
+        (ahead_of mover.new.mover (rest_of rolling.new)) result }
     ensures written { mover.new.mover.written ++ rest_of rolling.new
         ≡ mover.old.mover.written ++ rest_of rolling.old }
     ensures stopped { RoseOnlyFor (G.stops gate.old) (G.stops gate.new) (result ≡ Advance.Stopped) }

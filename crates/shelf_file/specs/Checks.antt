@@ -19,9 +19,18 @@ fault_of key user (Some (Some x)) = None
 abbrev pub fault_at : {X : Type 0} → ShelfKey → ℕ → List ℕ → (Data → Option X) → Members → Option ShelfFault
 fault_at key user name read t = fault_of key user (option_map read (get_member name t))
 
+-- a key, of the user of that number where it is a user's, and its name in the file
+pub record Entry : Type 0 where
+  pub key : ShelfKey
+  pub user : ℕ
+  pub name : List ℕ
+
+abbrev pub entry_of : ShelfKey → ℕ → List ℕ → Entry
+entry_of key user name = record { key = key; user = user; name = name }
+
 -- a reading of a key gives its value, or what is wrong with it
-abbrev pub IsReading : {X : Type 0} → ShelfKey → ℕ → List ℕ → (Data → Option X) → Members → Result X ShelfFault → Type 0
-IsReading key user name read t r = MatchResult r (λ x. value_at name read t ≡ Some x) (λ f. fault_at key user name read t ≡ Some f)
+abbrev pub IsReading : {X : Type 0} → Entry → (Data → Option X) → Members → Result X ShelfFault → Type 0
+IsReading e read t r = MatchResult r (λ x. value_at e.name read t ≡ Some x) (λ f. fault_at e.key e.user e.name read t ≡ Some f)
 
 -- the same of a key that may be left out
 abbrev pub fault_if_there : {X : Type 0} → ShelfKey → ℕ → Option (Option X) → Option ShelfFault

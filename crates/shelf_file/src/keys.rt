@@ -2,7 +2,7 @@ ghost use Rattle.std.specs.Prelude.{◌≡◌, Some, None, MatchResult, codes};
 ghost use Rattle.toml.specs.Data.{get_member};
 ghost use Rattle.toml.specs.View.{view, table_view};
 ghost use Rattle.shelf_file.specs.Keys.{sid_of, modules_of, slots_of, uid_of, class_of, salt_of, digest_of, value_at as value_of};
-ghost use Rattle.shelf_file.specs.Checks.{IsReading, fault_at};
+ghost use Rattle.shelf_file.specs.Checks.{IsReading, entry_of, fault_at};
 
 use crate::document::value_at;
 use crate::fault::{ShelfFault, ShelfKey};
@@ -31,7 +31,8 @@ pub fn required<'a>(
 }
 
 pub fn sid_at(table: &Table) -> Result<Sid, ShelfFault>
-    ensures { IsReading ShelfKey.Sid 0 (codes "sid") sid_of (table_view table.now) result }
+    ensures { IsReading (entry_of ShelfKey.Sid 0 (codes "sid")) sid_of (table_view table.now)
+        result }
 {
     let key = ShelfKey::Sid;
     let value = required(table, "sid", key, 0)?;
@@ -39,8 +40,8 @@ pub fn sid_at(table: &Table) -> Result<Sid, ShelfFault>
 }
 
 pub fn modules_at(table: &Table) -> Result<u16, ShelfFault>
-    ensures { IsReading ShelfKey.Modules 0 (codes "modules") modules_of (table_view table.now)
-        result }
+    ensures { IsReading (entry_of ShelfKey.Modules 0 (codes "modules")) modules_of
+        (table_view table.now) result }
 {
     let key = ShelfKey::Modules;
     let value = required(table, "modules", key, 0)?;
@@ -48,7 +49,8 @@ pub fn modules_at(table: &Table) -> Result<u16, ShelfFault>
 }
 
 pub fn slots_at(table: &Table) -> Result<u16, ShelfFault>
-    ensures { IsReading ShelfKey.Slots 0 (codes "slots") slots_of (table_view table.now) result }
+    ensures { IsReading (entry_of ShelfKey.Slots 0 (codes "slots")) slots_of (table_view table.now)
+        result }
 {
     let key = ShelfKey::Slots;
     let value = required(table, "slots", key, 0)?;
@@ -67,7 +69,8 @@ pub fn uid_at(table: &Table, user: u16) -> Result<Uid, ShelfFault>
 }
 
 pub fn class_at(table: &Table, user: u16) -> Result<Class, ShelfFault>
-    ensures { IsReading ShelfKey.Class user (codes "class") class_of (table_view table.now) result }
+    ensures { IsReading (entry_of ShelfKey.Class user (codes "class")) class_of
+        (table_view table.now) result }
 {
     let key = ShelfKey::Class;
     let value = required(table, "class", key, user)?;
@@ -85,8 +88,8 @@ pub fn salt_at(table: &Table, user: u16) -> Result<ArrayVec<u8, 32>, ShelfFault>
 }
 
 pub fn digest_at(table: &Table, user: u16) -> Result<[u8; 32], ShelfFault>
-    ensures { IsReading ShelfKey.Digest user (codes "digest") digest_of (table_view table.now)
-        result }
+    ensures { IsReading (entry_of ShelfKey.Digest user (codes "digest")) digest_of
+        (table_view table.now) result }
 {
     let key = ShelfKey::Digest;
     let value = required(table, "digest", key, user)?;

@@ -1,7 +1,7 @@
 -- Calls on a disk one behind the other, and the moments that they are of a standby's primary.
 use Rattle.std.specs.Prelude.{◌≡◌, ℕ, ◌+◌, ◌^◌, ◌<◌, List, [], ◌∷◌, ◌++◌, length, Some, None, slice_get, Result, MatchResult}
 use Rattle.dxc_disk.specs.declared.disk.DiskFault.{DiskFault}
-use Rattle.dxc_disk.specs.Disks.{DiskState, Elapses, IsLength, IsRead, IsSync, IsWrite, Looks}
+use Rattle.dxc_disk.specs.Disks.{DiskState, Elapses, IsLength, IsRead, IsSync, IsWrite, Looks, bytes_at}
 use Rattle.dxc_outside.specs.Links.{LinkState}
 use Rattle.standby_link.specs.declared.line.Line.{Line}
 use Rattle.standby_link.specs.Acts.{write as put, acted, pieces}
@@ -43,8 +43,8 @@ read_in state (moves d ∷ cs) = (state d).reads_as ∷ read_in state cs
 -- what a disk's trait says of a call makes it one of these
 pub record CallsAreOfRuns {D : Type 0} (told : Type 0) (state : D → DiskState) : Type 0 where
   pub measured : told → (d e : D) (result : Result ℕ DiskFault) → IsLength told (state d) (state e) result → IsCall state d (looks e)
-  pub read : told → (d e : D) (result : Result (Unit {0}) DiskFault) (at : ℕ) (into : List ℕ) → IsRead told (state d) (state e) result at into → IsCall state d (looks e)
-  pub written : told → (d e : D) (result : Result (Unit {0}) DiskFault) (at : ℕ) (from : List ℕ) → IsWrite told (state d) (state e) result at from → IsCall state d (moves e)
+  pub read : told → (d e : D) (result : Result (Unit {0}) DiskFault) (at : ℕ) (into : List ℕ) → IsRead told (state d) (state e) result (bytes_at at into) → IsCall state d (looks e)
+  pub written : told → (d e : D) (result : Result (Unit {0}) DiskFault) (at : ℕ) (from : List ℕ) → IsWrite told (state d) (state e) result (bytes_at at from) → IsCall state d (moves e)
   pub synced : told → (d e : D) (result : Result (Unit {0}) DiskFault) → IsSync told (state d) (state e) result → IsCall state d (moves e)
 
 -- What the disk read before such calls or at a moment of them, a crash since then might have left.

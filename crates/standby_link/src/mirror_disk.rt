@@ -1,5 +1,5 @@
 ghost use Rattle.std.specs.Prelude.{◌≡◌, ◌+◌, ◌-◌, ◌^◌, ◌≤◌, ◌<◌, length, None, IsSome, MatchOption, IsSomeAnd};
-ghost use Rattle.dxc_disk.specs.Disks.{IsLength, IsRead, IsWrite, IsSync, Looks, Spends};
+ghost use Rattle.dxc_disk.specs.Disks.{IsLength, IsRead, IsWrite, IsSync, Looks, Spends, bytes_at};
 ghost use Rattle.standby_link.specs.Lines.{line_at, IsHungUp};
 ghost use Rattle.standby_link.specs.Moves.{Both, mirrored, first_line, TellsWrite, StepsByWrite, SendsFile, Joins, TookHaves, IsSmall, mirror_of};
 ghost use Rattle.standby_link.specs.Acts.{pieces};
@@ -106,7 +106,7 @@ impl<D: Disk, K: Link> Disk for MirrorDisk<D, K> {
     fn read(&mut self, at: u64, into: &mut [u8]) -> Result<(), DiskFault>
         requires { D.told → at + length into.old ≤ length (D.state self.old.disk.disk).reads_as }
         ensures read { IsRead D.told (D.state self.old.disk.disk)
-            (D.state self.new.disk.disk) result at into.new }
+            (D.state self.new.disk.disk) result (bytes_at at into.new) }
         ensures line { self.new.line ≡ self.old.line }
     {
         self.disk.read(at, into)
@@ -116,7 +116,7 @@ impl<D: Disk, K: Link> Disk for MirrorDisk<D, K> {
         requires within { D.told → at ≤ length (D.state self.old.disk.disk).reads_as }
         requires short { length from.now ≤ 4096 }
         ensures write { IsWrite D.told (D.state self.old.disk.disk)
-            (D.state self.new.disk.disk) result at from.now }
+            (D.state self.new.disk.disk) result (bytes_at at from.now) }
         ensures tells { Both self.old.line self.new.line
             (λ l m. TellsWrite K.told (line_at K.state l) (line_at K.state m) at from.now result) }
         ensures steps { Both self.old.line self.new.line

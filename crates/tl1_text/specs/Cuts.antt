@@ -64,6 +64,12 @@ pub record IsCode (unit : List ℕ) (end : ℕ) : Type 0 where
   pub colon : slice_index unit end ≡ 58
   pub words : are_words 3 false (slice_range unit 0 end) ≡ true
 
+-- how far the cutting of a unit has come: the spans of the blocks that are done, where the one in hand starts, and how many parameters it has so far
+pub record Headway : Type 0 where
+  pub found : List Span
+  pub start : ℕ
+  pub params : ℕ
+
 -- behind its code the unit is cut as far as a place outside quotes, which the byte before it tells
 pub record IsCutOn (unit : List ℕ) (code at : ℕ) (found : List Span) (start params : ℕ) : Type 0 where
   pub place : Place
@@ -77,3 +83,7 @@ pub record IsCutOn (unit : List ℕ) (code at : ℕ) (found : List Span) (start 
   pub further : List Span
   pub found_is : found ≡ record { start = 0; end = code } ∷ further
   pub room : length found ≤ 9
+
+-- the same, with what is cut so far as one thing
+abbrev pub IsCutSoFar : List ℕ → ℕ → ℕ → Headway → Type 0
+IsCutSoFar unit code at so_far = IsCutOn unit code at so_far.found so_far.start so_far.params

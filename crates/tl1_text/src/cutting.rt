@@ -1,9 +1,9 @@
 // Cuts a unit into the spans of its blocks, in one pass.
-ghost use Rattle.std.specs.Prelude.{◌≡◌, ◌≤◌, ◌<◌, ℕ, List, [], None, true, false, length, slice_index, IfSome, MatchOption};
+ghost use Rattle.std.specs.Prelude.{◌≡◌, ◌≤◌, ◌<◌, ℕ, [], None, true, false, length, slice_index, IfSome, MatchOption};
 ghost use Rattle.tl1_text.specs.Grammar.{is_plain as plain};
 ghost use Rattle.tl1_text.specs.Walk.{blocks_of};
 ghost use Rattle.tl1_text.specs.Spans.{AreBlocksOf};
-ghost use Rattle.tl1_text.specs.Cuts.{is_mark as mark, IsCode, IsCutOn};
+ghost use Rattle.tl1_text.specs.Cuts.{is_mark as mark, IsCode, Headway, IsCutSoFar};
 
 use crate::letter::{is_inner, is_letter_or_digit, is_plain};
 use crate::span::Span;
@@ -90,9 +90,9 @@ pub fn quotes_end(unit: &[u8], at: usize) -> Option<usize>
     requires within { at < length unit.now }
     requires not_plain { plain (slice_index unit.now at) ≡ false }
     requires not_mark { mark (slice_index unit.now at) ≡ false }
-    ensures cut { (code : ℕ) → (found : List Span) → (start params : ℕ)
-        → IsCutOn unit.now code at found start params → MatchOption result
-        (blocks_of unit.now ≡ None) (λ end. IsCutOn unit.now code end found start params) }
+    ensures cut { (code : ℕ) → (so_far : Headway) → IsCutSoFar unit.now code at so_far
+        → MatchOption result (blocks_of unit.now ≡ None)
+        (λ end. IsCutSoFar unit.now code end so_far) }
     ensures forwards { IfSome result (λ end. at < end) }
 {
     if !is_mark(unit[at - 1]) {

@@ -8,6 +8,7 @@ pub mod Recoveries
 pub mod Endings
 pub mod Begins
 pub mod Finishes
+pub mod Gathered
 pub mod States
 pub mod Seeing
 pub mod Coding

@@ -8,12 +8,13 @@ ghost use Rattle.dxc_model.specs.declared.op.Op.{Op};
 ghost use Rattle.dxc_model.specs.Tables.{IsOfShape};
 ghost use Rattle.journal_core.specs.declared.spare.Spare.TheVariants.{Drafted, Open};
 ghost use Rattle.journal_core.specs.Books.{IsReady, IsWhole, draft_of, is_drafted, listed, rows};
-ghost use Rattle.journal_core.specs.Turns.{Keeps};
+ghost use Rattle.journal_core.specs.Turns.{Keeps, book_on};
 ghost use Rattle.xc_journal.specs.Entries.{FitsConn};
 ghost use Rattle.xc_recovery.specs.Placings.{IsPlaced};
 ghost use Rattle.xc_recovery.specs.Rows.{checkpoint};
 ghost use Rattle.xc_core.specs.Reckonings.{IsTable, Past};
-ghost use Rattle.xc_core.specs.Journals.{IsAtHome, IsCounted, IsOldOrDoubted, StillCounts};
+ghost use Rattle.xc_core.specs.Journals.{IsAtHome, IsCounted, IsOldOrDoubted};
+ghost use Rattle.xc_core.specs.Gathered.{StillCountsIn};
 
 use dxc_disk::{Disk, DiskFault};
 use dxc_model::Table;
@@ -105,8 +106,9 @@ pub(crate) fn write_checkpoint<D: Disk>(
         → IsAtHome D.told (D.state journal.old.0) journal.old.1 b doubt
         → LeavesOnly (D.state journal.old.0) (D.state journal.new.0)
         (IsCounted (D.state journal.old.0) journal.old.1 table.now matrix.now) }
-    ensures counts { D.told → OnOk result (StillCounts (D.state journal.old.0) journal.old.1
-        (D.state journal.new.0) journal.new.1 table.now matrix.now) }
+    ensures counts { D.told → OnOk result
+        (StillCountsIn (book_on (D.state journal.old.0) journal.old.1)
+        (book_on (D.state journal.new.0) journal.new.1) table.now matrix.now) }
     ensures cause { HasCause (D.state journal.old.0).faults (D.state journal.new.0).faults
         (IsErr result) }
     ensures room { Spends 4_600_042 (D.state journal.old.0) (D.state journal.new.0) }

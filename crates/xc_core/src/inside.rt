@@ -5,7 +5,8 @@ ghost use Rattle.dxc_model.specs.declared.op.Op.{Op};
 ghost use Rattle.dxc_model.specs.declared.entry.Outcome.TheVariants.{Done};
 ghost use Rattle.dxc_model.specs.Operations.{IsApt};
 ghost use Rattle.roll_engine.specs.Rollings.{rest_of};
-ghost use Rattle.xc_core.specs.Seeing.{HasTaken, entry, refused as refused_by};
+ghost use Rattle.xc_core.specs.Seeing.{entry, refused as refused_by};
+ghost use Rattle.xc_core.specs.Gathered.{IsOutForChange, outing_of};
 ghost use Rattle.xc_core.specs.States.{Opening, StandsFor};
 ghost use Rattle.xc_core.specs.Turns.{journal_home, journal_taken, outcome_of as outcome_for};
 ghost use Rattle.xc_core.specs.Views.{CutsPlanned, CutsWork, DeniesIn, FailsHome, TakesOut};
@@ -70,11 +71,11 @@ pub fn fail<D: Disk + Drop>(state: &mut State<D>, driver: Box<Driver<D>>)
 pub fn bring<D: Disk + Drop>(state: &mut State<D>, driver: Box<Driver<D>>) -> Change
     requires taken { (o : Opening) × (own : ℕ) × (h : List Entry) × (op : Op)
         × (o.first.changes ≡ 0) × StandsFor D.told D.state o state.old h
-        × HasTaken D.told D.state o own op h driver.value.p driver.value.rolling }
+        × IsOutForChange D.Disk (outing_of o own h op) driver.value }
     requires done { rest_of driver.value.rolling ≡ [] }
     ensures done { (o : Opening) → (own : ℕ) → (h : List Entry) → (op : Op)
         → StandsFor D.told D.state o state.old h
-        → HasTaken D.told D.state o own op h driver.value.p driver.value.rolling
+        → IsOutForChange D.Disk (outing_of o own h op) driver.value
         → StandsFor D.told D.state o state.new (h ++ entry own op (Done result) ∷ []) }
     ensures origin { state.new.origin ≡ state.old.origin }
 {

@@ -8,7 +8,8 @@ ghost use Rattle.journal_core.specs.Records.{set_seal};
 ghost use Rattle.xc_core.specs.Reckonings.{Past};
 ghost use Rattle.xc_core.specs.Journals.{IsCounted, IsOldOrOneMore};
 ghost use Rattle.xc_core.specs.Provisioners.{IsHome, ground_of};
-ghost use Rattle.xc_core.specs.Begins.{IsCopied, MayNote, NotedIs, plan_of};
+ghost use Rattle.xc_core.specs.Begins.{IsCopied, MayNote, plan_of};
+ghost use Rattle.xc_core.specs.Gathered.{NotedAs, planned_behind};
 
 use crate::keep::make_ready;
 use crate::provisioner::Provisioner;
@@ -50,9 +51,9 @@ pub fn note<D: Disk, G: Gate>(
     ensures unstopped { result ≢ Noted.Stopped → G.stops gate.new ≡ G.stops gate.old }
     ensures later { G.stops gate.old ≤ G.stops gate.new }
     ensures asked { G.asked gate.old gate.new (Journal ∷ []) }
-    ensures noted { (b : Past)
-        → MayNote D.told D.state b p.old (plan_of op.now rolling.value bytes.now)
-        → NotedIs D.told D.state b p.old p.new (plan_of op.now rolling.value bytes.now) result }
+    ensures noted { (b : Past) → let plan = plan_of op.now rolling.value bytes.now in
+        MayNote D.told D.state b p.old plan
+        → NotedAs D.Disk (planned_behind b plan) p.old p.new result }
     // A crash at any moment leaves the changes so far, or one more.
     ensures any_moment { D.told → (b : Past)
         → MayNote D.told D.state b p.old (plan_of op.now rolling.value bytes.now) → LeavesOnly

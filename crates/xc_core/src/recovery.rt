@@ -13,12 +13,12 @@ ghost use Rattle.xc_recovery.specs.Stages.{IsLastWork, IsStage};
 ghost use Rattle.roll_plan.specs.Works.{writes_of};
 ghost use Rattle.xc_core.specs.Reckonings.{Past};
 ghost use Rattle.xc_core.specs.Provisioners.{ground_of};
-ghost use Rattle.xc_core.specs.Restarts.{IsHalted, Rejoins, Resumes, number_with, writes_left};
+ghost use Rattle.xc_core.specs.Restarts.{IsHalted, number_with, writes_left};
 ghost use Rattle.journal_core.specs.Turns.{Keeps};
 ghost use Rattle.xc_core.specs.Journals.{IsOldOrDoubted};
-ghost use Rattle.xc_core.specs.Recoveries.{ReadIs, Reads, RecoveredIs, RestIs, ResumedIs};
-ghost use Rattle.xc_core.specs.Endings.{Ends, IfCold, IfWarm, reports_with, with_switches};
-ghost use Rattle.xc_core.specs.Drives.{Recovers};
+ghost use Rattle.xc_core.specs.Recoveries.{ReadIs, Reads};
+ghost use Rattle.xc_core.specs.Endings.{IfCold, IfWarm, reports_with, with_switches};
+ghost use Rattle.xc_core.specs.Gathered.{EndsFor, RecoveredAs, RecoversFor, RejoinsFor, RestAs, ResumedAs, ResumesFor, half_made, last_work, switches_due, taken_up};
 
 use crate::provisioner::Provisioner;
 use crate::second::{Given, compare};
@@ -55,7 +55,7 @@ pub enum Recovered {
 // is in this phase.
 fn rest(work: Work, made: usize, phase: Phase, now: u64, switches: u64) -> Recovered
     requires few { now ≤ 2 ^ 48 }
-    ensures { RestIs work made phase now switches result }
+    ensures { RestAs (half_made work made) phase (switches_due now switches) result }
 {
     if now + switches_left(&work, made) == switches {
         Recovered::Warm(Rolling::of(work, made))
@@ -99,8 +99,8 @@ fn resume(
     requires few { length mover.old.mover.log ≤ 2 ^ 48 }
     ensures matrix { matrix.new ≡ matrix.old }
     ensures mover { mover.new ≡ mover.old }
-    ensures resumed { ResumedIs fabric.now.size mover.old.mover work.ops.items matrix.old switches
-        result }
+    ensures resumed { ResumedAs fabric.now.size mover.old.mover
+        (last_work work.ops.items matrix.old switches) result }
 {
     match stage_on(matrix, mover, fabric, &work) {
         Stage::At(made) => rest(work, made, mover.phase(), mover.switches(), switches),
@@ -145,13 +145,15 @@ fn go_on<D: Disk>(p: &mut Provisioner<D>, fabric: &Fabric, work: Work) -> Recove
     ensures halted { (b : Past) → Reads D.told D.state b p.old work.ops.items
         → p.old.second.expected ≡ b.fold.table → IsHalted D.told D.state b p.new }
     ensures recovered { (b : Past) → Reads D.told D.state b p.old work.ops.items
-        → p.old.second.expected ≡ b.fold.table → RecoveredIs D.told D.state b p.old p.new result }
+        → p.old.second.expected ≡ b.fold.table → RecoveredAs D.Disk b p.old p.new result }
     ensures resumes { (b : Past) → Reads D.told D.state b p.old work.ops.items
         → p.old.second.expected ≡ b.fold.table → IfWarm result
-        (λ r. (lacking : Option Change) × (g : Past) × Resumes D.told D.state b lacking g p.new r) }
+        (λ r. (lacking : Option Change) × (g : Past)
+        × ResumesFor D.Disk (taken_up b lacking g) p.new r) }
     ensures rejoins { (b : Past) → Reads D.told D.state b p.old work.ops.items
         → p.old.second.expected ≡ b.fold.table → IfCold result
-        (λ r. (lacking : Option Change) × (g : Past) × Rejoins D.told D.state b lacking g p.new r) }
+        (λ r. (lacking : Option Change) × (g : Past)
+        × RejoinsFor D.Disk (taken_up b lacking g) p.new r) }
     ensures astray { D.told → (i : ℕ) → result ≢ Recovered.Astray i }
     ensures warm { D.told → (r : RollingAt) → result ≢ Recovered.Cold r }
     ensures answered { (result ≢ Recovered.Fault) × (result ≢ Recovered.Stopped) }
@@ -178,13 +180,15 @@ pub fn recover<D: Disk, G: Gate>(p: &mut Provisioner<D>, fabric: &Fabric, gate: 
     ensures halted { (b : Past) → IsHalted D.told D.state b p.old
         → p.old.second.expected ≡ b.fold.table → IsHalted D.told D.state b p.new }
     ensures recovered { (b : Past) → IsHalted D.told D.state b p.old
-        → p.old.second.expected ≡ b.fold.table → RecoveredIs D.told D.state b p.old p.new result }
+        → p.old.second.expected ≡ b.fold.table → RecoveredAs D.Disk b p.old p.new result }
     ensures resumes { (b : Past) → IsHalted D.told D.state b p.old
         → p.old.second.expected ≡ b.fold.table → IfWarm result
-        (λ r. (lacking : Option Change) × (g : Past) × Resumes D.told D.state b lacking g p.new r) }
+        (λ r. (lacking : Option Change) × (g : Past)
+        × ResumesFor D.Disk (taken_up b lacking g) p.new r) }
     ensures rejoins { (b : Past) → IsHalted D.told D.state b p.old
         → p.old.second.expected ≡ b.fold.table → IfCold result
-        (λ r. (lacking : Option Change) × (g : Past) × Rejoins D.told D.state b lacking g p.new r) }
+        (λ r. (lacking : Option Change) × (g : Past)
+        × RejoinsFor D.Disk (taken_up b lacking g) p.new r) }
     // A disk that tells its content is never astray, and the registers are at a stage of what it tells.
     ensures astray { D.told → (i : ℕ) → result ≢ Recovered.Astray i }
     ensures warm { D.told → (r : RollingAt) → result ≢ Recovered.Cold r }
@@ -220,7 +224,8 @@ pub fn end_recovery<D: Disk>(
     rolling: &Rolling,
 ) -> Option<Change>
     requires recovers { (b : Past) × (lacking : Option Change) × (g : Past)
-        × Recovers D.told D.state b lacking g p.old rolling.now × (b.fold.table ≡ state.old.table) }
+        × RecoversFor D.Disk (taken_up b lacking g) p.old rolling.now
+        × (b.fold.table ≡ state.old.table) }
     requires done { writes_left p.old rolling.now ≡ [] }
     requires counted { state.old.reports.newest ≡ p.old.changes }
     ensures ground { ground_of p.new ≡ ground_of p.old }
@@ -229,12 +234,14 @@ pub fn end_recovery<D: Disk>(
     ensures state { state.new ≡ record state.old
         { table = state.new.table; reports = reports_with result state.old.reports } }
     ensures ends { (b : Past) → (lacking : Option Change) → (g : Past)
-        → Resumes D.told D.state b lacking g p.old rolling.now → b.fold.table ≡ state.old.table
-        → Ends D.told D.state b lacking g state.new.table p.new result }
+        → ResumesFor D.Disk (taken_up b lacking g) p.old rolling.now
+        → b.fold.table ≡ state.old.table
+        → EndsFor D.Disk (taken_up b lacking g) state.new.table p.new result }
     // A cold one makes other switches: it ends with as many as were made.
     ensures ends_cold { (b : Past) → (lacking : Option Change) → (g : Past)
-        → Rejoins D.told D.state b lacking g p.old rolling.now → b.fold.table ≡ state.old.table
-        → Ends D.told D.state b lacking (with_switches (length p.old.mover.mover.log) g)
+        → RejoinsFor D.Disk (taken_up b lacking g) p.old rolling.now
+        → b.fold.table ≡ state.old.table → EndsFor D.Disk
+        (taken_up b lacking (with_switches (length p.old.mover.mover.log) g))
         state.new.table p.new result }
 {
     let _ = rolling;

@@ -12,7 +12,8 @@ ghost use Rattle.xc_core.specs.Reckonings.{Past};
 ghost use Rattle.xc_core.specs.Provisioners.{HasNoDoubt, IsHome, StillDoubts, ground_of};
 ghost use Rattle.xc_core.specs.Restarts.{IsHalted};
 ghost use Rattle.xc_core.specs.Askings.{RereadAsked};
-ghost use Rattle.xc_core.specs.Seeing.{HasRestart, entry};
+ghost use Rattle.xc_core.specs.Seeing.{entry};
+ghost use Rattle.xc_core.specs.Gathered.{IsOutForRestart, outing_of};
 ghost use Rattle.xc_core.specs.States.{Opening, StandsFor};
 ghost use Rattle.xc_core.specs.Turns.{TakesUpOfStop, held_entry_of as entry_for, journal_held, journal_home};
 ghost use Rattle.xc_core.specs.Views.{CutsRest, CutsUnread, HoldsOut, IsHeld, Rereads};
@@ -134,11 +135,11 @@ pub fn read_anew<D: Disk, G: Gate>(
 pub fn end<D: Disk + Drop>(state: &mut State<D>, driver: Box<Driver<D>>) -> Option<Change>
     requires restart { (o : Opening) × (own : ℕ) × (h : List Entry) × (asked : Op)
         × (o.first.changes ≡ 0) × StandsFor D.told D.state o state.old h
-        × HasRestart D.told D.state o own asked h driver.value.p driver.value.rolling }
+        × IsOutForRestart D.Disk (outing_of o own h asked) driver.value }
     requires done { rest_of driver.value.rolling ≡ [] }
     ensures restarted { (o : Opening) → (own : ℕ) → (h : List Entry) → (asked : Op)
         → StandsFor D.told D.state o state.old h
-        → HasRestart D.told D.state o own asked h driver.value.p driver.value.rolling
+        → IsOutForRestart D.Disk (outing_of o own h asked) driver.value
         → StandsFor D.told D.state o state.new (h ++ entry own Restart (Restarted result) ∷ []) }
     // Where no stop came since the last restart no change is taken up.
     ensures of_stop { TakesUpOfStop D.Disk state.old driver.value result }

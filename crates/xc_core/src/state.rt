@@ -4,8 +4,9 @@ ghost use Rattle.dxc_model.specs.declared.op.Change.{Change};
 ghost use Rattle.dxc_model.specs.declared.op.Op.{Op};
 ghost use Rattle.roll_engine.specs.Rollings.{rest_of};
 ghost use Rattle.xc_core.specs.Reckonings.{Past};
-ghost use Rattle.xc_core.specs.Provisioners.{Rolls, ground_of};
-ghost use Rattle.xc_core.specs.Finishes.{Finishes, OnlyFinishes};
+ghost use Rattle.xc_core.specs.Provisioners.{ground_of};
+ghost use Rattle.xc_core.specs.Finishes.{OnlyFinishes};
+ghost use Rattle.xc_core.specs.Gathered.{FinishesFor, RollsFor, driven_by, grant_of};
 ghost use Rattle.dbchg_reports.specs.Recent.{with_one};
 
 use crate::granted::granted;
@@ -109,7 +110,8 @@ impl<D: Disk + Drop> State<D> {
 /// the one of the `begin` that planned it, and isn't home.
 pub fn finish<D: Disk>(state: &mut State<D>, p: &mut Provisioner<D>, rolling: &Rolling) -> Change
     requires rolls { (b : Past) × (op : Op) × (c : Change)
-        × Rolls D.told D.state b op c p.old rolling.now × (b.fold.table ≡ state.old.table) }
+        × RollsFor D.Disk (grant_of b op c) p.old rolling.now
+        × (b.fold.table ≡ state.old.table) }
     requires done { rest_of rolling.now ≡ [] }
     requires counted { state.old.reports.newest ≡ p.old.changes }
     ensures ground { ground_of p.new ≡ ground_of p.old }
@@ -118,8 +120,8 @@ pub fn finish<D: Disk>(state: &mut State<D>, p: &mut Provisioner<D>, rolling: &R
     ensures state { state.new ≡ record state.old
         { table = state.new.table; reports = with_one result state.old.reports } }
     ensures finishes { (b : Past) → (op : Op) → (c : Change)
-        → Rolls D.told D.state b op c p.old rolling.now → b.fold.table ≡ state.old.table
-        → Finishes D.told D.state b c rolling.now state.new.table p.new result }
+        → RollsFor D.Disk (grant_of b op c) p.old rolling.now → b.fold.table ≡ state.old.table
+        → FinishesFor D.Disk (driven_by b c rolling.now) state.new.table p.new result }
 {
     let Some(op) = p.doubt else { unreachable!() };
     let change = granted(&state.table, &op);

@@ -12,7 +12,7 @@ use Rattle.paull_matrix.specs.Colourings.{Colouring}
 use Rattle.xc_recovery.specs.declared.leg_task.LegTask.{LegTask}
 use Rattle.xc_recovery.specs.LegTasks.{tasks}
 use Rattle.xc_recovery.specs.ChangeWorks.{ChangesBy, ChangesPlanned, DoesBy, DoesPlanned, IsOfLegs, Shifts, WorksBy, WorksPlanned}
-use Rattle.xc_recovery.specs.Straight.{IsMade, IsTried}
+use Rattle.xc_recovery.specs.Straight.{IsMade, IsTried, by_choices, tried_by}
 use Rattle.xc_recovery.proofs.Spelled.{works_length}
 
 legs_by : (t : Board) (c : Colouring) (change : Change) (hs : List Choice) (os : List LegOp) → IsOfLegs change → WorksBy t.out c (tasks t change) hs os → ChangesBy t c change hs os
@@ -131,9 +131,9 @@ module _ (t : Board) (c : Colouring) (change : Change) (k : LegTask) (is : tasks
     stuck none [] x = x
     stuck none (o ∷ os) x = none o x.0
 
-    done : (r : Bool) (d : Colouring) → IsTried r t.out c k h d → IsMade r t c change hs d
+    done : (r : Bool) (d : Colouring) → IsTried r (tried_by t.out k h) c d → IsMade r t (by_choices change hs) c d
     done true d made = (made.0 ∷ [], one_by made.0 made.1, made.2)
     done false d none = ((λ ops w. stuck none.0 ops (subst (λ (xs : List Choice). WorksBy t.out c (k ∷ []) xs ops) one (legs_done ops w))), none.1)
 
-  pub one_tried : (length hs ≡ 1) → (h : Choice) (out : Option Middle) → out ≡ t.out → (r : Bool) (d : Colouring) → IsTried r out c k (get_or hs 0 h) d → IsMade r t c change hs d
-  one_tried one h out same r d tried = done (get_or hs 0 h) (first_alone hs h one) r d (subst (λ (o : Option Middle). IsTried r o c k (get_or hs 0 h) d) same tried)
+  pub one_tried : (length hs ≡ 1) → (h : Choice) (out : Option Middle) → out ≡ t.out → (r : Bool) (d : Colouring) → IsTried r (tried_by out k (get_or hs 0 h)) c d → IsMade r t (by_choices change hs) c d
+  one_tried one h out same r d tried = done (get_or hs 0 h) (first_alone hs h one) r d (subst (λ (o : Option Middle). IsTried r (tried_by o k (get_or hs 0 h)) c d) same tried)

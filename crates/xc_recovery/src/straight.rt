@@ -8,7 +8,7 @@ ghost use Rattle.paull_chain.specs.Choices.{IsJoinable};
 ghost use Rattle.xc_recovery.specs.ChangeWorks.{IsReady};
 ghost use Rattle.xc_recovery.specs.LegTasks.{tasks};
 ghost use Rattle.xc_recovery.specs.Placings.{IsPlaced};
-ghost use Rattle.xc_recovery.specs.Straight.{IsMade, IsNext, IsTaken, IsTried};
+ghost use Rattle.xc_recovery.specs.Straight.{IsMade, IsNext, IsTaken, IsTried, by_choices, kept_of, network_of, spelled_in, tried_by};
 
 use crate::leg_task::{LegTask, tasks_of};
 use crate::make::{op_by, work_of};
@@ -24,7 +24,7 @@ use xc_journal::entry_of;
 fn part(matrix: &mut Matrix, leg: Leg, choice: Choice) -> bool
     requires { IsInside matrix.old.shape leg }
     ensures { (out : Option Middle)
-        → IsTried result out matrix.old (LegTask.Part leg) choice matrix.new }
+        → IsTried result (tried_by out (LegTask.Part leg) choice) matrix.old matrix.new }
 {
     let Some(middle) = matrix.middle_of(leg) else {
         return false;
@@ -39,8 +39,9 @@ fn part(matrix: &mut Matrix, leg: Leg, choice: Choice) -> bool
 // Joins a leg on this middle, where it is a working one that is free for the leg.
 fn join(matrix: &mut Matrix, leg: Leg, middle: Middle) -> bool
     requires { IsJoinable matrix.old leg }
-    ensures { IsTried result None matrix.old (LegTask.Join leg)
-        (record { middle = middle; chain = Direct }) matrix.new }
+    ensures { IsTried result
+        (tried_by None (LegTask.Join leg) (record { middle = middle; chain = Direct }))
+        matrix.old matrix.new }
 {
     if middle.0 as u16 >= matrix.shape().slots() {
         return false;
@@ -55,7 +56,7 @@ fn join(matrix: &mut Matrix, leg: Leg, middle: Middle) -> bool
 // Does a task by its op.
 fn by_op(matrix: &mut Matrix, out: Option<Middle>, task: LegTask, choice: Choice) -> bool
     requires { IsReady out matrix.old task }
-    ensures { IsTried result out matrix.old task choice matrix.new }
+    ensures { IsTried result (tried_by out task choice) matrix.old matrix.new }
 {
     match op_by(matrix, out, task, choice) {
         Some(op) => {
@@ -69,7 +70,7 @@ fn by_op(matrix: &mut Matrix, out: Option<Middle>, task: LegTask, choice: Choice
 // Joins a leg by this choice, while this middle is out or none.
 fn join_by(matrix: &mut Matrix, out: Option<Middle>, leg: Leg, choice: Choice) -> bool
     requires { IsReady out matrix.old (LegTask.Join leg) }
-    ensures { IsTried result out matrix.old (LegTask.Join leg) choice matrix.new }
+    ensures { IsTried result (tried_by out (LegTask.Join leg) choice) matrix.old matrix.new }
 {
     match (out, choice.chain) {
         (None, Chain::Direct) => join(matrix, leg, choice.middle),
@@ -80,7 +81,7 @@ fn join_by(matrix: &mut Matrix, out: Option<Middle>, leg: Leg, choice: Choice) -
 // Does a task by this choice. False exactly where the choice isn't valid.
 fn do_task(matrix: &mut Matrix, out: Option<Middle>, task: LegTask, choice: Choice) -> bool
     requires { IsReady out matrix.old task }
-    ensures { IsTried result out matrix.old task choice matrix.new }
+    ensures { IsTried result (tried_by out task choice) matrix.old matrix.new }
 {
     match task {
         LegTask::Join(leg) => join_by(matrix, out, leg, choice),
@@ -99,7 +100,7 @@ fn make_one(
     requires placed { IsPlaced table.now matrix.old }
     requires granted { MayTake table.now change.now }
     requires only { tasks table.now change.now ≡ task ∷ [] }
-    ensures { IsMade result table.now matrix.old change.now choices.now matrix.new }
+    ensures { IsMade result table.now (by_choices change.now choices.now) matrix.old matrix.new }
 {
     if choices.len() != 1 {
         return false;
@@ -113,7 +114,7 @@ fn make_one(
 fn make_all(matrix: &mut Matrix, table: &Table, change: &Change, choices: &[Choice]) -> bool
     requires placed { IsPlaced table.now matrix.old }
     requires granted { MayTake table.now change.now }
-    ensures { IsMade result table.now matrix.old change.now choices.now matrix.new }
+    ensures { IsMade result table.now (by_choices change.now choices.now) matrix.old matrix.new }
 {
     match work_of(matrix, table, change, choices) {
         Some(_work) => true,
@@ -124,7 +125,7 @@ fn make_all(matrix: &mut Matrix, table: &Table, change: &Change, choices: &[Choi
 fn make_any(matrix: &mut Matrix, table: &Table, change: &Change, choices: &[Choice]) -> bool
     requires placed { IsPlaced table.now matrix.old }
     requires granted { MayTake table.now change.now }
-    ensures { IsMade result table.now matrix.old change.now choices.now matrix.new }
+    ensures { IsMade result table.now (by_choices change.now choices.now) matrix.old matrix.new }
 {
     let tasks = tasks_of(table, change);
     if tasks.len() == 1 {
@@ -138,7 +139,8 @@ fn make_any(matrix: &mut Matrix, table: &Table, change: &Change, choices: &[Choi
 fn make_change(matrix: &mut Matrix, table: &Table, change: &Change, choices: &[Choice]) -> bool
     requires placed { IsPlaced table.now matrix.old }
     requires granted { MayTake table.now change.now }
-    ensures made { IsMade result table.now matrix.old change.now choices.now matrix.new }
+    ensures made { IsMade result table.now (by_choices change.now choices.now) matrix.old
+        matrix.new }
     // After it the matrix is that of the table after the change.
     ensures placed { IsTrue result → IsPlaced (effect table.now change.now) matrix.new }
 {
@@ -149,7 +151,8 @@ fn make_change(matrix: &mut Matrix, table: &Table, change: &Change, choices: &[C
 fn make_record(table: &mut Table, matrix: &mut Matrix, bytes: &[u8; 64], version: u8) -> bool
     requires placed { IsPlaced table.old matrix.old }
     requires version { (version ≡ 1) ⊎ (version ≡ 2) }
-    ensures taken { IsTaken result version table.old matrix.old bytes.now table.new matrix.new }
+    ensures taken { IsTaken result (spelled_in version bytes.now) (network_of table.old matrix.old)
+        (network_of table.new matrix.new) }
     ensures placed { IsPlaced table.new matrix.new }
 {
     let Some((change, choices)) = entry_of(bytes, version) else {
@@ -177,8 +180,8 @@ fn take_last(
 ) -> bool
     requires placed { IsPlaced table.old matrix.old }
     requires version { (version ≡ 1) ⊎ (version ≡ 2) }
-    ensures taken { IsNext result true version table.old matrix.old bytes.now table.new matrix.new
-        last.new.ops.items }
+    ensures taken { IsNext result (spelled_in version bytes.now) (network_of table.old matrix.old)
+        (network_of table.new matrix.new) (kept_of true last.new.ops.items) }
     ensures placed { IsPlaced table.new matrix.new }
 {
     match take_record(table, matrix, bytes, version) {
@@ -201,8 +204,8 @@ pub(crate) fn take_next(
 ) -> bool
     requires placed { IsPlaced table.old matrix.old }
     requires version { (version ≡ 1) ⊎ (version ≡ 2) }
-    ensures taken { IsNext result is_last version table.old matrix.old bytes.now table.new
-        matrix.new last.new.ops.items }
+    ensures taken { IsNext result (spelled_in version bytes.now) (network_of table.old matrix.old)
+        (network_of table.new matrix.new) (kept_of is_last last.new.ops.items) }
     ensures placed { IsPlaced table.new matrix.new }
 {
     if !is_last {

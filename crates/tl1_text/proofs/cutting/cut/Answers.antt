@@ -20,8 +20,11 @@ returns-then-params-eq-PARAMS-clause-refused c = λ _. on_ninth _ _ _ _ _ _ c.lo
 pub loop-at-preserved-then-b-eq44 : goal.loop-at-preserved-then-b-eq44
 loop-at-preserved-then-b-eq44 c = on_comma _ _ _ _ _ _ c.loop-at.invariant c.loop-at-test.true c.if-b-eq44.true (λ full. absurd (c.if-params-eq-PARAMS.false full))
 
+pub loop-at-preserved : goal.loop-at-preserved
+loop-at-preserved c = c.in-Some.ensures.cut _ _ c.loop-at.invariant
+
 pub returns-in-None-clause-refused : goal.returns-in-None-clause-refused
-returns-in-None-clause-refused c = λ _. c.in-None.ensures.cut _ _ _ _ c.loop-at.invariant
+returns-in-None-clause-refused c = λ _. c.in-None.ensures.cut _ _ c.loop-at.invariant
 
 pub returns-clause-blocks : goal.returns-clause-blocks
 returns-clause-blocks c = on_end _ _ _ _ _ _ c.loop-at.invariant (omega (arith, c.loop-at-test.false, c.loop-at.invariant.cut.within)) _ (rw c.between-2.ensures at c.push-2.ensures.items) c.requires.is_code _ c.len-2.ensures.value

@@ -1,8 +1,7 @@
-use Rattle.std.proofs.Common.{ℕ, List}
+use Rattle.std.proofs.Common.{ℕ}
 use Rattle.tl1_text.specs.Places.{Quoted}
-use Rattle.tl1_text.specs.declared.span.Span.{Span}
-use Rattle.tl1_text.specs.Cuts.{IsCutTo, IsCutOn}
+use Rattle.tl1_text.specs.Cuts.{IsCutTo, Headway, IsCutSoFar}
 use Rattle.tl1_text.proofs.cutting.quotes_end.Given as goal
 
 abbrev pub invariant-loop-end : goal.invariant-loop-end
-invariant-loop-end l = (code : ℕ) → (found : List Span) → (start params : ℕ) → IsCutOn l.unit code l.fn.at found start params → IsCutTo l.unit l.end (record { found = found; start = start; params = params; place = Quoted })
+invariant-loop-end l = (code : ℕ) → (so_far : Headway) → IsCutSoFar l.unit code l.fn.at so_far → IsCutTo l.unit l.end (record { found = so_far.found; start = so_far.start; params = so_far.params; place = Quoted })

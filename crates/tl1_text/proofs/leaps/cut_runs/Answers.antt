@@ -50,18 +50,18 @@ quotes_end-requires-clause-not_plain c = let s = at_stop _ _ _ _ _ _ _ c.loop-re
 pub overflow_shr-rest-in-Some : goal.overflow_shr-rest-in-Some
 overflow_shr-rest-in-Some c =
     let s = at_stop _ _ _ _ _ _ _ c.loop-rest.invariant.on c.loop-rest.invariant.stops _ c.requires.short c.loop-rest-test.true refl in
-    let on = c.in-Some.ensures.cut _ _ _ _ s.on in
+    let on = c.in-Some.ensures.cut _ _ s.on in
     omega (arith, on.cut.within, c.requires.short, s.on.is_before, c.in-Some.ensures.forwards)
 
 pub loop-rest-preserved : goal.loop-rest-preserved
 loop-rest-preserved c =
     let s = at_stop _ _ _ _ _ _ _ c.loop-rest.invariant.on c.loop-rest.invariant.stops _ c.requires.short c.loop-rest-test.true refl in
-    record { on = c.in-Some.ensures.cut _ _ _ _ s.on; stops = stops_from _ _ _ _ c.in-Some.ensures.forwards s.stops }
+    record { on = c.in-Some.ensures.cut _ _ s.on; stops = stops_from _ _ _ _ c.in-Some.ensures.forwards s.stops }
 
 pub returns-in-None-clause-refused : goal.returns-in-None-clause-refused
 returns-in-None-clause-refused c =
     let s = at_stop _ _ _ _ _ _ _ c.loop-rest.invariant.on c.loop-rest.invariant.stops _ c.requires.short c.loop-rest-test.true refl in
-    λ _. c.in-None.ensures.cut _ _ _ _ s.on
+    λ _. c.in-None.ensures.cut _ _ s.on
 
 pub returns-clause-blocks : goal.returns-clause-blocks
 returns-clause-blocks c =
