@@ -58,7 +58,7 @@ CARRIED_GOAL = 1.0
 # Parts of a unit's way by the names of functions, the first that fits.
 PARTS = [
     ("turns and records", r"craft_session::(change|mend|seat)|xc_core|turnstile|journal_core|xc_journal|dxc_disk|dxc_host::host_disk"),
-    ("session", r"craft_s|craft_jobs|dxc_host|tl1_answer|dxc_aid::write"),
+    ("session", r"craft_s|dxc_jobs|dxc_host|tl1_answer|dxc_aid::write"),
     ("cutting", r"tl1_text"),
     ("command", r"tl1_command|dxc_aid"),
     ("users", r"user_admin|sha2|shelf_file"),

@@ -10,7 +10,7 @@ tools/checks/words.py with its reason.
  - A file's name, with a slash or a known ending, is one of the top, of a crate, or one that an example makes.
  - A link leads to a file, and to a heading of it.
  - What `bench/run GROUP NAME` runs is a module of bench/.
- - A command of the manual page (`.Cm`) is a word of `craft_words`.
+ - A command of the manual page (`.Cm`) is a word of `dxc_args`.
 """
 import os
 import re
@@ -147,7 +147,7 @@ def lead_nowhere(name, text):
 def unknown_commands(name, text, sources):
     """The commands of a manual page that the program hasn't."""
     for command in COMMAND_OF_MAN.finditer(text) if name.startswith("man/") else ():
-        if command[1] not in sources.by_crate["craft_words"]:
+        if command[1] not in sources.by_crate["dxc_args"]:
             yield f"{name}:{line_of(text, command.start())}: the program has no command {command[1]}"
 
 

@@ -30,14 +30,14 @@ use Rattle.dxc_load.specs.declared.disk.LoadDisk.{LoadDisk}
 use Rattle.dxc_load.specs.declared.summary.Summary.{Summary}
 use Rattle.dxc_load.specs.Storing.{load_disk}
 use Rattle.dxc_load.specs.Sending.{fabric_of, link_state, unread}
-use Rattle.craft_words.specs.declared.status.Status.{Status}
-use Rattle.craft_words.specs.declared.status.Status.TheVariants.{BadWords}
-use Rattle.craft_words.specs.declared.status.Status.TheVariants as Status_of
-use Rattle.craft_element.specs.declared.opening.Element.{Element}
-use Rattle.craft_element.specs.declared.stock.Stock.{Stock}
-use Rattle.craft_element.specs.Loads.{IsLoadElement, IsLoadStarted, NotLoaded}
-use Rattle.craft_element.specs.Stocks.{IsCounted, IsLeft, IsStockAfter}
-use Rattle.craft_element.proofs.Wording.{sent_words}
+use Rattle.dxc_args.specs.declared.status.Status.{Status}
+use Rattle.dxc_args.specs.declared.status.Status.TheVariants.{BadWords}
+use Rattle.dxc_args.specs.declared.status.Status.TheVariants as Status_of
+use Rattle.dxc_element.specs.declared.opening.Element.{Element}
+use Rattle.dxc_element.specs.declared.stock.Stock.{Stock}
+use Rattle.dxc_element.specs.Loads.{IsLoadElement, IsLoadStarted, NotLoaded}
+use Rattle.dxc_element.specs.Stocks.{IsCounted, IsLeft, IsStockAfter}
+use Rattle.dxc_element.proofs.Wording.{sent_words}
 use Rattle.craft_server.specs.Loads.{IsLoad, IsLoaded, IsLoadedOn, IsLoadServed, IsSummed, LoadsOn, load_moments, stock_in}
 use Rattle.craft_server.proofs.Starting.{of_disk, users_of_disk}
 

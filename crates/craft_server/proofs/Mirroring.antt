@@ -5,9 +5,9 @@ use Rattle.dxc_disk.specs.Disks.{DiskState}
 use Rattle.dxc_outside.specs.Callers.{ListenerState}
 use Rattle.dxc_outside.specs.Links.{LinkState}
 use Rattle.dxc_outside.specs.declared.link.Lost.{Lost}
-use Rattle.craft_words.specs.declared.line.Line.TheVariants.{Serve}
-use Rattle.craft_words.specs.declared.status.Status.{Status}
-use Rattle.craft_element.specs.Openings.{named}
+use Rattle.dxc_args.specs.declared.line.Line.TheVariants.{Serve}
+use Rattle.dxc_args.specs.declared.status.Status.{Status}
+use Rattle.dxc_element.specs.Openings.{named}
 use Rattle.craft_server.specs.Runs.{IsRunOf, Lent, MirrorsFor, OpensFor, Told}
 use Rattle.craft_server.specs.Serving.{JobsTold, site_at}
 

@@ -20,10 +20,10 @@ use Rattle.craft_session.specs.Meanings.{language_for}
 use Rattle.craft_session.specs.Seats.{IsSameSeat, IsSameUserSeat, PlaceAt}
 use Rattle.craft_session.specs.Sessions.{IsPrompt, IsServed}
 use Rattle.craft_session.proofs.Scripts.{script_of}
-use Rattle.craft_element.specs.declared.opening.Controller.{Controller}
-use Rattle.craft_words.specs.declared.status.Status.{Status}
-use Rattle.craft_words.specs.declared.status.Status.TheVariants.{Done, Link, Stopped as Was_stopped, Spent as Ran_out}
-use Rattle.craft_element.specs.Openings.{AreUsersStarted, IsStarted}
+use Rattle.dxc_element.specs.declared.opening.Controller.{Controller}
+use Rattle.dxc_args.specs.declared.status.Status.{Status}
+use Rattle.dxc_args.specs.declared.status.Status.TheVariants.{Done, Link, Stopped as Was_stopped, Spent as Ran_out}
+use Rattle.dxc_element.specs.Openings.{AreUsersStarted, IsStarted}
 use Rattle.craft_session.specs.Places.{IsLonePlace, place_at}
 use Rattle.craft_server.specs.Scripts.{RanAndLeft, RanSession}
 use Rattle.craft_server.specs.Statuses.{status_of}

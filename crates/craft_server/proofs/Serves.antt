@@ -7,11 +7,11 @@ use Rattle.dxc_outside.specs.Threads.{SpawnerState}
 use Rattle.shelf_file.specs.Contents.{Contents}
 use Rattle.user_admin.specs.Histories.{Opening as UsersOpening}
 use Rattle.xc_core.specs.States.{Opening}
-use Rattle.craft_jobs.specs.Starts.{AreStarts}
-use Rattle.craft_jobs.proofs.Counting.{rose_behind}
-use Rattle.craft_words.specs.declared.status.Status.{Status}
-use Rattle.craft_words.specs.declared.status.Status.TheVariants.{Done, CannotOpen, NoThread, NoMemory}
-use Rattle.craft_element.specs.Openings.{Sources}
+use Rattle.dxc_jobs.specs.Starts.{AreStarts}
+use Rattle.dxc_jobs.proofs.Counting.{rose_behind}
+use Rattle.dxc_args.specs.declared.status.Status.{Status}
+use Rattle.dxc_args.specs.declared.status.Status.TheVariants.{Done, CannotOpen, NoThread, NoMemory}
+use Rattle.dxc_element.specs.Openings.{Sources}
 use Rattle.craft_server.specs.Runs.{Lent, RanServe}
 use Rattle.craft_server.specs.Serving.{CameTo, IsServing, JobsTold, LeftPlaces, ServedSite, SiteAt}
 

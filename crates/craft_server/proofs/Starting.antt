@@ -10,8 +10,8 @@ use Rattle.xc_core.specs.States.{opening_of}
 use Rattle.craft_session.specs.Places.{IsAtOpening}
 use Rattle.craft_session.specs.PlainUsers.{IsUsersOpeningOf}
 use Rattle.craft_session.specs.Scripts.{IsOpeningOf}
-use Rattle.craft_element.specs.declared.opening.Controller.{Controller}
-use Rattle.craft_element.specs.Openings.{AreUsersStarted, IsStarted}
+use Rattle.dxc_element.specs.declared.opening.Controller.{Controller}
+use Rattle.dxc_element.specs.Openings.{AreUsersStarted, IsStarted}
 
 module _ {D : Type 0} (disk_told : Type 0) (state : D → DiskState) where
   -- a controller's state is at its opening

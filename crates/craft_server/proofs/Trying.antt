@@ -20,10 +20,10 @@ use Rattle.user_admin.specs.States.{opening_of as users_opening}
 use Rattle.xc_core.specs.Openings.{IsOpening}
 use Rattle.xc_core.specs.States.{Opening, opening_of}
 use Rattle.xc_recovery.specs.Folds.{Folded, IsFold}
-use Rattle.craft_words.specs.declared.status.Status.{Status}
-use Rattle.craft_words.specs.declared.status.Status.TheVariants.{BadWords, NoMemory, Stopped}
-use Rattle.craft_element.specs.declared.opening.Element.{Element}
-use Rattle.craft_element.specs.Loads.{IsInMemory, NotLoaded}
+use Rattle.dxc_args.specs.declared.status.Status.{Status}
+use Rattle.dxc_args.specs.declared.status.Status.TheVariants.{BadWords, NoMemory, Stopped}
+use Rattle.dxc_element.specs.declared.opening.Element.{Element}
+use Rattle.dxc_element.specs.Loads.{IsInMemory, NotLoaded}
 use Rattle.craft_server.specs.Scripts.{RanSession}
 use Rattle.craft_server.specs.Trials.{IsTrialElement, IsTrialOn, RanTrial, TrialLent, TrialTold, IsUntried, trial_lent}
 use Rattle.craft_server.proofs.Wording.{end_words}

@@ -1,13 +1,13 @@
 -- What the opener is asked for, by the program's words.
 use Rattle.std.specs.Prelude.{ℕ, List, [], ◌∷◌, ◌++◌, ◌⊎◌, Option, Some, None}
 use Rattle.dxc_outside.specs.Asked.{Asking, AskedFor, asked_each, copy_named, lines_named, listener_named}
-use Rattle.craft_words.specs.declared.line.Line.{Line}
-use Rattle.craft_words.specs.declared.line.Line.TheVariants.{Script, Trial, Check, Export, Serve, Standby, Load}
-use Rattle.craft_words.specs.declared.status.Status.{Status}
-use Rattle.craft_words.specs.Lines.{IsLine}
-use Rattle.craft_jobs.specs.Missing.{IsOfNoOpening}
-use Rattle.craft_element.specs.Openings.{Named, files_asked, named}
-use Rattle.craft_element.specs.Peers.{mirror_asked}
+use Rattle.dxc_args.specs.declared.line.Line.{Line}
+use Rattle.dxc_args.specs.declared.line.Line.TheVariants.{Script, Trial, Check, Export, Serve, Standby, Load}
+use Rattle.dxc_args.specs.declared.status.Status.{Status}
+use Rattle.dxc_args.specs.Lines.{IsLine}
+use Rattle.dxc_jobs.specs.Missing.{IsOfNoOpening}
+use Rattle.dxc_element.specs.Openings.{Named, files_asked, named}
+use Rattle.dxc_element.specs.Peers.{mirror_asked}
 use Rattle.craft_server.specs.Runs.{NoLine}
 
 -- the lines of each worker, and a listener for each of 16 sessions

@@ -30,12 +30,12 @@ use Rattle.dxc_load.specs.Script.{load_moment}
 use Rattle.dxc_load.specs.Storing.{load_disk}
 use Rattle.dxc_load.specs.Sending.{IsOfLoad, fabric_of, link_state, unread, worker_of}
 use Rattle.dxc_load.specs.Summaries.{summary_line}
-use Rattle.craft_words.specs.declared.status.Status.{Status}
-use Rattle.craft_words.specs.Statuses.{status_of_sent}
-use Rattle.craft_element.specs.declared.opening.Element.{Element}
-use Rattle.craft_element.specs.declared.stock.Stock.{Stock}
-use Rattle.craft_element.specs.Loads.{IsNewDisk, IsNewUsersDisk, NotLoaded}
-use Rattle.craft_element.specs.Stocks.{IsLeft, IsStockAfter}
+use Rattle.dxc_args.specs.declared.status.Status.{Status}
+use Rattle.dxc_args.specs.Statuses.{status_of_sent}
+use Rattle.dxc_element.specs.declared.opening.Element.{Element}
+use Rattle.dxc_element.specs.declared.stock.Stock.{Stock}
+use Rattle.dxc_element.specs.Loads.{IsNewDisk, IsNewUsersDisk, NotLoaded}
+use Rattle.dxc_element.specs.Stocks.{IsLeft, IsStockAfter}
 
 -- what the clock of the load gives, however often it is asked
 abbrev pub load_moments : List Moment

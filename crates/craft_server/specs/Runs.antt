@@ -14,20 +14,20 @@ use Rattle.shelf_file.specs.Contents.{Contents}
 use Rattle.standby_link.specs.declared.mirror_disk.MirrorDisk.{MirrorDisk}
 use Rattle.user_admin.specs.Histories.{Opening as UsersOpening}
 use Rattle.xc_core.specs.States.{Opening}
-use Rattle.craft_words.specs.declared.line.Line.{Line}
-use Rattle.craft_words.specs.declared.line.Line.TheVariants.{Script, Trial, Check, Export, Serve, Standby, Load}
-use Rattle.craft_words.specs.declared.status.Status.{Status}
-use Rattle.craft_words.specs.declared.status.Status.TheVariants.{BadWords, NoMemory}
-use Rattle.craft_words.specs.Lines.{IsLine}
-use Rattle.craft_element.specs.Exports.{IsExport}
-use Rattle.craft_element.specs.Listings.{IsCheck}
+use Rattle.dxc_args.specs.declared.line.Line.{Line}
+use Rattle.dxc_args.specs.declared.line.Line.TheVariants.{Script, Trial, Check, Export, Serve, Standby, Load}
+use Rattle.dxc_args.specs.declared.status.Status.{Status}
+use Rattle.dxc_args.specs.declared.status.Status.TheVariants.{BadWords, NoMemory}
+use Rattle.dxc_args.specs.Lines.{IsLine}
+use Rattle.dxc_element.specs.Exports.{IsExport}
+use Rattle.dxc_element.specs.Listings.{IsCheck}
 use Rattle.craft_server.specs.Loads.{IsLoad}
-use Rattle.craft_element.specs.Openings.{Began, Found, Named, OpenedOn, Opens, Sources, WasLetGo, named, opened_on}
-use Rattle.craft_element.specs.Peers.{Mirrors}
+use Rattle.dxc_element.specs.Openings.{Began, Found, Named, OpenedOn, Opens, Sources, WasLetGo, named, opened_on}
+use Rattle.dxc_element.specs.Peers.{Mirrors}
 use Rattle.craft_server.specs.Scripts.{IsUnplaced, RanAndLeft}
 use Rattle.craft_server.specs.Trials.{IsTrialOn, memory_told, trial_lent}
 use Rattle.craft_server.specs.Serving.{JobsTold, ServedSite, SiteAt, named_in, site_at}
-use Rattle.craft_jobs.specs.Standbys.{StandsBy}
+use Rattle.dxc_jobs.specs.Standbys.{StandsBy}
 use Rattle.craft_server.specs.declared.world.World.{Ghosts as WorldOf}
 use Rattle.craft_server.specs.Sites.{asked_after, asked_before, jobs_across}
 use Rattle.craft_server.specs.Worlds.{WorldLent, Worlds}

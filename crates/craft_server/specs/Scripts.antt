@@ -15,8 +15,8 @@ use Rattle.craft_session.specs.Places.{Turnstiles, place_at}
 use Rattle.craft_session.specs.Scripts.{IsScript}
 use Rattle.craft_session.specs.Seats.{IsSameSeat, IsSameUserSeat, PlaceAt}
 use Rattle.craft_session.specs.Sessions.{IsPrompt, IsServed}
-use Rattle.craft_words.specs.declared.status.Status.{Status}
-use Rattle.craft_words.specs.declared.status.Status.TheVariants.{Done, Link, NoMemory, Stopped, Spent}
+use Rattle.dxc_args.specs.declared.status.Status.{Status}
+use Rattle.dxc_args.specs.declared.status.Status.TheVariants.{Done, Link, NoMemory, Stopped, Spent}
 use Rattle.craft_server.specs.Statuses.{status_of}
 
 -- one session from the opening on that began with this user, by its end, and the status; so many stops were before and after it

@@ -17,21 +17,21 @@ use Rattle.xc_core.specs.States.{Opening}
 use Rattle.craft_session.specs.declared.timestamps.Timestamps.{Ghosts as ClockOf}
 use Rattle.craft_session.specs.Places.{HasPlaces}
 use Rattle.craft_session.specs.Seats.{PlaceAt}
-use Rattle.craft_words.specs.declared.line.Line.{Line}
-use Rattle.craft_words.specs.declared.line.Line.TheVariants.{Script, Trial, Check, Export, Serve, Standby, Load}
-use Rattle.craft_words.specs.declared.status.Status.{Status}
-use Rattle.craft_words.specs.declared.status.Status.TheVariants.{Done, CannotOpen, NoThread, NoMemory}
-use Rattle.craft_jobs.specs.declared.begun.RanAll.{RanAll}
-use Rattle.craft_jobs.specs.declared.frames.FrameJob.{FrameJob}
-use Rattle.craft_jobs.specs.declared.frames_left.FramesDone.{FramesDone}
-use Rattle.craft_jobs.specs.declared.frames_left.FramesLeft.{FramesLeft}
-use Rattle.craft_jobs.specs.Begun.{AreRan, RanTo}
-use Rattle.craft_jobs.specs.Counts.{RoseBy}
-use Rattle.craft_jobs.specs.Framed.{RanFrames}
-use Rattle.craft_jobs.specs.Handed.{AreJobsOf}
-use Rattle.craft_jobs.specs.Leaves.{left_by}
-use Rattle.craft_jobs.specs.Starts.{IsLastFailed}
-use Rattle.craft_element.specs.Openings.{Named, Sources, named}
+use Rattle.dxc_args.specs.declared.line.Line.{Line}
+use Rattle.dxc_args.specs.declared.line.Line.TheVariants.{Script, Trial, Check, Export, Serve, Standby, Load}
+use Rattle.dxc_args.specs.declared.status.Status.{Status}
+use Rattle.dxc_args.specs.declared.status.Status.TheVariants.{Done, CannotOpen, NoThread, NoMemory}
+use Rattle.dxc_jobs.specs.declared.begun.RanAll.{RanAll}
+use Rattle.dxc_jobs.specs.declared.frames.FrameJob.{FrameJob}
+use Rattle.dxc_jobs.specs.declared.frames_left.FramesDone.{FramesDone}
+use Rattle.dxc_jobs.specs.declared.frames_left.FramesLeft.{FramesLeft}
+use Rattle.dxc_jobs.specs.Begun.{AreRan, RanTo}
+use Rattle.dxc_jobs.specs.Counts.{RoseBy}
+use Rattle.dxc_jobs.specs.Framed.{RanFrames}
+use Rattle.dxc_jobs.specs.Handed.{AreJobsOf}
+use Rattle.dxc_jobs.specs.Leaves.{left_by}
+use Rattle.dxc_jobs.specs.Starts.{IsLastFailed}
+use Rattle.dxc_element.specs.Openings.{Named, Sources, named}
 use Rattle.craft_server.specs.declared.sessions.SessionDone.{SessionDone}
 use Rattle.craft_server.specs.declared.sessions.SessionJob.{SessionJob}
 use Rattle.craft_server.specs.Served.{RanAt}

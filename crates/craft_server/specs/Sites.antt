@@ -1,11 +1,11 @@
 -- Sites that are served, by all that serves them.
 use Rattle.std.specs.Prelude.{◌≡◌}
 use Rattle.standby_link.specs.declared.mirror_disk.MirrorDisk.{MirrorDisk}
-use Rattle.craft_words.specs.declared.status.Status.{Status}
-use Rattle.craft_element.specs.declared.opening.Names.{Names}
-use Rattle.craft_element.specs.Openings.{Named, Opens, Sources, named, sources}
-use Rattle.craft_element.specs.Peers.{Mirrors}
-use Rattle.craft_jobs.specs.Offices.{Across}
+use Rattle.dxc_args.specs.declared.status.Status.{Status}
+use Rattle.dxc_element.specs.declared.opening.Names.{Names}
+use Rattle.dxc_element.specs.Openings.{Named, Opens, Sources, named, sources}
+use Rattle.dxc_element.specs.Peers.{Mirrors}
+use Rattle.dxc_jobs.specs.Offices.{Across}
 use Rattle.craft_server.specs.declared.serve.Site.{Site}
 use Rattle.craft_server.specs.declared.world.Ground.{Ghosts as GroundOf}
 use Rattle.craft_server.specs.Serving.{JobsTold, ServedSite, SiteAt, jobs_told, site_at}

@@ -3,8 +3,8 @@ use Rattle.std.specs.Prelude.{◌≡◌, ◌⊎◌, ℕ, List}
 use Rattle.dxc_outside.specs.declared.clock.Moment.{Moment}
 use Rattle.dxc_outside.specs.Links.{LinkState}
 use Rattle.dxc_model.specs.declared.user.SessionUser.TheVariants.{Nobody}
-use Rattle.craft_words.specs.declared.status.Status.{Status}
-use Rattle.craft_element.specs.Openings.{Named, Opens, Sources, sources}
+use Rattle.dxc_args.specs.declared.status.Status.{Status}
+use Rattle.dxc_element.specs.Openings.{Named, Opens, Sources, sources}
 use Rattle.craft_server.specs.declared.world.Station.{Ghosts as StationOf}
 use Rattle.craft_server.specs.Scripts.{IsUnplaced, RanAndLeft}
 use Rattle.craft_server.specs.Worlds.{StationLent, Stations}

@@ -1,8 +1,8 @@
 -- How the program ends after a session.
 use Rattle.craft_session.specs.declared.end.SessionEnd.{SessionEnd}
 use Rattle.craft_session.specs.declared.end.SessionEnd.TheVariants as end
-use Rattle.craft_words.specs.declared.status.Status.{Status}
-use Rattle.craft_words.specs.declared.status.Status.TheVariants.{Done, Link, Stopped, Spent}
+use Rattle.dxc_args.specs.declared.status.Status.{Status}
+use Rattle.dxc_args.specs.declared.status.Status.TheVariants.{Done, Link, Stopped, Spent}
 
 -- after a session over the terminal, which doesn't end since nobody is logged in, nothing comes, or others ended the user's sessions
 abbrev pub status_of : SessionEnd → Status

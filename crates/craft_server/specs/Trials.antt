@@ -15,9 +15,9 @@ use Rattle.user_admin.specs.Histories.{Opening as UsersOpening}
 use Rattle.user_admin.specs.Openings.{IsOpening as IsUsersOpening}
 use Rattle.xc_core.specs.Openings.{IsOpening}
 use Rattle.xc_core.specs.States.{Opening}
-use Rattle.craft_words.specs.declared.status.Status.{Status}
-use Rattle.craft_element.specs.declared.opening.Element.{Element}
-use Rattle.craft_element.specs.Loads.{IsNewDisk, IsNewElement, IsNewUsersDisk, NotLoaded}
+use Rattle.dxc_args.specs.declared.status.Status.{Status}
+use Rattle.dxc_element.specs.declared.opening.Element.{Element}
+use Rattle.dxc_element.specs.Loads.{IsNewDisk, IsNewElement, IsNewUsersDisk, NotLoaded}
 use Rattle.craft_server.specs.Scripts.{RanSession}
 
 -- the disks of a trial, whether they, its terminal and its clock tell what they hold, and where reads of the terminal began

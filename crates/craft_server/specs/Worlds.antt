@@ -9,7 +9,7 @@ use Rattle.dxc_outside.specs.declared.listener.Listener.{Ghosts as ListenerOf}
 use Rattle.dxc_outside.specs.declared.opener.Opener.{Ghosts as OpenerOf}
 use Rattle.dxc_outside.specs.declared.spawner.Spawner.{Ghosts as SpawnerOf}
 use Rattle.dxc_leaving.specs.declared.LetGo.{Ghosts as LetGoOf}
-use Rattle.craft_jobs.specs.Offices.{Across}
+use Rattle.dxc_jobs.specs.Offices.{Across}
 
 -- the ghost members of an opener and of what it hands out, and of a gate and a spawner
 pub record Grounds : Type 1 where

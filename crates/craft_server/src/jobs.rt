@@ -2,11 +2,11 @@
 ghost use Rattle.std.specs.Prelude.{◌≡◌, ◌≤◌, ◌∷◌, [], ℕ, List, All, IfErr, IfOk, IsOk, map, vec_capacity, vec_len};
 ghost use Rattle.dxc_leaving.specs.Values.{any_value};
 ghost use Rattle.dxc_outside.specs.Asked.{AskedFor, asked_each, listener_named};
-ghost use Rattle.craft_jobs.specs.Missing.{IsMade};
+ghost use Rattle.dxc_jobs.specs.Missing.{IsMade};
 
 use crate::sessions::SessionJob;
 use craft_session::Place;
-use craft_words::Status;
+use dxc_args::Status;
 use dxc_disk::Disk;
 use dxc_leaving::LetGo;
 use dxc_outside::{Opened, Opener};

@@ -1,17 +1,17 @@
 //! Sessions and frame workers of a controller whose journals a standby has copies of.
 ghost use Rattle.std.specs.Prelude.{◌≤◌, ◌++◌};
 ghost use Rattle.dxc_outside.specs.Asked.{AskedFor};
-ghost use Rattle.craft_jobs.specs.Missing.{IsOfNoOpening};
-ghost use Rattle.craft_element.specs.Openings.{named};
-ghost use Rattle.craft_element.specs.Peers.{mirror_asked};
+ghost use Rattle.dxc_jobs.specs.Missing.{IsOfNoOpening};
+ghost use Rattle.dxc_element.specs.Openings.{named};
+ghost use Rattle.dxc_element.specs.Peers.{mirror_asked};
 ghost use Rattle.craft_server.specs.Askings.{site_asked};
 ghost use Rattle.craft_server.specs.Sites.{ServedMirrored, names_of, site_of};
 
 use crate::serve::{Site, serve_on};
 use crate::world::Ground;
-use craft_element::{Controller, Element, Names, open_mirrored};
+use dxc_element::{Controller, Element, Names, open_mirrored};
 use craft_session::Timestamps;
-use craft_words::Status;
+use dxc_args::Status;
 use dxc_leaving::LetGo;
 use dxc_notes::Noted;
 use dxc_outside::{Gate, Listener, Opener, Spawner};

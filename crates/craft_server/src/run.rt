@@ -1,9 +1,9 @@
 ghost use Rattle.std.specs.Prelude.{◌≡◌, ◌≢◌};
-ghost use Rattle.craft_words.specs.Lines.{IsInRange, IsLine};
-ghost use Rattle.craft_words.specs.declared.line.Line.{Line as ALine};
+ghost use Rattle.dxc_args.specs.Lines.{IsInRange, IsLine};
+ghost use Rattle.dxc_args.specs.declared.line.Line.{Line as ALine};
 ghost use Rattle.dxc_outside.specs.Asked.{AskedFor};
-ghost use Rattle.craft_jobs.specs.Missing.{IsOfNoOpening};
-ghost use Rattle.craft_element.specs.Openings.{named};
+ghost use Rattle.dxc_jobs.specs.Missing.{IsOfNoOpening};
+ghost use Rattle.dxc_element.specs.Openings.{named};
 ghost use Rattle.craft_server.specs.Askings.{AskedBy, line_asked};
 ghost use Rattle.craft_server.specs.Runs.{RanLine, RanWords};
 
@@ -12,10 +12,10 @@ use crate::script::run_script;
 use crate::serve::serve_line;
 use crate::trial::run_trial;
 use crate::world::World;
-use craft_element::{Names, run_check, run_export};
-use craft_jobs::run_standby;
+use dxc_element::{Names, run_check, run_export};
+use dxc_jobs::run_standby;
 use craft_session::Timestamps;
-use craft_words::{Line, Status, WordsFault, line_of};
+use dxc_args::{Line, Status, WordsFault, line_of};
 use dxc_leaving::LetGo;
 use dxc_notes::Noted;
 use dxc_outside::{Clock, Gate, Link, Listener, Name, Opener, Spawner};

@@ -1,16 +1,16 @@
 ghost use Rattle.std.specs.Prelude.{◌≡◌, ◌≢◌};
 ghost use Rattle.dxc_outside.specs.Asked.{AskedFor};
-ghost use Rattle.craft_jobs.specs.Missing.{IsOfNoOpening};
-ghost use Rattle.craft_element.specs.Openings.{files_asked, named};
+ghost use Rattle.dxc_jobs.specs.Missing.{IsOfNoOpening};
+ghost use Rattle.dxc_element.specs.Openings.{files_asked, named};
 ghost use Rattle.craft_server.specs.Sites.{names_of};
 ghost use Rattle.craft_server.specs.Stations.{OpensForScript};
 ghost use Rattle.craft_server.specs.Statuses.{status_of};
 
 use crate::world::Station;
-use craft_element::{Controller, Element, Names, WORKERS, open};
+use dxc_element::{Controller, Element, Names, WORKERS, open};
 use craft_session::places::lone_place;
 use craft_session::{SessionEnd, serve_session};
-use craft_words::Status;
+use dxc_args::Status;
 use dxc_leaving::LetGo;
 use dxc_outside::{Clock, Gate, Link, Opener};
 use std::alloc::Global;

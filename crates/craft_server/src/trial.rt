@@ -3,10 +3,10 @@ ghost use Rattle.std.specs.Prelude.{◌≡◌, IfOk, MatchResult};
 ghost use Rattle.craft_server.specs.Trials.{IsTrialElement, IsTrialOn, IsUntried, memory_told, trial_lent, trial_told};
 
 use crate::script::after_session;
-use craft_element::{Controller, Element, memory_element};
+use dxc_element::{Controller, Element, memory_element};
 use craft_session::places::lone_place;
 use craft_session::serve_session_of;
-use craft_words::Status;
+use dxc_args::Status;
 use dxc_disk::Disk;
 use dxc_num::Shape;
 use dxc_outside::{Clock, Gate, Link};

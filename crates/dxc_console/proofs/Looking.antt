@@ -1,8 +1,8 @@
 -- The mode of a line, by its words.
 use Rattle.std.proofs.Common.{◌≡◌, ◌∙◌, ℕ, List, ap, refl}
-use Rattle.craft_words.specs.declared.line.Line.{Line}
-use Rattle.craft_words.specs.declared.line.Line.TheVariants.{Script, Trial, Check, Export, Serve, Standby, Load}
-use Rattle.craft_words.specs.Lines.{IsLine, words_of}
+use Rattle.dxc_args.specs.declared.line.Line.{Line}
+use Rattle.dxc_args.specs.declared.line.Line.TheVariants.{Script, Trial, Check, Export, Serve, Standby, Load}
+use Rattle.dxc_args.specs.Lines.{IsLine, words_of}
 use Rattle.dxc_console.specs.Words.{is_look, looks_only}
 
 look_of : (l : Line) → is_look (words_of l) ≡ looks_only l

@@ -1,8 +1,8 @@
 -- What the words ask of the program itself, before they are read as a line.
 use Rattle.std.specs.Prelude.{◌||◌, ℕ, Bool, true, false, List, [], ◌∷◌, codes}
 use Rattle.std.specs.Str.{bytes_eq}
-use Rattle.craft_words.specs.declared.line.Line.{Line}
-use Rattle.craft_words.specs.declared.line.Line.TheVariants.{Script, Trial, Check, Export, Serve, Standby, Load}
+use Rattle.dxc_args.specs.declared.line.Line.{Line}
+use Rattle.dxc_args.specs.declared.line.Line.TheVariants.{Script, Trial, Check, Export, Serve, Standby, Load}
 
 -- the mode is one that changes no file
 abbrev pub is_look : List (List ℕ) → Bool

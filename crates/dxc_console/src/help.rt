@@ -4,7 +4,7 @@ ghost use Rattle.dxc_console.specs.Words.{asks_for_help};
 
 use crate::sources::SOURCES;
 use crate::telling::Telling;
-use craft_words::Status;
+use dxc_args::Status;
 use dxc_outside::Name;
 use std::io;
 

@@ -1,4 +1,4 @@
-use craft_words::{JournalBad, Status};
+use dxc_args::{JournalBad, Status};
 use dxc_model::Uid;
 use dxc_num::Shape;
 use dxc_outside::Name;

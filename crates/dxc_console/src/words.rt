@@ -1,8 +1,8 @@
 ghost use Rattle.std.specs.Prelude.{◌≡◌, ◌++◌, IfOk};
 ghost use Rattle.std.specs.Vec.Iter.{into_iter_items};
 ghost use Rattle.dxc_console.specs.Given.{after_name, texts_of};
-ghost use Rattle.craft_words.specs.declared.line.Line.{Line};
-ghost use Rattle.craft_words.specs.Lines.{IsLine};
+ghost use Rattle.dxc_args.specs.declared.line.Line.{Line};
+ghost use Rattle.dxc_args.specs.Lines.{IsLine};
 ghost use Rattle.dxc_console.specs.Words.{is_look, looks_only};
 
 use dxc_causes::NoMemory;

@@ -23,13 +23,13 @@ use Rattle.fabric_words.specs.Tied.{Knows, Tied}
 use Rattle.fabric_words.proofs.Ties.{same_size}
 use Rattle.frame_worker.specs.Laws.{AreOwnBytes, Carried}
 use Rattle.frame_worker.specs.Lines.{AreFrames}
-use Rattle.craft_jobs.specs.declared.frames.FrameJob.{FrameJob}
-use Rattle.craft_jobs.specs.declared.frames_left.FramesDone.{FramesDone}
-use Rattle.craft_jobs.specs.declared.frames_left.FramesLeft.{FramesLeft}
-use Rattle.craft_jobs.specs.Begun.{AreRan}
-use Rattle.craft_jobs.specs.Framed.{RanFrames}
-use Rattle.craft_jobs.specs.Handed.{AreJobsOf, IsJobOf}
-use Rattle.craft_jobs.specs.Leaves.{left_by}
+use Rattle.dxc_jobs.specs.declared.frames.FrameJob.{FrameJob}
+use Rattle.dxc_jobs.specs.declared.frames_left.FramesDone.{FramesDone}
+use Rattle.dxc_jobs.specs.declared.frames_left.FramesLeft.{FramesLeft}
+use Rattle.dxc_jobs.specs.Begun.{AreRan}
+use Rattle.dxc_jobs.specs.Framed.{RanFrames}
+use Rattle.dxc_jobs.specs.Handed.{AreJobsOf, IsJobOf}
+use Rattle.dxc_jobs.specs.Leaves.{left_by}
 use Rattle.serve_laws.specs.Frames.{AreOwnFrames, AreSeatsIn, CarriedOwn}
 
 pub is_of : (z : Size) (f : State Aim View) (t : Tied z f) (j : ℕ) (v : View) → Knows z t.core t.writer t.dealt t.owner j v → IsOf t.core v

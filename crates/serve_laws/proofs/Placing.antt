@@ -35,8 +35,8 @@ use Rattle.switch_laws.proofs.Following.{together}
 use Rattle.switch_laws.specs.Moments.{AreUsersThen}
 use Rattle.switch_laws.proofs.HeardThen.{compared, users_then}
 use Rattle.switch_laws.proofs.Listening.{heard_together}
-use Rattle.craft_jobs.specs.Begun.{AreRan}
-use Rattle.craft_jobs.specs.Leaves.{left_by}
+use Rattle.dxc_jobs.specs.Begun.{AreRan}
+use Rattle.dxc_jobs.specs.Leaves.{left_by}
 use Rattle.craft_server.specs.Callers.{Standing, standing}
 use Rattle.serve_laws.specs.Jobs.{Done, IsServedAt, Job, Ran, World, links_of}
 use Rattle.serve_laws.specs.Timing.{MomentAt, WereWrittenThen}

@@ -39,9 +39,9 @@ use Rattle.switch_laws.specs.Element.{ComesTo, Session, Turn}
 use Rattle.switch_laws.specs.Laws.{IsExcused, Lives}
 use Rattle.switch_laws.specs.Moments.{changed}
 use Rattle.switch_laws.proofs.Passing.{moment_of, table_changed}
-use Rattle.craft_jobs.specs.declared.frames_left.FramesLeft.{FramesLeft}
-use Rattle.craft_jobs.specs.Begun.{AreRan}
-use Rattle.craft_jobs.specs.Leaves.{left_by}
+use Rattle.dxc_jobs.specs.declared.frames_left.FramesLeft.{FramesLeft}
+use Rattle.dxc_jobs.specs.Begun.{AreRan}
+use Rattle.dxc_jobs.specs.Leaves.{left_by}
 use Rattle.craft_server.specs.Serving.{SiteAt}
 use Rattle.serve_laws.specs.Headline.{IsEarlier, IsEnd, IsHitlessFabric, IsOneElement, IsOneOrder, IsOrder, LiesFor, LinksThen, Lying, Sessions, UsersLying, WasThen, behind, moment_at, opened, seen_by, users_seen_by}
 use Rattle.serve_laws.specs.Jobs.{Job, Jobs, Ran, World, links_of}

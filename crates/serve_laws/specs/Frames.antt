@@ -14,10 +14,10 @@ use Rattle.fabric_words.specs.declared.table.View.{View}
 use Rattle.fabric_words.specs.declared.table.View.TheVariants.{AsWorker}
 use Rattle.frame_worker.specs.Frames.{IsFrame}
 use Rattle.frame_worker.specs.Laws.{IsElsewhere, IsOfConnection, IsUnconnected}
-use Rattle.craft_jobs.specs.declared.frames.FrameJob.{FrameJob}
-use Rattle.craft_jobs.specs.declared.frames_left.FramesDone.{FramesDone}
-use Rattle.craft_jobs.specs.declared.frames_left.FramesLeft.{FramesLeft}
-use Rattle.craft_jobs.specs.Framed.{RanFrames}
+use Rattle.dxc_jobs.specs.declared.frames.FrameJob.{FrameJob}
+use Rattle.dxc_jobs.specs.declared.frames_left.FramesDone.{FramesDone}
+use Rattle.dxc_jobs.specs.declared.frames_left.FramesLeft.{FramesLeft}
+use Rattle.dxc_jobs.specs.Framed.{RanFrames}
 
 -- each byte of a frame that a worker wrote is the input byte of the output's own connection, or idle
 abbrev pub IsOwnFrame : Core → ℕ → List ℕ → List ℕ → List Note → Type 0

@@ -41,8 +41,8 @@ use Rattle.switch_laws.specs.Laws.{IsExcused, element}
 use Rattle.switch_laws.specs.Moments.{AreUsersThen, IsMoment}
 use Rattle.switch_laws.specs.Orders.{ActsAlong, AnyEntry, ArePlayedInOrder, IsOrderOf}
 use Rattle.switch_laws.specs.Users.{AreHeard, Hearing}
-use Rattle.craft_jobs.specs.declared.frames_left.FramesLeft.{FramesLeft}
-use Rattle.craft_jobs.specs.Begun.{AreRan}
+use Rattle.dxc_jobs.specs.declared.frames_left.FramesLeft.{FramesLeft}
+use Rattle.dxc_jobs.specs.Begun.{AreRan}
 use Rattle.craft_server.specs.Serving.{SiteAt}
 use Rattle.serve_laws.specs.Copies.{IsBroughtHome, LeavesChanges}
 use Rattle.serve_laws.specs.Frames.{AreSeatsIn, CarriedOwn}

@@ -14,8 +14,8 @@ use Rattle.craft_session.specs.Happenings.{Request}
 use Rattle.craft_session.specs.Seats.{PlaceAt}
 use Rattle.switch_laws.specs.Element.{Session}
 use Rattle.switch_laws.specs.Users.{Hearing}
-use Rattle.craft_jobs.specs.declared.frames.FrameJob.{FrameJob}
-use Rattle.craft_jobs.specs.Offices.{Office}
+use Rattle.dxc_jobs.specs.declared.frames.FrameJob.{FrameJob}
+use Rattle.dxc_jobs.specs.Offices.{Office}
 use Rattle.craft_server.specs.declared.sessions.SessionDone.{SessionDone}
 use Rattle.craft_server.specs.declared.sessions.SessionJob.{SessionJob}
 use Rattle.craft_server.specs.Callers.{standing}

@@ -1,7 +1,7 @@
 //! What the jobs of `serve` did that have run, as the contract of a function without parameters.
 #![tactic(auto)]
 
-ghost use Rattle.craft_jobs.specs.Offices.{office};
+ghost use Rattle.dxc_jobs.specs.Offices.{office};
 ghost use Rattle.serve_laws.specs.Headline.{IsHeadline};
 ghost use Rattle.serve_laws.specs.Jobs.{means, world};
 

@@ -1,10 +1,10 @@
 -- The record of a number, in the file that a journal was opened on.
 use Rattle.std.proofs.Common.{◌≡◌, ◌<◌, ◌≤◌, ◌∙◌, ◌++◌, ◌∷◌, ℕ, List, [], length, false, Ok, Err, Option, None, Some, Result, inl, inr, ⊎_elim, ap, arith, refl, subst, sym}
 use Rattle.std.specs.Prelude.{IfNone, IfSome, IsErr, get_or}
-use Rattle.craft_words.specs.declared.status.JournalBad.{JournalBad}
-use Rattle.craft_words.specs.declared.status.JournalBad.TheVariants.{UsersRecord}
-use Rattle.craft_words.specs.declared.status.Status.{Status}
-use Rattle.craft_words.specs.declared.status.Status.TheVariants.{BadJournal}
+use Rattle.dxc_args.specs.declared.status.JournalBad.{JournalBad}
+use Rattle.dxc_args.specs.declared.status.JournalBad.TheVariants.{UsersRecord}
+use Rattle.dxc_args.specs.declared.status.Status.{Status}
+use Rattle.dxc_args.specs.declared.status.Status.TheVariants.{BadJournal}
 use Rattle.dxc_causes.specs.Causes.{HasCause, Rose}
 use Rattle.dxc_disk.specs.Disks.{DiskState, IsDisk}
 use Rattle.dxc_num.specs.Dimensions.{Dimensions}

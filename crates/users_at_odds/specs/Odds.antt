@@ -1,8 +1,8 @@
 -- Whom a refused record of the users' journal is about.
 use Rattle.std.specs.Prelude.{◌≡◌, ◌⊎◌, ◌≤◌, ◌<◌, ◌++◌, ◌∷◌, [], ℕ, List, Option, Some, codes, drop, get_or, length, slice_index, take}
-use Rattle.craft_words.specs.declared.status.JournalBad.TheVariants.{UsersRecord}
-use Rattle.craft_words.specs.declared.status.Status.{Status}
-use Rattle.craft_words.specs.declared.status.Status.TheVariants.{BadJournal}
+use Rattle.dxc_args.specs.declared.status.JournalBad.TheVariants.{UsersRecord}
+use Rattle.dxc_args.specs.declared.status.Status.{Status}
+use Rattle.dxc_args.specs.declared.status.Status.TheVariants.{BadJournal}
 use Rattle.dxc_causes.specs.Causes.{Rose}
 use Rattle.dxc_disk.specs.Disks.{DiskState}
 use Rattle.dxc_num.specs.Dimensions.{Dimensions}

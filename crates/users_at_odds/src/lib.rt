@@ -5,7 +5,7 @@ ghost use Rattle.std.specs.Prelude.{◌≡◌, ◌≢◌, ◌≤◌, ◌<◌, �
 ghost use Rattle.dxc_outside.specs.Asked.{AskedFor, journal_named, shelf_named};
 ghost use Rattle.users_at_odds.specs.Odds.{HasName, HasShelf, IsAtOdds, IsUnnamed, IsUserOf, NoUser, NotAtOdds, done, held, most_bytes, name_in as in_record, odds_asked, users_name as beside};
 
-use craft_words::{JournalBad, Status};
+use dxc_args::{JournalBad, Status};
 use dxc_causes::NoMemory;
 use dxc_disk::Disk;
 use dxc_model::Uid;

@@ -3,7 +3,7 @@ use crate::sessions::serve_row;
 use crate::turn::Turn;
 use crate::words::{RUN_WORDS, SESSION_WORDS};
 use anyhow::Result;
-use craft_words::Status;
+use dxc_args::Status;
 use std::alloc::Global;
 use std::fs;
 use std::sync::Wait;

@@ -1,6 +1,6 @@
 use crate::turn::{Turn, beside_of};
 use anyhow::Result;
-use craft_words::Status;
+use dxc_args::Status;
 use dxc_host::HostOpener;
 use std::alloc::Global;
 use std::sync::Wait;

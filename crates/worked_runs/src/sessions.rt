@@ -2,7 +2,7 @@
 
 use crate::turn::{Beside, Turn};
 use anyhow::{Context, Result, ensure};
-use craft_words::Status;
+use dxc_args::Status;
 use dxc_disk::MemDisk;
 use dxc_host::ThreadSpawner;
 use dxc_outside::{MemGate, MemLink, Name};

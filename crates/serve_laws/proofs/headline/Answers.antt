@@ -1,4 +1,4 @@
-use Rattle.craft_jobs.specs.Offices.{office}
+use Rattle.dxc_jobs.specs.Offices.{office}
 use Rattle.serve_laws.specs.Jobs.{means, world}
 use Rattle.serve_laws.proofs.Whole.{headline}
 use Rattle.serve_laws.proofs.headline.Goals as goal

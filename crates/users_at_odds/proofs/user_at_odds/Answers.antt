@@ -1,7 +1,7 @@
 use Rattle.std.proofs.Common.{◌∙◌, [], ap, sym, true≢false}
-use Rattle.craft_words.specs.declared.status.JournalBad.{JournalBad}
-use Rattle.craft_words.specs.declared.status.JournalBad.TheVariants.{UsersRecord}
-use Rattle.craft_words.specs.declared.status.Status.TheVariants.{BadJournal}
+use Rattle.dxc_args.specs.declared.status.JournalBad.{JournalBad}
+use Rattle.dxc_args.specs.declared.status.JournalBad.TheVariants.{UsersRecord}
+use Rattle.dxc_args.specs.declared.status.Status.TheVariants.{BadJournal}
 use Rattle.dxc_outside.proofs.Asking.{asked_part}
 use Rattle.users_at_odds.specs.Odds.{done, held, odds_asked}
 use Rattle.users_at_odds.proofs.Naming.{at_odds, bad_same, not_at_odds, too_few}

@@ -1,6 +1,6 @@
 use Rattle.std.proofs.Common.{◌∙◌, [], ◌∷◌}
 use Rattle.dxc_outside.specs.Asked.{listener_named}
-use Rattle.craft_jobs.proofs.Faulting.{is_made, kept, no_memory, not_opened}
+use Rattle.dxc_jobs.proofs.Faulting.{is_made, kept, no_memory, not_opened}
 use Rattle.craft_server.proofs.jobs.door_at.Goals as goal
 
 pub returns-in-Open-clause-made : goal.returns-in-Open-clause-made

@@ -3,8 +3,8 @@ use Rattle.std.proofs.lemmas.List.Elements.{All-push}
 use Rattle.std.proofs.lemmas.Result.{err_from_is_err_and}
 use Rattle.dxc_outside.specs.Asked.{asked_each, listener_named}
 use Rattle.dxc_outside.proofs.Asking.{asked_all, each_cut, each_next}
-use Rattle.craft_jobs.proofs.Faulting.{behind, is_made, no_memory}
-use Rattle.craft_jobs.proofs.Jobs.{pushed}
+use Rattle.dxc_jobs.proofs.Faulting.{behind, is_made, no_memory}
+use Rattle.dxc_jobs.proofs.Jobs.{pushed}
 use Rattle.craft_server.proofs.jobs.doors_at.Goals as goal
 
 all_of : (n m : ℕ) → m ≤ n → n ≤ m → n ≡ m

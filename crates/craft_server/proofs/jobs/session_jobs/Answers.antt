@@ -2,7 +2,7 @@ use Rattle.std.proofs.Common.{ℕ, ap, arith, is_ok, subst, sym, true≢false}
 use Rattle.std.specs.Prelude.{IsOk, vec_len}
 use Rattle.dxc_outside.specs.Asked.{AskedFor, asked_each, listener_named}
 use Rattle.dxc_outside.proofs.Asking.{asked_less}
-use Rattle.craft_jobs.proofs.Faulting.{behind, is_made, no_memory}
+use Rattle.dxc_jobs.proofs.Faulting.{behind, is_made, no_memory}
 use Rattle.craft_server.proofs.jobs.session_jobs.Goals as goal
 
 pub returns-in-Err-clause-made : goal.returns-in-Err-clause-made

@@ -4,7 +4,7 @@ use Rattle.fabric_core.specs.declared.worker.Worker.{Worker}
 use Rattle.fabric_core.specs.State.{new_worker}
 use Rattle.fabric_words.specs.declared.reader.Reader.{Reader}
 use Rattle.fabric_words.specs.declared.worker.WorkerSeat.{WorkerSeat}
-use Rattle.craft_jobs.proofs.Jobs.{first_new}
+use Rattle.dxc_jobs.proofs.Jobs.{first_new}
 use Rattle.craft_server.proofs.load.load_link.Goals as goal
 
 pub new-requires-clause-own : goal.new-requires-clause-own

@@ -1,7 +1,7 @@
 use Rattle.std.proofs.Common.{Err, Result, refl, subst, sym}
-use Rattle.craft_element.specs.declared.opening.Element.{Element}
-use Rattle.craft_element.specs.Loads.{IsLoadElement}
-use Rattle.craft_words.specs.declared.status.Status.{Status}
+use Rattle.dxc_element.specs.declared.opening.Element.{Element}
+use Rattle.dxc_element.specs.Loads.{IsLoadElement}
+use Rattle.dxc_args.specs.declared.status.Status.{Status}
 use Rattle.craft_server.specs.Loads.{LoadsOn}
 use Rattle.craft_server.proofs.Loading.{on_started}
 use Rattle.craft_server.proofs.load.load_opened.Goals as goal

@@ -1,5 +1,5 @@
 use Rattle.std.proofs.Common.{inl, refl}
-use Rattle.craft_element.specs.Loads.{IsLoadStarted, NotLoaded}
+use Rattle.dxc_element.specs.Loads.{IsLoadStarted, NotLoaded}
 use Rattle.craft_server.proofs.Loading.{if_started, loaded_by, stops_by}
 use Rattle.craft_server.proofs.load.loaded.Goals as goal
 

@@ -3,14 +3,14 @@ use Rattle.shelf_file.specs.Contents.{Contents}
 use Rattle.standby_link.specs.declared.mirror_disk.MirrorDisk.{MirrorDisk}
 use Rattle.user_admin.specs.Histories.{Opening as UsersOpening}
 use Rattle.xc_core.specs.States.{Opening}
-use Rattle.craft_element.specs.Openings.{named, sources}
-use Rattle.craft_element.specs.Peers.{mirror_asked, mirror_state}
+use Rattle.dxc_element.specs.Openings.{named, sources}
+use Rattle.dxc_element.specs.Peers.{mirror_asked, mirror_state}
 use Rattle.craft_server.specs.Serving.{ServedSite, jobs_told, site_at}
-use Rattle.craft_element.proofs.Mirroring.{serves}
+use Rattle.dxc_element.proofs.Mirroring.{serves}
 use Rattle.craft_server.proofs.Serves.{served_on}
 use Rattle.craft_server.proofs.Starting.{opened_at, sized}
 use Rattle.dxc_outside.proofs.Asking.{all_made, asked_behind, asked_within}
-use Rattle.craft_element.proofs.Wording.{not_mirrored_ends}
+use Rattle.dxc_element.proofs.Wording.{not_mirrored_ends}
 use Rattle.craft_server.specs.Askings.{site_asked}
 use Rattle.craft_server.proofs.mirrored.serve_mirrored.Goals as goal
 

@@ -1,5 +1,5 @@
 use Rattle.std.proofs.Common.{ap₂}
-use Rattle.craft_element.specs.Openings.{named}
+use Rattle.dxc_element.specs.Openings.{named}
 use Rattle.craft_server.proofs.run.names_of.Goals as goal
 
 pub returns : goal.returns

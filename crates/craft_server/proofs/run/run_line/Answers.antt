@@ -8,28 +8,28 @@ use Rattle.shelf_file.specs.Contents.{Contents}
 use Rattle.standby_link.specs.declared.mirror_disk.MirrorDisk.{MirrorDisk}
 use Rattle.user_admin.specs.Histories.{Opening as UsersOpening}
 use Rattle.xc_core.specs.States.{Opening}
-use Rattle.craft_words.specs.declared.line.Line.{Line}
-use Rattle.craft_words.specs.Lines.{IsInRange}
-use Rattle.craft_element.specs.Openings.{WasLetGo, named, opened_on, sources}
-use Rattle.craft_element.specs.Exports.{IsExport}
-use Rattle.craft_element.specs.Listings.{IsCheck}
+use Rattle.dxc_args.specs.declared.line.Line.{Line}
+use Rattle.dxc_args.specs.Lines.{IsInRange}
+use Rattle.dxc_element.specs.Openings.{WasLetGo, named, opened_on, sources}
+use Rattle.dxc_element.specs.Exports.{IsExport}
+use Rattle.dxc_element.specs.Listings.{IsCheck}
 use Rattle.craft_server.specs.Runs.{IsRunOf, IsUntouched, RanCheck, RanExport, RanScript, RanServe, lent, told_by}
 use Rattle.craft_server.specs.Scripts.{IsUnplaced, RanAndLeft}
-use Rattle.craft_jobs.specs.Standbys.{StandsBy}
+use Rattle.dxc_jobs.specs.Standbys.{StandsBy}
 use Rattle.craft_server.specs.Serving.{IsServe, ServedSite, jobs_told, named_in, peer_of, site_at, site_in}
 use Rattle.craft_server.proofs.Loading.{load_words}
-use Rattle.craft_element.proofs.Mirroring.{mirrors_for}
-use Rattle.craft_element.proofs.Starting.{opens_for}
-use Rattle.craft_element.proofs.Wording.{check_words, export_words, mirrors_words, opens_words}
-use Rattle.craft_jobs.proofs.Wording.{stands_words}
+use Rattle.dxc_element.proofs.Mirroring.{mirrors_for}
+use Rattle.dxc_element.proofs.Starting.{opens_for}
+use Rattle.dxc_element.proofs.Wording.{check_words, export_words, mirrors_words, opens_words}
+use Rattle.dxc_jobs.proofs.Wording.{stands_words}
 use Rattle.craft_server.proofs.Mirroring.{serves_for}
 use Rattle.craft_server.proofs.Serves.{ran_serve}
 use Rattle.craft_server.proofs.Trying.{trial_words}
 use Rattle.craft_server.proofs.Wording.{end_words, serve_words, serving_words}
 use Rattle.dxc_outside.specs.Asked.{Asking, AskedFor, copy_named, listener_named}
 use Rattle.dxc_outside.proofs.Asking.{asked_all}
-use Rattle.craft_jobs.specs.Missing.{IsOfNoOpening}
-use Rattle.craft_element.specs.Openings.{files_asked}
+use Rattle.dxc_jobs.specs.Missing.{IsOfNoOpening}
+use Rattle.dxc_element.specs.Openings.{files_asked}
 use Rattle.craft_server.specs.Askings.{line_asked}
 use Rattle.craft_server.proofs.run.run_line.Goals as goal
 

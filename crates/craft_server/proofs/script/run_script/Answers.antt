@@ -2,11 +2,11 @@ use Rattle.std.proofs.Common.{ℕ, inl, inr, refl, subst}
 use Rattle.dxc_model.specs.declared.user.SessionUser.TheVariants.{Nobody}
 use Rattle.xc_core.specs.States.{opening_of}
 use Rattle.craft_server.proofs.Scripting.{IsEnd, ran_and_left}
-use Rattle.craft_element.proofs.Starting.{begun, users_began}
+use Rattle.dxc_element.proofs.Starting.{begun, users_began}
 use Rattle.craft_server.proofs.Starting.{opened_at}
 use Rattle.dxc_outside.proofs.Asking.{asked_less}
-use Rattle.craft_element.specs.Openings.{files_asked, named, sources}
-use Rattle.craft_element.proofs.Wording.{not_opened_ends}
+use Rattle.dxc_element.specs.Openings.{files_asked, named, sources}
+use Rattle.dxc_element.proofs.Wording.{not_opened_ends}
 use Rattle.craft_server.proofs.script.run_script.Goals as goal
 
 pub lone_place-requires-clause-begins : goal.lone_place-requires-clause-begins

@@ -4,14 +4,14 @@ use Rattle.standby_link.specs.declared.mirror_disk.MirrorDisk.{MirrorDisk}
 use Rattle.standby_link.proofs.LineSteps.{none_some}
 use Rattle.user_admin.specs.Histories.{Opening as UsersOpening}
 use Rattle.xc_core.specs.States.{Opening}
-use Rattle.craft_element.specs.Openings.{named, sources}
+use Rattle.dxc_element.specs.Openings.{named, sources}
 use Rattle.craft_server.specs.Serving.{ServedSite, SiteAt, jobs_told, named_in, peer_of, site_at, site_in}
-use Rattle.craft_element.proofs.Mirroring.{mirrors_for}
-use Rattle.craft_element.proofs.Starting.{opens_for}
+use Rattle.dxc_element.proofs.Mirroring.{mirrors_for}
+use Rattle.dxc_element.proofs.Starting.{opens_for}
 use Rattle.dxc_outside.specs.Asked.{Asking, AskedFor}
-use Rattle.craft_jobs.specs.Missing.{IsOfNoOpening}
-use Rattle.craft_element.specs.Openings.{files_asked}
-use Rattle.craft_element.specs.Peers.{mirror_asked}
+use Rattle.dxc_jobs.specs.Missing.{IsOfNoOpening}
+use Rattle.dxc_element.specs.Openings.{files_asked}
+use Rattle.dxc_element.specs.Peers.{mirror_asked}
 use Rattle.craft_server.specs.Askings.{line_asked, opened_asked, site_asked}
 use Rattle.craft_server.proofs.serve.serve_all.Goals as goal
 

@@ -2,11 +2,11 @@ use Rattle.std.proofs.Common.{inl, inr, refl}
 use Rattle.xc_core.specs.States.{opening_of}
 use Rattle.craft_server.specs.Serving.{jobs_told, site_at}
 use Rattle.craft_server.proofs.Serves.{served_on}
-use Rattle.craft_element.proofs.Starting.{begun, users_began}
+use Rattle.dxc_element.proofs.Starting.{begun, users_began}
 use Rattle.craft_server.proofs.Starting.{opened_at, sized}
 use Rattle.dxc_outside.proofs.Asking.{all_made, asked_behind, asked_within}
-use Rattle.craft_element.specs.Openings.{files_asked, named, sources}
-use Rattle.craft_element.proofs.Wording.{not_opened_ends}
+use Rattle.dxc_element.specs.Openings.{files_asked, named, sources}
+use Rattle.dxc_element.proofs.Wording.{not_opened_ends}
 use Rattle.craft_server.specs.Askings.{site_asked}
 use Rattle.craft_server.proofs.serve.serve_alone.Goals as goal
 

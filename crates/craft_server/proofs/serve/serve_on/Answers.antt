@@ -1,21 +1,21 @@
 use Rattle.std.proofs.Common.{◌+◌, ◌∙◌, [], ◌++◌, ℕ, List, ap, ap₂, arith, Err, inl, inr, refl, subst, sym, ◌≡◌, Bool, true}
 use Rattle.std.specs.Arc.{arc_value}
-use Rattle.craft_words.specs.declared.status.Status.{Status}
-use Rattle.craft_words.specs.declared.status.Status.TheVariants.{NoMemory}
+use Rattle.dxc_args.specs.declared.status.Status.{Status}
+use Rattle.dxc_args.specs.declared.status.Status.TheVariants.{NoMemory}
 use Rattle.fabric_words.specs.Seats.{FabricId}
 use Rattle.user_admin.specs.States.{opening_of as users_opening}
 use Rattle.xc_core.specs.States.{opening_of}
 use Rattle.craft_session.specs.Places.{HasPlaces}
 use Rattle.craft_session.specs.Seats.{PlaceAt}
-use Rattle.craft_jobs.specs.Handed.{AreJobsOf}
-use Rattle.craft_jobs.specs.Missing.{IsOfNoOpening}
-use Rattle.craft_jobs.proofs.Counting.{rose_behind}
+use Rattle.dxc_jobs.specs.Handed.{AreJobsOf}
+use Rattle.dxc_jobs.specs.Missing.{IsOfNoOpening}
+use Rattle.dxc_jobs.proofs.Counting.{rose_behind}
 use Rattle.craft_server.specs.Serving.{IsServing}
 use Rattle.craft_server.proofs.Serves.{none_started}
 use Rattle.std.specs.Prelude.{IsOk, vec_len}
 use Rattle.dxc_outside.specs.Asked.{AskedFor, asked_each, lines_named, listener_named}
 use Rattle.dxc_outside.proofs.Asking.{all_made, asked_behind, asked_less, asked_part, asked_within}
-use Rattle.craft_jobs.proofs.Faulting.{made_ends}
+use Rattle.dxc_jobs.proofs.Faulting.{made_ends}
 use Rattle.craft_server.specs.Askings.{site_asked}
 use Rattle.craft_server.proofs.serve.serve_on.Goals as goal
 

@@ -1,5 +1,5 @@
 use Rattle.std.proofs.Common.{inl, refl}
-use Rattle.craft_element.specs.Loads.{IsInMemory}
+use Rattle.dxc_element.specs.Loads.{IsInMemory}
 use Rattle.craft_server.specs.Trials.{memory_told, trial_lent}
 use Rattle.craft_server.proofs.Trying.{if_in_memory, tried_by}
 use Rattle.craft_server.proofs.trial.run_trial.Goals as goal

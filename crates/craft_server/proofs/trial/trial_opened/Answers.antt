@@ -1,7 +1,7 @@
 use Rattle.std.proofs.Common.{Result, refl, subst, sym}
 use Rattle.std.specs.Prelude.{MatchResult}
-use Rattle.craft_element.specs.declared.opening.Element.{Element}
-use Rattle.craft_words.specs.declared.status.Status.{Status}
+use Rattle.dxc_element.specs.declared.opening.Element.{Element}
+use Rattle.dxc_args.specs.declared.status.Status.{Status}
 use Rattle.craft_server.specs.Trials.{IsTrialElement, IsTrialOn, IsUntried, trial_lent, trial_told}
 use Rattle.craft_server.proofs.Loading.{on_started}
 use Rattle.craft_server.proofs.trial.trial_opened.Goals as goal

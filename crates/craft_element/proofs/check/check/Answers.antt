@@ -1,8 +1,0 @@
-use Rattle.std.proofs.Common.{◌≡◌, ◌∙◌, ap, rules, sym}
-use Rattle.xc_core.specs.declared.state.Home.{Home}
-use Rattle.craft_element.specs.Listings.{records_at}
-use Rattle.craft_element.proofs.Checking.{listing_sent}
-use Rattle.craft_element.proofs.check.check.Goals as goal
-
-pub returns-clause-sent : goal.returns-clause-sent
-returns-clause-sent g c = let records : c.records-records.result ≡ c.in-In.p.value.p.journal.1.count = search rules in listing_sent _ _ _ _ _ _ _ _ _ _ _ _ c.shape.ensures.value (c.deref.ensures.value ∙ c.list.ensures.rows) (records ∙ sym (ap (λ (h : Home g.row.D.Denot). records_at h) c.in-In.is)) c.in-Whole.is c.write_rows.ensures.sent c.write_count.ensures.sent
