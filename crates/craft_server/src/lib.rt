@@ -12,8 +12,8 @@ mod sessions;
 mod trial;
 mod world;
 
-pub use dxc_jobs::{FrameJob, FramesDone, FramesLeft};
 pub use dxc_args::{JournalBad, Line, Status, WordsFault, line_of};
+pub use dxc_jobs::{FrameJob, FramesDone, FramesLeft};
 pub use links::{LinksEnd, serve_links};
 pub use run::dxc_run;
 pub use serve::serve_all;

@@ -12,12 +12,12 @@ ghost use Rattle.dxc_element.specs.Stocks.{IsLeft};
 ghost use Rattle.craft_server.specs.Loads.{IsLoad, IsLoaded, IsLoadedOn, IsLoadServed, IsSummed, LoadsOn};
 
 use arrayvec::ArrayVec;
-use dxc_element::{Controller, Element, Stock, load_element, stock_of};
 use craft_session::places::lone_place;
 use craft_session::{Place, SessionEnd, serve_session};
 use dxc_args::Status;
 use dxc_causes::NoMemory;
 use dxc_disk::Disk;
+use dxc_element::{Controller, Element, Stock, load_element, stock_of};
 use dxc_load::{LoadClock, LoadLink, Noting, Summary, codes_in};
 use dxc_model::Conn;
 use dxc_outside::{Gate, Link, write_all};

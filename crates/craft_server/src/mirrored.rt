@@ -9,9 +9,9 @@ ghost use Rattle.craft_server.specs.Sites.{ServedMirrored, names_of, site_of};
 
 use crate::serve::{Site, serve_on};
 use crate::world::Ground;
-use dxc_element::{Controller, Element, Names, open_mirrored};
 use craft_session::Timestamps;
 use dxc_args::Status;
+use dxc_element::{Controller, Element, Names, open_mirrored};
 use dxc_leaving::LetGo;
 use dxc_notes::Noted;
 use dxc_outside::{Gate, Listener, Opener, Spawner};

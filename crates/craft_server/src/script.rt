@@ -7,10 +7,10 @@ ghost use Rattle.craft_server.specs.Stations.{OpensForScript};
 ghost use Rattle.craft_server.specs.Statuses.{status_of};
 
 use crate::world::Station;
-use dxc_element::{Controller, Element, Names, WORKERS, open};
 use craft_session::places::lone_place;
 use craft_session::{SessionEnd, serve_session};
 use dxc_args::Status;
+use dxc_element::{Controller, Element, Names, WORKERS, open};
 use dxc_leaving::LetGo;
 use dxc_outside::{Clock, Gate, Link, Opener};
 use std::alloc::Global;

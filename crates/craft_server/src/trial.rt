@@ -3,11 +3,11 @@ ghost use Rattle.std.specs.Prelude.{◌≡◌, IfOk, MatchResult};
 ghost use Rattle.craft_server.specs.Trials.{IsTrialElement, IsTrialOn, IsUntried, memory_told, trial_lent, trial_told};
 
 use crate::script::after_session;
-use dxc_element::{Controller, Element, memory_element};
 use craft_session::places::lone_place;
 use craft_session::serve_session_of;
 use dxc_args::Status;
 use dxc_disk::Disk;
+use dxc_element::{Controller, Element, memory_element};
 use dxc_num::Shape;
 use dxc_outside::{Clock, Gate, Link};
 use shelf_file::trial_shelf;
