@@ -3,7 +3,8 @@ use Rattle.std.proofs.Common.{◌≡◌, ℕ, ◌<◌, ◌≤◌, ltb, cond, Boo
 use Rattle.std.proofs.lemmas.Bool.{ltb-true, ltb-false, lt-ltb, le-ltb}
 use Rattle.std.proofs.lemmas.List.Elements.{filter-append}
 use Rattle.turnstile.specs.Turning.{Each}
-use Rattle.turnstile.specs.Orders.{AreAbove, AreHigher, Dated, IsOrder, Takes, at_one, at_other, bare, dated, of_one, of_other, takes_none, takes_of_one, takes_of_other, used_of}
+use Rattle.turnstile.specs.Orders.{at_one, at_other}
+use Rattle.turnstile.proofs.Dated.{AreHigher, Dated, Takes, bare, dated, of_one, of_other, takes_none, takes_of_one, takes_of_other, used_of}
 use Rattle.turnstile.proofs.Lists.{each_append, each_after, each_weak}
 
 each_filter : {E : Type 0} (P : E → Type 0) (test : E → Bool) (xs : List E) → Each P xs → Each P (filter test xs)

@@ -1,32 +1,7 @@
 -- One order of the entries of two turnstiles, in which those of each place come as it made them.
-use Rattle.std.specs.Prelude.{◌≡◌, ℕ, ◌<◌, ltb, cond, Bool, List, [], ◌∷◌, ◌++◌, map, filter, ◌⊎◌}
+use Rattle.std.specs.Prelude.{◌≡◌, ℕ, ◌<◌, Bool, List, [], ◌∷◌, ◌++◌, map, filter, length, ◌⊎◌}
 use mathlib.Core.Logic.{inl, inr}
-use Rattle.turnstile.specs.Dating.{Stamp}
-use Rattle.turnstile.specs.Turning.{Each}
-
--- An entry with its date
-pub record Dated (A : Type 0) : Type 0 where
-  pub date : ℕ
-  pub entry : A
-
-abbrev pub dated : {A : Type 0} → ℕ → A → Dated A
-dated d a = record { date = d; entry = a }
-
--- the entries alone
-abbrev pub bare : {A : Type 0} → List (Dated A) → List A
-bare [] = []
-bare (x ∷ xs) = x.entry ∷ bare xs
-
--- entries with the dates of their stamps
-abbrev pub with_dates : {A : Type 0} → List Stamp → List A → List (Dated A)
-with_dates [] es = []
-with_dates (s ∷ ss) [] = []
-with_dates (s ∷ ss) (e ∷ es) = dated s.date e ∷ with_dates ss es
-
--- each date is higher than those before it
-abbrev pub AreHigher : {A : Type 0} → List (Dated A) → Type 0
-AreHigher [] = Unit {0}
-AreHigher (x ∷ xs) = Each (λ y. x.date < y.date) xs × AreHigher xs
+use Rattle.turnstile.specs.Dating.{AreAll, Stamp, newest}
 
 module _ {A B : Type 0} where
   -- those of the one among entries of both, and those of the other
@@ -40,33 +15,18 @@ module _ {A B : Type 0} where
   at_other (inl a ∷ m) = at_other m
   at_other (inr b ∷ m) = b ∷ at_other m
 
-  -- entries of the one, or of the other, as entries of both
-  abbrev pub of_one : List (Dated A) → List (Dated (A ⊎ B))
-  of_one [] = []
-  of_one (x ∷ xs) = dated x.date (inl x.entry) ∷ of_one xs
-
-  abbrev pub of_other : List (Dated B) → List (Dated (A ⊎ B))
-  of_other [] = []
-  of_other (y ∷ ys) = dated y.date (inr y.entry) ∷ of_other ys
-
   -- one order of two histories
   pub record IsOrder (h : List A) (g : List B) (order : List (A ⊎ B)) : Type 0 where
     pub one : at_one order ≡ h
     pub other : at_other order ≡ g
 
-  module _ (used : A ⊎ B → Bool) where
-    abbrev pub used_of : List (Dated (A ⊎ B)) → List (Dated (A ⊎ B))
-    used_of = filter (λ z. used z.entry)
-
-    -- each of these that is used has a higher date than all of those
-    abbrev pub AreAbove : {C : Type 0} → List (Dated C) → List (Dated (A ⊎ B)) → Type 0
-    AreAbove zs more = Each (λ u. Each (λ z. z.date < u.date) zs) (used_of more)
-
-    -- What a place has seen of two histories, and the entries of both that it used, as it took them: each has a higher date than all that the place had
-    -- seen of the other history then.
-    pub data Takes : List (Dated A) → List (Dated B) → List (Dated (A ⊎ B)) → Type 0 where
-      takes_none : Takes [] [] []
-      takes_of_one : (xs more : List (Dated A)) (ys : List (Dated B)) (us : List (Dated (A ⊎ B)))
-          → AreAbove ys (of_one more) → Takes xs ys us → Takes (xs ++ more) ys (us ++ used_of (of_one more))
-      takes_of_other : (xs : List (Dated A)) (ys more : List (Dated B)) (us : List (Dated (A ⊎ B)))
-          → AreAbove xs (of_other more) → Takes xs ys us → Takes xs (ys ++ more) (us ++ used_of (of_other more))
+  -- What a place has seen of two histories, as stamps and entries, and the entries of both that it used, as it took them: before its turns with the one it
+  -- heard all dates that it had seen of the other, and those of its own entries are higher.
+  pub data TakesTurns (used : A ⊎ B → Bool) (place : ℕ) : List Stamp → List A → List Stamp → List B → List (A ⊎ B) → Type 0 where
+    no_turns : TakesTurns used place [] [] [] [] []
+    turns_of_one : (ss more : List Stamp) (h es : List A) (ts : List Stamp) (g : List B) (us : List (A ⊎ B))
+        → length more ≡ length es → AreAll (λ s. s.number ≡ place → newest ts < s.date) more
+        → TakesTurns used place ss h ts g us → TakesTurns used place (ss ++ more) (h ++ es) ts g (us ++ filter used (map inl es))
+    turns_of_other : (ss : List Stamp) (h : List A) (ts more : List Stamp) (g es : List B) (us : List (A ⊎ B))
+        → length more ≡ length es → AreAll (λ s. s.number ≡ place → newest ss < s.date) more
+        → TakesTurns used place ss h ts g us → TakesTurns used place ss h (ts ++ more) (g ++ es) (us ++ filter used (map inr es))

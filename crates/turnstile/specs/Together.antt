@@ -10,7 +10,7 @@ use Rattle.turnstile.specs.declared.board.Opened.{Opened}
 use Rattle.turnstile.specs.declared.board.View.{View}
 use Rattle.turnstile.specs.declared.sequential.Sequential.{Ghosts as SequenceOf}
 use Rattle.turnstile.specs.Laws.{IsOne}
-use Rattle.turnstile.specs.Orders.{Dated, IsOrder, Takes, bare, with_dates}
+use Rattle.turnstile.specs.Orders.{IsOrder, TakesTurns}
 use Rattle.turnstile.specs.Turning.{opening_in, stands_in}
 
 module _ {S E : Type 0} (g : SequenceOf S E) where
@@ -29,28 +29,28 @@ module _ {S E T F : Type 0} (g : SequenceOf S E) (j : SequenceOf T F) where
     pub other_own : (k : ℕ) (f : F) → j.number f ≢ k → used k (inr f) ≡ false
 
   -- By what its two passes have seen the place took these entries of both, in this order.
-  pub record HasTaken (used : E ⊎ F → Bool) (v w : View) (took : List (Dated (E ⊎ F))) : Type 0 where
+  pub record HasTaken (used : E ⊎ F → Bool) (place : ℕ) (v w : View) (took : List (E ⊎ F)) : Type 0 where
     pub seen : List E
     pub codes : v.seen ≡ map g.entry_code.code seen
     pub other_seen : List F
     pub other_codes : w.seen ≡ map j.entry_code.code other_seen
-    pub takes : Takes used (with_dates v.stamps seen) (with_dates w.stamps other_seen) took
+    pub takes : TakesTurns used place v.stamps seen w.stamps other_seen took
 
   -- the place of this number has passes in both
-  pub record HasPasses (s : StateOf g) (t : StateOf j) (used : E ⊎ F → Bool) (place : ℕ) (took : List (Dated (E ⊎ F))) : Type 0 where
+  pub record HasPasses (s : StateOf g) (t : StateOf j) (used : E ⊎ F → Bool) (place : ℕ) (took : List (E ⊎ F)) : Type 0 where
     pub view : View
     pub sits : get_elem? s.views (place + 1) ≡ some view
     pub other : View
     pub other_sits : get_elem? t.views (place + 1) ≡ some other
-    pub taken : HasTaken used view other took
+    pub taken : HasTaken used place view other took
 
-  pub record OneOrder (u : Uses) (places : ℕ) (took : ℕ → List (Dated (E ⊎ F))) (h : List E) (i : List F) : Type 0 where
+  pub record OneOrder (u : Uses) (places : ℕ) (took : ℕ → List (E ⊎ F)) (h : List E) (i : List F) : Type 0 where
     pub order : List (E ⊎ F)
     pub of_both : IsOrder h i order
-    pub own : (k : ℕ) → k < places → filter (u.used k) order ≡ bare (took k)
+    pub own : (k : ℕ) → k < places → filter (u.used k) order ≡ took k
 
   -- so it is of any two states that their rules allow
   abbrev pub HaveOneOrder : Type 0
   HaveOneOrder = (key : Opened (Box S Global)) (s : StateOf g) (one : HasOne g key s) (other_key : Opened (Box T Global)) (t : StateOf j) (other : HasOne j other_key t)
-      (u : Uses) (places : ℕ) (took : ℕ → List (Dated (E ⊎ F)))
+      (u : Uses) (places : ℕ) (took : ℕ → List (E ⊎ F))
       → ((k : ℕ) → k < places → HasPasses s t (u.used k) k (took k)) → OneOrder u places took one.history other.history
