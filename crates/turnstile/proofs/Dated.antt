@@ -1,5 +1,5 @@
 -- Entries with their dates, and what a place took of two histories.
-use Rattle.std.proofs.Common.{◌≡◌, ℕ, ◌<◌, Bool, List, [], ◌∷◌, ◌++◌, filter, ◌⊎◌, inl, inr}
+use Rattle.std.proofs.Common.{ℕ, ◌<◌, Bool, List, [], ◌∷◌, ◌++◌, filter, ◌⊎◌, inl, inr}
 use Rattle.turnstile.specs.Dating.{Stamp}
 use Rattle.turnstile.specs.Turning.{Each}
 

@@ -1,8 +1,7 @@
 -- Stamps: that dates rise, and whose they are.
-use Rattle.std.proofs.Common.{◌≡◌, ◌≢◌, ℕ, suc, ◌+◌, ◌<◌, ◌≤◌, max, List, [], ◌∷◌, ◌++◌, map, length, sym, refl, ap, ap₂, ◌∙◌, subst, arith, Option, Some, None, length-append, append-nil, append_assoc}
+use Rattle.std.proofs.Common.{◌≡◌, ◌≢◌, ℕ, suc, ◌<◌, List, [], ◌∷◌, ◌++◌, map, length, sym, refl, ap, ap₂, ◌∙◌, subst, arith, Option, Some, None, append-nil, append_assoc}
 use Rattle.std.proofs.lemmas.List.{map-append, length-map}
-use base.Stored.{Gv}
-use Rattle.turnstile.specs.Dating.{AreAll, AreOthers, AreRising, GoOn, Stamp, newest, stamp}
+use Rattle.turnstile.specs.Dating.{AreAll, AreOthers, AreRising, Stamp, newest, stamp}
 use Rattle.turnstile.specs.Turning.{Each, entries, stamps_of}
 
 abbrev hd : {A : Type 0} → A → List A → A

@@ -1,20 +1,18 @@
 -- The histories of two turnstiles have one order, in which the entries of each place come as it took them.
-use Rattle.std.proofs.Common.{◌≡◌, ◌≢◌, ℕ, suc, ◌+◌, ◌<◌, Bool, true, false, cond, List, [], ◌∷◌, ◌++◌, map, filter, length, ◌⊎◌, inl, inr, Option, sym, refl, ap, ap₂, ◌∙◌, subst, arith, append-nil, length-append}
+use Rattle.std.proofs.Common.{◌≡◌, ◌≢◌, ℕ, ◌+◌, ◌<◌, Bool, true, false, cond, List, [], ◌∷◌, ◌++◌, map, filter, length, ◌⊎◌, inl, inr, sym, refl, ap, ap₂, ◌∙◌, subst, arith, append-nil, length-append}
 use Rattle.std.proofs.lemmas.List.{length-map}
 use Rattle.std.proofs.lemmas.List.Elements.{filter-append}
 use mathlib.Core.Logic.{dite}
-use mathlib.Core.Option.{some}
 use native.Mathlib.Decide.{ℕ_discrete}
 use Rattle.std.proofs.lemmas.Bool.{true≢false}
-use lib.ListN.{get_elem?}
 use base.Stored.{Gv}
 use Rattle.turnstile.specs.declared.board.View.{View}
 use Rattle.turnstile.specs.declared.sequential.Sequential.{Ghosts as SequenceOf}
-use Rattle.turnstile.specs.Dating.{AreAll, AreOthers, AreRising, Stamp, newest}
+use Rattle.turnstile.specs.Dating.{AreAll, AreRising, Stamp, newest}
 use Rattle.turnstile.specs.Laws.{HasSeen}
 use Rattle.turnstile.specs.Orders.{TakesTurns, no_turns, turns_of_one, turns_of_other}
 use Rattle.turnstile.proofs.Dated.{AreAbove, AreHigher, Dated, Takes, bare, dated, of_one, of_other, takes_none, takes_of_one, takes_of_other, used_of, with_dates}
-use Rattle.turnstile.specs.Together.{HasTaken, HasPasses, HaveOneOrder, Uses}
+use Rattle.turnstile.specs.Together.{HaveOneOrder}
 use Rattle.turnstile.specs.Turning.{Each}
 use Rattle.turnstile.specs.Turning.{Dated as IsDated}
 use Rattle.turnstile.proofs.Lists.{map_once}
@@ -78,9 +76,9 @@ module _ {E : Type 0} where
         let whole : seen ++ x.later ≡ history = ap (λ (l : List E). l ++ x.later) (sym same) ∙ x.whole in
         let parts : with_dates stamps history ≡ with_dates v.stamps seen ++ with_dates dates.front.more x.later = ap₂ (λ (ss : List Stamp) (es : List E). with_dates ss es) dates.front.whole (sym whole) ∙ dates_append v.stamps dates.front.more seen x.later many in
         let rest : filter (λ (y : Dated E). test y.entry) (with_dates dates.front.more x.later) ≡ [] = none_used test dates.front.more x.later
-            (each_mapped (λ e. number e ≢ v.number) (λ e. test e ≡ false) (λ e ne. own e (subst (λ (k : ℕ). number e ≢ k) is ne)) x.later x.others) in
+        (each_mapped (λ e. number e ≢ v.number) (λ e. test e ≡ false) (λ e ne. own e (subst (λ (k : ℕ). number e ≢ k) is ne)) x.later x.others) in
         sym (ap (filter (λ (y : Dated E). test y.entry)) parts ∙ (filter-append (λ (y : Dated E). test y.entry) (with_dates v.stamps seen) (with_dates dates.front.more x.later)
-            ∙ (ap (λ (l : List (Dated E)). filter (λ (y : Dated E). test y.entry) (with_dates v.stamps seen) ++ l) rest ∙ append-nil (filter (λ (y : Dated E). test y.entry) (with_dates v.stamps seen)))))
+        ∙ (ap (λ (l : List (Dated E)). filter (λ (y : Dated E). test y.entry) (with_dates v.stamps seen) ++ l) rest ∙ append-nil (filter (λ (y : Dated E). test y.entry) (with_dates v.stamps seen)))))
 
 -- the stamps that a pass has seen carry the numbers of the entries that it has seen
 numbers_seen : {E : Type 0} (code : E → Gv) → ((x y : E) → code x ≡ code y → x ≡ y) → (number : E → ℕ) (history : List E) (stamps : List Stamp) (v : View) → map (λ (t : Stamp). t.number) stamps ≡ map number history
@@ -211,9 +209,9 @@ module _ {S E T F : Type 0} (g : SequenceOf S E) (j : SequenceOf T F) where
             let other_numbers = numbers_seen j.entry_code.code j.entry_code.inj j.number other.history other.stamps w other.stamped there e x.other_seen x.other_codes in
             let dt = takes_dated (u.used k) k g.number j.number (u.own k) (u.other_own k) v.stamps x.seen w.stamps x.other_seen (took k) x.takes numbers other_numbers in
             bare_used (u.used k) (merged xs ys) ∙ (ap bare (used_is (u.used k) xs ys dt.0 other_high
-                (takes_rise (u.used k) (with_dates v.stamps x.seen) (with_dates w.stamps x.other_seen) dt.0 dt.2 (dates_rise v.stamps x.seen rise) (dates_rise w.stamps x.other_seen other_rise))
-                (takes_ones (u.used k) (with_dates v.stamps x.seen) (with_dates w.stamps x.other_seen) dt.0 dt.2
-                ∙ used_seen g.entry_code.code g.entry_code.inj g.number one.history one.stamps k v (λ a. u.used k (inl a)) (u.own k) (one.sits k v h.sits) here d x.seen x.codes)
-                (takes_others (u.used k) (with_dates v.stamps x.seen) (with_dates w.stamps x.other_seen) dt.0 dt.2
-                ∙ used_seen j.entry_code.code j.entry_code.inj j.number other.history other.stamps k w (λ b. u.used k (inr b)) (u.other_own k) (other.sits k w h.other_sits) there e x.other_seen x.other_codes)) ∙ dt.1);
+            (takes_rise (u.used k) (with_dates v.stamps x.seen) (with_dates w.stamps x.other_seen) dt.0 dt.2 (dates_rise v.stamps x.seen rise) (dates_rise w.stamps x.other_seen other_rise))
+            (takes_ones (u.used k) (with_dates v.stamps x.seen) (with_dates w.stamps x.other_seen) dt.0 dt.2
+            ∙ used_seen g.entry_code.code g.entry_code.inj g.number one.history one.stamps k v (λ a. u.used k (inl a)) (u.own k) (one.sits k v h.sits) here d x.seen x.codes)
+            (takes_others (u.used k) (with_dates v.stamps x.seen) (with_dates w.stamps x.other_seen) dt.0 dt.2
+            ∙ used_seen j.entry_code.code j.entry_code.inj j.number other.history other.stamps k w (λ b. u.used k (inr b)) (u.other_own k) (other.sits k w h.other_sits) there e x.other_seen x.other_codes)) ∙ dt.1);
       }

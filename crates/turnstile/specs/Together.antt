@@ -1,15 +1,17 @@
 -- The histories of two turnstiles have one order, in which the entries of each place come as it took them.
-use Rattle.std.specs.Prelude.{◌≡◌, ◌≢◌, ℕ, ◌+◌, ◌<◌, Bool, false, List, map, filter, Option, Box, ◌⊎◌}
+use Rattle.std.specs.Prelude.{◌≡◌, ◌≢◌, ℕ, ◌+◌, ◌<◌, Bool, false, List, ◌++◌, map, filter, Option, Box, ◌⊎◌}
 use mathlib.Core.Logic.{inl, inr}
 use mathlib.Core.Option.{some}
 use lib.ListN.{get_elem?}
 use Rattle.std.specs.declared.alloc.Global.{Global}
+use base.Stored.{Gv}
 use Rattle.atomic_table.specs.Table.{State}
 use Rattle.turnstile.specs.declared.board.Held.{Held}
 use Rattle.turnstile.specs.declared.board.Opened.{Opened}
 use Rattle.turnstile.specs.declared.board.View.{View}
 use Rattle.turnstile.specs.declared.sequential.Sequential.{Ghosts as SequenceOf}
 use Rattle.turnstile.specs.Laws.{IsOne}
+use Rattle.turnstile.specs.Passing.{Token}
 use Rattle.turnstile.specs.Orders.{IsOrder, TakesTurns}
 use Rattle.turnstile.specs.Turning.{opening_in, stands_in}
 
@@ -20,6 +22,19 @@ module _ {S E : Type 0} (g : SequenceOf S E) where
   -- a state of the turnstile that was opened so, and its one history
   abbrev pub HasOne : Opened (Box S Global) → StateOf → Type 0
   HasOne key s = IsOne g.opening_code.code g.entry_code.code (opening_in g.opening) g.number (stands_in g.stands) key s
+
+module _ {E F : Type 0} (code : E → Gv) (other_code : F → Gv) (used : E ⊎ F → Bool) where
+  -- by what a place's two passes have seen it took these entries of both, in this order
+  pub record HasTakenIn (p : Token × Token) (took : List (E ⊎ F)) : Type 0 where
+    pub seen : List E
+    pub codes : p.0.seen ≡ map code seen
+    pub other_seen : List F
+    pub other_codes : p.1.seen ≡ map other_code other_seen
+    pub takes : TakesTurns used p.0.number p.0.stamps seen p.1.stamps other_seen took
+
+  -- and goes on so
+  abbrev pub TookOn : Token × Token → Token × Token → Type 0
+  TookOn old new = (took : List (E ⊎ F)) → HasTakenIn old took → (more : List (E ⊎ F)) × HasTakenIn new (took ++ more)
 
 module _ {S E T F : Type 0} (g : SequenceOf S E) (j : SequenceOf T F) where
   -- whether a place uses an entry; it uses none of others
