@@ -42,14 +42,13 @@ module _ {A B : Type 0} where
     used_of = filter (λ z. used z.entry)
 
     -- each of these that is used has a higher date than all of those
-    abbrev pub AreAbove : {C : Type 0} → List (Dated C) → List (Dated (A ⊎ B)) → Type 0
+    abbrev pub AreAbove : List (Dated (A ⊎ B)) → List (Dated (A ⊎ B)) → Type 0
     AreAbove zs more = Each (λ u. Each (λ z. z.date < u.date) zs) (used_of more)
 
-    -- What a place has seen of two histories, and the entries of both that it used, as it took them: each has a higher date than all that the place had
-    -- seen of the other history then.
+    -- What a place has seen of two histories, and the entries of both that it used, as it took them, with higher and higher dates.
     pub data Takes : List (Dated A) → List (Dated B) → List (Dated (A ⊎ B)) → Type 0 where
       takes_none : Takes [] [] []
       takes_of_one : (xs more : List (Dated A)) (ys : List (Dated B)) (us : List (Dated (A ⊎ B)))
-          → AreAbove ys (of_one more) → Takes xs ys us → Takes (xs ++ more) ys (us ++ used_of (of_one more))
+          → AreAbove us (of_one more) → Takes xs ys us → Takes (xs ++ more) ys (us ++ used_of (of_one more))
       takes_of_other : (xs : List (Dated A)) (ys more : List (Dated B)) (us : List (Dated (A ⊎ B)))
-          → AreAbove xs (of_other more) → Takes xs ys us → Takes xs (ys ++ more) (us ++ used_of (of_other more))
+          → AreAbove us (of_other more) → Takes xs ys us → Takes xs (ys ++ more) (us ++ used_of (of_other more))

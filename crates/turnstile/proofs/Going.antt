@@ -2,12 +2,12 @@
 use Rattle.std.proofs.Common.{◌≡◌, ◌≢◌, ℕ, ◌+◌, ◌<◌, Bool, List, [], ◌∷◌, ◌++◌, map, filter, length, ◌⊎◌, inl, inr, sym, refl, ap, ap₂, ◌∙◌, subst, arith, append_assoc, length-append}
 use Rattle.std.proofs.lemmas.List.{length-map, map-append}
 use base.Stored.{Gv}
-use Rattle.turnstile.specs.Dating.{AreOthers, GoOn, Stamp, newest, stamp}
+use Rattle.turnstile.specs.Dating.{AreAll, AreOthers, GoOn, IsOwnAbove, Stamp, newest, stamp}
 use Rattle.turnstile.specs.Orders.{TakesTurns, no_turns, turns_of_one, turns_of_other}
 use Rattle.turnstile.specs.Passing.{GoesOn, Token, with_heard}
 use Rattle.turnstile.specs.Together.{TookOn}
 use Rattle.turnstile.specs.Turning.{Found}
-use Rattle.turnstile.proofs.Dates.{all_append, all_weak}
+use Rattle.turnstile.proofs.Dates.{above_newest, all_append, all_weak}
 use Rattle.turnstile.proofs.Lists.{map_once}
 
 -- others' entries, and then one of the pass itself with a higher date than it had heard
@@ -17,6 +17,11 @@ went_on own heard old found new d a is high = record {
   whole = is ∙ (ap (λ (l : List Stamp). l ++ stamp d own ∷ []) a.whole ∙ append_assoc old a.more (stamp d own ∷ []));
   higher = all_append (λ s. s.number ≡ own → heard < s.date) a.more (stamp d own ∷ []) (all_weak (λ s. s.number ≢ own) (λ s. s.number ≡ own → heard < s.date) (λ s ne e. absurd (ne e)) a.more a.others) ((λ _. high), tt);
 }
+
+-- what is above all that was heard is above the pass's own of it
+own_above : (own : ℕ) (seen more : List Stamp) → AreAll (λ s. s.number ≡ own → newest seen < s.date) more → IsOwnAbove own seen more
+own_above own seen more a = all_weak (λ s. s.number ≡ own → newest seen < s.date) (λ s. s.number ≡ own → AreAll (λ t. t.number ≡ own → t.date < s.date) seen)
+    (λ s k mine. all_weak (λ t. t.date < s.date) (λ t. t.number ≡ own → t.date < s.date) (λ t l _. l) seen (above_newest seen s.date (k mine))) more a
 
 -- one stamp more, and one code more
 pub as_many_on : (found new : List Stamp) (seen then_ : List Gv) (s : Stamp) (e : Gv) → length found ≡ length seen → new ≡ found ++ s ∷ [] → then_ ≡ seen ++ e ∷ [] → length new ≡ length then_
@@ -43,12 +48,12 @@ module _ {A B : Type 0} (used : A ⊎ B → Bool) (place : ℕ) where
   pub on_one : (ss all : List Stamp) (h es : List A) (ts : List Stamp) (g : List B) (us : List (A ⊎ B)) → GoOn place (newest ts) ss all → length all ≡ length (h ++ es) → TakesTurns used place ss h ts g us
       → TakesTurns used place all (h ++ es) ts g (us ++ filter used (map inl es))
   on_one ss all h es ts g us x m t = subst (λ (l : List Stamp). TakesTurns used place l (h ++ es) ts g (us ++ filter used (map inl es))) (sym x.whole)
-      (turns_of_one ss x.more h es ts g us (many_more ss x.more all h es (as_many ss h ts g us t).0 x.whole m) x.higher t)
+      (turns_of_one ss x.more h es ts g us (many_more ss x.more all h es (as_many ss h ts g us t).0 x.whole m) (own_above place ts x.more x.higher) t)
 
   pub on_other : (ss : List Stamp) (h : List A) (ts all : List Stamp) (g es : List B) (us : List (A ⊎ B)) → GoOn place (newest ss) ts all → length all ≡ length (g ++ es) → TakesTurns used place ss h ts g us
       → TakesTurns used place ss h all (g ++ es) (us ++ filter used (map inr es))
   on_other ss h ts all g es us x m t = subst (λ (l : List Stamp). TakesTurns used place ss h l (g ++ es) (us ++ filter used (map inr es))) (sym x.whole)
-      (turns_of_other ss h ts x.more g es us (many_more ts x.more all g es (as_many ss h ts g us t).1 x.whole m) x.higher t)
+      (turns_of_other ss h ts x.more g es us (many_more ts x.more all g es (as_many ss h ts g us t).1 x.whole m) (own_above place ss x.more x.higher) t)
 
 -- the place hears, takes turns with the one, hears, and takes turns with the other
 module _ {A B : Type 0} (code : A → Gv) (other_code : B → Gv) (used : A ⊎ B → Bool) where

@@ -5,7 +5,7 @@ use Rattle.std.proofs.lemmas.List.Elements.{filter-append}
 use Rattle.turnstile.specs.Turning.{Each}
 use Rattle.turnstile.specs.Orders.{at_one, at_other}
 use Rattle.turnstile.proofs.Dated.{AreHigher, Dated, Takes, bare, dated, of_one, of_other, takes_none, takes_of_one, takes_of_other, used_of}
-use Rattle.turnstile.proofs.Lists.{each_append, each_after, each_weak}
+use Rattle.turnstile.proofs.Lists.{each_append, each_weak}
 
 each_filter : {E : Type 0} (P : E → Type 0) (test : E → Bool) (xs : List E) → Each P xs → Each P (filter test xs)
 each_filter P test [] a = tt
@@ -222,10 +222,6 @@ module _ {A B : Type 0} where
     pub used_is : (xs : List (Dated A)) (ys : List (Dated B)) (us : List (Dated (A ⊎ B))) → AreHigher ys → AreHigher us → ones us ≡ one_used xs → others us ≡ other_used ys → used_of used (merged xs ys) ≡ us
     used_is xs ys us h rise one other = used_merged xs ys h ∙ (ap₂ merged (sym one) (sym other) ∙ merged_parts us rise)
 
-    each_both : {C : Type 0} (P Q : C → Type 0) (zs : List C) → Each P zs → Each Q zs → Each (λ z. P z × Q z) zs
-    each_both P Q [] a b = tt
-    each_both P Q (z ∷ zs) a b = ((a.0, b.0), each_both P Q zs a.1 b.1)
-
     ones_append : (us vs : List (Dated (A ⊎ B))) → ones (us ++ vs) ≡ ones us ++ ones vs
     ones_append [] vs = refl
     ones_append (u ∷ us) vs = by_case u.date u.entry (ones_append us vs) where
@@ -262,25 +258,9 @@ module _ {A B : Type 0} where
     takes_others _ _ _ (takes_of_other xs ys more us above t) = others_append us (used_of used (of_other more))
         ∙ (ap₂ (λ (l m : List (Dated B)). l ++ m) (takes_others xs ys us t) (ap others (used_of_other more) ∙ others_all (other_used more)) ∙ sym (filter-append (λ y. used (inr y.entry)) ys more))
 
-    each_of_one : (d : ℕ) (xs : List (Dated A)) → Each (λ x. x.date < d) xs → Each (λ (z : Dated (A ⊎ B)). z.date < d) (of_one xs)
-    each_of_one d [] a = tt
-    each_of_one d (x ∷ xs) a = (a.0, each_of_one d xs a.1)
-
-    each_of_other : (d : ℕ) (ys : List (Dated B)) → Each (λ y. y.date < d) ys → Each (λ (z : Dated (A ⊎ B)). z.date < d) (of_other ys)
-    each_of_other d [] a = tt
-    each_of_other d (y ∷ ys) a = (a.0, each_of_other d ys a.1)
-
     each_front : {C : Type 0} (P : C → Type 0) (xs ys : List C) → Each P (xs ++ ys) → Each P xs
     each_front P [] ys a = tt
     each_front P (x ∷ xs) ys a = (a.0, each_front P xs ys a.1)
-
-    -- what is above all that was seen is above all that was used of it
-    takes_below : (d : ℕ) (xs : List (Dated A)) (ys : List (Dated B)) (us : List (Dated (A ⊎ B))) → Takes used xs ys us → Each (λ x. x.date < d) xs → Each (λ y. y.date < d) ys → Each (λ u. u.date < d) us
-    takes_below d _ _ _ takes_none a b = tt
-    takes_below d _ _ _ (takes_of_one xs more ys us above t) a b = each_append (λ u. u.date < d) us (used_of used (of_one more)) (takes_below d xs ys us t (each_front (λ x. x.date < d) xs more a) b)
-        (each_filter (λ u. u.date < d) (λ u. used u.entry) (of_one more) (each_of_one d more (each_after (λ x. x.date < d) xs more a)))
-    takes_below d _ _ _ (takes_of_other xs ys more us above t) a b = each_append (λ u. u.date < d) us (used_of used (of_other more)) (takes_below d xs ys us t a (each_front (λ y. y.date < d) ys more b))
-        (each_filter (λ u. u.date < d) (λ u. used u.entry) (of_other more) (each_of_other d more (each_after (λ y. y.date < d) ys more b)))
 
     higher_append : {C : Type 0} (us vs : List (Dated C)) → AreHigher us → AreHigher vs → Each (λ v. Each (λ u. u.date < v.date) us) vs → AreHigher (us ++ vs)
     higher_append [] vs h i a = i
@@ -304,15 +284,6 @@ module _ {A B : Type 0} where
       by_case true ih = (each_filter (λ v. u.date < v.date) test us h.0, ih)
       by_case false ih = ih
 
-    each_any : {C : Type 0} (vs : List C) → Each (λ v. Unit {0}) vs
-    each_any [] = tt
-    each_any (v ∷ vs) = (tt, each_any vs)
-
-    -- those behind are above those before
-    higher_across : {C : Type 0} (us vs : List (Dated C)) → AreHigher (us ++ vs) → Each (λ v. Each (λ u. u.date < v.date) us) vs
-    higher_across [] vs h = each_any vs
-    higher_across (u ∷ us) vs h = each_both (λ v. u.date < v.date) (λ v. Each (λ w. w.date < v.date) us) vs (each_after (λ v. u.date < v.date) us vs h.0) (higher_across us vs h.1)
-
     above_of_one : (d : ℕ) (ws : List (Dated A)) → Each (λ w. d < w.date) ws → Each (λ (w : Dated (A ⊎ B)). d < w.date) (of_one ws)
     above_of_one d [] a = tt
     above_of_one d (w ∷ ws) a = (a.0, above_of_one d ws a.1)
@@ -329,24 +300,10 @@ module _ {A B : Type 0} where
     higher_of_other [] h = tt
     higher_of_other (y ∷ ys) h = (above_of_other y.date ys h.0, higher_of_other ys h.1)
 
-    across_one : (xs more : List (Dated A)) → Each (λ x. Each (λ w. w.date < x.date) xs) more → Each (λ (z : Dated (A ⊎ B)). Each (λ w. w.date < z.date) xs) (of_one more)
-    across_one xs [] a = tt
-    across_one xs (x ∷ more) a = (a.0, across_one xs more a.1)
-
-    across_other : (ys more : List (Dated B)) → Each (λ y. Each (λ w. w.date < y.date) ys) more → Each (λ (z : Dated (A ⊎ B)). Each (λ w. w.date < z.date) ys) (of_other more)
-    across_other ys [] a = tt
-    across_other ys (y ∷ more) a = (a.0, across_other ys more a.1)
-
     -- so the entries that a place used, as it took them, are of higher and higher dates
     pub takes_rise : (xs : List (Dated A)) (ys : List (Dated B)) (us : List (Dated (A ⊎ B))) → Takes used xs ys us → AreHigher xs → AreHigher ys → AreHigher us
     takes_rise _ _ _ takes_none h i = tt
     takes_rise _ _ _ (takes_of_one xs more ys us above t) h i = higher_append us (used_of used (of_one more)) (takes_rise xs ys us t (higher_front xs more h) i)
-        (higher_filter (λ u. used u.entry) (of_one more) (higher_of_one more (higher_back xs more h)))
-        (each_weak (λ z. Each (λ w. w.date < z.date) xs × Each (λ w. w.date < z.date) ys) (λ z. Each (λ w. w.date < z.date) us) (λ z b. takes_below z.date xs ys us t b.0 b.1) (used_of used (of_one more))
-        (each_both (λ z. Each (λ w. w.date < z.date) xs) (λ z. Each (λ w. w.date < z.date) ys) (used_of used (of_one more))
-        (each_filter (λ z. Each (λ w. w.date < z.date) xs) (λ u. used u.entry) (of_one more) (across_one xs more (higher_across xs more h))) above))
+        (higher_filter (λ u. used u.entry) (of_one more) (higher_of_one more (higher_back xs more h))) above
     takes_rise _ _ _ (takes_of_other xs ys more us above t) h i = higher_append us (used_of used (of_other more)) (takes_rise xs ys us t h (higher_front ys more i))
-        (higher_filter (λ u. used u.entry) (of_other more) (higher_of_other more (higher_back ys more i)))
-        (each_weak (λ z. Each (λ w. w.date < z.date) xs × Each (λ w. w.date < z.date) ys) (λ z. Each (λ w. w.date < z.date) us) (λ z b. takes_below z.date xs ys us t b.0 b.1) (used_of used (of_other more))
-        (each_both (λ z. Each (λ w. w.date < z.date) xs) (λ z. Each (λ w. w.date < z.date) ys) (used_of used (of_other more)) above
-        (each_filter (λ z. Each (λ w. w.date < z.date) ys) (λ u. used u.entry) (of_other more) (across_other ys more (higher_across ys more i)))))
+        (higher_filter (λ u. used u.entry) (of_other more) (higher_of_other more (higher_back ys more i))) above

@@ -31,6 +31,10 @@ abbrev pub AreRising : List Stamp → Type 0
 AreRising [] = Unit {0}
 AreRising (s ∷ ss) = AreAll (λ t. s.date < t.date) ss × AreRising ss
 
+-- of the pass itself, each of these has a higher date than all of those
+abbrev pub IsOwnAbove : ℕ → List Stamp → List Stamp → Type 0
+IsOwnAbove own seen more = AreAll (λ s. s.number ≡ own → AreAll (λ t. t.number ≡ own → t.date < s.date) seen) more
+
 -- behind those that were seen stand others' alone
 pub record AreOthers (own : ℕ) (old new : List Stamp) : Type 0 where
   pub more : List Stamp

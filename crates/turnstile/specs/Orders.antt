@@ -1,7 +1,7 @@
 -- One order of the entries of two turnstiles, in which those of each place come as it made them.
-use Rattle.std.specs.Prelude.{◌≡◌, ℕ, ◌<◌, Bool, List, [], ◌∷◌, ◌++◌, map, filter, length, ◌⊎◌}
+use Rattle.std.specs.Prelude.{◌≡◌, ℕ, Bool, List, [], ◌∷◌, ◌++◌, map, filter, length, ◌⊎◌}
 use mathlib.Core.Logic.{inl, inr}
-use Rattle.turnstile.specs.Dating.{AreAll, Stamp, newest}
+use Rattle.turnstile.specs.Dating.{IsOwnAbove, Stamp}
 
 module _ {A B : Type 0} where
   -- those of the one among entries of both, and those of the other
@@ -20,13 +20,13 @@ module _ {A B : Type 0} where
     pub one : at_one order ≡ h
     pub other : at_other order ≡ g
 
-  -- What a place has seen of two histories, as stamps and entries, and the entries of both that it used, as it took them: before its turns with the one it
-  -- heard all dates that it had seen of the other, and those of its own entries are higher.
+  -- What a place has seen of two histories, as stamps and entries, and the entries of both that it used, as it took them: in its turns with the one its own
+  -- entries have higher dates than its own in what it had seen of the other.
   pub data TakesTurns (used : A ⊎ B → Bool) (place : ℕ) : List Stamp → List A → List Stamp → List B → List (A ⊎ B) → Type 0 where
     no_turns : TakesTurns used place [] [] [] [] []
     turns_of_one : (ss more : List Stamp) (h es : List A) (ts : List Stamp) (g : List B) (us : List (A ⊎ B))
-        → length more ≡ length es → AreAll (λ s. s.number ≡ place → newest ts < s.date) more
+        → length more ≡ length es → IsOwnAbove place ts more
         → TakesTurns used place ss h ts g us → TakesTurns used place (ss ++ more) (h ++ es) ts g (us ++ filter used (map inl es))
     turns_of_other : (ss : List Stamp) (h : List A) (ts more : List Stamp) (g es : List B) (us : List (A ⊎ B))
-        → length more ≡ length es → AreAll (λ s. s.number ≡ place → newest ss < s.date) more
+        → length more ≡ length es → IsOwnAbove place ss more
         → TakesTurns used place ss h ts g us → TakesTurns used place ss h (ts ++ more) (g ++ es) (us ++ filter used (map inr es))
