@@ -1,5 +1,5 @@
 -- When a state stands for the history that is one entry longer.
-use Rattle.std.proofs.Common.{◌≡◌, ◌⊎◌, inl, inr, ⊎_elim, ℕ, ◌+◌, ◌≤◌, ◌<◌, Bool, true, false, not, ◌&&◌, if◌then◌else◌, List, [], ◌∷◌, ◌++◌, append-nil, append_assoc, Option, Some, None, refl, sym, ◌∙◌, ap, subst, arith}
+use Rattle.std.proofs.Common.{◌≡◌, ◌⊎◌, inl, inr, ⊎_elim, ℕ, ◌+◌, ◌≤◌, ◌<◌, Bool, true, false, not, ◌&&◌, if◌then◌else◌, List, [], ◌∷◌, ◌++◌, append-nil, append_assoc, Option, Some, None, Result, Ok, refl, sym, ◌∙◌, ap, subst, arith}
 use Rattle.std.specs.Prelude.{min, nat_le}
 use Rattle.std.specs.FinMap.{len}
 use Rattle.dxc_causes.specs.Causes.{Rose, last}
@@ -9,6 +9,7 @@ use Rattle.dxc_disk.proofs.DiskSteps.{spends_none}
 use Rattle.dxc_model.specs.declared.cause.Cause.{Cause}
 use Rattle.dxc_model.specs.declared.cause.Cause.TheVariants.{BadIdentity, DiskFault, LastOfClassS, UnknownUser, UserThere, UsersFull}
 use Rattle.dxc_model.specs.declared.user.Class.{Class}
+use Rattle.dxc_outside.specs.declared.stopped.Stopped.{Stopped}
 use Rattle.journal_core.specs.declared.book.Book.{Book}
 use Rattle.journal_core.specs.Books.{IsWhole, listed, next_head, rows}
 use Rattle.journal_core.proofs.BookMends.{kept_stands}
@@ -212,12 +213,12 @@ not_by_disk = by_users (λ q. refused q ≡ Denied q) refl refl refl refl refl
 pub asked_none : (op : UserOp) (users : Users) (q : Cause) → refusal op users ≡ Some q → asked_before q ≡ []
 asked_none = by_users (λ q. asked_before q ≡ []) refl refl refl refl refl
 
-abbrev stands_against : UserDone → Bool
-stands_against (done.Denied DiskFault) = true
+abbrev stands_against : Result UserDone Stopped → Bool
+stands_against (Ok (done.Denied DiskFault)) = true
 stands_against _ = false
 
-pub other_than_disk : (op : UserOp) (users : Users) (q : Cause) → refusal op users ≡ Some q → done.Denied q ≡ done.Denied DiskFault → ⊥
-other_than_disk op users q is same = never (by_users (λ q. stands_against (done.Denied q) ≡ false) refl refl refl refl refl op users q is) (ap stands_against same)
+pub other_than_disk : (op : UserOp) (users : Users) (q : Cause) → refusal op users ≡ Some q → Ok (done.Denied q) ≡ Ok (done.Denied DiskFault) → ⊥
+other_than_disk op users q is same = never (by_users (λ q. stands_against (Ok (done.Denied q)) ≡ false) refl refl refl refl refl op users q is) (ap stands_against same)
 
 -- what a state that stands for a history may keep
 pub record MayKeep (l : Lists) : Type 0 where

@@ -7,6 +7,7 @@ use Rattle.dxc_disk.specs.declared.disk.Disk.{Ghosts as DiskOf}
 use Rattle.dxc_disk.specs.declared.disk.DiskFault.{DiskFault as Fault}
 use Rattle.dxc_model.specs.declared.cause.Cause.{Cause}
 use Rattle.dxc_model.specs.declared.cause.Cause.TheVariants.{DiskFault}
+use Rattle.dxc_outside.specs.declared.stopped.Stopped.{Stopped}
 use Rattle.journal_core.specs.declared.book.Book.{Book}
 use Rattle.journal_core.specs.Books.{IsWhole, listed}
 use Rattle.user_admin.specs.declared.op.UserChange.{UserChange}
@@ -126,10 +127,10 @@ module _ {D : Type 0} (told : Type 0) (state : D → DiskState) where
   Stands s h = StandsFor (opening_of state s) s h
 
   -- a place's operation was done, or denied, or the gate stopped before anything was done
-  abbrev pub ChangedIs : Opening → List UserEntry → ℕ → UserOp → UserState D → UserDone → Type 0
-  ChangedIs o h n op s (done.Done c) = StandsFor o s (h ++ entry n op (Done c) ∷ [])
-  ChangedIs o h n op s (done.Denied q) = StandsFor o s (h ++ entry n op (refused q) ∷ [])
-  ChangedIs o h n op s done.Stopped = StandsFor o s h
+  abbrev pub ChangedIs : Opening → List UserEntry → ℕ → UserOp → UserState D → Result UserDone Stopped → Type 0
+  ChangedIs o h n op s (Ok (done.Done c)) = StandsFor o s (h ++ entry n op (Done c) ∷ [])
+  ChangedIs o h n op s (Ok (done.Denied q)) = StandsFor o s (h ++ entry n op (refused q) ∷ [])
+  ChangedIs o h n op s (Err e) = StandsFor o s h
 
   -- the users may keep this change: an operation is granted it
   pub record IsGranted (o : Opening) (h : List UserEntry) (op : UserOp) (s : UserState D) (c : UserChange) : Type 0 where

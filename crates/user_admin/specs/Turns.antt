@@ -1,5 +1,5 @@
 -- What a place knows of the users' history, and what its turns come to.
-use Rattle.std.specs.Prelude.{◌≡◌, ◌≢◌, ◌<◌, ℕ, Bool, true, List, [], ◌∷◌, ◌++◌, map, Option, Some, None}
+use Rattle.std.specs.Prelude.{◌≡◌, ◌≢◌, ◌<◌, ℕ, Bool, true, List, [], ◌∷◌, ◌++◌, map, Option, Some, None, Result, Ok, Err}
 use base.Stored.{Gv}
 use Rattle.turnstile.specs.Passing.{Gate, Token}
 use Rattle.turnstile.specs.Turning.{Each}
@@ -7,6 +7,7 @@ use Rattle.dxc_disk.specs.Disks.{DiskState}
 use Rattle.dxc_disk.specs.declared.disk.Disk.{Ghosts as DiskOf}
 use Rattle.dxc_model.specs.declared.cause.Cause.{Cause}
 use Rattle.dxc_model.specs.declared.user.Class.{Class}
+use Rattle.dxc_outside.specs.declared.stopped.Stopped.{Stopped}
 use Rattle.user_admin.specs.declared.op.UserChange.{UserChange}
 use Rattle.user_admin.specs.declared.op.UserEntry.{UserEntry}
 use Rattle.user_admin.specs.declared.op.UserMark.{UserMark}
@@ -20,7 +21,7 @@ use Rattle.user_admin.specs.declared.shared.Planned.TheVariants as planned
 use Rattle.user_admin.specs.declared.shared.SharedUsers.{SharedUsers}
 use Rattle.user_admin.specs.declared.state.UserState.{UserState}
 use Rattle.user_admin.specs.declared.turns.UserTook.{UserTook}
-use Rattle.user_admin.specs.declared.turns.UserTook.TheVariants.{Done, Denied, Stopped}
+use Rattle.user_admin.specs.declared.turns.UserTook.TheVariants.{Done, Denied}
 use Rattle.user_admin.specs.Verdicts.{login, rows_in}
 use Rattle.user_admin.specs.Coding.{mark_coded}
 use Rattle.user_admin.specs.Histories.{IsLegal, Opening, users_after}
@@ -65,10 +66,10 @@ abbrev pub HasPass : {X : Type 0} → Gate X → Token → Type 0
 HasPass t p = (p.free ≡ true) × (p.id ≡ t.id) × (p.number < t.passes) × AreNumbered t.passes p.seen
 
 -- the change was made, or the operation denied, or the gate stopped before anything was done
-abbrev pub TookIs : Opening → ℕ → List UserEntry → UserOp → List Gv → UserTook → Type 0
-TookIs o own h op then_seen Done = (c : UserChange) × Turned o own h (entry own op (outcome.Done c)) then_seen
-TookIs o own h op then_seen (Denied q) = Turned o own h (entry own op (refused q)) then_seen
-TookIs o own h op then_seen Stopped = TurnedBack o own h then_seen
+abbrev pub TookIs : Opening → ℕ → List UserEntry → UserOp → List Gv → Result UserTook Stopped → Type 0
+TookIs o own h op then_seen (Ok Done) = (c : UserChange) × Turned o own h (entry own op (outcome.Done c)) then_seen
+TookIs o own h op then_seen (Ok (Denied q)) = Turned o own h (entry own op (refused q)) then_seen
+TookIs o own h op then_seen (Err e) = TurnedBack o own h then_seen
 
 -- a log-in by name and PID, in a session where nobody is logged in or somebody is
 pub record Asking : Type 0 where
@@ -129,23 +130,27 @@ module _ {D : Type 0} (told : Type 0) (state : D → DiskState) where
     pub keeper : HasKeeper told state o own op marks k c
 
   -- a turn in which a change was to begin
-  abbrev pub TakenIs : Opening → ℕ → List UserEntry → UserOp → List Gv → Planned D → Type 0
-  TakenIs o own h op then_seen (planned.Taken k c) = IsTaken o own h op then_seen k.value c
-  TakenIs o own h op then_seen (planned.Denied q) = Turned o own h (entry own op (refused q)) then_seen
-  TakenIs o own h op then_seen planned.Stopped = TurnedBack o own h then_seen
-  TakenIs o own h op then_seen planned.Waits = TurnedBack o own h then_seen
+  abbrev pub TakenIs : Opening → ℕ → List UserEntry → UserOp → List Gv → Result (Planned D) Stopped → Type 0
+  TakenIs o own h op then_seen (Ok (planned.Taken k c)) = IsTaken o own h op then_seen k.value c
+  TakenIs o own h op then_seen (Ok (planned.Denied q)) = Turned o own h (entry own op (refused q)) then_seen
+  TakenIs o own h op then_seen (Ok planned.Waits) = TurnedBack o own h then_seen
+  TakenIs o own h op then_seen (Err e) = TurnedBack o own h then_seen
 
 -- a change that was tried: none, while another place had the keeper
-abbrev pub TriedIs : Opening → ℕ → List UserEntry → UserOp → List Gv → Option UserTook → Type 0
-TriedIs o own h op then_seen (Some took) = TookIs o own h op then_seen took
-TriedIs o own h op then_seen None = TurnedBack o own h then_seen
+abbrev pub TriedIs : Opening → ℕ → List UserEntry → UserOp → List Gv → Result (Option UserTook) Stopped → Type 0
+TriedIs o own h op then_seen (Ok (Some took)) = TookIs o own h op then_seen (Ok took)
+TriedIs o own h op then_seen (Ok None) = TurnedBack o own h then_seen
+TriedIs o own h op then_seen (Err e) = TurnedBack o own h then_seen
 
 -- what a turn comes to, by what the pass has seen then
-abbrev pub Takes : {D : Type 0} → DiskOf D → UserOp → (next : Token) → Planned D → View → List UserEntry → Type 0
+abbrev pub Takes : {D : Type 0} → DiskOf D → UserOp → (next : Token) → Result (Planned D) Stopped → View → List UserEntry → Type 0
 Takes g op next planned v h = TakenIs g.told g.state v.opening v.own h op next.seen planned
 
-abbrev pub Tries : UserOp → (next : Token) → Option UserTook → View → List UserEntry → Type 0
+abbrev pub Tries : UserOp → (next : Token) → Result (Option UserTook) Stopped → View → List UserEntry → Type 0
 Tries op next took v h = TriedIs v.opening v.own h op next.seen took
+
+abbrev pub Took : UserOp → (next : Token) → Result UserTook Stopped → View → List UserEntry → Type 0
+Took op next took v h = TookIs v.opening v.own h op next.seen took
 
 abbrev pub IsKept : {D : Type 0} → DiskOf D → UserOp → UserOutcome → UserState D → View → List UserMark → Type 0
 IsKept g op out k v ms = HasKept g.told g.state v.opening v.own op ms k out

@@ -1,12 +1,12 @@
 //! The turns of a place with the users: each enters, does one thing with their state, and leaves with the place's entry.
-ghost use Rattle.std.specs.Prelude.{◌≡◌, ◌≢◌, ◌≤◌, List, MatchResult, Some};
-ghost use Rattle.dxc_causes.specs.Causes.{Rose};
+ghost use Rattle.std.specs.Prelude.{◌≡◌, IsErr, List, MatchResult};
+ghost use Rattle.dxc_causes.specs.Stops.{RoseOnlyFor};
 ghost use Rattle.user_admin.specs.declared.op.UserEntry.{UserEntry as Entry};
 ghost use Rattle.user_admin.specs.Openings.{asked_at_turn};
 ghost use Rattle.user_admin.specs.Spellable.{NamesUid};
 ghost use Rattle.user_admin.specs.Resting.{IsAtRest, RestsUnlessTaken};
 ghost use Rattle.user_admin.specs.Shared.{asked_by, asked_in, opening_at};
-ghost use Rattle.user_admin.specs.Turns.{After, Brings, Cancels, HasPass, HasSeen, IsKept, LoggedIn, LookedAt, OutUpon, OutAfter, RowsAre, RowsDenied, Saw, Takes, TookIs, Tries};
+ghost use Rattle.user_admin.specs.Turns.{After, Brings, Cancels, HasPass, HasSeen, IsKept, LoggedIn, LookedAt, OutUpon, OutAfter, RowsAre, RowsDenied, Saw, Takes, Took, TookIs, Tries};
 ghost use Rattle.user_admin.specs.Occupants.{login_op as entered_as};
 ghost use Rattle.user_admin.specs.Verdicts.{IsChanging};
 
@@ -16,7 +16,7 @@ use crate::shared::{Planned, SharedUsers, mark_of, refused};
 use crate::state::UserState;
 use dxc_disk::{Disk, DiskFault};
 use dxc_model::{Cause, Class, Uid};
-use dxc_outside::Gate;
+use dxc_outside::{Gate, Stopped};
 use std::snapshot::Snapshot;
 use std::sync::Wait;
 use turnstile::{Pass, Rest, Turnstile};
@@ -26,8 +26,6 @@ use turnstile::{Pass, Rest, Turnstile};
 pub enum UserTook {
     Done,
     Denied(Cause),
-    /// The gate stopped before anything was done.
-    Stopped,
 }
 
 /// Makes the change of a changing operation. What the users deny is denied in one turn. Else the keeper is taken out in it, the change is kept in
@@ -39,7 +37,7 @@ pub fn change<D: Disk + Drop, G: Gate, R: Wait>(
     op: UserOp,
     gate: &mut G,
     rt: &R,
-) -> UserTook
+) -> Result<UserTook, Stopped>
     requires pass { HasPass turns.now pass.old }
     requires changing { IsChanging op }
     requires named { NamesUid op }
@@ -48,13 +46,11 @@ pub fn change<D: Disk + Drop, G: Gate, R: Wait>(
     ensures rests { IsAtRest pass.old → IsAtRest pass.new }
     ensures took { (h : List Entry) → Saw (opening_at D.state turns.now.first) pass.old.seen h
         → TookIs (opening_at D.state turns.now.first) pass.old.number h op pass.new.seen result }
-    ensures stopped { result ≡ UserTook.Stopped → Rose (G.stops gate.old) (G.stops gate.new) }
-    ensures unstopped { result ≢ UserTook.Stopped → G.stops gate.new ≡ G.stops gate.old }
-    ensures later { G.stops gate.old ≤ G.stops gate.new }
+    ensures stopped { RoseOnlyFor (G.stops gate.old) (G.stops gate.new) (IsErr result) }
     ensures asked { G.asked gate.old gate.new (asked_at_turn result) }
 {
-    match try_change(pass, turns, &op, gate, rt) {
-        Some(took) => took,
+    match try_change(pass, turns, &op, gate, rt)? {
+        Some(took) => Ok(took),
         None => {
             turns.stand_in_line(rt);
             let took = change_in_line(pass, turns, &op, gate, rt);
@@ -72,23 +68,21 @@ fn change_in_line<D: Disk + Drop, G: Gate, R: Wait>(
     op: &UserOp,
     gate: &mut G,
     rt: &R,
-) -> UserTook
+) -> Result<UserTook, Stopped>
     requires pass { HasPass turns.now pass.old }
     requires changing { IsChanging op.now }
     requires named { NamesUid op.now }
     requires seen { HasSeen D.Disk turns.now pass.old }
     ensures pass { HasPass turns.now pass.new × (pass.new.number ≡ pass.old.number) }
     ensures rests { IsAtRest pass.old → IsAtRest pass.new }
-    ensures took { After D.Disk turns.now pass.old (Tries op.now pass.new (Some result)) }
-    ensures stopped { result ≡ UserTook.Stopped → Rose (G.stops gate.old) (G.stops gate.new) }
-    ensures unstopped { result ≢ UserTook.Stopped → G.stops gate.new ≡ G.stops gate.old }
-    ensures later { G.stops gate.old ≤ G.stops gate.new }
+    ensures took { After D.Disk turns.now pass.old (Took op.now pass.new result) }
+    ensures stopped { RoseOnlyFor (G.stops gate.old) (G.stops gate.new) (IsErr result) }
     ensures asked { G.asked gate.old gate.new (asked_at_turn result) }
 {
     let mut rest = Rest::new();
     for _ in rt.forever() {
-        match try_change(pass, turns, op, gate, rt) {
-            Some(took) => return took,
+        match try_change(pass, turns, op, gate, rt)? {
+            Some(took) => return Ok(took),
             None => rest.again(0, rt),
         }
     }
@@ -102,7 +96,7 @@ fn try_change<D: Disk + Drop, G: Gate, R: Wait>(
     op: &UserOp,
     gate: &mut G,
     rt: &R,
-) -> Option<UserTook>
+) -> Result<Option<UserTook>, Stopped>
     requires pass { HasPass turns.now pass.old }
     requires changing { IsChanging op.now }
     requires named { NamesUid op.now }
@@ -110,28 +104,24 @@ fn try_change<D: Disk + Drop, G: Gate, R: Wait>(
     ensures pass { HasPass turns.now pass.new × (pass.new.number ≡ pass.old.number) }
     ensures rests { IsAtRest pass.old → IsAtRest pass.new }
     ensures took { After D.Disk turns.now pass.old (Tries op.now pass.new result) }
-    ensures stopped { result ≡ Some UserTook.Stopped
-        → Rose (G.stops gate.old) (G.stops gate.new) }
-    ensures unstopped { result ≢ Some UserTook.Stopped → G.stops gate.new ≡ G.stops gate.old }
-    ensures later { G.stops gate.old ≤ G.stops gate.new }
+    ensures stopped { RoseOnlyFor (G.stops gate.old) (G.stops gate.new) (IsErr result) }
     ensures asked { G.asked gate.old gate.new (asked_in result) }
 {
-    let (mut keeper, change) = match take(pass, turns, op, gate, rt) {
+    let (mut keeper, change) = match take(pass, turns, op, gate, rt)? {
         Planned::Taken(keeper, change) => (keeper, change),
-        Planned::Denied(cause) => return Some(UserTook::Denied(cause)),
-        Planned::Stopped => return Some(UserTook::Stopped),
-        Planned::Waits => return None,
+        Planned::Denied(cause) => return Ok(Some(UserTook::Denied(cause))),
+        Planned::Waits => return Ok(None),
     };
     let state = &mut *keeper;
     match state.note(&change) {
         Ok(()) => {
             bring(pass, turns, op, UserOutcome::Done(change), keeper, rt);
-            Some(UserTook::Done)
+            Ok(Some(UserTook::Done))
         }
         Err(DiskFault) => {
             let cause = Cause::DiskFault;
             bring(pass, turns, op, UserOutcome::Failed(cause), keeper, rt);
-            Some(UserTook::Denied(cause))
+            Ok(Some(UserTook::Denied(cause)))
         }
     }
 }
@@ -143,16 +133,14 @@ fn take<D: Disk + Drop, G: Gate, R: Wait>(
     op: &UserOp,
     gate: &mut G,
     rt: &R,
-) -> Planned<D>
+) -> Result<Planned<D>, Stopped>
     requires pass { HasPass turns.now pass.old }
     requires changing { IsChanging op.now }
     requires seen { HasSeen D.Disk turns.now pass.old }
     ensures pass { HasPass turns.now pass.new × (pass.new.number ≡ pass.old.number) }
     ensures rests { IsAtRest pass.old → RestsUnlessTaken result pass.new }
     ensures took { After D.Disk turns.now pass.old (Takes D.Disk op.now pass.new result) }
-    ensures stopped { result ≡ Planned.Stopped → Rose (G.stops gate.old) (G.stops gate.new) }
-    ensures unstopped { result ≢ Planned.Stopped → G.stops gate.new ≡ G.stops gate.old }
-    ensures later { G.stops gate.old ≤ G.stops gate.new }
+    ensures stopped { RoseOnlyFor (G.stops gate.old) (G.stops gate.new) (IsErr result) }
     ensures asked { G.asked gate.old gate.new (asked_by result) }
 {
     let mut turn = turns.enter(pass, rt);

@@ -9,7 +9,7 @@ ghost use Rattle.user_admin.specs.Verdicts.{IsChanging};
 use anyhow::{Context, Result};
 use dxc_disk::Disk;
 use dxc_model::{Cause, Class, SessionUser, Uid};
-use dxc_outside::AlwaysGo;
+use dxc_outside::{AlwaysGo, Stopped};
 use std::alloc::Global;
 use tl1_text::Sid;
 use tl1_text::grammar::blocks;
@@ -107,11 +107,11 @@ fn change<D: Disk>(state: &mut UserState<D>, op: &UserOp) -> &'static str
     text_when(&done)
 }
 
-fn text_when(done: &UserDone) -> &'static str {
+fn text_when(done: &Result<UserDone, Stopped>) -> &'static str {
     match done {
-        UserDone::Done(_) => "COMPLD",
-        UserDone::Denied(cause) => cause.text(),
-        UserDone::Stopped => "STOPPED",
+        Ok(UserDone::Done(_)) => "COMPLD",
+        Ok(UserDone::Denied(cause)) => cause.text(),
+        Err(Stopped) => "STOPPED",
     }
 }
 
