@@ -115,6 +115,10 @@ pub record BothEntered (o : Opening) (users : UsersOpening) (place users_place :
   pub were : asked places
   pub gated : AreGated o place users_place h entries users_entries places
 
+-- behind what a seat at the state had seen, whose place hasn't got the Provisioner out, before or then
+abbrev pub AreStateEntered : SeatAt → (List GatePlace → Type 0) → List Gv → Type 0
+AreStateEntered s asked then_seen = (h : List Entry) → Saw s.opening s.seen h → Entered s.opening s.place asked false false h then_seen
+
 -- behind what a seat at the users had seen
 abbrev pub AreUsersEntered : UserSeatAt → (List GatePlace → Type 0) → List Gv → Type 0
 AreUsersEntered u asked then_seen = (h : List UserEntry) → SawUsers u.opening u.seen h → UsersEntered u.opening u.place asked h then_seen

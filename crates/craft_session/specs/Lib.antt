@@ -23,7 +23,7 @@ pub mod Scripts
 pub mod Places
 pub mod Stamps
 pub mod Timely
-pub mod Pieces
+pub mod Gathered
 pub mod Lending
 pub mod Noted
 pub mod Waiting

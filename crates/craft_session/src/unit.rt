@@ -1,20 +1,17 @@
 //! One unit that ended: read as a command, done, answered and noted.
 ghost use Rattle.std.specs.Prelude.{◌≡◌, ◌≢◌, ◌≤◌, ◌<◌, ◌+◌, false, ℕ, List, length};
 ghost use Rattle.dxc_causes.specs.Causes.{Rose};
-ghost use Rattle.dxc_outside.specs.declared.clock.Moment.{Moment};
-ghost use Rattle.dxc_model.specs.declared.user.SessionUser.{SessionUser as AUser};
-ghost use Rattle.dxc_outside.specs.Links.{LinkState};
-ghost use Rattle.tl1_text.specs.declared.reader.UnitKind.TheVariants.{More};
 ghost use Rattle.std.specs.Arc.{arc_value};
 ghost use Rattle.craft_session.specs.Asks.{IsAptAsk};
 ghost use Rattle.craft_session.specs.Gated.{AreEntered};
-ghost use Rattle.craft_session.specs.Meanings.{language_for, wants};
-ghost use Rattle.craft_session.specs.Desks.{now, input_of, put_down, ConsultedIs, IsAnswered};
-ghost use Rattle.craft_session.specs.Noted.{HasNoted, UsersNoted, stood};
+ghost use Rattle.craft_session.specs.Gathered.{AnsweredBetween, GoesBetween, NotedBetween, TimelyBetween, desk_at};
+ghost use Rattle.craft_session.specs.Meanings.{wants};
+ghost use Rattle.craft_session.specs.Desks.{input_of, put_down, ConsultedIs};
+ghost use Rattle.craft_session.specs.Noted.{UsersNoted};
 ghost use Rattle.craft_session.specs.Seats.{IsSameSeat, IsSameUserSeat};
-ghost use Rattle.craft_session.specs.Sessions.{Beginning, IsAt, Writes, Stands, Goes};
+ghost use Rattle.craft_session.specs.Sessions.{Writes};
 ghost use Rattle.craft_session.specs.Stamps.{stamp_at};
-ghost use Rattle.craft_session.specs.Timely.{IsTimelyFrom, in_hand, reached, telling};
+ghost use Rattle.craft_session.specs.Timely.{in_hand, telling};
 
 use crate::act::act;
 use crate::ask::Ask;
@@ -57,26 +54,23 @@ pub(crate) fn serve_unit<
     ensures reader { desk.new.reader ≡ desk.old.reader }
     ensures link { Writes K.told (K.state link.old) (K.state link.new) }
     ensures hung_up { K.hung_up link.new ≡ K.hung_up link.old }
-    ensures goes { (first : AUser) → (k : LinkState) → (c : List Moment) → (b : Beginning)
-        → (ahead : List ℕ) → IsAt b desk.old.seat desk.old.users.seat
-        → Stands (language_for first (arc_value desk.old.shelf)) K.told C.told k (K.state link.old)
-        c (C.coming clock.old) b (now desk.old) false kind desk.old.reader ahead
-        → Goes (language_for first (arc_value desk.old.shelf)) K.told C.told k (K.state link.new) c
-        (C.coming clock.new) b (now desk.new) result false desk.old.reader ahead }
-    ensures timely { (ahead : List ℕ)
-        → IsTimelyFrom (arc_value desk.old.shelf) (telling K.told C.told C.stamped)
-        (stamp_at (C.coming clock.old) (K.state link.old) desk.old.seat desk.old.users.seat)
-        (in_hand desk.old.attending false kind desk.old.reader ahead)
-        (reached (K.state link.new).written desk.new.seat.seen desk.new.users.seat.seen) }
+    ensures goes { (ahead : List ℕ) → GoesBetween (telling K.told C.told C.stamped)
+        (desk_at (K.state link.old) (C.coming clock.old) desk.old)
+        (desk_at (K.state link.new) (C.coming clock.new) desk.new)
+        (in_hand desk.old.attending false kind desk.old.reader ahead) result }
+    ensures timely { (ahead : List ℕ) → TimelyBetween (telling K.told C.told C.stamped)
+        (desk_at (K.state link.old) (C.coming clock.old) desk.old)
+        (desk_at (K.state link.new) (C.coming clock.new) desk.new)
+        (in_hand desk.old.attending false kind desk.old.reader ahead) }
     ensures stopped { result ≡ Progress.Stopped → Rose (G.stops gate.old) (G.stops gate.new) }
     ensures unstopped { result ≢ Progress.Stopped → G.stops gate.new ≡ G.stops gate.old }
     ensures later { G.stops gate.old ≤ G.stops gate.new }
     ensures asked { AreEntered desk.old.seat desk.old.users.seat (G.asked gate.old gate.new)
         desk.new.seat.seen desk.new.users.seat.seen }
-    ensures noted { HasNoted (arc_value desk.old.shelf) (telling K.told C.told C.stamped)
-        (stood (K.state link.old) (C.coming clock.old) desk.old.seat desk.old.users.seat
-        desk.old.attending) (stood (K.state link.new) (C.coming clock.new) desk.new.seat
-        desk.new.users.seat desk.new.attending) (N.noted notes.old notes.new) }
+    ensures noted { NotedBetween (telling K.told C.told C.stamped)
+        (desk_at (K.state link.old) (C.coming clock.old) desk.old)
+        (desk_at (K.state link.new) (C.coming clock.new) desk.new)
+        (N.noted notes.old notes.new) }
 {
     match kind {
         UnitKind::More => Progress::On,
@@ -102,26 +96,23 @@ fn attend<K: Link, C: Timestamps, G: Gate, N: Notes, D: Disk + Drop, U: Disk + D
     ensures reader { desk.new.reader ≡ desk.old.reader }
     ensures link { Writes K.told (K.state link.old) (K.state link.new) }
     ensures hung_up { K.hung_up link.new ≡ K.hung_up link.old }
-    ensures goes { (first : AUser) → (k : LinkState) → (c : List Moment) → (b : Beginning)
-        → (ahead : List ℕ) → IsAt b desk.old.seat desk.old.users.seat
-        → Stands (language_for first (arc_value desk.old.shelf)) K.told C.told k (K.state link.old)
-        c (C.coming clock.old) b (now desk.old) false kind desk.old.reader ahead
-        → Goes (language_for first (arc_value desk.old.shelf)) K.told C.told k (K.state link.new) c
-        (C.coming clock.new) b (now desk.new) result false desk.old.reader ahead }
-    ensures timely { (ahead : List ℕ)
-        → IsTimelyFrom (arc_value desk.old.shelf) (telling K.told C.told C.stamped)
-        (stamp_at (C.coming clock.old) (K.state link.old) desk.old.seat desk.old.users.seat)
-        (in_hand desk.old.attending false kind desk.old.reader ahead)
-        (reached (K.state link.new).written desk.new.seat.seen desk.new.users.seat.seen) }
+    ensures goes { (ahead : List ℕ) → GoesBetween (telling K.told C.told C.stamped)
+        (desk_at (K.state link.old) (C.coming clock.old) desk.old)
+        (desk_at (K.state link.new) (C.coming clock.new) desk.new)
+        (in_hand desk.old.attending false kind desk.old.reader ahead) result }
+    ensures timely { (ahead : List ℕ) → TimelyBetween (telling K.told C.told C.stamped)
+        (desk_at (K.state link.old) (C.coming clock.old) desk.old)
+        (desk_at (K.state link.new) (C.coming clock.new) desk.new)
+        (in_hand desk.old.attending false kind desk.old.reader ahead) }
     ensures stopped { result ≡ Progress.Stopped → Rose (G.stops gate.old) (G.stops gate.new) }
     ensures unstopped { result ≢ Progress.Stopped → G.stops gate.new ≡ G.stops gate.old }
     ensures later { G.stops gate.old ≤ G.stops gate.new }
     ensures asked { AreEntered desk.old.seat desk.old.users.seat (G.asked gate.old gate.new)
         desk.new.seat.seen desk.new.users.seat.seen }
-    ensures noted { HasNoted (arc_value desk.old.shelf) (telling K.told C.told C.stamped)
-        (stood (K.state link.old) (C.coming clock.old) desk.old.seat desk.old.users.seat
-        desk.old.attending) (stood (K.state link.new) (C.coming clock.new) desk.new.seat
-        desk.new.users.seat desk.new.attending) (N.noted notes.old notes.new) }
+    ensures noted { NotedBetween (telling K.told C.told C.stamped)
+        (desk_at (K.state link.old) (C.coming clock.old) desk.old)
+        (desk_at (K.state link.new) (C.coming clock.new) desk.new)
+        (N.noted notes.old notes.new) }
 {
     match answer(desk, link, clock, gate, notes, rt, kind) {
         Progress::On => report(desk, link, clock, rt),
@@ -146,9 +137,10 @@ fn answer<K: Link, C: Timestamps, G: Gate, N: Notes, D: Disk + Drop, U: Disk + D
     ensures reader { desk.new.reader ≡ desk.old.reader }
     ensures link { Writes K.told (K.state link.old) (K.state link.new) }
     ensures hung_up { K.hung_up link.new ≡ K.hung_up link.old }
-    ensures answered { IsAnswered (arc_value desk.old.shelf) K.told C.told (K.state link.old)
-        (K.state link.new) (C.coming clock.old) (C.coming clock.new) (input_of kind desk.old.reader)
-        desk.old.seat desk.old.users.seat (now desk.old) (now desk.new) result }
+    ensures answered { AnsweredBetween (telling K.told C.told C.stamped)
+        (desk_at (K.state link.old) (C.coming clock.old) desk.old)
+        (desk_at (K.state link.new) (C.coming clock.new) desk.new)
+        (input_of kind desk.old.reader) result }
     ensures stamped { result ≢ Progress.Stopped → C.stamped (stamp_at (C.coming clock.old)
         (K.state link.old) desk.new.seat desk.new.users.seat) }
     ensures stopped { result ≡ Progress.Stopped → Rose (G.stops gate.old) (G.stops gate.new) }
@@ -156,10 +148,10 @@ fn answer<K: Link, C: Timestamps, G: Gate, N: Notes, D: Disk + Drop, U: Disk + D
     ensures later { G.stops gate.old ≤ G.stops gate.new }
     ensures asked { AreEntered desk.old.seat desk.old.users.seat (G.asked gate.old gate.new)
         desk.new.seat.seen desk.new.users.seat.seen }
-    ensures noted { HasNoted (arc_value desk.old.shelf) (telling K.told C.told C.stamped)
-        (stood (K.state link.old) (C.coming clock.old) desk.old.seat desk.old.users.seat
-        desk.old.attending) (stood (K.state link.new) (C.coming clock.new) desk.new.seat
-        desk.new.users.seat desk.new.attending) (N.noted notes.old notes.new) }
+    ensures noted { NotedBetween (telling K.told C.told C.stamped)
+        (desk_at (K.state link.old) (C.coming clock.old) desk.old)
+        (desk_at (K.state link.new) (C.coming clock.new) desk.new)
+        (N.noted notes.old notes.new) }
 {
     let mut tag = None;
     let mut ask = Ask::Completes;

@@ -30,7 +30,7 @@ returns g c =
       reader = said.reader;
       link = record { out = said.told.wrote.part; wrote = said.told.wrote.wrote };
       hung_up = said.hung_up;
-      goes = λ user k c1 b r ahead at s.
+      goes = λ r ahead user k c1 b at s.
           let seat = c.args.desk.now.seat in
           let look = subst (λ (w : Opening × ℕ). (h : List Entry) → Saw w.0 seat.seen h → LookIs w.0 w.1 h c.args.cursor c.look-looked.new.self.seen c.look-looked.result c.look-looked.new.into.items) (λ i. (at.0 i, at.1 i)) c.look-looked.ensures.look in
           subst (λ (n : Now). Goes (language_for user (arc_value c.args.desk.now.shelf)) g.K.Link.told g.C.Timestamps.told k (g.K.Link.state c.tell.new.link) c1 (g.C.Timestamps.coming c.tell.new.clock) b n c.of.result false r ahead) (sym (λ i. record { seen = (c.tell.ensures.seat i).seen; users = (c.tell.ensures.users i).seat.seen; attending = c.tell.ensures.attending i }))

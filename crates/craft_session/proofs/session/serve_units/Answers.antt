@@ -25,7 +25,7 @@ loop-at-preserved g c =
     let piece : List ℕ = c.args.piece.now in
     let offer = take_rest piece c.loop-at.at in
     let goes = subst (λ (y : Contents). (user : SessionUser) (k : LinkState) (c2 : List Moment) (b : Beginning) (ahead : List ℕ) → IsAt b c.loop-at.desk.seat c.loop-at.desk.users.seat → Stands (language_for user y) g.K.Link.told g.C.Timestamps.told k (g.K.Link.state c.loop-at.link) c2 (g.C.Timestamps.coming c.loop-at.clock) b (record { seen = c.loop-at.desk.seat.seen; users = c.loop-at.desk.users.seat.seen; attending = c.loop-at.desk.attending }) false c.feed-fed.result.unit c.feed-fed.new.self ahead
-    → Goes (language_for user y) g.K.Link.told g.C.Timestamps.told k (g.K.Link.state c.serve_unit.new.link) c2 (g.C.Timestamps.coming c.serve_unit.new.clock) b (now c.serve_unit.new.desk) c.serve_unit.result false c.feed-fed.new.self ahead) (ap arc_value c.loop-at.invariant.shelf) c.serve_unit.ensures.goes in
+    → Goes (language_for user y) g.K.Link.told g.C.Timestamps.told k (g.K.Link.state c.serve_unit.new.link) c2 (g.C.Timestamps.coming c.serve_unit.new.clock) b (now c.serve_unit.new.desk) c.serve_unit.result false c.feed-fed.new.self ahead) (ap arc_value c.loop-at.invariant.shelf) (λ user k c2 b ahead. c.serve_unit.ensures.goes ahead user k c2 b) in
     record {
       shelf = c.serve_unit.ensures.shelf ∙ c.loop-at.invariant.shelf;
       seat = (c.serve_unit.ensures.seat.0 ∙ c.loop-at.invariant.seat.0, c.serve_unit.ensures.seat.1 ∙ c.loop-at.invariant.seat.1, c.serve_unit.ensures.seat.2 ∙ c.loop-at.invariant.seat.2, c.serve_unit.ensures.seat.3 ∙ c.loop-at.invariant.seat.3);
@@ -69,7 +69,7 @@ returns-in_default g c =
           (went_to g.K.Link.told b (g.K.Link.state c.loop-at.link) (g.K.Link.state c.serve_unit.new.link) c.loop-at.desk.seat c.loop-at.desk.users.seat (c.loop-at.invariant.seat.0 ∙ at.0, c.loop-at.invariant.seat.1 ∙ at.1, c.loop-at.invariant.users.0 ∙ at.2, c.loop-at.invariant.users.1 ∙ at.3) c.serve_unit.ensures.link _ _ _ c.serve_unit.ensures.asked);
       goes = λ user k c1 b at s.
           let goes = subst (λ (y : Contents). (user : SessionUser) (k : LinkState) (c2 : List Moment) (b : Beginning) (ahead : List ℕ) → IsAt b c.loop-at.desk.seat c.loop-at.desk.users.seat → Stands (language_for user y) g.K.Link.told g.C.Timestamps.told k (g.K.Link.state c.loop-at.link) c2 (g.C.Timestamps.coming c.loop-at.clock) b (record { seen = c.loop-at.desk.seat.seen; users = c.loop-at.desk.users.seat.seen; attending = c.loop-at.desk.attending }) false c.feed-fed.result.unit c.feed-fed.new.self ahead
-          → Goes (language_for user y) g.K.Link.told g.C.Timestamps.told k (g.K.Link.state c.serve_unit.new.link) c2 (g.C.Timestamps.coming c.serve_unit.new.clock) b (now c.serve_unit.new.desk) c.serve_unit.result false c.feed-fed.new.self ahead) (ap arc_value c.loop-at.invariant.shelf) c.serve_unit.ensures.goes in
+          → Goes (language_for user y) g.K.Link.told g.C.Timestamps.told k (g.K.Link.state c.serve_unit.new.link) c2 (g.C.Timestamps.coming c.serve_unit.new.clock) b (now c.serve_unit.new.desk) c.serve_unit.result false c.feed-fed.new.self ahead) (ap arc_value c.loop-at.invariant.shelf) (λ user k c2 b ahead. c.serve_unit.ensures.goes ahead user k c2 b) in
           goes_ended_is (language_for user (arc_value c.args.desk.now.shelf)) g.K.Link.told g.C.Timestamps.told k c1 b (g.K.Link.state c.serve_unit.new.link) (g.C.Timestamps.coming c.serve_unit.new.clock) (now c.serve_unit.new.desk) c.feed-fed.new.self c.serve_unit.result false false c.serve_unit.new.desk.reader _ [] (λ is. c.in_default.not-On is) (goes user k c1 b (drop (c.loop-at.at + c.feed-fed.result.taken) c.args.piece.now) (c.loop-at.invariant.seat.0 ∙ at.0, c.loop-at.invariant.seat.1 ∙ at.1, c.loop-at.invariant.users.0 ∙ at.2, c.loop-at.invariant.users.1 ∙ at.3)
           (stands_on (language_for user (arc_value c.args.desk.now.shelf)) g.K.Link.told g.C.Timestamps.told k c1 b (g.K.Link.state c.loop-at.link) (g.C.Timestamps.coming c.loop-at.clock) (record { seen = c.loop-at.desk.seat.seen; users = c.loop-at.desk.users.seat.seen; attending = c.loop-at.desk.attending }) c.loop-at.desk.reader c.args.piece.now _ c.loop-at.at c.feed-fed.result c.feed-fed.new.self (c.loop-at.invariant.stands user k c1 b at s) (take_rest c.args.piece.now c.loop-at.at) c.feed-fed.ensures.fed));
     }

@@ -31,13 +31,13 @@ returns-in-On g c =
       reader = next.reader ∙ first.reader;
       link = writes_more _ _ _ _ first.link next.link;
       hung_up = next.hung_up ∙ first.hung_up;
-      goes = λ user k c1 b ahead at s.
+      goes = λ ahead user k c1 b at s.
           let desk = c.args.desk.now in
           let ended = input_ended (language_for user (arc_value desk.shelf)) g.K.Link.told g.C.Timestamps.told k (g.K.Link.state c.args.link.now) c1 (g.C.Timestamps.coming c.args.clock.now) b (now desk) desk.reader ahead c.args.kind s c.requires.ended in
           let x = answered (arc_value desk.shelf) user g.K.Link.told g.C.Timestamps.told k (g.K.Link.state c.args.link.now) c1 (g.C.Timestamps.coming c.args.clock.now) b (now desk) c.args.kind desk.reader ahead s desk.seat desk.users.seat at (g.K.Link.state c.answer.new.link) (g.C.Timestamps.coming c.answer.new.clock) (now c.answer.new.desk) refl (input_of c.args.kind desk.reader) ended On
           (subst (λ (y : Progress). IsAnswered (arc_value desk.shelf) g.K.Link.told g.C.Timestamps.told (g.K.Link.state c.args.link.now) (g.K.Link.state c.answer.new.link) (g.C.Timestamps.coming c.args.clock.now) (g.C.Timestamps.coming c.answer.new.clock) (input_of c.args.kind desk.reader) desk.seat desk.users.seat (now desk) (now c.answer.new.desk) y) c.in-On.is c.answer.ensures.answered) in
           let goes = subst (λ (y : Contents). Stands (language_for user y) g.K.Link.told g.C.Timestamps.told k (g.K.Link.state c.answer.new.link) c1 (g.C.Timestamps.coming c.answer.new.clock) b (now c.answer.new.desk) (is_some c.answer.new.desk.attending.watch) More desk.reader ahead → Goes (language_for user y) g.K.Link.told g.C.Timestamps.told k (g.K.Link.state c.report.new.link) c1 (g.C.Timestamps.coming c.report.new.clock) b (now c.report.new.desk) c.report.result false desk.reader ahead) (ap arc_value c.answer.ensures.shelf)
-          (c.report.ensures.goes user k c1 b desk.reader ahead (c.answer.ensures.seat.0 ∙ at.0, c.answer.ensures.seat.1 ∙ at.1, c.answer.ensures.users.0 ∙ at.2, c.answer.ensures.users.1 ∙ at.3)) in
+          (c.report.ensures.goes desk.reader ahead user k c1 b (c.answer.ensures.seat.0 ∙ at.0, c.answer.ensures.seat.1 ∙ at.1, c.answer.ensures.users.0 ∙ at.2, c.answer.ensures.users.1 ∙ at.3)) in
           goes x;
       timely = λ ahead user k c1 b at s.
           let desk = c.args.desk.now in
@@ -70,7 +70,7 @@ returns-in_default g c =
       reader = first.reader;
       link = first.link;
       hung_up = first.hung_up;
-      goes = λ user k c1 b ahead at stands.
+      goes = λ ahead user k c1 b at stands.
           let s = language_for user (arc_value desk.shelf) in
           let ended = input_ended s g.K.Link.told g.C.Timestamps.told k (g.K.Link.state c.args.link.now) c1 (g.C.Timestamps.coming c.args.clock.now) b (now desk) desk.reader ahead c.args.kind stands c.requires.ended in
           goes_ended_is s g.K.Link.told g.C.Timestamps.told k c1 b (g.K.Link.state c.answer.new.link) (g.C.Timestamps.coming c.answer.new.clock) (now c.answer.new.desk) desk.reader c.answer.result _ false desk.reader ahead ahead (λ is. c.in_default.not-On is)
