@@ -1,15 +1,15 @@
-use Rattle.std.proofs.Common.{◌≡◌, ◌∙◌, ◌≤◌, ◌++◌, [], ℕ, List, refl, sym, ap, subst, arith}
+use Rattle.std.proofs.Common.{◌≡◌, ◌∙◌, ◌≤◌, ◌++◌, [], ℕ, List, Ok, Err, refl, sym, ap, subst, arith}
 use Rattle.dxc_num.specs.declared.register.RegWrite.{RegWrite}
 use Rattle.dxc_outside.specs.declared.gate.GatePlace.{GatePlace}
 use Rattle.fabric_core.specs.declared.size.Size.{Size}
 use Rattle.fabric_core.specs.declared.mover.Mover.{Mover}
 use Rattle.fabric_words.specs.Seats.{FabricId, MoverAt}
 use Rattle.paull_matrix.specs.Colourings.{Colouring}
-use Rattle.roll_engine.specs.declared.answer.Advance.{Advance}
-use Rattle.roll_engine.specs.declared.answer.Advance.TheVariants.{Done, Stopped}
+use Rattle.dxc_outside.specs.Stops.{the_stop}
+use Rattle.roll_engine.specs.declared.answer.Advance.TheVariants.{Done}
 use Rattle.roll_engine.specs.Rollings.{RollingAt, rest_of}
 use Rattle.roll_engine.specs.Courses.{IsReady}
-use Rattle.roll_engine.specs.Answers.{AnswerIs, GoesOn, asked_at}
+use Rattle.roll_engine.specs.Answers.{Answer, AnswerIs, GoesOn, asked_at}
 use Rattle.roll_engine.specs.Cold.{IsCold, left_behind, left_of, legs_then}
 use Rattle.roll_engine.specs.Leading.{IsLeading}
 use Rattle.dxc_causes.specs.Stops.{RoseOnlyFor}
@@ -20,7 +20,7 @@ use Rattle.roll_engine.proofs.Running.{written_on}
 use Rattle.roll_engine.proofs.Leading.{IsOnWay, all_advances, answer_on, behind_kept, led_to_rest, leading_ready, way_begun, way_next, way_on}
 use Rattle.roll_engine.proofs.cold.advance_cold.Goals as goal
 
-not_stopped : Done ≡ Stopped → ⊥
+not_stopped : Ok Done ≡ Err the_stop → ⊥
 not_stopped e = cc
 
 pub loop-answer-init : goal.loop-answer-init
@@ -34,13 +34,13 @@ loop-answer-init g c = record {
 }
 
 -- the askings up to a call of `advance`, and those in it
-asked_on_way : (z : Size) (k : Colouring) (first old new : RollingAt) (m a b : Mover) (answer : Advance) → IsOnWay z k first old m a → GoesOn z old new a b
-    → asked_at (left_of k m first) (left_of k a old) Done ++ asked_at (rest_of old) (rest_of new) answer ≡ asked_at (left_of k m first) (left_of k b new) answer
+asked_on_way : (z : Size) (k : Colouring) (first old new : RollingAt) (m a b : Mover) (answer : Answer) → IsOnWay z k first old m a → GoesOn z old new a b
+    → asked_at (left_of k m first) (left_of k a old) (Ok Done) ++ asked_at (rest_of old) (rest_of new) answer ≡ asked_at (left_of k m first) (left_of k b new) answer
 asked_on_way z k first old new m a b answer h goes =
     let one = all_advances z k old new a b b goes goes.advances in
     let behind : asked_at (left_of k a old) (rest_of new ++ left_behind k (legs_then a old) old.behind) answer ≡ asked_at (left_of k a old) (left_of k b new) answer
     = ap (λ (ws : List RegWrite). asked_at (left_of k a old) (rest_of new ++ ws) answer) (behind_kept z k old new a b goes) in
-    ap (λ (places : List GatePlace). asked_at (left_of k m first) (left_of k a old) Done ++ places) (asked_in_front (rest_of old) (rest_of new) (left_behind k (legs_then a old) old.behind) answer ∙ behind)
+    ap (λ (places : List GatePlace). asked_at (left_of k m first) (left_of k a old) (Ok Done) ++ places) (asked_in_front (rest_of old) (rest_of new) (left_behind k (legs_then a old) old.behind) answer ∙ behind)
     ∙ asked_behind (left_of k m first) (left_of k a old) (left_of k b new) h.advances.writes one.writes answer h.advances.split one.split
 
 pub advance-requires-clause-ready : goal.advance-requires-clause-ready
@@ -69,10 +69,10 @@ returns-in_default g c =
       answer = answer;
       done = λ e. absurd (c.in_default.not-Done e);
       cold = λ h. cold_on z k first r' m b h way.advances;
-      joins = λ h f e. no_frame z k r' (left_of k m first) m b f (cold_on z k first r' m b h way.advances) (subst (λ (x : Advance). AnswerIs z (left_of k m first) (left_of k b r') m b x) e answer);
-      stopped = subst (λ (n : ℕ). RoseOnlyFor n (g.G.Gate.stops c.advance.new.gate) (c.advance.result ≡ Stopped)) i.unstopped c.advance.ensures.stopped;
+      joins = λ h f e. no_frame z k r' (left_of k m first) m b f (cold_on z k first r' m b h way.advances) (subst (λ (x : Answer). AnswerIs z (left_of k m first) (left_of k b r') m b x) e answer);
+      stopped = subst (λ (n : ℕ). RoseOnlyFor n (g.G.Gate.stops c.advance.new.gate) (c.advance.result ≡ Err the_stop)) i.unstopped c.advance.ensures.stopped;
       asked = subst (λ (places : List GatePlace). g.G.Gate.asked c.args.gate.now c.advance.new.gate places) (asked_on_way z k first r r' m a b c.advance.result i.way goes)
-          (g.G.Gate.asked_on c.args.gate.now c.loop-answer.gate c.advance.new.gate (asked_at (left_of k m first) (left_of k a r) Done) (asked_at (rest_of r) (rest_of r') c.advance.result) i.asked c.advance.ensures.asked);
+          (g.G.Gate.asked_on c.args.gate.now c.loop-answer.gate c.advance.new.gate (asked_at (left_of k m first) (left_of k a r) (Ok Done)) (asked_at (rest_of r) (rest_of r') c.advance.result) i.asked c.advance.ensures.asked);
     }
 
 pub take_next-requires-clause-shape : goal.take_next-requires-clause-shape
@@ -91,11 +91,11 @@ returns-then-not-take_next g c =
     let way = way_next z c.loop-answer.mover.fabric k first r r' then m a b b' sized stays c.take_next.ensures.same i.way c.advance.ensures.goes_on in
     let same = c.advance.ensures.stopped.only (λ e. not_stopped (sym c.in-Done.is ∙ e)) ∙ i.unstopped in
     let left : left_of k b r' ≡ left_of k b' then = sym c.take_next.ensures.same ∙ ap (λ (x : Mover). left_of k x then) (sym stays) in
-    let asked : g.G.Gate.asked c.args.gate.now c.advance.new.gate (asked_at (left_of k m first) (left_of k b' then) Done)
+    let asked : g.G.Gate.asked c.args.gate.now c.advance.new.gate (asked_at (left_of k m first) (left_of k b' then) (Ok Done))
     = subst (λ (places : List GatePlace). g.G.Gate.asked c.args.gate.now c.advance.new.gate places)
-    (ap (λ (x : Advance). asked_at (left_of k m first) (left_of k a r) Done ++ asked_at (rest_of r) (rest_of r') x) c.in-Done.is
-    ∙ (asked_on_way z k first r r' m a b Done i.way goes ∙ ap (λ (ws : List RegWrite). asked_at (left_of k m first) ws Done) left))
-    (g.G.Gate.asked_on c.args.gate.now c.loop-answer.gate c.advance.new.gate (asked_at (left_of k m first) (left_of k a r) Done) (asked_at (rest_of r) (rest_of r') c.advance.result) i.asked c.advance.ensures.asked) in
+    (ap (λ (x : Answer). asked_at (left_of k m first) (left_of k a r) (Ok Done) ++ asked_at (rest_of r) (rest_of r') x) c.in-Done.is
+    ∙ (asked_on_way z k first r r' m a b (Ok Done) i.way goes ∙ ap (λ (ws : List RegWrite). asked_at (left_of k m first) ws (Ok Done)) left))
+    (g.G.Gate.asked_on c.args.gate.now c.loop-answer.gate c.advance.new.gate (asked_at (left_of k m first) (left_of k a r) (Ok Done)) (asked_at (rest_of r) (rest_of r') c.advance.result) i.asked c.advance.ensures.asked) in
     let none : left_of k b' then ≡ [] = ap (λ (x : Mover). left_of k x then) stays ∙ c.if-not-take_next.ensures.none in record {
       fabric = ap (λ (s : MoverAt). s.fabric) c.take_next.ensures.mover ∙ (c.advance.ensures.fabric ∙ i.fabric);
       advances = way.advances;
@@ -123,11 +123,11 @@ loop-answer-preserved g c =
     let way = way_next z c.loop-answer.mover.fabric k first r r' then m a b b' sized stays c.take_next.ensures.same i.way c.advance.ensures.goes_on in
     let same = c.advance.ensures.stopped.only (λ e. not_stopped (sym c.in-Done.is ∙ e)) ∙ i.unstopped in
     let left : left_of k b r' ≡ left_of k b' then = sym c.take_next.ensures.same ∙ ap (λ (x : Mover). left_of k x then) (sym stays) in
-    let asked : g.G.Gate.asked c.args.gate.now c.advance.new.gate (asked_at (left_of k m first) (left_of k b' then) Done)
+    let asked : g.G.Gate.asked c.args.gate.now c.advance.new.gate (asked_at (left_of k m first) (left_of k b' then) (Ok Done))
     = subst (λ (places : List GatePlace). g.G.Gate.asked c.args.gate.now c.advance.new.gate places)
-    (ap (λ (x : Advance). asked_at (left_of k m first) (left_of k a r) Done ++ asked_at (rest_of r) (rest_of r') x) c.in-Done.is
-    ∙ (asked_on_way z k first r r' m a b Done i.way goes ∙ ap (λ (ws : List RegWrite). asked_at (left_of k m first) ws Done) left))
-    (g.G.Gate.asked_on c.args.gate.now c.loop-answer.gate c.advance.new.gate (asked_at (left_of k m first) (left_of k a r) Done) (asked_at (rest_of r) (rest_of r') c.advance.result) i.asked c.advance.ensures.asked) in
+    (ap (λ (x : Answer). asked_at (left_of k m first) (left_of k a r) (Ok Done) ++ asked_at (rest_of r) (rest_of r') x) c.in-Done.is
+    ∙ (asked_on_way z k first r r' m a b (Ok Done) i.way goes ∙ ap (λ (ws : List RegWrite). asked_at (left_of k m first) ws (Ok Done)) left))
+    (g.G.Gate.asked_on c.args.gate.now c.loop-answer.gate c.advance.new.gate (asked_at (left_of k m first) (left_of k a r) (Ok Done)) (asked_at (rest_of r) (rest_of r') c.advance.result) i.asked c.advance.ensures.asked) in
     record {
       fabric = ap (λ (s : MoverAt). s.fabric) c.take_next.ensures.mover ∙ (c.advance.ensures.fabric ∙ i.fabric);
       way = way;

@@ -1,4 +1,4 @@
-use Rattle.std.proofs.Common.{◌≡◌}
+use Rattle.std.proofs.Common.{◌≡◌, Ok}
 use Rattle.dxc_num.specs.Dimensions.{ports}
 use Rattle.roll_engine.specs.declared.answer.Advance.TheVariants.{Done}
 use Rattle.roll_engine.specs.Answers.{asked_at}
@@ -12,7 +12,7 @@ invariant-loop-answer g l = record {
   way : IsOnWay l.fn.mover.fabric.size l.matrix l.fn.rolling l.rolling l.fn.mover.mover l.mover.mover;
   kept : IsCold l.fn.rolling → IsCold l.rolling;
   unstopped : g.G.Gate.stops l.gate ≡ g.G.Gate.stops l.fn.gate;
-  asked : g.G.Gate.asked l.fn.gate l.gate (asked_at (left_of l.matrix l.fn.mover.mover l.fn.rolling) (left_of l.matrix l.mover.mover l.rolling) Done);
+  asked : g.G.Gate.asked l.fn.gate l.gate (asked_at (left_of l.matrix l.fn.mover.mover l.fn.rolling) (left_of l.matrix l.mover.mover l.rolling) (Ok Done));
 }
 
 abbrev pub decreases-loop-answer : goal.decreases-loop-answer

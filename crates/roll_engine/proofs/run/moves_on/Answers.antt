@@ -1,12 +1,12 @@
-use Rattle.std.proofs.Common.{◌<◌, List, length, get_or, arith, sym, subst}
+use Rattle.std.proofs.Common.{◌<◌, List, length, get_or, Ok, arith, sym, subst}
 use Rattle.roll_plan.specs.declared.op.Move.{Move}
 use Rattle.roll_plan.specs.Works.{ops_writes}
 use Rattle.roll_plan.specs.Nexts.{BeginsMove}
 use Rattle.fabric_core.specs.declared.size.Size.{Size}
 use Rattle.fabric_core.specs.declared.mover.Mover.{Mover}
-use Rattle.roll_engine.specs.declared.answer.Advance.{Advance}
 use Rattle.roll_engine.specs.declared.answer.Advance.TheVariants.{Done}
 use Rattle.roll_engine.specs.Rollings.{RollingAt, at_step}
+use Rattle.roll_engine.specs.Answers.{Answer}
 use Rattle.roll_engine.specs.Walks.{Walks}
 use Rattle.roll_engine.proofs.Going.{begins_first}
 use Rattle.roll_engine.proofs.Walking.{walks_none, walks_on}
@@ -46,6 +46,6 @@ loop-step-preserved g c =
     let a : Mover = l.mover.mover in let b : Mover = c.move_on.new.mover.mover in record {
       own = c.move_on.ensures.own;
       made = let at = l.invariant.made in let more = c.move_on.ensures.all c.in-Done.is in omega arith;
-      walks = walks_on g.G.Gate.stops g.G.Gate.asked z g.G.Gate.asked_on (at_step c.args.made.now r) old new c.args.mover.now.mover a b c.args.gate.now l.gate c.move_on.new.gate Done l.invariant.walks
-          (subst (λ (x : Advance). Walks g.G.Gate.stops g.G.Gate.asked z old new a b l.gate c.move_on.new.gate x) c.in-Done.is c.move_on.ensures.walks);
+      walks = walks_on g.G.Gate.stops g.G.Gate.asked z g.G.Gate.asked_on (at_step c.args.made.now r) old new c.args.mover.now.mover a b c.args.gate.now l.gate c.move_on.new.gate (Ok Done) l.invariant.walks
+          (subst (λ (x : Answer). Walks g.G.Gate.stops g.G.Gate.asked z old new a b l.gate c.move_on.new.gate x) c.in-Done.is c.move_on.ensures.walks);
     }

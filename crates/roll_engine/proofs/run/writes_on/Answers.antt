@@ -1,10 +1,10 @@
-use Rattle.std.proofs.Common.{Some, None, refl, subst}
+use Rattle.std.proofs.Common.{Some, None, Ok, refl, subst}
 use Rattle.roll_plan.specs.Works.{writes_of}
 use Rattle.fabric_core.specs.declared.size.Size.{Size}
 use Rattle.fabric_core.specs.declared.mover.Mover.{Mover}
-use Rattle.roll_engine.specs.declared.answer.Advance.{Advance}
 use Rattle.roll_engine.specs.declared.answer.Advance.TheVariants.{Done}
 use Rattle.roll_engine.specs.Rollings.{RollingAt, at_step}
+use Rattle.roll_engine.specs.Answers.{Answer}
 use Rattle.roll_engine.specs.Walks.{Walks}
 use Rattle.roll_engine.proofs.Going.{left_none}
 use Rattle.roll_engine.proofs.Walking.{next_found, walks_on}
@@ -19,7 +19,7 @@ loop-next-init g c =
     let first : RollingAt = at_step c.args.made.now r in let mid : RollingAt = at_step c.moves_on.new.made r in
     let m : Mover = c.args.mover.now.mover in let a : Mover = c.moves_on.new.mover.mover in record {
       own = c.moves_on.ensures.own;
-      walks = subst (λ (x : Advance). Walks g.G.Gate.stops g.G.Gate.asked z first mid m a c.args.gate.now c.moves_on.new.gate x) c.in-Done.is c.moves_on.ensures.walks;
+      walks = subst (λ (x : Answer). Walks g.G.Gate.stops g.G.Gate.asked z first mid m a c.args.gate.now c.moves_on.new.gate x) c.in-Done.is c.moves_on.ensures.walks;
     }
 
 pub next_on-requires-clause-next : goal.next_on-requires-clause-next
@@ -41,8 +41,8 @@ loop-next-preserved g c =
     let old : RollingAt = at_step l.made r in let new : RollingAt = at_step c.next_on.new.made r in
     let a : Mover = l.mover.mover in let b : Mover = c.next_on.new.mover.mover in record {
       own = c.next_on.ensures.own;
-      walks = walks_on g.G.Gate.stops g.G.Gate.asked z g.G.Gate.asked_on (at_step c.args.made.now r) old new c.args.mover.now.mover a b c.args.gate.now l.gate c.next_on.new.gate Done l.invariant.walks
-          (subst (λ (x : Advance). Walks g.G.Gate.stops g.G.Gate.asked z old new a b l.gate c.next_on.new.gate x) c.in-Done-next_on.is c.next_on.ensures.walks);
+      walks = walks_on g.G.Gate.stops g.G.Gate.asked z g.G.Gate.asked_on (at_step c.args.made.now r) old new c.args.mover.now.mover a b c.args.gate.now l.gate c.next_on.new.gate (Ok Done) l.invariant.walks
+          (subst (λ (x : Answer). Walks g.G.Gate.stops g.G.Gate.asked z old new a b l.gate c.next_on.new.gate x) c.in-Done-next_on.is c.next_on.ensures.walks);
     }
 
 pub returns : goal.returns

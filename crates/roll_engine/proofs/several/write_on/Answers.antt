@@ -10,7 +10,7 @@ use Rattle.roll_engine.specs.Courses.{IsOld, IsReady}
 use Rattle.roll_engine.specs.Answers.{IsSeen}
 use Rattle.roll_engine.proofs.Going.{ready_step}
 use Rattle.roll_engine.proofs.Walking.{walks_made, walks_in_frame, walks_stopped}
-use Rattle.roll_engine.proofs.run.write_on.Goals as goal
+use Rattle.roll_engine.proofs.several.write_on.Goals as goal
 
 pub step_on-requires-clause-ready : goal.step_on-requires-clause-ready
 step_on-requires-clause-ready g c = let r = at_step c.args.made.now c.args.rolling.now in let w = c.args.write in let m : Mover = c.args.mover.now.mover in

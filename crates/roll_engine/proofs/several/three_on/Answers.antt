@@ -1,7 +1,7 @@
 use Rattle.fabric_core.specs.declared.mover.Mover.{Mover}
 use Rattle.roll_engine.specs.Rollings.{RollingAt, at_step}
 use Rattle.roll_engine.proofs.Walking.{walks_then}
-use Rattle.roll_engine.proofs.run.three_on.Goals as goal
+use Rattle.roll_engine.proofs.several.three_on.Goals as goal
 
 pub returns-clause-walks : goal.returns-clause-walks
 returns-clause-walks g c =

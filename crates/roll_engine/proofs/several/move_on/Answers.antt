@@ -2,7 +2,7 @@ use Rattle.fabric_core.specs.declared.size.Size.{Size}
 use Rattle.fabric_core.specs.declared.mover.Mover.{Mover}
 use Rattle.roll_engine.specs.Rollings.{RollingAt, at_step}
 use Rattle.roll_engine.proofs.Walking.{walks_then}
-use Rattle.roll_engine.proofs.run.move_on.Goals as goal
+use Rattle.roll_engine.proofs.several.move_on.Goals as goal
 
 pub returns-in_default-write_two : goal.returns-in_default-write_two
 returns-in_default-write_two g c =
