@@ -20,16 +20,18 @@ use Rattle.user_admin.specs.declared.op.UserChange.{UserChange}
 use Rattle.user_admin.specs.declared.op.UserDone.{UserDone}
 use Rattle.user_admin.specs.declared.op.UserDone.TheVariants as done
 use Rattle.user_admin.specs.declared.op.UserEntry.{UserEntry}
-use Rattle.user_admin.specs.declared.op.UserOp.{UserOp}
-use Rattle.user_admin.specs.declared.op.UserOp.TheVariants as asked_for
+use Rattle.tl1_users.specs.declared.op.UserOp.{UserOp}
+use Rattle.tl1_users.specs.declared.op.UserOp.TheVariants as asked_for
 use Rattle.user_admin.specs.declared.op.UserOutcome.{UserOutcome}
 use Rattle.user_admin.specs.declared.op.UserOutcome.TheVariants.{Answered, Denied, Done, Failed}
 use Rattle.user_admin.specs.declared.state.Lists.{Lists}
 use Rattle.user_admin.specs.declared.state.UserState.{UserState}
-use Rattle.user_admin.specs.Users.{Users, is_of_class_s, is_there, named, shelf_users}
+use Rattle.tl1_users.specs.Commands.{is_of_class_s}
+use Rattle.user_admin.specs.Users.{Users, is_there, named, shelf_users}
 use Rattle.user_admin.specs.Changes.{after, effect, most_users}
 use Rattle.user_admin.specs.Verdicts.{Grants, Refuses, class_or, has_pid, is_last_s, refusal, refused_deletion, refused_edit, refused_pid}
-use Rattle.user_admin.specs.Spellable.{AreDescribed, AreSpellable, NamesUid}
+use Rattle.tl1_users.specs.Commands.{NamesUid}
+use Rattle.user_admin.specs.Spellable.{AreDescribed, AreSpellable}
 use Rattle.user_admin.specs.Files.{IsFileOn, IsOldOrDoubted, IsOldOrOneMore}
 use Rattle.user_admin.specs.Journals.{IsAtHome}
 use Rattle.user_admin.specs.Histories.{IsInDoubt, IsLegal, IsLegalFrom, IsReading, MayCome, Opening, change_in, changes_of, failure_in, failures, users_after}

@@ -14,7 +14,7 @@ use Rattle.user_admin.specs.declared.op.UserChange.{UserChange}
 use Rattle.user_admin.specs.declared.op.UserDone.{UserDone}
 use Rattle.user_admin.specs.declared.op.UserDone.TheVariants as done
 use Rattle.user_admin.specs.declared.op.UserEntry.{UserEntry}
-use Rattle.user_admin.specs.declared.op.UserOp.{UserOp}
+use Rattle.tl1_users.specs.declared.op.UserOp.{UserOp}
 use Rattle.user_admin.specs.declared.op.UserOutcome.{UserOutcome}
 use Rattle.user_admin.specs.declared.op.UserOutcome.TheVariants.{Done, Denied, Failed, Answered}
 use Rattle.user_admin.specs.declared.state.UserOrigin.{UserOrigin}
@@ -22,7 +22,8 @@ use Rattle.user_admin.specs.declared.state.UserState.{UserState}
 use Rattle.user_admin.specs.Users.{shelf_users}
 use Rattle.user_admin.specs.Changes.{effect, most_users}
 use Rattle.user_admin.specs.Verdicts.{Grants}
-use Rattle.user_admin.specs.Spellable.{AreDescribed, AreSpellable, NamesUid}
+use Rattle.tl1_users.specs.Commands.{NamesUid}
+use Rattle.user_admin.specs.Spellable.{AreDescribed, AreSpellable}
 use Rattle.user_admin.specs.Files.{IsFileOn}
 use Rattle.user_admin.specs.Journals.{IsAtHome}
 use Rattle.user_admin.specs.Histories.{IsInDoubt, IsLegal, Opening, failures, users_after}

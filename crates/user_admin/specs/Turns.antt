@@ -11,10 +11,10 @@ use Rattle.dxc_outside.specs.declared.stopped.Stopped.{Stopped}
 use Rattle.user_admin.specs.declared.op.UserChange.{UserChange}
 use Rattle.user_admin.specs.declared.op.UserEntry.{UserEntry}
 use Rattle.user_admin.specs.declared.op.UserMark.{UserMark}
-use Rattle.user_admin.specs.declared.op.UserOp.{UserOp}
+use Rattle.tl1_users.specs.declared.op.UserOp.{UserOp}
 use Rattle.user_admin.specs.declared.op.UserOutcome.{UserOutcome}
 use Rattle.user_admin.specs.declared.op.UserRow.{UserRow}
-use Rattle.user_admin.specs.declared.op.UserOp.TheVariants.{Cancel, Rows}
+use Rattle.tl1_users.specs.declared.op.UserOp.TheVariants.{Cancel, Rows}
 use Rattle.user_admin.specs.declared.op.UserOutcome.TheVariants as outcome
 use Rattle.user_admin.specs.declared.shared.Planned.{Planned}
 use Rattle.user_admin.specs.declared.shared.Planned.TheVariants as planned

@@ -3,9 +3,9 @@ ghost use Rattle.std.specs.Prelude.{◌≡◌, map, slice_get};
 ghost use Rattle.shelf_file.specs.Keys.{upper as in_upper_case};
 ghost use Rattle.user_admin.specs.Occupants.{answered, is_out, logged_in, nobody_yet as nobody, without as left_without};
 
-use crate::op::UserOp;
 use crate::secret::upper;
 use dxc_model::Uid;
+use tl1_users::UserOp;
 
 /// So many places are kept: sessions at a place behind these aren't ended by others.
 const PLACES: usize = 64;

@@ -11,7 +11,7 @@ ghost use Rattle.user_admin.specs.States.{Stands, refused as refused_by};
 ghost use Rattle.user_admin.specs.Verdicts.{IsChanging, refusal};
 
 use crate::occupants::{Occupants, answer, nobody_yet};
-use crate::op::{UserChange, UserMark, UserOp, UserOutcome};
+use crate::op::{UserChange, UserMark, UserOutcome};
 use crate::state::{UserState, copy_of};
 use crate::table::UserTable;
 use dxc_causes::NoMemory;
@@ -22,6 +22,7 @@ use std::alloc::Global;
 use std::mem;
 use std::snapshot::Snapshot;
 use tl1_text::Sid;
+use tl1_users::UserOp;
 use turnstile::Sequential;
 
 /// The users that places share. A place takes the keeper out, which is the users with their journal, for a change; so no turn calls the journal's

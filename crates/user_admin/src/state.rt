@@ -8,16 +8,16 @@ ghost use Rattle.journal_core.specs.Books.{IsReady};
 ghost use Rattle.user_admin.specs.declared.op.UserEntry.{UserEntry as Entry};
 ghost use Rattle.user_admin.specs.Histories.{Opening};
 ghost use Rattle.user_admin.specs.Openings.{Begins, Fails, IsDiskErr, IsOpening, LeavesOpened, asked_at, disk_left, read_fault};
-ghost use Rattle.user_admin.specs.Spellable.{NamesUid};
+ghost use Rattle.tl1_users.specs.Commands.{NamesUid};
 ghost use Rattle.user_admin.specs.Users.{shelf_users};
-ghost use Rattle.user_admin.specs.declared.op.UserOp.{UserOp as Op};
+ghost use Rattle.tl1_users.specs.declared.op.UserOp.{UserOp as Op};
 ghost use Rattle.user_admin.specs.States.{ChangedIs, IsFileAfter, IsFileWithChange, IsNoted, MayNote, StandsFor, opening_of};
 ghost use Rattle.user_admin.specs.Verdicts.{Grants, IsChanging, login, refusal, rows_in};
 
 use crate::fault::UserOpenFault;
 use crate::fold::{FoldFault, fold};
 use crate::keep::keep;
-use crate::op::{User, UserChange, UserDone, UserOp, UserRows};
+use crate::op::{User, UserChange, UserDone, UserRows};
 use crate::secret::copy_as;
 use crate::table::UserTable;
 use dxc_causes::NoMemory;
@@ -29,6 +29,7 @@ use shelf_file::Shelf;
 use std::alloc::Global;
 use std::snapshot::Snapshot;
 use tl1_text::Sid;
+use tl1_users::UserOp;
 
 /// The users that the shelf describes, and those that are kept.
 #[derive(Drop)]

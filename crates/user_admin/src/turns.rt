@@ -3,7 +3,7 @@ ghost use Rattle.std.specs.Prelude.{◌≡◌, IsErr, List, MatchResult};
 ghost use Rattle.dxc_causes.specs.Stops.{RoseOnlyFor};
 ghost use Rattle.user_admin.specs.declared.op.UserEntry.{UserEntry as Entry};
 ghost use Rattle.user_admin.specs.Openings.{asked_at_turn};
-ghost use Rattle.user_admin.specs.Spellable.{NamesUid};
+ghost use Rattle.tl1_users.specs.Commands.{NamesUid};
 ghost use Rattle.user_admin.specs.Resting.{IsAtRest, RestsUnlessTaken};
 ghost use Rattle.user_admin.specs.Shared.{asked_by, asked_in, opening_at};
 ghost use Rattle.user_admin.specs.Turns.{After, Brings, Cancels, HasPass, HasSeen, IsKept, LoggedIn, LookedAt, OutUpon, OutAfter, RowsAre, RowsDenied, Saw, Takes, Took, TookIs, Tries};
@@ -11,7 +11,7 @@ ghost use Rattle.user_admin.specs.Occupants.{login_op as entered_as};
 ghost use Rattle.user_admin.specs.Verdicts.{IsChanging};
 
 use crate::occupants::has_ended;
-use crate::op::{UserMark, UserOp, UserOutcome, UserRows};
+use crate::op::{UserMark, UserOutcome, UserRows};
 use crate::shared::{Planned, SharedUsers, mark_of, refused};
 use crate::state::UserState;
 use dxc_disk::{Disk, DiskFault};
@@ -19,6 +19,7 @@ use dxc_model::{Cause, Class, Uid};
 use dxc_outside::{Gate, Stopped};
 use std::snapshot::Snapshot;
 use std::sync::Wait;
+use tl1_users::UserOp;
 use turnstile::{Pass, Rest, Turnstile};
 
 /// What came of a change of the users.

@@ -9,7 +9,7 @@ use Rattle.standby_link.specs.Calls.{AreCalls, Call, last_of, read_in}
 use Rattle.standby_link.specs.Laws.{KeepsUp, named}
 use Rattle.standby_link.specs.Mirrors.{Pair, Primary, moments}
 use Rattle.user_admin.specs.declared.op.UserEntry.{UserEntry}
-use Rattle.user_admin.specs.declared.op.UserOp.{UserOp}
+use Rattle.tl1_users.specs.declared.op.UserOp.{UserOp}
 use Rattle.user_admin.specs.declared.state.UserState.{UserState}
 use Rattle.user_admin.specs.Histories.{Opening}
 use Rattle.user_admin.specs.Openings.{Begins, IsOpening, LeavesOpened}

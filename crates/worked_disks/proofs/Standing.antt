@@ -5,7 +5,7 @@ use Rattle.dxc_outside.specs.declared.stopped.Stopped.{Stopped}
 use Rattle.user_admin.specs.declared.op.UserDone.{UserDone}
 use Rattle.user_admin.specs.declared.op.UserDone.TheVariants.{Done, Denied}
 use Rattle.user_admin.specs.declared.op.UserEntry.{UserEntry}
-use Rattle.user_admin.specs.declared.op.UserOp.{UserOp}
+use Rattle.tl1_users.specs.declared.op.UserOp.{UserOp}
 use Rattle.user_admin.specs.declared.op.UserOutcome.TheVariants as outcome
 use Rattle.user_admin.specs.declared.state.UserState.{UserState}
 use Rattle.user_admin.specs.Histories.{Opening}

@@ -2,7 +2,7 @@
 ghost use Rattle.std.specs.Prelude.{◌↔◌, IfOk, IsTrue, List, OnOk, ◌≡◌};
 ghost use Rattle.user_admin.specs.declared.op.UserEntry.{UserEntry as Entry};
 ghost use Rattle.user_admin.specs.Histories.{Opening};
-ghost use Rattle.user_admin.specs.Spellable.{NamesUid};
+ghost use Rattle.tl1_users.specs.Commands.{NamesUid};
 ghost use Rattle.user_admin.specs.States.{StandsFor};
 ghost use Rattle.user_admin.specs.Verdicts.{IsChanging};
 
@@ -13,7 +13,8 @@ use dxc_outside::{AlwaysGo, Stopped};
 use std::alloc::Global;
 use tl1_text::Sid;
 use tl1_text::grammar::blocks;
-use user_admin::{UserDone, UserOp, UserState, user_command_of};
+use tl1_users::{UserOp, user_command_of};
+use user_admin::{UserDone, UserState};
 use worked_common::{Line, two};
 
 fn letter_of(class: Class) -> u8 {

@@ -1,18 +1,17 @@
 //! What a unit asks of the users.
 ghost use Rattle.std.specs.Prelude.{◌≡◌, ◌≢◌, ◌↔◌, IfOk, IsErrOf, true, ◌≤◌, ◌<◌, is_some, length, map, Some, None, Ok, Err};
 ghost use Rattle.std.specs.Str.{bytes_eq};
-ghost use Rattle.tl1_text.specs.Tags.{is_alphanumeric as reads_as_alphanumeric};
 ghost use Rattle.tl1_text.specs.Spans.{AreBlocksOf, block_at};
 ghost use Rattle.shelf_file.specs.Keys.{is_uid as reads_as_uid};
 ghost use Rattle.tl1_command.specs.Blocks.{code_text};
 ghost use Rattle.tl1_command.specs.Parts.{AreParts};
-ghost use Rattle.user_admin.specs.Spellable.{NamesUid};
-ghost use Rattle.user_admin.specs.Commands.{asked as asked_for, code_named, class_given, class_of as class_named, first_refusal, has_too_many as too_many, is_missing as misses, is_own as is_own_user, is_not_entitled as not_entitled, is_not_logged_in as not_logged_in, named_in, own_given, pid_given, rows_asked, uid_given, user_meaning};
+ghost use Rattle.tl1_users.specs.Commands.{NamesUid, asked as asked_for, code_named, class_given, class_of as class_named, first_refusal, has_too_many as too_many, is_missing as misses, is_own as is_own_user, is_not_entitled as not_entitled, is_not_logged_in as not_logged_in, named_in, own_given, pid_given, rows_asked, uid_given, user_meaning};
 
 use crate::code::{UserCode, code_of, is_for_class_s};
 use crate::op::{Pid, UserOp};
 use arrayvec::ArrayVec;
 use dxc_model::{Cause, Class, SessionUser, Uid};
+use shelf_file::is_uid;
 use tl1_command::checks::{has_further, has_general, is_other_target};
 use tl1_command::parts::{Parts, block_text, parts_of};
 use tl1_text::{Blocks, Ctag, Sid};
@@ -43,23 +42,6 @@ fn is_missing(code: UserCode, uid: &[u8], pid: &[u8], second: &[u8]) -> bool
         UserCode::Edit => uid.is_empty() || (pid.is_empty() && second.is_empty()),
         UserCode::Delete | UserCode::Cancel => uid.is_empty(),
         UserCode::Rows => false,
-    }
-}
-
-fn is_alphanumeric(text: &[u8]) -> bool
-    ensures { result ≡ reads_as_alphanumeric text.now }
-{
-    text.iter().all(|b| b.is_ascii_alphanumeric())
-}
-
-pub fn is_uid(text: &[u8]) -> bool
-    ensures { result ≡ reads_as_uid text.now }
-{
-    match text {
-        [] => false,
-        [first, ..] => {
-            text.len() <= Uid::MOST && first.is_ascii_alphabetic() && is_alphanumeric(text)
-        }
     }
 }
 
