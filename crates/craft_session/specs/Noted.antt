@@ -187,7 +187,7 @@ module _ (s : Contents) (t : Telling) where
     pub users : IsSameUserSeat b.users c.users
     pub answered : IsAnswered s t.told t.clock_told b.link c.link b.coming c.coming u b.seat b.users (now_in b) (now_in c) how
 
-  -- as what it is noted: by who gave it, its tag, what it wanted of the users, what it asks behind what was heard of them, and the reply
+  -- as what it is noted: by who gave it, its tag, what it wanted of the users, what it asks after what was heard of them, and the reply
   abbrev pub said_notes : (sent : Sent) (b : Stood) (u : Input) (c : Stood) → IsSaidOf s t.told t.clock_told b.link c.link b.coming c.coming sent u b.seat b.users (now_in b) (now_in c) → List Note
   said_notes sent b u c x = users_notes b.attending.user (tag_of u) (wants s b.attending.user u) (asks s b.attending.user x.heard u) ++ notes_of s.shape b.attending.user (tag_of u) (asks s b.attending.user x.heard u) x.reply
 

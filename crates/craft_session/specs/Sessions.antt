@@ -106,7 +106,7 @@ module _ (l : Language Request Moment) where
     pub written : out ≡ walk.earlier ++ walk.latest
 
   -- The same where of the last happening's messages a part was written: the moments that were taken are the first of those that they would take,
-  -- and the look behind a response may be missing. Something had happened.
+  -- and the look after a response may be missing. Something had happened.
   pub record CutPast (clock_told : Type 0) (c d : List Moment) (b : Beginning) (now : Now) (items : List Item) (out : List ℕ) : Type 0 where
     pub walk : Walk Request Moment
     pub rest : List ℕ

@@ -63,7 +63,7 @@ pub fn report<K: Link, C: Timestamps, D: Disk + Drop, U: Disk + Drop, R: Wait>(
     }
 }
 
-/// Looks for changes behind the cursor, and writes a report of each, with the next moments.
+/// Looks for changes after the cursor, and writes a report of each, with the next moments.
 // Apart, since a session without reports clears no room of a look.
 #[inline(never)]
 fn report_since<K: Link, C: Timestamps, D: Disk + Drop, U: Disk + Drop, R: Wait>(
@@ -164,7 +164,7 @@ fn tell_lost<K: Link, C: Timestamps, D: Disk + Drop, U: Disk + Drop>(
     }
 }
 
-/// Writes a report of each change, numbered from the one behind `before`.
+/// Writes a report of each change, numbered from the one after `before`.
 fn tell_changes<K: Link, C: Timestamps, D: Disk + Drop, U: Disk + Drop>(
     desk: &mut Desk<D, U>,
     link: &mut K,
