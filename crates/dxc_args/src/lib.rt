@@ -6,5 +6,5 @@ mod matching;
 mod number;
 mod status;
 
-pub use line::{Line, WordsFault, line_of};
+pub use line::{Line, ServeLine, WordsFault, line_of};
 pub use status::{JournalBad, Status};

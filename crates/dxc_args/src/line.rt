@@ -12,42 +12,30 @@ use std::alloc::Global;
 #[derive(Drop)]
 pub enum Line {
     /// One session over the terminal.
-    Script {
-        shelf: Name,
-        journal: Name,
-    },
+    Script { shelf: Name, journal: Name },
     /// One session over the terminal, on a new element of that shape whose journals are in memory.
-    Trial {
-        shape: Shape,
-    },
+    Trial { shape: Shape },
     /// The rows of the table, and how many records the journal has.
-    Check {
-        shelf: Name,
-        journal: Name,
-    },
+    Check { shelf: Name, journal: Name },
     /// The commands that make the same table on an element without connections.
-    Export {
-        shelf: Name,
-        journal: Name,
-    },
+    Export { shelf: Name, journal: Name },
     /// Sessions over TCP, and workers that carry frames; with a peer, its standby gets a copy of the journal.
-    Serve {
-        shelf: Name,
-        journal: Name,
-        address: Name,
-        lines: Name,
-        workers: u16,
-        peer: Option<Name>,
-    },
+    Serve(ServeLine),
     /// The copy of a journal at a second controller.
-    Standby {
-        journal: Name,
-        address: Name,
-    },
+    Standby { journal: Name, address: Name },
     /// The load script of that number, on a disk in memory.
-    Load {
-        number: u64,
-    },
+    Load { number: u64 },
+}
+
+/// What is served: the names of shelf file, journal, address and lines, 1 to 8 workers, and a peer if there is one.
+#[derive(Drop)]
+pub struct ServeLine {
+    pub shelf: Name,
+    pub journal: Name,
+    pub address: Name,
+    pub lines: Name,
+    pub workers: u16,
+    pub peer: Option<Name>,
 }
 
 /// Why the words give no line.
@@ -194,14 +182,14 @@ fn serve_line(alloc: Global, rest: &[&str]) -> Result<Line, WordsFault>
                 return Err(WordsFault::BadWords);
             };
             let peer = peer_in(alloc, behind)?;
-            Ok(Line::Serve {
+            Ok(Line::Serve(ServeLine {
                 shelf: name_of(alloc, shelf)?,
                 journal: name_of(alloc, journal)?,
                 address: name_of(alloc, address)?,
                 lines: name_of(alloc, lines)?,
                 workers,
                 peer,
-            })
+            }))
         }
         _ => Err(WordsFault::BadWords),
     }
