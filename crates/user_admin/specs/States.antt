@@ -144,6 +144,19 @@ module _ {D : Type 0} (told : Type 0) (state : D → DiskState) where
   NotedIs o h n op c s (Ok v) = StandsFor o s (h ++ entry n op (Done c) ∷ [])
   NotedIs o h n op c s (Err e) = StandsFor o s (h ++ entry n op (Failed DiskFault) ∷ [])
 
+-- an operation of a place after a history
+pub record Asked : Type 0 where
+  pub opening : Opening
+  pub history : List UserEntry
+  pub place : ℕ
+  pub op : UserOp
+
+abbrev pub asked_after : Opening → List UserEntry → ℕ → UserOp → Asked
+asked_after o h n op = record { opening = o; history = h; place = n; op = op }
+
+abbrev pub Answers : {D : Type 0} → DiskOf D → Asked → UserState D → Result UserDone Stopped → Type 0
+Answers g a s result = ChangedIs g.told g.state a.opening a.history a.place a.op s result
+
 abbrev pub MayNote : {D : Type 0} → DiskOf D → UserState D → UserChange → Type 0
 MayNote g s c = (o : Opening) × (h : List UserEntry) × (op : UserOp) × IsGranted g.told g.state o h op s c
 

@@ -1,8 +1,9 @@
 -- What a place knows of the users' history, and what its turns come to.
-use Rattle.std.specs.Prelude.{◌≡◌, ◌≢◌, ◌<◌, ℕ, Bool, true, List, [], ◌∷◌, ◌++◌, map, Option, Some, None, Result, Ok, Err}
+use Rattle.std.specs.Prelude.{◌≡◌, ◌≢◌, ◌<◌, ℕ, Bool, true, List, [], ◌∷◌, ◌++◌, map, Option, Some, None, Result, Ok, Err, MatchResult}
 use base.Stored.{Gv}
 use Rattle.turnstile.specs.Passing.{Gate, Token}
 use Rattle.turnstile.specs.Turning.{Each}
+use Rattle.arrayvec.specs.ArrayVec.{ArrayVec}
 use Rattle.dxc_disk.specs.Disks.{DiskState}
 use Rattle.dxc_disk.specs.declared.disk.Disk.{Ghosts as DiskOf}
 use Rattle.dxc_model.specs.declared.cause.Cause.{Cause}
@@ -151,6 +152,19 @@ Tries op next took v h = TriedIs v.opening v.own h op next.seen took
 
 abbrev pub Took : UserOp → (next : Token) → Result UserTook Stopped → View → List UserEntry → Type 0
 Took op next took v h = TookIs v.opening v.own h op next.seen took
+
+-- the other turns
+abbrev pub LogsIn : Asking → (next : Token) → Option Class → View → List UserEntry → Type 0
+LogsIn a next found v h = LoggedIn v.opening v.own h a next.seen found
+
+abbrev pub PutsOut : List ℕ → (next : Token) → View → List UserEntry → Type 0
+PutsOut uid next v h = Cancels v.opening v.own h uid next.seen
+
+abbrev pub Looks : (next : Token) → Bool → View → List UserEntry → Type 0
+Looks next cancelled v h = LookedAt v.opening v.own h next.seen cancelled
+
+abbrev pub Reads : Option (List ℕ) → (next : Token) → Result (ArrayVec UserRow) Cause → View → List UserEntry → Type 0
+Reads which next given v h = MatchResult given (λ rows. RowsAre v.opening v.own h which next.seen rows.items) (RowsDenied v.opening v.own h which next.seen)
 
 abbrev pub IsKept : {D : Type 0} → DiskOf D → UserOp → UserOutcome → UserState D → View → List UserMark → Type 0
 IsKept g op out k v ms = HasKept g.told g.state v.opening v.own op ms k out

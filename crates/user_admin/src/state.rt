@@ -11,7 +11,7 @@ ghost use Rattle.user_admin.specs.Openings.{Begins, Fails, IsDiskErr, IsOpening,
 ghost use Rattle.tl1_users.specs.Commands.{NamesUid};
 ghost use Rattle.user_admin.specs.Users.{shelf_users};
 ghost use Rattle.tl1_users.specs.declared.op.UserOp.{UserOp as Op};
-ghost use Rattle.user_admin.specs.States.{ChangedIs, IsFileAfter, IsFileWithChange, IsNoted, MayNote, StandsFor, opening_of};
+ghost use Rattle.user_admin.specs.States.{Answers, IsFileAfter, IsFileWithChange, IsNoted, MayNote, StandsFor, asked_after, opening_of};
 ghost use Rattle.user_admin.specs.Verdicts.{Grants, IsChanging, login, refusal, rows_in};
 
 use crate::fault::UserOpenFault;
@@ -156,7 +156,7 @@ impl<D: Disk> UserState<D> {
         requires stands { (o : Opening) × (h : List Entry) × StandsFor D.told D.state o self.old h }
         ensures changed { (o : Opening) → (h : List Entry) → (place : ℕ)
             → StandsFor D.told D.state o self.old h
-            → ChangedIs D.told D.state o h place op.now self.new result }
+            → Answers D.Disk (asked_after o h place op.now) self.new result }
         ensures origin { self.new.origin ≡ self.old.origin }
         // The journal's header names the modules that it named.
         ensures equipped { self.new.journal.1.head.equipped ≡ self.old.journal.1.head.equipped }

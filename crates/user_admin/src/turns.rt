@@ -1,12 +1,11 @@
 //! The turns of a place with the users: each enters, does one thing with their state, and leaves with the place's entry.
-ghost use Rattle.std.specs.Prelude.{◌≡◌, IsErr, List, MatchResult};
+ghost use Rattle.std.specs.Prelude.{◌≡◌, IsErr};
 ghost use Rattle.dxc_causes.specs.Stops.{RoseOnlyFor};
-ghost use Rattle.user_admin.specs.declared.op.UserEntry.{UserEntry as Entry};
 ghost use Rattle.user_admin.specs.Openings.{asked_at_turn};
 ghost use Rattle.tl1_users.specs.Commands.{NamesUid};
 ghost use Rattle.user_admin.specs.Resting.{IsAtRest, RestsUnlessTaken};
-ghost use Rattle.user_admin.specs.Shared.{asked_by, asked_in, opening_at};
-ghost use Rattle.user_admin.specs.Turns.{After, Brings, Cancels, HasPass, HasSeen, IsKept, LoggedIn, LookedAt, OutUpon, OutAfter, RowsAre, RowsDenied, Saw, Takes, Took, TookIs, Tries};
+ghost use Rattle.user_admin.specs.Shared.{asked_by, asked_in};
+ghost use Rattle.user_admin.specs.Turns.{After, Brings, HasPass, HasSeen, IsKept, LogsIn, Looks, OutUpon, OutAfter, PutsOut, Reads, Takes, Took, Tries};
 ghost use Rattle.user_admin.specs.Occupants.{login_op as entered_as};
 ghost use Rattle.user_admin.specs.Verdicts.{IsChanging};
 
@@ -42,11 +41,10 @@ pub fn change<D: Disk + Drop, G: Gate, R: Wait>(
     requires pass { HasPass turns.now pass.old }
     requires changing { IsChanging op }
     requires named { NamesUid op }
-    requires seen { (h : List Entry) × Saw (opening_at D.state turns.now.first) pass.old.seen h }
+    requires seen { HasSeen D.Disk turns.now pass.old }
     ensures pass { HasPass turns.now pass.new × (pass.new.number ≡ pass.old.number) }
     ensures rests { IsAtRest pass.old → IsAtRest pass.new }
-    ensures took { (h : List Entry) → Saw (opening_at D.state turns.now.first) pass.old.seen h
-        → TookIs (opening_at D.state turns.now.first) pass.old.number h op pass.new.seen result }
+    ensures took { After D.Disk turns.now pass.old (Took op pass.new result) }
     ensures stopped { RoseOnlyFor (G.stops gate.old) (G.stops gate.new) (IsErr result) }
     ensures asked { G.asked gate.old gate.new (asked_at_turn result) }
 {
@@ -190,12 +188,11 @@ pub fn login<D: Disk + Drop, R: Wait>(
     rt: &R,
 ) -> Option<Class>
     requires pass { HasPass turns.now pass.old }
-    requires seen { (h : List Entry) × Saw (opening_at D.state turns.now.first) pass.old.seen h }
+    requires seen { HasSeen D.Disk turns.now pass.old }
     ensures pass { HasPass turns.now pass.new × (pass.new.number ≡ pass.old.number) }
     ensures rests { IsAtRest pass.old → IsAtRest pass.new }
-    ensures logged { (h : List Entry) → Saw (opening_at D.state turns.now.first) pass.old.seen h
-        → LoggedIn (opening_at D.state turns.now.first) pass.old.number h
-        (record { vacant = vacant; uid = uid; pid = pid.now }) pass.new.seen result }
+    ensures logged { After D.Disk turns.now pass.old (LogsIn (record
+        { vacant = vacant; uid = uid; pid = pid.now }) pass.new result) }
 {
     let mut turn = turns.enter(pass, rt);
     let class = turn.state().list.login_now(uid, pid);
@@ -227,11 +224,10 @@ pub fn cancel<D: Disk + Drop, R: Wait>(
     rt: &R,
 )
     requires pass { HasPass turns.now pass.old }
-    requires seen { (h : List Entry) × Saw (opening_at D.state turns.now.first) pass.old.seen h }
+    requires seen { HasSeen D.Disk turns.now pass.old }
     ensures pass { HasPass turns.now pass.new × (pass.new.number ≡ pass.old.number) }
     ensures rests { IsAtRest pass.old → IsAtRest pass.new }
-    ensures cancelled { (h : List Entry) → Saw (opening_at D.state turns.now.first) pass.old.seen h
-        → Cancels (opening_at D.state turns.now.first) pass.old.number h uid pass.new.seen }
+    ensures cancelled { After D.Disk turns.now pass.old (PutsOut uid pass.new) }
 {
     let mut turn = turns.enter(pass, rt);
     let place = pass.number();
@@ -249,11 +245,10 @@ pub fn is_cancelled<D: Disk + Drop, R: Wait>(
     rt: &R,
 ) -> bool
     requires pass { HasPass turns.now pass.old }
-    requires seen { (h : List Entry) × Saw (opening_at D.state turns.now.first) pass.old.seen h }
+    requires seen { HasSeen D.Disk turns.now pass.old }
     ensures pass { HasPass turns.now pass.new × (pass.new.number ≡ pass.old.number) }
     ensures rests { IsAtRest pass.old → IsAtRest pass.new }
-    ensures looked { (h : List Entry) → Saw (opening_at D.state turns.now.first) pass.old.seen h
-        → LookedAt (opening_at D.state turns.now.first) pass.old.number h pass.new.seen result }
+    ensures looked { After D.Disk turns.now pass.old (Looks pass.new result) }
 {
     let turn = turns.enter(pass, rt);
     let cancelled = has_ended(&turn.state().occupants, pass.number());
@@ -269,13 +264,10 @@ pub fn rows<D: Disk + Drop, R: Wait>(
     rt: &R,
 ) -> Result<UserRows, Cause>
     requires pass { HasPass turns.now pass.old }
-    requires seen { (h : List Entry) × Saw (opening_at D.state turns.now.first) pass.old.seen h }
+    requires seen { HasSeen D.Disk turns.now pass.old }
     ensures pass { HasPass turns.now pass.new × (pass.new.number ≡ pass.old.number) }
     ensures rests { IsAtRest pass.old → IsAtRest pass.new }
-    ensures rows { (h : List Entry) → Saw (opening_at D.state turns.now.first) pass.old.seen h
-        → MatchResult result (λ given. RowsAre (opening_at D.state turns.now.first) pass.old.number
-        h which pass.new.seen given.items)
-        (RowsDenied (opening_at D.state turns.now.first) pass.old.number h which pass.new.seen) }
+    ensures rows { After D.Disk turns.now pass.old (Reads which pass.new result) }
 {
     let turn = turns.enter(pass, rt);
     let given = turn.state().list.listing(&which);
