@@ -76,7 +76,7 @@ pub record CallsAreMoments {D K : Type 0} (told link_told : Type 0) (state : D �
       → (h : TookHaves told link_told (first_line (link k)) (mirrored (state e) (line_at link l)) (joining (state d).reads_as))
       → moments (lost_by l.lost (takes_all (joining (state d).reads_as) h.numbers)) ≡ (state e).reads_as ∷ []
   pub write : told → (d e : D) (l m : Line K) (at : ℕ) (from : List ℕ) (result : Result (Unit {0}) DiskFault) (p : Primary) → IsMoved told (mirrored (state d) (line_at link l)) p → IsSmall l.number at from
-      → StepsByWrite told (mirrored (state d) (line_at link l)) (mirrored (state e) (line_at link m)) at from result
+      → StepsByWrite told (mirrored (state d) (line_at link l)) (mirrored (state e) (line_at link m)) (bytes_at at from) result
       → MatchResult result
       (λ _. HasMoment told (mirrored (state e) (line_at link m)) p (lost_by m.lost (called p (acted p.file (put at from)) (pieces at from))))
       (λ _. HasMoment told (mirrored (state e) (line_at link m)) p (failed p (state e).reads_as))

@@ -4,7 +4,7 @@ ghost use Rattle.standby_link.specs.Acts.{write, sync, pieces};
 ghost use Rattle.standby_link.specs.Lines.{line_at, Sends, SendsOne, Syncs, IsHungUp, BeginsAnew, StaysLost};
 
 use crate::ear::Ear;
-use crate::spell::{spell_sync, spell_write};
+use crate::spell::{ITEM, spell_sync, spell_write};
 use dxc_outside::{Got, Link, Lost, Sent, write_all};
 
 /// The most bytes that one item carries.
@@ -70,7 +70,7 @@ impl<K: Link> Line<K> {
         ensures hung_up { IsHungUp self.old.lost self.new.lost (K.hung_up self.old.link)
             (K.hung_up self.new.link) }
     {
-        let mut message = [0; 4115];
+        let mut message = [0; ITEM];
         self.number = self.number.wrapping_add(1);
         let end = spell_write(&mut message, self.number, place, from);
         self.send(&message[..end]);

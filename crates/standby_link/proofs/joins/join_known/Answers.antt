@@ -4,7 +4,7 @@ use Rattle.standby_link.specs.declared.line.Line.{Line}
 use Rattle.standby_link.specs.Lines.{line_at}
 use Rattle.standby_link.proofs.JoinSteps.{known_sent}
 use Rattle.standby_link.proofs.MoveSteps.{join_step}
-use Rattle.standby_link.proofs.mirror_disk.join_known.Goals as goal
+use Rattle.standby_link.proofs.joins.join_known.Goals as goal
 
 pub returns-clause-line : goal.returns-clause-line
 returns-clause-line g c =

@@ -10,7 +10,7 @@ use Rattle.standby_link.specs.Lines.{SentActs}
 use Rattle.standby_link.proofs.ServeSteps.{on_ok}
 use Rattle.standby_link.proofs.LineSteps.{Sending, is_none_of, sending_none, sending_more, sending_cut, sending_all, fewer, line}
 use Rattle.standby_link.proofs.MoveSteps.{file_sent, file_unread}
-use Rattle.standby_link.proofs.mirror_disk.send_file.Goals as goal
+use Rattle.standby_link.proofs.joins.send_file.Goals as goal
 
 -- what was read is the file's next piece, and it is what is sent
 next_piece : (into buffer content file : List ℕ) (count at : ℕ) → length into ≡ count → into ≡ take (length into) (drop at content) → content ≡ file → take count (into ++ drop count buffer) ≡ take (at + count - at) (drop at file)

@@ -1,6 +1,6 @@
 use Rattle.std.proofs.Common.{◌-◌, ◌≤◌}
 use Rattle.dxc_disk.specs.Disks.{Looks, Spends}
-use Rattle.standby_link.proofs.mirror_disk.read_on.Given as goal
+use Rattle.standby_link.proofs.joins.read_on.Given as goal
 
 -- the file was read up to here
 abbrev pub invariant-loop-at : goal.invariant-loop-at

@@ -1,7 +1,7 @@
 use Rattle.std.proofs.Common.{◌+◌, ◌-◌, arith}
 use Rattle.dxc_disk.proofs.DiskSteps.{spends_more, spends_none, spends_on}
 use Rattle.dxc_disk.proofs.LookSteps.{looks_on, looks_same}
-use Rattle.standby_link.proofs.mirror_disk.read_on.Goals as goal
+use Rattle.standby_link.proofs.joins.read_on.Goals as goal
 
 pub loop-at-init : goal.loop-at-init
 loop-at-init g c = record {

@@ -1,7 +1,7 @@
 use Rattle.std.proofs.Common.{inr, refl}
 use Rattle.standby_link.specs.Joinings.{over}
 use Rattle.standby_link.proofs.JoinSteps.{stays_on}
-use Rattle.standby_link.proofs.mirror_disk.join_anew.Goals as goal
+use Rattle.standby_link.proofs.joins.join_anew.Goals as goal
 
 pub returns-then-begins_anew : goal.returns-then-begins_anew
 returns-then-begins_anew g c = record {
