@@ -1,10 +1,11 @@
 -- What the calls say, with what belongs together as one, and a disk by all members of its trait.
-use Rattle.std.specs.Prelude.{ℕ, List, Option}
+use Rattle.std.specs.Prelude.{◌≡◌, ℕ, List, Option, Result, Ok, Err}
 use Rattle.dxc_disk.specs.declared.disk.Disk.{Ghosts as DiskOf}
 use Rattle.dxc_model.specs.declared.entry.Entry.{Entry}
 use Rattle.dxc_model.specs.declared.op.Op.{Op}
 use Rattle.dxc_model.specs.declared.op.Change.{Change}
 use Rattle.dxc_model.specs.Tables.{Board}
+use Rattle.dxc_outside.specs.declared.stopped.Stopped.{Stopped}
 use Rattle.fabric_core.specs.declared.size.Size.{Size}
 use Rattle.fabric_core.specs.declared.mover.Mover.{Mover}
 use Rattle.fabric_core.specs.declared.phase.Phase.{Phase}
@@ -17,7 +18,7 @@ use Rattle.xc_core.specs.declared.noting.Noted.{Noted}
 use Rattle.xc_core.specs.declared.provisioner.Driver.{Driver}
 use Rattle.xc_core.specs.declared.provisioner.Provisioner.{Provisioner}
 use Rattle.xc_core.specs.declared.recovery.Recovered.{Recovered}
-use Rattle.xc_core.specs.declared.second.Second.{Second}
+use Rattle.xc_core.specs.declared.replayed.Replayed.{Replayed}
 use Rattle.xc_core.specs.Begins.{NotedIs, Plan}
 use Rattle.xc_core.specs.Beside.{IsBeside}
 use Rattle.xc_core.specs.Drives.{Recovers}
@@ -95,10 +96,12 @@ module _ {D : Type 0} (g : DiskOf D) where
   abbrev pub EndsFor : TakenUp → Board → Provisioner D → Option Change → Type 0
   EndsFor w table p answer = Ends g.told g.state w.before w.lacking w.behind table p answer
 
-  abbrev pub RecoveredAs : Past → (old new : Provisioner D) → Recovered → Type 0
-  RecoveredAs b old new answer = RecoveredIs g.told g.state b old new answer
+  -- A stop: nothing was read.
+  abbrev pub RecoveredAs : Past → (old new : Provisioner D) → Result Recovered Stopped → Type 0
+  RecoveredAs b old new (Ok answer) = RecoveredIs g.told g.state b new answer
+  RecoveredAs b old new (Err stopped) = new ≡ old
 
-  abbrev pub NotedAs : Planned → (old new : Provisioner D) → Noted → Type 0
+  abbrev pub NotedAs : Planned → (old new : Provisioner D) → Result Noted Stopped → Type 0
   NotedAs w old new answer = NotedIs g.told g.state w.before old new w.plan answer
 
   -- the Provisioner is out for a change, by the one and the rolling that it drives
@@ -113,9 +116,9 @@ module _ {D : Type 0} (g : DiskOf D) where
 abbrev pub StillCountsIn : (old new : JournalAt) → Board → Colouring → Type 0
 StillCountsIn old new t c = StillCounts old.disk old.book new.disk new.book t c
 
--- a Provisioner's second table and matrix, beside what stands behind the changes
-abbrev pub IsSecond : Past → Second → Colouring → Option Op → ℕ → Type 0
-IsSecond b second m doubt spent = IsBeside b second m second.expected doubt spent
+-- a Provisioner's replayed table and matrix, beside what stands behind the changes
+abbrev pub IsReplayed : Past → Replayed → Colouring → Option Op → ℕ → Type 0
+IsReplayed b replayed m doubt spent = IsBeside b replayed m replayed.expected doubt spent
 
 -- a journal's last work, the colouring that it led to, and how many switches there are behind it
 pub record LastWork : Type 0 where

@@ -93,8 +93,8 @@ module _ {D : Type 0} (told : Type 0) (state : D → DiskState) where
     pub on_way : IsOnWay p before g r
     pub own : told → IsOwnWay (state p.journal.0) p.journal.1 b lacking before g r
     pub journalled : IsJournalled told (state p.journal.0) p.journal.1 (IsListOf b p.doubt lacking)
-    pub matrix : p.second.matrix ≡ g.fold.colours
-    pub lacks : p.second.lacking ≡ lacking
+    pub matrix : p.replayed.matrix ≡ g.fold.colours
+    pub lacks : p.replayed.lacking ≡ lacking
 
 -- all that a recovery reads is found: g stands behind where its rolling is made
 pub record IsFound {D : Type 0} (told : Type 0) (state : D → DiskState) (b : Past) (lacking : Option Change) (g : Past) (p : Provisioner D) : Type 0 where
@@ -102,12 +102,12 @@ pub record IsFound {D : Type 0} (told : Type 0) (state : D → DiskState) (b : P
   pub past : KeepsPast b p
   pub taken : TakesUp b p.doubt lacking g
   pub journalled : IsJournalled told (state p.journal.0) p.journal.1 (IsListOf b p.doubt lacking)
-  pub matrix : p.second.matrix ≡ g.fold.colours
-  pub lacks : p.second.lacking ≡ lacking
+  pub matrix : p.replayed.matrix ≡ g.fold.colours
+  pub lacks : p.replayed.lacking ≡ lacking
 
 -- the writes that a cold rolling has left for this Provisioner
 abbrev pub writes_left : {D : Type 0} → Provisioner D → RollingAt → List RegWrite
-writes_left p r = left_of p.second.matrix p.mover.mover r
+writes_left p r = left_of p.replayed.matrix p.mover.mover r
 
 -- there are switch numbers for the joins that it has left
 abbrev pub HasNumbers : {D : Type 0} → Provisioner D → RollingAt → Type 0
@@ -117,4 +117,4 @@ HasNumbers p r = length p.mover.mover.log + switches_in (writes_left p r) ≤ 2 
 pub record Rejoins {D : Type 0} (told : Type 0) (state : D → DiskState) (b : Past) (lacking : Option Change) (g : Past) (p : Provisioner D) (r : RollingAt) : Type 0 where
   pub found : IsFound told state b lacking g p
   pub cold : IsCold r
-  pub leading : IsLeading p.mover.fabric.size p.second.matrix (writes_left p r) p.mover.mover
+  pub leading : IsLeading p.mover.fabric.size p.replayed.matrix (writes_left p r) p.mover.mover

@@ -123,7 +123,7 @@ module _ {D : Type 0} (told : Type 0) (state : D → DiskState) where
     pub out : IsOut o own Restart h p
     pub unspent : SpendsOf o (room_in h) (state p.journal.0)
     pub stage : IsReadyOrHalted told state out.now h p
-    pub copied : p.second.expected ≡ out.now.fold.table
+    pub copied : p.replayed.expected ≡ out.now.fold.table
     pub doubt : DoubtsUnsettled h p
     pub due : IsDueFor asked h
 

@@ -1,11 +1,12 @@
 -- What a turn of a place comes to.
-use Rattle.std.specs.Prelude.{◌≡◌, ◌≢◌, ◌<◌, ◌⊎◌, ℕ, true, List, [], ◌∷◌, ◌++◌, filter, length, min, Option, Some, None, IfSome}
+use Rattle.std.specs.Prelude.{◌≡◌, ◌≢◌, ◌<◌, ◌⊎◌, ℕ, true, List, [], ◌∷◌, ◌++◌, filter, length, min, Option, Some, None, Result, Ok, Err, IfSome}
 use Rattle.std.specs.List.{range_with_len}
 use base.Stored.{Gv}
 use Rattle.turnstile.specs.Passing.{Gate, Token}
 use Rattle.turnstile.specs.Turning.{Each}
 use Rattle.dxc_disk.specs.Disks.{DiskState}
 use Rattle.dxc_disk.specs.declared.disk.Disk.{Ghosts as DiskOf}
+use Rattle.dxc_outside.specs.declared.stopped.Stopped.{Stopped}
 use Rattle.dbchg_reports.specs.Recent.{SinceIs, recent_of}
 use Rattle.dxc_num.specs.Dimensions.{Dimensions, IsWorking}
 use Rattle.dxc_model.specs.declared.conn.Conn.{Conn}
@@ -106,10 +107,10 @@ module _ {D : Type 0} (told : Type 0) (state : D → DiskState) where
   HoldIs o own h asked then_seen held.Waits = (t : TurnedBack o own h then_seen) × MayNotRestart asked (h ++ t.later)
 
   -- what settling and reading left of a Provisioner that was taken out for a restart, outside of any turn
-  abbrev pub RereadIs : Opening → ℕ → Op → List Entry → Provisioner D → Reread → Type 0
-  RereadIs o own asked h p (reread.Warm r) = HasRestart told state o own asked h p r
-  RereadIs o own asked h p (reread.Failed q) = HasFailed told state o own Restart asked q h p
-  RereadIs o own asked h p reread.Stopped = HasStopped told state o own asked h p
+  abbrev pub RereadIs : Opening → ℕ → Op → List Entry → Provisioner D → Result Reread Stopped → Type 0
+  RereadIs o own asked h p (Ok (reread.Warm r)) = HasRestart told state o own asked h p r
+  RereadIs o own asked h p (Ok (reread.Failed q)) = HasFailed told state o own Restart asked q h p
+  RereadIs o own asked h p (Err stopped) = HasStopped told state o own asked h p
 
   -- by a fault of the journal it came home; what was known of it holds then, and no stop came
   abbrev pub FailedIs : Opening → ℕ → List Entry → Op → Cause → Provisioner D → List Gv → Type 0

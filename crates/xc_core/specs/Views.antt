@@ -1,9 +1,10 @@
 -- What a pass has seen of a turnstile's history, and what holds after it.
-use Rattle.std.specs.Prelude.{◌≡◌, ◌⊎◌, ℕ, List, [], ◌∷◌, ◌++◌, Option, Some, None}
+use Rattle.std.specs.Prelude.{◌≡◌, ◌⊎◌, ℕ, List, [], ◌∷◌, ◌++◌, Option, Some, None, Result}
 use Rattle.std.specs.List.{AllByRecursion}
 use Rattle.turnstile.specs.Passing.{Gate, Token}
 use Rattle.dxc_num.specs.Dimensions.{Dimensions}
 use Rattle.dxc_disk.specs.declared.disk.Disk.{Ghosts as DiskOf}
+use Rattle.dxc_outside.specs.declared.stopped.Stopped.{Stopped}
 use Rattle.dxc_model.specs.declared.cause.Cause.{Cause}
 use Rattle.dxc_model.specs.declared.conn.Conn.{Conn}
 use Rattle.dxc_model.specs.declared.entry.Entry.{Entry}
@@ -156,7 +157,7 @@ HoldsOut g asked s t held = (o : Opening) (own : ℕ) (h : List Entry) → Stand
 abbrev pub IsHeld : {D : Type 0} → DiskOf D → Op → Provisioner D → Type 0
 IsHeld g asked p = (o : Opening) × (own : ℕ) × (h : List Entry) × HasHeld g.told g.state o own asked h p
 
-abbrev pub Rereads : {D : Type 0} → DiskOf D → Op → Provisioner D → Provisioner D → Reread → Type 0
+abbrev pub Rereads : {D : Type 0} → DiskOf D → Op → Provisioner D → Provisioner D → Result Reread Stopped → Type 0
 Rereads g asked p q answer = (o : Opening) (own : ℕ) (h : List Entry) → HasHeld g.told g.state o own asked h p → RereadIs g.told g.state o own asked h q answer
 
 -- it comes home by a fault of its journal

@@ -8,7 +8,7 @@ use Rattle.xc_core.specs.States.{StandsFor, opening_of}
 use Rattle.xc_core.specs.declared.turns.Took.{Took}
 use Rattle.xc_core.specs.Turns.{TookIs, outcome_of}
 use Rattle.xc_core.proofs.Turning.{astray_back, astray_own, back_stands, found_at, leave_stands, numbered_back, numbered_own, pass_back, saw_once, seen_own, state_shape, taken_stands, took_back, took_entry, waits_stands}
-use Rattle.xc_core.proofs.turns.take.Goals as goal
+use Rattle.xc_core.proofs.turns.changes.take.Goals as goal
 
 pub take-took-requires-clause-apt : goal.take-took-requires-clause-apt
 take-took-requires-clause-apt g c =

@@ -12,7 +12,7 @@ use Rattle.xc_core.specs.States.{opening_of}
 use Rattle.xc_core.specs.Turns.{RowsAre}
 use Rattle.xc_core.proofs.Standing.{table_is}
 use Rattle.xc_core.proofs.Turning.{astray_own, found_at, leave_stands, numbered_own, pass_back, saw_once, seen_own, state_shape, turned, turned_read}
-use Rattle.xc_core.proofs.turns.rows.Goals as goal
+use Rattle.xc_core.proofs.turns.looks.rows.Goals as goal
 
 pub rows-requires : goal.rows-requires
 rows-requires g c =

@@ -10,7 +10,7 @@ use Rattle.xc_core.specs.States.{opening_of, rules_of}
 use Rattle.xc_core.proofs.Reported.{given_apt, given_few, legal_apt}
 use Rattle.xc_core.specs.Turns.{LookIs}
 use Rattle.xc_core.proofs.Turning.{astray_own, found_at, leave_stands, numbered_own, pass_back, saw_once, seen_own, turned, turned_read}
-use Rattle.xc_core.proofs.turns.look.Goals as goal
+use Rattle.xc_core.proofs.turns.looks.look.Goals as goal
 
 pub leave-requires-clause-stands : goal.leave-requires-clause-stands
 leave-requires-clause-stands g c =

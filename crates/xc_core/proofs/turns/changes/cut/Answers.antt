@@ -8,7 +8,7 @@ use Rattle.xc_core.specs.Turns.{CutIs}
 use Rattle.xc_core.specs.Begins.{plan_of}
 use Rattle.xc_core.proofs.Homing.{cut_by, cut_since, cut_unstopped}
 use Rattle.xc_core.proofs.Turning.{astray_own, found_at, leave_stands, numbered_own, pass_back, saw_once, seen_own, turned}
-use Rattle.xc_core.proofs.turns.cut.Goals as goal
+use Rattle.xc_core.proofs.turns.changes.cut.Goals as goal
 
 pub leave-requires-clause-stands : goal.leave-requires-clause-stands
 leave-requires-clause-stands g c =

@@ -7,7 +7,7 @@ use Rattle.xc_core.specs.States.{StandsFor, opening_of}
 use Rattle.xc_core.specs.Turns.{DoneIs}
 use Rattle.xc_core.proofs.Away.{taken_since}
 use Rattle.xc_core.proofs.Turning.{astray_own, found_at, leave_stands, numbered_own, pass_back, saw_once, seen_own, turned}
-use Rattle.xc_core.proofs.turns.bring.Goals as goal
+use Rattle.xc_core.proofs.turns.changes.bring.Goals as goal
 
 pub bring-change-requires-clause-taken : goal.bring-change-requires-clause-taken
 bring-change-requires-clause-taken g c =

@@ -10,7 +10,7 @@ use Rattle.xc_core.proofs.Away.{read_since}
 use Rattle.xc_core.proofs.Entries.{reading_not_cut, lasted_reading}
 use Rattle.xc_core.proofs.Homing.{failure_since}
 use Rattle.xc_core.proofs.Turning.{astray_own, found_at, leave_stands, numbered_own, pass_back, saw_once, seen_own, turned}
-use Rattle.xc_core.proofs.turns.fail.Goals as goal
+use Rattle.xc_core.proofs.turns.changes.fail.Goals as goal
 
 pub leave-requires-clause-stands : goal.leave-requires-clause-stands
 leave-requires-clause-stands g c =

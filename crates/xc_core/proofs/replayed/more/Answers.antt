@@ -7,14 +7,14 @@ use Rattle.paull_chain.specs.Works.{after_ops}
 use Rattle.xc_recovery.specs.ChangeWorks.{ChangesPlanned}
 use Rattle.xc_recovery.proofs.Once.{change_plans_once}
 use Rattle.xc_core.proofs.Rolling.{placed_as}
-use Rattle.xc_core.proofs.second.more.Goals as goal
+use Rattle.xc_core.proofs.replayed.more.Goals as goal
 
 pub take-requires : goal.take-requires
 take-requires c = let w = c.requires.past in
     subst (λ (t : Board). MayTake t c.args.change) (sym w.2.table) (own_verdict w.0.fold.table w.1 c.args.change w.3)
 
 pub plan_work-requires-clause-placed : goal.plan_work-requires-clause-placed
-plan_work-requires-clause-placed c = let w = c.requires.past in placed_as w.0 c.args.second.now.expected c.args.matrix.now w.2.table w.2.matrix w.2.placed
+plan_work-requires-clause-placed c = let w = c.requires.past in placed_as w.0 c.args.replayed.now.expected c.args.matrix.now w.2.table w.2.matrix w.2.placed
 
 pub plan_work-requires-clause-granted : goal.plan_work-requires-clause-granted
 plan_work-requires-clause-granted c = let w = c.requires.past in subst (λ (t : Board). MayTake t c.args.change) (sym w.2.table) (own_verdict w.0.fold.table w.1 c.args.change w.3)

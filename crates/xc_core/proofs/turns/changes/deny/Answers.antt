@@ -11,7 +11,7 @@ use Rattle.xc_core.specs.States.{StandsFor, opening_of}
 use Rattle.xc_core.specs.Turns.{TakenIs, TookIs}
 use Rattle.xc_core.specs.Views.{DeniesIn}
 use Rattle.xc_core.proofs.Turning.{astray_back, astray_own, back_stands, found_at, leave_stands, numbered_back, numbered_own, pass_back, rests_behind, saw_once, seen_own, state_shape, taken_stands, took_entry, turned_back}
-use Rattle.xc_core.proofs.turns.deny.Goals as goal
+use Rattle.xc_core.proofs.turns.changes.deny.Goals as goal
 
 pub deny-requires : goal.deny-requires
 deny-requires g c =
