@@ -6,8 +6,8 @@ use Rattle.dxc_model.specs.declared.user.SessionUser.{SessionUser}
 use Rattle.tl1_text.specs.Grammar.{Block}
 use Rattle.tl1_command.specs.Blocks.{code_text}
 use Rattle.tl1_command.specs.Meanings.{◌>>=◌, or_cause, unless}
-use Rattle.user_admin.specs.declared.code.UserCode.{UserCode}
-use Rattle.user_admin.specs.Commands.{asked, code_named, first_refusal, named_in, user_meaning}
+use Rattle.tl1_users.specs.declared.code.UserCode.{UserCode}
+use Rattle.tl1_users.specs.Commands.{asked, code_named, first_refusal, named_in, user_meaning}
 
 pub unnamed : (code : Option UserCode) → is_some code ≡ false → code ≡ None
 unnamed None is = refl

@@ -21,8 +21,8 @@ use Rattle.craft_session.specs.declared.change.Changed.TheVariants.{Done, Denied
 use Rattle.craft_session.specs.Changing.{ChangedIs, MendedTo, Passed, WarmRestartIs}
 use Rattle.craft_session.specs.Seats.{IsSeated, IsUserSeated}
 use Rattle.user_admin.specs.declared.op.UserEntry.{UserEntry}
-use Rattle.user_admin.specs.declared.op.UserOp.{UserOp}
-use Rattle.user_admin.specs.declared.op.UserOp.TheVariants as user_op
+use Rattle.tl1_users.specs.declared.op.UserOp.{UserOp}
+use Rattle.tl1_users.specs.declared.op.UserOp.TheVariants as user_op
 use Rattle.user_admin.specs.declared.op.UserOutcome.TheVariants as user_outcome
 use Rattle.user_admin.specs.declared.op.UserRow.{UserRow}
 use Rattle.user_admin.specs.declared.shared.SharedUsers.{SharedUsers}

@@ -24,7 +24,7 @@ use Rattle.tl1_text.specs.Units.{IsUnit, IsRest, whole, too_long}
 use Rattle.tl1_text.specs.Reading.{Reader, Made, IsFed, hand, Holds}
 use Rattle.tl1_text.proofs.Steps.{holds_none, rest_of}
 use Rattle.user_admin.specs.declared.op.UserEntry.{UserEntry}
-use Rattle.user_admin.specs.declared.op.UserOp.{UserOp}
+use Rattle.tl1_users.specs.declared.op.UserOp.{UserOp}
 use Rattle.user_admin.specs.Turns.{Saw as SawUsers, TurnedBack}
 use Rattle.user_admin.specs.Verdicts.{IsChanging}
 use Rattle.dxc_model.specs.declared.user.SessionUser.{SessionUser}

@@ -17,7 +17,7 @@ use Rattle.roll_plan.specs.declared.op.LegOp.{LegOp}
 use Rattle.roll_plan.specs.Works.{ops_writes}
 use Rattle.user_admin.specs.declared.op.UserChange.{UserChange}
 use Rattle.user_admin.specs.declared.op.UserEntry.{UserEntry}
-use Rattle.user_admin.specs.declared.op.UserOp.{UserOp}
+use Rattle.tl1_users.specs.declared.op.UserOp.{UserOp}
 use Rattle.user_admin.specs.declared.op.UserOutcome.{UserOutcome}
 use Rattle.user_admin.specs.declared.op.UserOutcome.TheVariants as user_outcome
 use Rattle.user_admin.specs.Histories.{IsReading, Opening as UsersOpening}

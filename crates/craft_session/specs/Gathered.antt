@@ -1,9 +1,10 @@
 -- How a desk stands at a moment, and what a call did from one such moment to another.
-use Rattle.std.specs.Prelude.{ℕ, false, is_some, List, [], Option}
+use Rattle.std.specs.Prelude.{ℕ, false, is_some, List, [], Option, Result}
 use Rattle.std.specs.Arc.{arc_value}
 use Rattle.dxc_notes.specs.declared.note.Note.{Note}
 use Rattle.dxc_outside.specs.declared.clock.Moment.{Moment}
 use Rattle.dxc_outside.specs.declared.send.Sent.{Sent}
+use Rattle.dxc_outside.specs.declared.stopped.Stopped.{Stopped}
 use Rattle.dxc_outside.specs.Links.{LinkState}
 use Rattle.dxc_model.specs.declared.user.SessionUser.{SessionUser}
 use Rattle.tl1_text.specs.declared.reader.UnitKind.TheVariants.{More}
@@ -68,17 +69,17 @@ reply_to tag beside reply = record { tag = tag; beside = beside; reply = reply }
 
 module _ (t : Telling) (old new : DeskAt) where
   -- A session that stood so with this in hand goes on so with these bytes ahead, while no unit is being read and no look is due, or it ended.
-  abbrev pub GoesTo : InHand → Reader → List ℕ → Progress → Type 0
+  abbrev pub GoesTo : InHand → Reader → List ℕ → Result Progress Stopped → Type 0
   GoesTo x reader ahead how = (first : SessionUser) → (k : LinkState) → (c : List Moment) → (b : Beginning) → IsAt b old.seat old.users
       → Stands (language_for first old.shelf) t.told t.clock_told k old.link c old.coming b (now_at old) x.due x.kind x.reader x.ahead
       → Goes (language_for first old.shelf) t.told t.clock_told k new.link c new.coming b (now_at new) how false reader ahead
 
   -- with the same bytes ahead
-  abbrev pub GoesBetween : InHand → Progress → Type 0
+  abbrev pub GoesBetween : InHand → Result Progress Stopped → Type 0
   GoesBetween x how = GoesTo x x.reader x.ahead how
 
   -- over a piece that was ahead
-  abbrev pub GoesOver : List ℕ → Progress → Type 0
+  abbrev pub GoesOver : List ℕ → Result Progress Stopped → Type 0
   GoesOver piece how = GoesTo (to_read old.attending old.reader piece) new.reader [] how
 
   -- what it wrote was written in its time
@@ -93,7 +94,7 @@ module _ (t : Telling) (old new : DeskAt) where
   NotedBetween noted = HasNoted old.shelf t (stood old.link old.coming old.seat old.users old.attending) (stood new.link new.coming new.seat new.users new.attending) noted
 
   -- this unit was answered, or a stop cut it
-  abbrev pub AnsweredBetween : Input → Progress → Type 0
+  abbrev pub AnsweredBetween : Input → Result Progress Stopped → Type 0
   AnsweredBetween u how = IsAnswered old.shelf t.told t.clock_told old.link new.link old.coming new.coming u old.seat old.users (now_at old) (now_at new) how
 
   -- this reply was written, or a part of it

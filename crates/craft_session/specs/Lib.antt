@@ -14,7 +14,9 @@ pub mod Progresses
 pub mod Runs
 pub mod Responses
 pub mod Meanings
+pub mod Readings
 pub mod Seats
+pub mod Turns
 pub mod Sessions
 pub mod Desks
 pub mod Plain

@@ -16,7 +16,7 @@ use Rattle.dxc_model.specs.declared.entry.Outcome.TheVariants as outcome
 use Rattle.dxc_model.specs.Steps.{IsLimit, IsUnderWay}
 use Rattle.dxc_model.specs.Histories.{IsLegal, KeepsTurns, table_after}
 use Rattle.tl1_text.specs.Units.{IsStream}
-use Rattle.user_admin.specs.declared.op.UserOp.{UserOp}
+use Rattle.tl1_users.specs.declared.op.UserOp.{UserOp}
 use Rattle.user_admin.specs.Histories.{Opening as UsersOpening}
 use Rattle.user_admin.specs.Verdicts.{IsChanging}
 use Rattle.xc_core.specs.Seeing.{entry}

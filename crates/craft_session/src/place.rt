@@ -9,7 +9,7 @@ use crate::attending::Attending;
 use crate::desk::Desk;
 use crate::guesses::Guesses;
 use crate::seat::Seat;
-use crate::secrets::Secrets;
+use crate::secrets::{Operation, Secrets};
 use crate::users::{UserDesk, UserSeat};
 use arrayvec::ArrayVec;
 use dxc_causes::NoMemory;
@@ -102,6 +102,7 @@ impl<D: Disk + Drop, U: Disk + Drop> Place<D, U> {
             rows: ArrayVec::new(),
             guesses: Guesses::new(),
             secrets: Secrets::new(),
+            asked: Operation::new(),
         };
         let attending = Attending {
             user: SessionUser::Nobody,

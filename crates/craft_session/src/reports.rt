@@ -1,5 +1,5 @@
 //! Reports of what changed, each with the next moment.
-ghost use Rattle.std.specs.Prelude.{◌≡◌, ◌≢◌, ◌≤◌, ◌<◌, ◌^◌, Some, ℕ, ◌+◌, List, length, slice_index_or};
+ghost use Rattle.std.specs.Prelude.{◌≡◌, ◌≤◌, ◌<◌, ◌^◌, Ok, Some, ℕ, ◌+◌, List, length, slice_index_or};
 ghost use Rattle.std.specs.Arc.{arc_value};
 ghost use Rattle.std.specs.List.{AllByRecursion};
 ghost use Rattle.dxc_model.specs.declared.op.Change.{Change};
@@ -46,13 +46,12 @@ pub fn report<K: Link, C: Timestamps, D: Disk + Drop, U: Disk + Drop, R: Wait>(
         (telling K.told C.told C.stamped)
         (desk_at (K.state link.old) (C.coming clock.old) desk.old)
         (desk_at (K.state link.new) (C.coming clock.new) desk.new)
-        (to_report desk.old.attending r ahead) result }
+        (to_report desk.old.attending r ahead) (Ok result) }
     ensures timely { (r : Reader) → (ahead : List ℕ) → TimelyBetween
         (telling K.told C.told C.stamped)
         (desk_at (K.state link.old) (C.coming clock.old) desk.old)
         (desk_at (K.state link.new) (C.coming clock.new) desk.new)
         (to_report desk.old.attending r ahead) }
-    ensures unstopped { result ≢ Progress.Stopped }
     ensures entered { AreStateEntered desk.old.seat NothingAsked desk.new.seat.seen }
     ensures looked { HasLooked desk.old.seat desk.new.seat.seen }
     ensures user { desk.new.attending.user ≡ desk.old.attending.user }
@@ -84,13 +83,12 @@ fn report_since<K: Link, C: Timestamps, D: Disk + Drop, U: Disk + Drop, R: Wait>
         (telling K.told C.told C.stamped)
         (desk_at (K.state link.old) (C.coming clock.old) desk.old)
         (desk_at (K.state link.new) (C.coming clock.new) desk.new)
-        (to_report desk.old.attending r ahead) result }
+        (to_report desk.old.attending r ahead) (Ok result) }
     ensures timely { (r : Reader) → (ahead : List ℕ) → TimelyBetween
         (telling K.told C.told C.stamped)
         (desk_at (K.state link.old) (C.coming clock.old) desk.old)
         (desk_at (K.state link.new) (C.coming clock.new) desk.new)
         (to_report desk.old.attending r ahead) }
-    ensures unstopped { result ≢ Progress.Stopped }
     ensures entered { AreStateEntered desk.old.seat NothingAsked desk.new.seat.seen }
     ensures looked { HasLooked desk.old.seat desk.new.seat.seen }
     ensures user { desk.new.attending.user ≡ desk.old.attending.user }

@@ -1,5 +1,6 @@
-ghost use Rattle.std.specs.Prelude.{◌≡◌, ◌≢◌, ◌≤◌, ◌<◌, ◌+◌, ◌^◌, ◌↔◌, false, List, [], length, take, IsTrue};
+ghost use Rattle.std.specs.Prelude.{◌≡◌, ◌≢◌, ◌≤◌, ◌<◌, ◌+◌, ◌^◌, ◌↔◌, false, List, [], length, take, IsErr, IsTrue};
 ghost use Rattle.dxc_causes.specs.Causes.{Rose, Counted};
+ghost use Rattle.dxc_causes.specs.Stops.{RoseOnlyFor};
 ghost use Rattle.dxc_model.specs.declared.user.SessionUser.{SessionUser as AUser};
 ghost use Rattle.tl1_text.specs.Reading.{Holds, hand};
 ghost use Rattle.std.specs.Arc.{arc_value};
@@ -26,7 +27,7 @@ use crate::timestamps::Timestamps;
 use crate::unit::serve_unit;
 use dxc_disk::Disk;
 use dxc_notes::Notes;
-use dxc_outside::{Gate, Got, Link};
+use dxc_outside::{Gate, Got, Link, Stopped};
 use std::sync::Wait;
 
 const READS: u64 = 1 << 32;
@@ -41,7 +42,7 @@ fn serve_piece<K: Link, C: Timestamps, G: Gate, N: Notes, D: Disk + Drop, U: Dis
     rt: &R,
     piece: &mut [u8],
     count: usize,
-) -> Progress
+) -> Result<Progress, Stopped>
     requires within { count ≤ length piece.old }
     ensures length { length piece.new ≡ length piece.old }
     ensures shelf { desk.new.shelf ≡ desk.old.shelf }
@@ -57,9 +58,7 @@ fn serve_piece<K: Link, C: Timestamps, G: Gate, N: Notes, D: Disk + Drop, U: Dis
         (desk_at (K.state link.old) (C.coming clock.old) desk.old)
         (desk_at (K.state link.new) (C.coming clock.new) desk.new)
         (take count piece.old) }
-    ensures stopped { result ≡ Progress.Stopped → Rose (G.stops gate.old) (G.stops gate.new) }
-    ensures unstopped { result ≢ Progress.Stopped → G.stops gate.new ≡ G.stops gate.old }
-    ensures later { G.stops gate.old ≤ G.stops gate.new }
+    ensures stopped { RoseOnlyFor (G.stops gate.old) (G.stops gate.new) (IsErr result) }
     ensures asked { AreEntered desk.old.seat desk.old.users.seat (G.asked gate.old gate.new)
         desk.new.seat.seen desk.new.users.seat.seen }
     ensures noted { NotedBetween (telling K.told C.told C.stamped)
@@ -81,7 +80,7 @@ fn serve_units<K: Link, C: Timestamps, G: Gate, N: Notes, D: Disk + Drop, U: Dis
     notes: &mut N,
     rt: &R,
     piece: &[u8],
-) -> Progress
+) -> Result<Progress, Stopped>
     ensures shelf { desk.new.shelf ≡ desk.old.shelf }
     ensures seat { IsSameSeat desk.old.seat desk.new.seat }
     ensures users { IsSameUserSeat desk.old.users.seat desk.new.users.seat }
@@ -95,9 +94,7 @@ fn serve_units<K: Link, C: Timestamps, G: Gate, N: Notes, D: Disk + Drop, U: Dis
         (desk_at (K.state link.old) (C.coming clock.old) desk.old)
         (desk_at (K.state link.new) (C.coming clock.new) desk.new)
         piece.now }
-    ensures stopped { result ≡ Progress.Stopped → Rose (G.stops gate.old) (G.stops gate.new) }
-    ensures unstopped { result ≢ Progress.Stopped → G.stops gate.new ≡ G.stops gate.old }
-    ensures later { G.stops gate.old ≤ G.stops gate.new }
+    ensures stopped { RoseOnlyFor (G.stops gate.old) (G.stops gate.new) (IsErr result) }
     ensures asked { AreEntered desk.old.seat desk.old.users.seat (G.asked gate.old gate.new)
         desk.new.seat.seen desk.new.users.seat.seen }
     ensures noted { NotedBetween (telling K.told C.told C.stamped)
@@ -109,12 +106,12 @@ fn serve_units<K: Link, C: Timestamps, G: Gate, N: Notes, D: Disk + Drop, U: Dis
     while at < piece.len() {
         let fed = desk.reader.feed(&piece[at..]);
         at += fed.taken;
-        match serve_unit(desk, link, clock, gate, notes, rt, fed.unit) {
+        match serve_unit(desk, link, clock, gate, notes, rt, fed.unit)? {
             Progress::On => {}
-            end => return end,
+            Progress::Cut => return Ok(Progress::Cut),
         }
     }
-    Progress::On
+    Ok(Progress::On)
 }
 
 /// Serves the link from a desk that has read nothing yet.
@@ -215,14 +212,14 @@ pub(crate) fn serve<
                 let progress = serve_piece(desk, link, clock, gate, notes, rt, piece, count);
                 desk.seat.call_next();
                 match progress {
-                    Progress::On => BYTES,
-                    Progress::Cut => return SessionEnd::WriteFault,
-                    Progress::Stopped => return SessionEnd::Stopped,
+                    Ok(Progress::On) => BYTES,
+                    Ok(Progress::Cut) => return SessionEnd::WriteFault,
+                    Err(Stopped) => return SessionEnd::Stopped,
                 }
             }
             Got::Quiet => match report(desk, link, clock, rt) {
                 Progress::On => QUIET,
-                Progress::Cut | Progress::Stopped => return SessionEnd::WriteFault,
+                Progress::Cut => return SessionEnd::WriteFault,
             },
             Got::End => return SessionEnd::End,
             Got::Failed => return SessionEnd::ReadFault,

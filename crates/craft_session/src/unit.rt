@@ -1,12 +1,13 @@
 //! One unit that ended: read as a command, done, answered and noted.
-ghost use Rattle.std.specs.Prelude.{◌≡◌, ◌≢◌, ◌≤◌, ◌<◌, ◌+◌, false, ℕ, List, length};
-ghost use Rattle.dxc_causes.specs.Causes.{Rose};
+ghost use Rattle.std.specs.Prelude.{◌≡◌, ◌≢◌, ◌≤◌, ◌<◌, ◌+◌, false, ℕ, List, length, IfOk, IsErr, IsOk};
+ghost use Rattle.dxc_causes.specs.Stops.{RoseOnlyFor};
 ghost use Rattle.std.specs.Arc.{arc_value};
 ghost use Rattle.craft_session.specs.Asks.{IsAptAsk};
 ghost use Rattle.craft_session.specs.Gated.{AreEntered};
 ghost use Rattle.craft_session.specs.Gathered.{AnsweredBetween, GoesBetween, NotedBetween, TimelyBetween, desk_at};
+ghost use Rattle.craft_session.specs.Hearing.{left};
 ghost use Rattle.craft_session.specs.Meanings.{wants};
-ghost use Rattle.craft_session.specs.Desks.{input_of, put_down, ConsultedIs};
+ghost use Rattle.craft_session.specs.Desks.{asker, input_of, put_down, ConsultedBy};
 ghost use Rattle.craft_session.specs.Noted.{UsersNoted};
 ghost use Rattle.craft_session.specs.Seats.{IsSameSeat, IsSameUserSeat};
 ghost use Rattle.craft_session.specs.Sessions.{Writes};
@@ -17,15 +18,16 @@ use crate::act::act;
 use crate::ask::Ask;
 use crate::desk::Desk;
 use crate::end::Progress;
-use crate::meaning::consult;
+use crate::meaning::read;
 use crate::noting::note_unit;
 use crate::reports::report;
 use crate::say::say;
 use crate::timestamps::Timestamps;
+use crate::user_commands::consult;
 use dxc_disk::Disk;
 use dxc_model::Cause;
 use dxc_notes::Notes;
-use dxc_outside::{Gate, Link, Pass1};
+use dxc_outside::{Gate, Link, Stopped};
 use std::sync::Wait;
 use tl1_text::{Ctag, UnitKind};
 
@@ -46,7 +48,7 @@ pub(crate) fn serve_unit<
     notes: &mut N,
     rt: &R,
     kind: UnitKind,
-) -> Progress
+) -> Result<Progress, Stopped>
     requires short { kind ≡ UnitKind.Whole → length desk.old.reader.kept ≤ 2047 }
     ensures shelf { desk.new.shelf ≡ desk.old.shelf }
     ensures seat { IsSameSeat desk.old.seat desk.new.seat }
@@ -62,9 +64,7 @@ pub(crate) fn serve_unit<
         (desk_at (K.state link.old) (C.coming clock.old) desk.old)
         (desk_at (K.state link.new) (C.coming clock.new) desk.new)
         (in_hand desk.old.attending false kind desk.old.reader ahead) }
-    ensures stopped { result ≡ Progress.Stopped → Rose (G.stops gate.old) (G.stops gate.new) }
-    ensures unstopped { result ≢ Progress.Stopped → G.stops gate.new ≡ G.stops gate.old }
-    ensures later { G.stops gate.old ≤ G.stops gate.new }
+    ensures stopped { RoseOnlyFor (G.stops gate.old) (G.stops gate.new) (IsErr result) }
     ensures asked { AreEntered desk.old.seat desk.old.users.seat (G.asked gate.old gate.new)
         desk.new.seat.seen desk.new.users.seat.seen }
     ensures noted { NotedBetween (telling K.told C.told C.stamped)
@@ -73,7 +73,7 @@ pub(crate) fn serve_unit<
         (N.noted notes.old notes.new) }
 {
     match kind {
-        UnitKind::More => Progress::On,
+        UnitKind::More => Ok(Progress::On),
         UnitKind::Whole | UnitKind::TooLong => attend(desk, link, clock, gate, notes, rt, kind),
     }
 }
@@ -87,7 +87,7 @@ fn attend<K: Link, C: Timestamps, G: Gate, N: Notes, D: Disk + Drop, U: Disk + D
     notes: &mut N,
     rt: &R,
     kind: UnitKind,
-) -> Progress
+) -> Result<Progress, Stopped>
     requires ended { kind ≢ UnitKind.More }
     requires short { kind ≡ UnitKind.Whole → length desk.old.reader.kept ≤ 2047 }
     ensures shelf { desk.new.shelf ≡ desk.old.shelf }
@@ -104,9 +104,7 @@ fn attend<K: Link, C: Timestamps, G: Gate, N: Notes, D: Disk + Drop, U: Disk + D
         (desk_at (K.state link.old) (C.coming clock.old) desk.old)
         (desk_at (K.state link.new) (C.coming clock.new) desk.new)
         (in_hand desk.old.attending false kind desk.old.reader ahead) }
-    ensures stopped { result ≡ Progress.Stopped → Rose (G.stops gate.old) (G.stops gate.new) }
-    ensures unstopped { result ≢ Progress.Stopped → G.stops gate.new ≡ G.stops gate.old }
-    ensures later { G.stops gate.old ≤ G.stops gate.new }
+    ensures stopped { RoseOnlyFor (G.stops gate.old) (G.stops gate.new) (IsErr result) }
     ensures asked { AreEntered desk.old.seat desk.old.users.seat (G.asked gate.old gate.new)
         desk.new.seat.seen desk.new.users.seat.seen }
     ensures noted { NotedBetween (telling K.told C.told C.stamped)
@@ -114,9 +112,9 @@ fn attend<K: Link, C: Timestamps, G: Gate, N: Notes, D: Disk + Drop, U: Disk + D
         (desk_at (K.state link.new) (C.coming clock.new) desk.new)
         (N.noted notes.old notes.new) }
 {
-    match answer(desk, link, clock, gate, notes, rt, kind) {
-        Progress::On => report(desk, link, clock, rt),
-        end => end,
+    match answer(desk, link, clock, gate, notes, rt, kind)? {
+        Progress::On => Ok(report(desk, link, clock, rt)),
+        Progress::Cut => Ok(Progress::Cut),
     }
 }
 
@@ -129,7 +127,7 @@ fn answer<K: Link, C: Timestamps, G: Gate, N: Notes, D: Disk + Drop, U: Disk + D
     notes: &mut N,
     rt: &R,
     kind: UnitKind,
-) -> Progress
+) -> Result<Progress, Stopped>
     requires short { kind ≡ UnitKind.Whole → length desk.old.reader.kept ≤ 2047 }
     ensures shelf { desk.new.shelf ≡ desk.old.shelf }
     ensures seat { IsSameSeat desk.old.seat desk.new.seat }
@@ -141,11 +139,9 @@ fn answer<K: Link, C: Timestamps, G: Gate, N: Notes, D: Disk + Drop, U: Disk + D
         (desk_at (K.state link.old) (C.coming clock.old) desk.old)
         (desk_at (K.state link.new) (C.coming clock.new) desk.new)
         (input_of kind desk.old.reader) result }
-    ensures stamped { result ≢ Progress.Stopped → C.stamped (stamp_at (C.coming clock.old)
+    ensures stamped { IsOk result → C.stamped (stamp_at (C.coming clock.old)
         (K.state link.old) desk.new.seat desk.new.users.seat) }
-    ensures stopped { result ≡ Progress.Stopped → Rose (G.stops gate.old) (G.stops gate.new) }
-    ensures unstopped { result ≢ Progress.Stopped → G.stops gate.new ≡ G.stops gate.old }
-    ensures later { G.stops gate.old ≤ G.stops gate.new }
+    ensures stopped { RoseOnlyFor (G.stops gate.old) (G.stops gate.new) (IsErr result) }
     ensures asked { AreEntered desk.old.seat desk.old.users.seat (G.asked gate.old gate.new)
         desk.new.seat.seen desk.new.users.seat.seen }
     ensures noted { NotedBetween (telling K.told C.told C.stamped)
@@ -155,10 +151,7 @@ fn answer<K: Link, C: Timestamps, G: Gate, N: Notes, D: Disk + Drop, U: Disk + D
 {
     let mut tag = None;
     let mut ask = Ask::Completes;
-    match ask_of(desk, &mut tag, &mut ask, gate, notes, rt, kind) {
-        Pass1::Go => {}
-        Pass1::Stop => return Progress::Stopped,
-    }
+    ask_of(desk, &mut tag, &mut ask, gate, notes, rt, kind)?;
     let acted = act(
         &mut desk.seat,
         &mut desk.attending,
@@ -166,25 +159,20 @@ fn answer<K: Link, C: Timestamps, G: Gate, N: Notes, D: Disk + Drop, U: Disk + D
         &ask,
         gate,
         rt,
+    )?;
+    note_unit(
+        notes,
+        desk.shelf.shape(),
+        &desk.attending.user,
+        &tag,
+        &ask,
+        &acted,
+        &mut desk.standing,
     );
-    match acted {
-        Some(acted) => {
-            note_unit(
-                notes,
-                desk.shelf.shape(),
-                &desk.attending.user,
-                &tag,
-                &ask,
-                &acted,
-                &mut desk.standing,
-            );
-            Progress::of(say(desk, link, clock, &tag, acted))
-        }
-        None => Progress::Stopped,
-    }
+    Ok(Progress::of(say(desk, link, clock, &tag, acted)))
 }
 
-/// Puts down the tag of the unit that ended, and what it asks behind what the users answer to it. Stop: the gate stopped before they were changed.
+/// Puts down the tag of the unit that ended, and what it asks after what the users answer to it. Err: the gate stopped before they were changed.
 fn ask_of<G: Gate, N: Notes, D: Disk + Drop, U: Disk + Drop, R: Wait>(
     desk: &mut Desk<D, U>,
     tag: &mut Option<Ctag>,
@@ -193,41 +181,50 @@ fn ask_of<G: Gate, N: Notes, D: Disk + Drop, U: Disk + Drop, R: Wait>(
     notes: &mut N,
     rt: &R,
     kind: UnitKind,
-) -> Pass1
+) -> Result<(), Stopped>
     requires short { kind ≡ UnitKind.Whole → length desk.old.reader.kept ≤ 2047 }
     ensures shelf { desk.new.shelf ≡ desk.old.shelf }
     ensures seat { desk.new.seat ≡ desk.old.seat }
     ensures users { IsSameUserSeat desk.old.users.seat desk.new.users.seat }
     ensures attending { desk.new.attending ≡ desk.old.attending }
     ensures reader { desk.new.reader ≡ desk.old.reader }
-    ensures consulted { ConsultedIs (arc_value desk.old.shelf) desk.old.attending.user
-        (input_of kind desk.old.reader) desk.old.users.seat desk.new.users.rows.items
-        desk.new.users.seat.seen (G.asked gate.old gate.new) tag.new ask.new result }
+    ensures consulted { ConsultedBy
+        (asker (arc_value desk.old.shelf) desk.old.attending.user (input_of kind desk.old.reader))
+        desk.old.users.seat (tag.new, ask.new) (left desk.new.users.rows.items
+        desk.new.users.seat.seen (G.asked gate.old gate.new)) result }
     ensures noted { UsersNoted (N.noted notes.old notes.new) desk.old.attending.user tag.new
         (wants (arc_value desk.old.shelf) desk.old.attending.user (input_of kind desk.old.reader))
         (put_down result ask.new) }
-    ensures apt { result ≡ Pass1.Go → IsAptAsk (arc_value desk.old.shelf).shape ask.new }
-    ensures unstopped { result ≡ Pass1.Go → G.stops gate.new ≡ G.stops gate.old }
-    ensures stopped { result ≡ Pass1.Stop → Rose (G.stops gate.old) (G.stops gate.new) }
-    ensures later { G.stops gate.old ≤ G.stops gate.new }
+    ensures apt { IfOk (put_down result ask.new) (IsAptAsk (arc_value desk.old.shelf).shape) }
+    ensures stopped { RoseOnlyFor (G.stops gate.old) (G.stops gate.new) (IsErr result) }
 {
     desk.users.rows.clear();
     match kind {
-        UnitKind::Whole => consult(
-            &desk.shelf,
-            &mut desk.users,
-            &desk.attending.user,
-            desk.reader.unit(),
-            tag,
-            ask,
-            gate,
-            notes,
-            rt,
-        ),
+        UnitKind::Whole => {
+            let meaning = read(
+                &desk.shelf,
+                &desk.attending.user,
+                desk.reader.unit(),
+                tag,
+                ask,
+                &mut desk.users.asked,
+            );
+            consult(
+                &mut desk.users,
+                &desk.attending.user,
+                desk.reader.unit(),
+                meaning,
+                tag,
+                ask,
+                gate,
+                notes,
+                rt,
+            )
+        }
         UnitKind::TooLong | UnitKind::More => {
             *tag = None;
             *ask = Ask::Refused(Cause::TooLong);
-            Pass1::Go
+            Ok(())
         }
     }
 }

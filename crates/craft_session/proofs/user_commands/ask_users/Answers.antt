@@ -1,6 +1,6 @@
 use Rattle.std.proofs.Common.{ℕ, List, ◌∙◌, ap, sym, map}
 use Rattle.tl1_text.specs.Spans.{block_at}
-use Rattle.user_admin.specs.Commands.{user_meaning}
+use Rattle.tl1_users.specs.Commands.{user_meaning}
 use Rattle.craft_session.specs.Hearing.{unasked}
 use Rattle.craft_session.specs.Meanings.{users_ask, users_want}
 use Rattle.craft_session.proofs.Consulted.{asked_nothing}

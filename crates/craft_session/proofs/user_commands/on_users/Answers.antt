@@ -4,8 +4,8 @@ use Rattle.craft_session.specs.Gated.{NothingAsked}
 use Rattle.craft_session.specs.Hearing.{IsAsked, Wanted}
 use Rattle.craft_session.specs.Meanings.{heard_ask, op_wants}
 use Rattle.craft_session.specs.Noted.{UsersNoted}
-use Rattle.user_admin.specs.declared.op.UserOp.{UserOp}
-use Rattle.user_admin.specs.declared.op.UserOp.TheVariants as op
+use Rattle.tl1_users.specs.declared.op.UserOp.{UserOp}
+use Rattle.tl1_users.specs.declared.op.UserOp.TheVariants as op
 use Rattle.dxc_notes.specs.declared.command.UserChange.TheVariants as change
 use Rattle.craft_session.proofs.Asking.{asked_beside, asked_cancelled}
 use Rattle.craft_session.proofs.Consulted.{asked_nothing}

@@ -4,7 +4,7 @@ use Rattle.turnstile.specs.Passing.{Gate}
 use Rattle.user_admin.specs.declared.op.UserEntry.{UserEntry}
 use Rattle.user_admin.specs.declared.op.UserOutcome.TheVariants.{Answered}
 use Rattle.user_admin.specs.declared.shared.SharedUsers.{SharedUsers}
-use Rattle.user_admin.specs.declared.op.UserOp.TheVariants.{Cancel}
+use Rattle.tl1_users.specs.declared.op.UserOp.TheVariants.{Cancel}
 use Rattle.user_admin.specs.Shared.{opening_at}
 use Rattle.user_admin.specs.States.{entry}
 use Rattle.user_admin.specs.Turns.{Cancels, Saw}
