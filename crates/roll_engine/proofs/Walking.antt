@@ -1,6 +1,6 @@
 -- The next writes, one call behind the other.
-use Rattle.std.proofs.Common.{◌≡◌, ◌≤◌, ℕ, List, [], ◌∷◌, ◌++◌, Some, Option, Ok, Err, sym, refl, ap, ◌∙◌, subst, arith, length-append, append_assoc}
-use Rattle.std.specs.Prelude.{slice_get}
+use Rattle.std.proofs.Common.{◌≡◌, ◌≤◌, ℕ, List, [], ◌∷◌, ◌++◌, Some, Option, Ok, Err, true≢false, sym, refl, ap, ◌∙◌, subst, arith, length-append, append_assoc}
+use Rattle.std.specs.Prelude.{IsErr, slice_get}
 use Rattle.dxc_causes.specs.Causes.{Rose}
 use Rattle.dxc_num.specs.declared.register.RegWrite.{RegWrite}
 use Rattle.dxc_num.specs.declared.register.WriteKind.TheVariants.{ClearMid}
@@ -13,6 +13,7 @@ use Rattle.roll_plan.specs.Nexts.{IsNext}
 use Rattle.fabric_core.specs.declared.size.Size.{Size}
 use Rattle.fabric_core.specs.declared.mover.Mover.{Mover}
 use Rattle.dxc_outside.specs.Stops.{the_stop}
+use Rattle.roll_engine.specs.declared.answer.Advance.{Advance}
 use Rattle.roll_engine.specs.declared.answer.Advance.TheVariants.{Done, InFrame}
 use Rattle.roll_engine.specs.Rollings.{RollingAt, at_step, rest_of}
 use Rattle.roll_engine.specs.Writes.{Looks, Makes}
@@ -33,6 +34,21 @@ not_stopped e = cc
 
 frame_goes : (f : ℕ) → Ok (InFrame f) ≡ Err the_stop → ⊥
 frame_goes f e = cc
+
+-- an answer that `?` let through, and how far it came
+pub far_is : {a : Answer} {x y : Advance} → a ≡ Ok x → x ≡ y → a ≡ Ok y
+far_is is same = is ∙ ap (λ (x : Advance). Ok x) same
+
+-- an answer that `?` handed on
+pub stop_is : (a : Answer) → IsErr a → Err the_stop ≡ a
+stop_is (Ok x) none = absurd (true≢false (sym none))
+stop_is (Err e) is = refl
+
+pub one_far : {a : Answer} {x : Advance} → a ≡ Ok x → a ≡ Ok Done → x ≡ Done
+one_far is e = cc
+
+pub not_done : (a : Answer) → IsErr a → a ≡ Ok Done → ⊥
+not_done a is e = let h : Err the_stop ≡ Ok Done = stop_is a is ∙ e in cc
 
 goes_join : (z : Size) (old mid new : RollingAt) (m a b : Mover) → GoesOn z old mid m a → GoesOn z mid new a b → GoesOn z old new m b
 goes_join z old mid new m a b h k = record {

@@ -49,9 +49,9 @@ pub fn advance_cold<G: Gate>(
         (left_of matrix.now mover.new.mover rolling.new) result) }
 {
     loop {
-        match advance(fabric, mover, rolling, gate) {
-            Ok(Advance::Done) => {}
-            answer => return answer,
+        match advance(fabric, mover, rolling, gate)? {
+            Advance::Done => {}
+            halted => return Ok(halted),
         }
         if !rolling.take_next(matrix, fabric, mover) {
             return Ok(Advance::Done);

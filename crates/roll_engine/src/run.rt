@@ -115,9 +115,9 @@ fn moves_on<G: Gate>(
         return Ok(Advance::Done);
     }
     for step in rolling.first_moves() {
-        match move_on(fabric, mover, rolling, made, *step, gate) {
-            Ok(Advance::Done) => {}
-            answer => return answer,
+        match move_on(fabric, mover, rolling, made, *step, gate)? {
+            Advance::Done => {}
+            halted => return Ok(halted),
         }
     }
     Ok(Advance::Done)
@@ -141,14 +141,14 @@ fn writes_on<G: Gate>(
         (walker_at (at_step made.new rolling.now) mover.new.mover gate.new) result }
     ensures all { result ≡ Ok Advance.Done → rest_of (at_step made.new rolling.now) ≡ [] }
 {
-    match moves_on(fabric, mover, rolling, made, gate) {
-        Ok(Advance::Done) => {}
-        answer => return answer,
+    match moves_on(fabric, mover, rolling, made, gate)? {
+        Advance::Done => {}
+        halted => return Ok(halted),
     }
     while let Some(next) = next_at_step(rolling.work(), *made) {
-        match next_on(fabric, mover, rolling, made, next, gate) {
-            Ok(Advance::Done) => {}
-            answer => return answer,
+        match next_on(fabric, mover, rolling, made, next, gate)? {
+            Advance::Done => {}
+            halted => return Ok(halted),
         }
     }
     Ok(Advance::Done)

@@ -69,9 +69,9 @@ fn write_two<G: Gate>(
         (walker_at (at_step made.new rolling.now) mover.new.mover gate.new) result }
     ensures two { result ≡ Ok Advance.Done → made.new ≡ made.old + 2 }
 {
-    match write_on(fabric, mover, rolling, made, first, gate) {
-        Ok(Advance::Done) => {}
-        answer => return answer,
+    match write_on(fabric, mover, rolling, made, first, gate)? {
+        Advance::Done => {}
+        halted => return Ok(halted),
     }
     write_on(fabric, mover, rolling, made, second, gate)
 }
@@ -100,15 +100,15 @@ pub(crate) fn move_on<G: Gate>(
 {
     let set_in = move_write(step, 0);
     let set_mid = move_write(step, 1);
-    match write_two(fabric, mover, rolling, made, set_in, set_mid, gate) {
-        Ok(Advance::Done) => {}
-        answer => return answer,
+    match write_two(fabric, mover, rolling, made, set_in, set_mid, gate)? {
+        Advance::Done => {}
+        halted => return Ok(halted),
     }
     let switch_out = move_write(step, 2);
     let clear_mid = move_write(step, 3);
-    match write_two(fabric, mover, rolling, made, switch_out, clear_mid, gate) {
-        Ok(Advance::Done) => {}
-        answer => return answer,
+    match write_two(fabric, mover, rolling, made, switch_out, clear_mid, gate)? {
+        Advance::Done => {}
+        halted => return Ok(halted),
     }
     let clear_in = move_write(step, 4);
     write_on(fabric, mover, rolling, made, clear_in, gate)
@@ -135,9 +135,9 @@ pub(crate) fn three_on<G: Gate>(
         (walker_at (at_step made.new rolling.now) mover.new.mover gate.new) result }
     ensures all { result ≡ Ok Advance.Done → made.new ≡ made.old + 3 }
 {
-    match write_two(fabric, mover, rolling, made, writes[0], writes[1], gate) {
-        Ok(Advance::Done) => {}
-        answer => return answer,
+    match write_two(fabric, mover, rolling, made, writes[0], writes[1], gate)? {
+        Advance::Done => {}
+        halted => return Ok(halted),
     }
     write_on(fabric, mover, rolling, made, writes[2], gate)
 }
