@@ -5,6 +5,7 @@ use Rattle.std.specs.Str.{bytes_eq}
 use Rattle.std.specs.Char.{is_ascii_digit}
 use Rattle.std.specs.List.{list_all, list_any}
 use Rattle.dxc_num.specs.Dimensions.{IsInLimits}
+use Rattle.dxc_args.specs.Counts.{AreFew}
 use Rattle.dxc_args.specs.declared.line.Line.{Line}
 use Rattle.dxc_args.specs.declared.line.Line.TheVariants.{Script, Trial, Check, Export, Serve, Standby, Load}
 use Rattle.dxc_args.specs.declared.line.Mode.{Mode}
@@ -55,7 +56,7 @@ IsInRange (Script shelf journal) = are_numbers shelf journal ≡ false
 IsInRange (Trial shape) = IsInLimits shape
 IsInRange (Check shelf journal) = Unit {0}
 IsInRange (Export shelf journal) = Unit {0}
-IsInRange (Serve x) = (1 ≤ x.workers) × (x.workers ≤ 8)
+IsInRange (Serve x) = AreFew x.workers
 IsInRange (Standby journal address) = Unit {0}
 IsInRange (Load number) = number < 2 ^ 64
 

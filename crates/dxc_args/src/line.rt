@@ -4,6 +4,7 @@ ghost use Rattle.std.specs.List.{list_any};
 
 use crate::matching::name_matches;
 use crate::number::{is_number, number_of, shape_of, workers_of};
+use crate::workers::Workers;
 use dxc_num::Shape;
 use dxc_outside::Name;
 use std::alloc::Global;
@@ -27,14 +28,14 @@ pub enum Line {
     Load { number: u64 },
 }
 
-/// What is served: the names of shelf file, journal, address and lines, 1 to 8 workers, and a peer if there is one.
+/// What is served: the names of shelf file, journal, address and lines, the workers, and a peer if there is one.
 #[derive(Drop)]
 pub struct ServeLine {
     pub shelf: Name,
     pub journal: Name,
     pub address: Name,
     pub lines: Name,
-    pub workers: u16,
+    pub workers: Workers,
     pub peer: Option<Name>,
 }
 
