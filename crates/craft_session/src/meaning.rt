@@ -7,6 +7,7 @@ ghost use Rattle.tl1_text.specs.Spans.{AreBlocksOf, block_at};
 ghost use Rattle.tl1_text.specs.Tags.{ctag_of as tag_in};
 ghost use Rattle.tl1_text.specs.Units.{whole};
 ghost use Rattle.tl1_command.specs.Commands.{asked_by, asked_often, IsAptCommand, IsAptOften, IsAptOp};
+ghost use Rattle.tl1_command.specs.Meanings.{cancels};
 ghost use Rattle.tl1_users.specs.Commands.{NamesUid, user_meaning};
 ghost use Rattle.tl1_users.specs.declared.op.UserOp.{UserOp as AUserOp};
 ghost use Rattle.craft_session.specs.Asks.{IsAptAsk};
@@ -145,26 +146,47 @@ fn on_command(user: &SessionUser, unit: &[u8], command: &Command, ask: &mut Ask)
         (read_as unit.now result ask.new op) }
 {
     match command {
-        Command::ActUser { uid, pid } => {
-            return Meaning::LogIn {
-                uid: *uid,
-                pid: *pid,
-            };
-        }
+        Command::ActUser { uid, pid } => Meaning::LogIn {
+            uid: *uid,
+            pid: *pid,
+        },
         Command::CancUser { uid } => {
-            if is_other_user(user, uid.text(unit)) {
-                *ask = Ask::Refused(Cause::OtherUser);
-            } else {
-                *ask = Ask::LogsOut;
-            }
+            on_log_out(user, uid.text(unit), ask);
+            Meaning::Session
         }
-        Command::Header => *ask = Ask::Completes,
-        Command::Allow => *ask = Ask::Allows,
-        Command::Inhibit => *ask = Ask::Inhibits,
-        Command::Show(subject) => *ask = Ask::Shows(*subject),
-        Command::Table(op) => on_table(op, ask),
+        Command::Header => {
+            *ask = Ask::Completes;
+            Meaning::Session
+        }
+        Command::Allow => {
+            *ask = Ask::Allows;
+            Meaning::Session
+        }
+        Command::Inhibit => {
+            *ask = Ask::Inhibits;
+            Meaning::Session
+        }
+        Command::Show(subject) => {
+            *ask = Ask::Shows(*subject);
+            Meaning::Session
+        }
+        Command::Table(op) => {
+            on_table(op, ask);
+            Meaning::Session
+        }
     }
-    Meaning::Session
+}
+
+/// A log-out, which may name a user.
+fn on_log_out(user: &SessionUser, name: &[u8], ask: &mut Ask)
+    ensures ask { (x : Heard) → ask.new ≡ session_ask user.now x (cancels name.now) }
+    ensures apt { (d : Dimensions) → IsAptAsk d ask.new }
+{
+    if is_other_user(user, name) {
+        *ask = Ask::Refused(Cause::OtherUser);
+    } else {
+        *ask = Ask::LogsOut;
+    }
 }
 
 /// A name is given, and it isn't the session's user, case aside.
@@ -203,7 +225,8 @@ fn on_frequent(often: Frequent, ask: &mut Ask)
 /// An operation on the table, which is no look.
 fn on_table(op: &Op, ask: &mut Ask)
     requires { (d : Dimensions) × IsAptOp d op.now }
-    ensures { ask.new ≡ table_ask op.now }
+    ensures ask { ask.new ≡ table_ask op.now }
+    ensures apt { (d : Dimensions) → IsAptOp d op.now → IsAptAsk d ask.new }
 {
     match op {
         Op::Enter(_)
