@@ -53,7 +53,7 @@ module _ {D K : Type 0} (w : Means D K) where
     pub stays : IsSome l.lost → (IsWhole k × StaysLost w.link.told w.link.begun w.link.state l m) ⊎ ((IsWhole k → ⊥) × (m ≡ l))
     pub hung_up : IsHungUp l.lost m.lost (w.link.hung_up l.link) (w.link.hung_up m.link)
 
-  -- what came behind a sync that the disk made
+  -- what came after a sync that the disk made
   abbrev pub TellsOrJoins : Known D → (l m : Line K) → Type 0
   TellsOrJoins k l m = Continues k l m ⊎ Rejoins k l m
 
@@ -64,7 +64,7 @@ module _ {D K : Type 0} (w : Means D K) where
     pub hung_up : IsHungUp l.lost m.lost (w.link.hung_up l.link) (w.link.hung_up m.link)
     pub continues : OnOk result (Continues k l m)
 
-  -- A sync that was made, behind which somebody was joined who stood by anew.
+  -- A sync that was made, after which somebody was joined who stood by anew.
   pub record SyncsAnew (j k : Known D) (l m : Line K) : Type 0 where
     pub looks : w.disk.told → Looks (state j) (state k)
     pub rejoins : Rejoins k l m

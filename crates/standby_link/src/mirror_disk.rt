@@ -132,7 +132,7 @@ impl<D: Disk, K: Link> Disk for MirrorDisk<D, K> {
         written
     }
 
-    /// Where the line is lost and somebody stands by anew, that one is joined behind the sync.
+    /// Where the line is lost and somebody stands by anew, that one is joined after the sync.
     fn sync(&mut self) -> Result<(), DiskFault>
         ensures sync { IsSync D.told (D.state self.old.disk.disk)
             (D.state self.new.disk.disk) result }
