@@ -46,6 +46,10 @@ not_ok (Err e) is ok = absurd (true≢false (sym ok))
 pub no_stop : {A : Type 0} (v : A) (a b : ℕ) → b ≡ a → RoseOnlyFor a b (IsErr {E = Stopped} (Ok v))
 no_stop v a b same = stands_still a b (IsErr {E = Stopped} (Ok v)) same (λ is. no_error v is)
 
+-- it stands as it was where a call went on
+pub stayed_ok : {A : Type 0} (v : A) (r : Result A Stopped) (a b : ℕ) → r ≡ Ok v → RoseOnlyFor a b (IsErr r) → b ≡ a
+stayed_ok {A} v r a b is rose = (subst (λ (x : Result A Stopped). RoseOnlyFor a b (IsErr x)) is rose).only (λ e. no_error v e)
+
 -- where it stood as it was first
 pub rose_after : (a b c : ℕ) (came : Type 0) → b ≡ a → RoseOnlyFor b c came → RoseOnlyFor a c came
 rose_after a b c came same rose = subst (λ (n : ℕ). RoseOnlyFor n c came) same rose

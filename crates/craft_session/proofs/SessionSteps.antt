@@ -1,10 +1,9 @@
 -- How a session goes on.
-use Rattle.std.specs.Prelude.{IsErr, is_some, min}
+use Rattle.std.specs.Prelude.{is_some, min}
 use Rattle.std.proofs.Common.{◌≡◌, ℕ, ◌+◌, ◌≤◌, Bool, true, false, length, List, [], ◌∷◌, ◌++◌, Option, Some, None, Result, Ok, Err, take, drop, inl, inr, refl, sym, ◌∙◌, ap, ap₂, subst, arith, append_assoc, take-append-drop}
 use Rattle.std.proofs.lemmas.List.{append-nil, map-append, drop-drop}
 use base.Stored.{Gv}
 use Rattle.dxc_causes.specs.Causes.{Counted}
-use Rattle.dxc_causes.specs.Stops.{RoseOnlyFor}
 use Rattle.dxc_outside.specs.declared.link.Got.{Got}
 use Rattle.dxc_outside.specs.declared.link.Got.TheVariants.{Bytes, Quiet}
 use Rattle.dxc_outside.specs.declared.stopped.Stopped.{Stopped}
@@ -52,7 +51,6 @@ use Rattle.craft_session.specs.Seats.{SeatAt, UserSeatAt}
 use Rattle.craft_session.specs.Stamps.{AreStamped, Stamp, stamp_at}
 use Rattle.craft_session.specs.Timely.{IsTimely, reached, starting, telling}
 use Rattle.craft_session.specs.Walks.{begun_by}
-use Rattle.craft_session.proofs.Ends.{no_error}
 use Rattle.craft_session.proofs.Changing.{others_unused}
 use Rattle.craft_session.proofs.Consulted.{Learns, consulted_back, consulted_on, consulted_quiet}
 use Rattle.craft_session.proofs.Reporting.{found_is}
@@ -67,10 +65,6 @@ writes_more told k l m first next = record { out = first.out ++ next.out; wrote 
 
 pub counted_more : (a b c n : ℕ) → Counted a b n → Counted b c 1 → Counted a c (n + 1)
 counted_more a b c n so_far one = record { reached = omega (arith, so_far.reached, so_far.no_more, one.reached); no_more = omega (arith, so_far.no_more, one.no_more) }
-
--- a count of stops stands as it was where a call went on
-pub stayed_ok : {A : Type 0} (v : A) (r : Result A Stopped) (a b : ℕ) → r ≡ Ok v → RoseOnlyFor a b (IsErr r) → b ≡ a
-stayed_ok {A} v r a b is rose = (subst (λ (x : Result A Stopped). RoseOnlyFor a b (IsErr x)) is rose).only (λ e. no_error v e)
 
 pub gives_more : (c d e ms ns : List Moment) → Gives c d ms → Gives d e ns → Gives c e (ms ++ ns)
 gives_more c d _ ms _ first (gave_none _) = subst (λ (x : List Moment). Gives c d x) (sym (append-nil ms)) first

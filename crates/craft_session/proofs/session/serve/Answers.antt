@@ -11,11 +11,11 @@ use Rattle.craft_session.specs.declared.end.Progress.{Progress}
 use Rattle.craft_session.specs.declared.end.Progress.TheVariants.{On, Cut}
 use Rattle.craft_session.specs.Noted.{stood}
 use Rattle.craft_session.specs.Sessions.{Beginning, Stands}
-use Rattle.craft_session.proofs.Ends.{bytes_came, counted_none, end_came, end_no, few_here, few_more, idle_no, later_behind, quiet_came, read_no, rose_behind, rose_later, spent_no, stayed, stop_no, unattended_no, cancelled_no, unheld, write_no}
+use Rattle.craft_session.proofs.Ends.{bytes_came, cancelled_no, counted_none, end_came, end_no, few_here, few_more, idle_no, later_behind, quiet_came, read_no, rose_behind, rose_later, spent_no, stayed, stayed_ok, stop_no, unattended_no, unheld, write_no}
 use Rattle.craft_session.proofs.Gated.{are_entered_beside, are_entered_none, are_entered_on}
 use Rattle.craft_session.proofs.Noted.{beside_reports, noted_beside, noted_more, noted_moved, noted_none, noted_read}
 use Rattle.craft_session.proofs.Prompt.{prompt_more, prompt_none}
-use Rattle.craft_session.proofs.SessionSteps.{stands_none, stands_piece, stands_quiet, goes_on_is, goes_cut_is, goes_stopped_is, counted_more, stayed_ok, served_nothing, served_here}
+use Rattle.craft_session.proofs.SessionSteps.{stands_none, stands_piece, stands_quiet, goes_on_is, goes_cut_is, goes_stopped_is, counted_more, served_nothing, served_here}
 use Rattle.craft_session.specs.Timely.{in_hand, starting, telling}
 use Rattle.craft_session.proofs.Answering.{moved_goes}
 use Rattle.craft_session.proofs.Timely.{goes_nowhere, looked_to, timely_moved, timely_none, timely_read, went_to}

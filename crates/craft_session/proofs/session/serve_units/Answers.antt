@@ -16,10 +16,10 @@ use Rattle.craft_session.specs.Meanings.{language_for}
 use Rattle.craft_session.specs.Noted.{stood}
 use Rattle.craft_session.specs.Sessions.{Beginning, Goes, IsAt, Stands}
 use Rattle.craft_session.specs.Timely.{in_hand, starting, telling}
-use Rattle.craft_session.proofs.Ends.{by_stop, is_stop, no_stop, rose_after}
+use Rattle.craft_session.proofs.Ends.{by_stop, is_stop, no_stop, rose_after, stayed_ok}
 use Rattle.craft_session.proofs.Gated.{are_entered_none, are_entered_on}
 use Rattle.craft_session.proofs.Noted.{noted_more, noted_moved, noted_none}
-use Rattle.craft_session.proofs.SessionSteps.{stands_on, goes_on_is, goes_cut_is, goes_stopped_is, stayed_ok, writes_none, writes_more}
+use Rattle.craft_session.proofs.SessionSteps.{stands_on, goes_on_is, goes_cut_is, goes_stopped_is, writes_none, writes_more}
 use Rattle.craft_session.proofs.Timely.{timely_more, timely_moved, timely_none, went_to}
 use Rattle.craft_session.proofs.session.serve_units.Goals as goal
 

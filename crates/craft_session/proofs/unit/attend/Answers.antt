@@ -16,10 +16,10 @@ use Rattle.craft_session.specs.Sessions.{Goes, IsAt, Stands}
 use Rattle.craft_session.specs.Stamps.{stamp_at}
 use Rattle.craft_session.specs.Timely.{IsTimelyFrom, in_hand, reached, starting, telling}
 use Rattle.craft_session.proofs.Answering.{answered, answered_timely, input_ended}
-use Rattle.craft_session.proofs.Ends.{by_stop, is_stop, no_stop}
+use Rattle.craft_session.proofs.Ends.{by_stop, is_stop, no_stop, stayed_ok}
 use Rattle.craft_session.proofs.Gated.{are_entered_beside}
 use Rattle.craft_session.proofs.Noted.{beside_reports, noted_beside}
-use Rattle.craft_session.proofs.SessionSteps.{stayed_ok, writes_more}
+use Rattle.craft_session.proofs.SessionSteps.{writes_more}
 use Rattle.craft_session.proofs.Timely.{looked_to, timely_more}
 use Rattle.craft_session.proofs.unit.attend.Goals as goal
 
