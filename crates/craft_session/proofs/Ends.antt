@@ -50,6 +50,13 @@ no_stop v a b same = stands_still a b (IsErr {E = Stopped} (Ok v)) same (λ is. 
 pub stayed_ok : {A : Type 0} (v : A) (r : Result A Stopped) (a b : ℕ) → r ≡ Ok v → RoseOnlyFor a b (IsErr r) → b ≡ a
 stayed_ok {A} v r a b is rose = (subst (λ (x : Result A Stopped). RoseOnlyFor a b (IsErr x)) is rose).only (λ e. no_error v e)
 
+-- the same, whatever it goes on with
+pub never : {X : Type 0} → false ≡ true → X
+never is = absurd (true≢false (sym is))
+
+pub still : (a b : ℕ) → b ≡ a → RoseOnlyFor a b (false ≡ true)
+still a b same = stands_still a b (false ≡ true) same (λ is. never is)
+
 -- where it stood as it was first
 pub rose_after : (a b c : ℕ) (came : Type 0) → b ≡ a → RoseOnlyFor b c came → RoseOnlyFor a c came
 rose_after a b c came same rose = subst (λ (n : ℕ). RoseOnlyFor n c came) same rose
@@ -57,6 +64,11 @@ rose_after a b c came same rose = subst (λ (n : ℕ). RoseOnlyFor n c came) sam
 -- where a stop came, by whatever this was told
 pub rose_by : (a b : ℕ) (came then_came : Type 0) → RoseOnlyFor a b came → came → then_came → RoseOnlyFor a b then_came
 rose_by a b came then_came rose is then_is = has_risen a b then_came rose.later (rose.cause is) then_is
+
+-- a gate was asked last
+pub gate_passed : (r : Result (Unit {0}) Stopped) (a b : ℕ) → (r ≡ Ok tt → b ≡ a) → (r ≡ Err the_stop → Rose a b) → a ≤ b → RoseOnlyFor a b (IsErr r)
+gate_passed (Ok x) a b go stop later = still a b (go refl)
+gate_passed (Err e) a b go stop later = has_risen a b (true ≡ true) later (stop refl) refl
 
 -- a session's end is no other
 abbrev is_end : SessionEnd → Bool

@@ -201,18 +201,13 @@ fn ask_of<G: Gate, N: Notes, D: Disk + Drop, U: Disk + Drop, R: Wait>(
     desk.users.rows.clear();
     match kind {
         UnitKind::Whole => {
-            let meaning = read(
-                &desk.shelf,
-                &desk.attending.user,
-                desk.reader.unit(),
-                tag,
-                ask,
-                &mut desk.users.asked,
-            );
+            let user = &desk.attending.user;
+            let unit = desk.reader.unit();
+            let meaning = read(&desk.shelf, user, unit, tag, ask, &mut desk.users.asked);
             consult(
                 &mut desk.users,
-                &desk.attending.user,
-                desk.reader.unit(),
+                user,
+                unit,
                 meaning,
                 tag,
                 ask,

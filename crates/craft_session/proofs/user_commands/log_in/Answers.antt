@@ -6,7 +6,7 @@ use Rattle.user_admin.specs.Turns.{LoggedIn, Saw}
 use Rattle.craft_session.specs.Hearing.{found}
 use Rattle.craft_session.specs.Meanings.{log_in, named_by}
 use Rattle.craft_session.proofs.Asking.{asked_login, asked_too_long, nobody_refused}
-use Rattle.craft_session.proofs.meaning.act_user.Goals as goal
+use Rattle.craft_session.proofs.user_commands.log_in.Goals as goal
 
 pub returns-in_default-clause-asked : goal.returns-in_default-clause-asked
 returns-in_default-clause-asked g c = asked_too_long c.args.users.now.seat c.args.user.now c.args.uid.now c.args.pid.now _ c.of.result c.of.ensures c.requires.no_rows c.in_default.is
