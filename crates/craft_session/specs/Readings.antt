@@ -9,6 +9,7 @@ use Rattle.tl1_text.specs.Units.{Input}
 use Rattle.tl1_command.specs.Meanings.{meaning}
 use Rattle.tl1_users.specs.Commands.{NamesUid, user_meaning}
 use Rattle.tl1_users.specs.declared.op.UserOp.{UserOp}
+use Rattle.tl1_users.specs.declared.op.UserOp.TheVariants as op
 use Rattle.shelf_file.specs.Contents.{Contents}
 use Rattle.craft_session.specs.declared.ask.Ask.{Ask}
 use Rattle.craft_session.specs.declared.ask.Meaning.{Meaning}
@@ -25,25 +26,36 @@ pub record Read : Type 0 where
   pub op : Result UserOp Cause
 
 abbrev pub read_as : List ℕ → Meaning → Ask → Result UserOp Cause → Read
-read_as text meaning ask op = record { text = text; meaning = meaning; ask = ask; op = op }
+read_as text meaning ask o = record { text = text; meaning = meaning; ask = ask; op = o }
 
 -- what a unit of this user wants of the users by what it means
 abbrev pub wanted_in : SessionUser → List ℕ → Result UserOp Cause → Meaning → Wanted
-wanted_in user text op Session = nothing
-wanted_in user text op (LogIn uid pid) = login_wants user (text_at text uid) (text_at text pid)
-wanted_in user text op Users = users_want op
+wanted_in user text o Session = nothing
+wanted_in user text o (LogIn uid pid) = login_wants user (text_at text uid) (text_at text pid)
+wanted_in user text o Users = users_want o
 
 -- and what it asks by what it heard of them
 abbrev pub asked_in : SessionUser → List ℕ → Ask → Result UserOp Cause → Meaning → Heard → Ask
-asked_in user text ask op Session x = ask
-asked_in user text ask op (LogIn uid pid) x = log_in user (named_by (text_at text uid) x)
-asked_in user text ask op Users x = users_ask x op
+asked_in user text ask o Session x = ask
+asked_in user text ask o (LogIn uid pid) x = log_in user (named_by (text_at text uid) x)
+asked_in user text ask o Users x = users_ask x o
 
--- parts stand in the unit, operations are of the shape and name users by a uid
+-- an operation that a command asks of the users: by itself it is no look and no log-in
+abbrev pub IsCommand : UserOp → Type 0
+IsCommand (op.Enter uid pid class) = Unit {0}
+IsCommand (op.Edit uid pid class) = Unit {0}
+IsCommand (op.Delete uid) = Unit {0}
+IsCommand (op.EditPid uid old new) = Unit {0}
+IsCommand (op.Rows which) = Unit {0}
+IsCommand (op.Look uid) = ⊥
+IsCommand (op.LogIn uid) = ⊥
+IsCommand (op.Cancel uid) = Unit {0}
+
+-- parts stand in the unit, operations are of the shape; those on the users are a command's, and name users by a uid
 abbrev pub IsAptIn : Dimensions → List ℕ → Ask → Result UserOp Cause → Meaning → Type 0
-IsAptIn d text ask op Session = IsAptAsk d ask
-IsAptIn d text ask op (LogIn uid pid) = IsIn text uid × IsIn text pid
-IsAptIn d text ask op Users = IfOk op NamesUid
+IsAptIn d text ask o Session = IsAptAsk d ask
+IsAptIn d text ask o (LogIn uid pid) = IsIn text uid × IsIn text pid
+IsAptIn d text ask o Users = IfOk o NamesUid × IfOk o IsCommand
 
 -- the same of what was read
 abbrev pub wanted_by : SessionUser → Read → Wanted

@@ -13,7 +13,7 @@ ghost use Rattle.tl1_users.specs.declared.op.UserOp.{UserOp as AUserOp};
 ghost use Rattle.craft_session.specs.Asks.{IsAptAsk};
 ghost use Rattle.craft_session.specs.Hearing.{Heard, nothing};
 ghost use Rattle.craft_session.specs.Meanings.{is_other_user as other_user, session_ask, session_wants, table_ask, tag_of};
-ghost use Rattle.craft_session.specs.Readings.{IsReadAs, IsReadIn, IsReadOf, IsReadOfUsers, read_as};
+ghost use Rattle.craft_session.specs.Readings.{IsCommand, IsReadAs, IsReadIn, IsReadOf, IsReadOfUsers, read_as};
 
 use crate::ask::{Ask, Meaning};
 use crate::secrets::Operation;
@@ -132,6 +132,7 @@ fn read_operation(
     ensures meaning { asked.new.op ≡ user_meaning shelf.now.sid user.now
         (map (block_at unit.now) found.now.block.items) }
     ensures named { IfOk asked.new.op NamesUid }
+    ensures command { IfOk asked.new.op IsCommand }
 {
     asked.op = user_command_of(shelf.sid(), *user, unit, found);
 }

@@ -10,7 +10,7 @@ ghost use Rattle.craft_session.specs.Gated.{NothingAsked};
 ghost use Rattle.craft_session.specs.Hearing.{AskedAt, left, to_do};
 ghost use Rattle.craft_session.specs.Noted.{UsersNoted};
 ghost use Rattle.craft_session.specs.Meanings.{heard_ask, log_in as logged_in, login_wants, named_by, op_wants, users_ask, users_want};
-ghost use Rattle.craft_session.specs.Readings.{IsAptRead, asked_after, read_as, wanted_by};
+ghost use Rattle.craft_session.specs.Readings.{IsAptRead, IsCommand, asked_after, read_as, wanted_by};
 ghost use Rattle.craft_session.specs.Seats.{IsSameUserSeat};
 
 use crate::ask::{Ask, Meaning};
@@ -136,6 +136,7 @@ fn ask_users<U: Disk + Drop, G: Gate, N: Notes, R: Wait>(
     rt: &R,
 ) -> Result<Ask, Stopped>
     requires named { IfOk users.old.asked.op NamesUid }
+    requires command { IfOk users.old.asked.op IsCommand }
     requires no_rows { users.old.rows.items ≡ [] }
     ensures same { IsSameUserSeat users.old.seat users.new.seat }
     ensures asked { AskedAt users.old.seat (users_want users.old.asked.op)
@@ -153,7 +154,7 @@ fn ask_users<U: Disk + Drop, G: Gate, N: Notes, R: Wait>(
     }
 }
 
-/// Does an operation on the users; one that ends sessions ends this one too where it is that user's. A command never asks for a look or a log-in.
+/// Does an operation on the users; one that ends sessions ends this one too where it is that user's.
 fn on_users<U: Disk + Drop, G: Gate, N: Notes, R: Wait>(
     users: &mut UserDesk<U>,
     user: &SessionUser,
@@ -164,6 +165,7 @@ fn on_users<U: Disk + Drop, G: Gate, N: Notes, R: Wait>(
     rt: &R,
 ) -> Result<Ask, Stopped>
     requires named { NamesUid op }
+    requires command { IsCommand op }
     requires no_rows { users.old.rows.items ≡ [] }
     ensures same { IsSameUserSeat users.old.seat users.new.seat }
     ensures asked { AskedAt users.old.seat (op_wants op) heard_ask
@@ -181,7 +183,7 @@ fn on_users<U: Disk + Drop, G: Gate, N: Notes, R: Wait>(
             note_user_command(notes, user, tag, change, Outcome::Done);
             Ok(Ask::Completes)
         }
-        UserOp::Look(_) | UserOp::LogIn(_) => Ok(Ask::Refused(Cause::UnknownCommand)),
+        UserOp::Look(_) | UserOp::LogIn(_) => unreachable!(),
         op => change_users(users, user, tag, op, gate, notes, rt),
     }
 }

@@ -8,7 +8,7 @@ use Rattle.craft_session.proofs.Reading.{read_session}
 use Rattle.craft_session.proofs.meaning.read_users.Goals as goal
 
 pub returns-then-is_of_users-clause-read : goal.returns-then-is_of_users-clause-read
-returns-then-is_of_users-clause-read g c = let r = c.read_operation.ensures in record { wanted = ap users_want r.meaning; asked = λ x. ap (users_ask x) r.meaning; apt = r.named }
+returns-then-is_of_users-clause-read g c = let r = c.read_operation.ensures in record { wanted = ap users_want r.meaning; asked = λ x. ap (users_ask x) r.meaning; apt = (r.named, r.command) }
 
 pub returns-else-is_of_users-clause-read : goal.returns-else-is_of_users-clause-read
 returns-else-is_of_users-clause-read g c =

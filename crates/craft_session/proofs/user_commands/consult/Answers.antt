@@ -20,7 +20,10 @@ use Rattle.craft_session.proofs.Noted.{noted_nothing, noted_session}
 use Rattle.craft_session.proofs.user_commands.consult.Goals as goal
 
 pub ask_users-requires-clause-named : goal.ask_users-requires-clause-named
-ask_users-requires-clause-named g c = subst (λ (m : Meaning). IsAptIn c.requires.apt.0 c.args.unit.now c.args.ask.now c.args.users.now.asked.op m) c.in-Users.is c.requires.apt.1
+ask_users-requires-clause-named g c = (subst (λ (m : Meaning). IsAptIn c.requires.apt.0 c.args.unit.now c.args.ask.now c.args.users.now.asked.op m) c.in-Users.is c.requires.apt.1).0
+
+pub ask_users-requires-clause-command : goal.ask_users-requires-clause-command
+ask_users-requires-clause-command g c = (subst (λ (m : Meaning). IsAptIn c.requires.apt.0 c.args.unit.now c.args.ask.now c.args.users.now.asked.op m) c.in-Users.is c.requires.apt.1).1
 
 pub returns-in-Session : goal.returns-in-Session
 returns-in-Session g c =
