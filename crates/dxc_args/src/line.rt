@@ -51,8 +51,8 @@ pub enum WordsFault {
 const MOST_WORDS: usize = 7;
 
 /// The line that the words spell: `script SHELF JOURNAL`, `script MODULES SLOTS` with the numbers of a shape, `check SHELF JOURNAL`,
-/// `export SHELF JOURNAL`, `serve SHELF JOURNAL ADDRESS LINES WORKERS` with 1 to 8 workers, and the same with PEER behind it, `standby JOURNAL ADDRESS`, or
-/// `load NUMBER` with a number of 64 bits. Behind `script` two words of digits alone are no names. No word begins with a dash.
+/// `export SHELF JOURNAL`, `serve SHELF JOURNAL ADDRESS LINES WORKERS` with 1 to 8 workers, and the same with PEER after it, `standby JOURNAL ADDRESS`, or
+/// `load NUMBER` with a number of 64 bits. After `script` two words of digits alone are no names. No word begins with a dash.
 pub fn line_of(alloc: Global, words: &[Name]) -> Result<Line, WordsFault>
     ensures line { IfOk result (λ l. IsLine words.now l) }
     ensures no_line { result ≡ Err WordsFault.BadWords → (l : Line) → IsLine words.now l → ⊥ }
@@ -107,7 +107,7 @@ fn mode_of(word: &str) -> Option<Mode>
     }
 }
 
-// The line of a mode and the words behind it.
+// The line of a mode and the words after it.
 fn line_with(alloc: Global, mode: &str, rest: &[&str]) -> Result<Line, WordsFault>
     ensures line { IfOk result (Spells (mode.now ∷ texts rest.now)) }
     ensures no_line { result ≡ Err WordsFault.BadWords → (l : Line)
@@ -148,7 +148,7 @@ fn script_line(alloc: Global, rest: &[&str]) -> Result<Line, WordsFault>
     })
 }
 
-// The line of two words behind `script` that are digits alone.
+// The line of two words after `script` that are digits alone.
 fn trial_line(modules: &Name, slots: &Name) -> Result<Line, WordsFault>
     ensures line { IfOk result (Spells (codes "script" ∷ modules.now ∷ slots.now ∷ [])) }
     ensures no_line { are_numbers modules.now slots.now ≡ true → result ≡ Err WordsFault.BadWords
@@ -178,11 +178,11 @@ fn serve_line(alloc: Global, rest: &[&str]) -> Result<Line, WordsFault>
         → Spells (codes "serve" ∷ texts rest.now) l → ⊥ }
 {
     match rest {
-        [shelf, journal, address, lines, workers, behind @ ..] => {
+        [shelf, journal, address, lines, workers, last @ ..] => {
             let Some(workers) = workers_of(workers) else {
                 return Err(WordsFault::BadWords);
             };
-            let peer = peer_in(alloc, behind)?;
+            let peer = peer_in(alloc, last)?;
             Ok(Line::Serve(ServeLine {
                 shelf: name_of(alloc, shelf)?,
                 journal: name_of(alloc, journal)?,
@@ -197,12 +197,12 @@ fn serve_line(alloc: Global, rest: &[&str]) -> Result<Line, WordsFault>
 }
 
 // The peer that the last word of `serve` names, where there is one.
-fn peer_in(alloc: Global, behind: &[&str]) -> Result<Option<Name>, WordsFault>
-    ensures peer { IfOk result (λ p. texts behind.now ≡ peer_words p) }
+fn peer_in(alloc: Global, last: &[&str]) -> Result<Option<Name>, WordsFault>
+    ensures peer { IfOk result (λ p. texts last.now ≡ peer_words p) }
     ensures no_peer { result ≡ Err WordsFault.BadWords → (p : Option (List ℕ))
-        → texts behind.now ≢ peer_words p }
+        → texts last.now ≢ peer_words p }
 {
-    match behind {
+    match last {
         [] => Ok(None),
         [peer] => Ok(Some(name_of(alloc, peer)?)),
         _ => Err(WordsFault::BadWords),
