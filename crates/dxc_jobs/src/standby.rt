@@ -3,7 +3,7 @@ ghost use Rattle.std.specs.Prelude.{◌≡◌, ◌∷◌, []};
 ghost use Rattle.dxc_outside.specs.Asked.{AskedFor, copy_named, listener_named};
 ghost use Rattle.dxc_jobs.specs.Missing.{IsOfNoOpening};
 ghost use Rattle.dxc_jobs.specs.Offices.{doorway, office};
-ghost use Rattle.dxc_jobs.specs.Standbys.{IsFirst, MetAt, MetBy, RanStandby, ServedAt, StoodBy, status_of_standby, status_of_stood, stood_asked};
+ghost use Rattle.dxc_jobs.specs.Standbys.{IsFirst, MetAt, MetBy, RanOver, ServedAt, StoodBy, status_of_standby, status_of_stood, stood_asked};
 ghost use Rattle.standby_link.specs.Serves.{IsPrompt};
 
 use crate::stood::Stood;
@@ -141,8 +141,7 @@ fn serve_caller<K: Link, D: Disk>(link: &mut K, disk: &mut D) -> Option<StandbyE
 
 // Serves the link on the disk to its end.
 fn stand_by<K: Link, D: Disk>(link: &mut K, disk: &mut D) -> StandbyEnd
-    ensures ran { RanStandby D.told K.told (K.state link.old) (K.state link.new) (D.state disk.old)
-        (D.state disk.new) result }
+    ensures ran { RanOver D.Disk K.Link link disk result }
     ensures prompt { IsPrompt K.begun K.told (K.state link.old) (K.state link.new) }
     ensures hung_up { K.hung_up link.new ≡ K.hung_up link.old }
 {
