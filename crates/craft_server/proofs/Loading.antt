@@ -38,7 +38,7 @@ use Rattle.dxc_element.specs.declared.stock.Stock.{Stock}
 use Rattle.dxc_element.specs.Loads.{IsLoadElement, IsLoadStarted, NotLoaded}
 use Rattle.dxc_element.specs.Stocks.{IsCounted, IsLeft, IsStockAfter}
 use Rattle.dxc_element.proofs.Wording.{sent_words}
-use Rattle.craft_server.specs.Loads.{IsLoad, IsLoaded, IsLoadedOn, IsLoadServed, IsSummed, LoadsOn, load_moments, stock_in}
+use Rattle.craft_server.specs.Loads.{IsLoad, IsLoaded, IsLoadedOn, IsLoadServed, IsSummed, LoadLent, load_moments, stock_in}
 use Rattle.craft_server.proofs.Starting.{of_disk, users_of_disk}
 
 -- of an element that was opened, and of none
@@ -50,17 +50,21 @@ pub on_started : {A : Type 0} (P : A → Type 0) (r : Result A Status) (x : A) �
 on_started P r x is has = subst (λ p. IfOk p P) is has
 
 module _ (number stops mid later : ℕ) (r : Result Summary Status) where
-  pub loaded_by : (x : Result (Element LoadDisk MemDisk) Status) → MatchResult x IsLoadStarted (NotLoaded stops mid) → MatchResult x (λ e. mid ≡ stops) (λ s. stops ≤ mid) → LoadsOn (Unit {0}) (Unit {0}) load_disk mem_state number x mid later r → MatchResult r (IsLoaded number) (NotLoaded stops later)
+  -- what was loaded, by an element in memory
+  abbrev LoadsIn : Result (Element LoadDisk MemDisk) Status → Type 0
+  LoadsIn x = MatchResult x (λ e. MatchResult r (IsLoaded number) (NotLoaded mid later) × MatchResult r (λ v. later ≡ mid) (λ s. mid ≤ later)) (λ s. (r ≡ Err s) × (later ≡ mid))
+
+  pub loaded_by : (x : Result (Element LoadDisk MemDisk) Status) → MatchResult x IsLoadStarted (NotLoaded stops mid) → MatchResult x (λ e. mid ≡ stops) (λ s. stops ≤ mid) → LoadsIn x → MatchResult r (IsLoaded number) (NotLoaded stops later)
   loaded_by (Ok e) started same told = subst (λ (n : ℕ). MatchResult r (IsLoaded number) (NotLoaded n later)) same told.0
   loaded_by (Err s) not up told = subst (λ (p : Result Summary Status). MatchResult p (IsLoaded number) (NotLoaded stops later)) (sym told.0) (subst (λ (n : ℕ). NotLoaded stops n s) (sym told.1) not)
 
-  pub stops_by : (x : Result (Element LoadDisk MemDisk) Status) → MatchResult x (λ e. mid ≡ stops) (λ s. stops ≤ mid) → LoadsOn (Unit {0}) (Unit {0}) load_disk mem_state number x mid later r → MatchResult r (λ v. later ≡ stops) (λ s. stops ≤ later)
+  pub stops_by : (x : Result (Element LoadDisk MemDisk) Status) → MatchResult x (λ e. mid ≡ stops) (λ s. stops ≤ mid) → LoadsIn x → MatchResult r (λ v. later ≡ stops) (λ s. stops ≤ later)
   stops_by (Ok e) same told = subst (λ (n : ℕ). MatchResult r (λ v. later ≡ n) (λ s. n ≤ later)) same told.1
   stops_by (Err s) up told = subst (λ (p : Result Summary Status). MatchResult p (λ v. later ≡ stops) (λ e. stops ≤ later)) (sym told.0) (subst (λ (n : ℕ). stops ≤ n) (sym told.1) up)
 
 -- no status of the load is that of words which aren't understood
-pub load_words : (number : ℕ) (told : Type 0) (k l : LinkState) (stops later : ℕ) (status : Status) → IsLoad number told k l stops later status → status ≢ BadWords
-load_words number told k l stops later status is = λ bad. elim is [
+pub load_words : (number : ℕ) (told : Type 0) (before after : LoadLent) (status : Status) → IsLoad number told before after status → status ≢ BadWords
+load_words number told before after status is = λ bad. elim is [
   | inl not ↦ (elim not.1 [ inl memory ↦ (let no : Status_of.NoMemory ≡ BadWords = sym memory ∙ bad in cc) | inr stopped ↦ (let no : Status_of.Stopped ≡ BadWords = sym stopped.0 ∙ bad in cc) ])
   | inr ran ↦ sent_words ran.3.0 (sym ran.3.2 ∙ bad)
 ]

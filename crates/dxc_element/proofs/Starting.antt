@@ -45,7 +45,7 @@ kept_by opener_told name before mid after opened (Open d) is closed same hands t
 kept_by {D} opener_told name before mid after opened Failed is closed same hands t = subst (λ (x : Opened D). Hands x (mid name) (after name)) is (hands t) ∙ same t name
 kept_by {D} opener_told name before mid after opened unopened.NoMemory is closed same hands t = subst (λ (x : Opened D). Hands x (mid name) (after name)) is (hands t) ∙ same t name
 
--- what couldn't be opened behind an earlier call
+-- what couldn't be opened after an earlier call
 pub unopened_behind : (faults mid later : ℕ) (status : Status) → faults ≤ mid → IsUnopened mid later status → IsUnopened faults later status
 unopened_behind faults mid later status low none = elim none [ inl m ↦ inl m | inr f ↦ inr (f.0, rose_behind faults mid later low f.1) ]
 
