@@ -63,10 +63,7 @@ pub(crate) fn consult<U: Disk + Drop, G: Gate, N: Notes, R: Wait>(
             log_in(users, user, uid.text(unit), pid.text(unit), ask, rt);
             Ok(())
         }
-        Meaning::Users => {
-            *ask = ask_users(users, user, tag, gate, notes, rt)?;
-            Ok(())
-        }
+        Meaning::Users => ask_users(users, user, tag, ask, gate, notes, rt),
     }
 }
 
@@ -124,33 +121,41 @@ fn log_in_as(user: &SessionUser, uid: Uid, class: Class) -> Ask
     }
 }
 
-/// Asks of the users what was put down for them.
+/// Asks of the users what was put down for them, and puts down what that asks of the session.
 // Apart, since an operation on them holds a PID, and a unit that asks for none clears no room of it.
 #[inline(never)]
 fn ask_users<U: Disk + Drop, G: Gate, N: Notes, R: Wait>(
     users: &mut UserDesk<U>,
     user: &SessionUser,
     tag: &Option<Ctag>,
+    ask: &mut Ask,
     gate: &mut G,
     notes: &mut N,
     rt: &R,
-) -> Result<Ask, Stopped>
+) -> Result<(), Stopped>
     requires named { IfOk users.old.asked.op NamesUid }
     requires command { IfOk users.old.asked.op IsCommand }
     requires no_rows { users.old.rows.items ≡ [] }
     ensures same { IsSameUserSeat users.old.seat users.new.seat }
     ensures asked { AskedAt users.old.seat (users_want users.old.asked.op)
         (λ x. users_ask x users.old.asked.op)
-        (left users.new.rows.items users.new.seat.seen (G.asked gate.old gate.new)) result }
+        (left users.new.rows.items users.new.seat.seen (G.asked gate.old gate.new))
+        (put_down result ask.new) }
     ensures noted { UsersNoted (N.noted notes.old notes.new) user.now tag.now
-        (users_want users.old.asked.op) result }
-    ensures apt { (d : Dimensions) → IfOk result (IsAptAsk d) }
+        (users_want users.old.asked.op) (put_down result ask.new) }
+    ensures apt { (d : Dimensions) → IfOk (put_down result ask.new) (IsAptAsk d) }
     ensures stopped { RoseOnlyFor (G.stops gate.old) (G.stops gate.new) (IsErr result) }
 {
     users.secrets.hear_command();
     match users.asked.take() {
-        Ok(op) => on_users(users, user, tag, op, gate, notes, rt),
-        Err(cause) => Ok(Ask::Refused(cause)),
+        Ok(op) => {
+            *ask = on_users(users, user, tag, op, gate, notes, rt)?;
+            Ok(())
+        }
+        Err(cause) => {
+            *ask = Ask::Refused(cause);
+            Ok(())
+        }
     }
 }
 

@@ -1,12 +1,7 @@
-use Rattle.std.specs.Prelude.{IfOk, is_err}
-use Rattle.std.proofs.Common.{◌≡◌, ℕ, Bool, true, List, Ok, Err, Result, refl, sym, ◌∙◌, ap, subst}
-use Rattle.dxc_causes.specs.Stops.{RoseOnlyFor}
-use Rattle.dxc_outside.specs.declared.stopped.Stopped.{Stopped}
+use Rattle.std.proofs.Common.{ℕ, List, Ok, refl, sym, ap, subst}
 use Rattle.tl1_text.specs.Spans.{text_at}
 use Rattle.tl1_command.specs.Meanings.{acts}
-use Rattle.craft_session.specs.declared.ask.Ask.{Ask}
 use Rattle.craft_session.specs.declared.ask.Meaning.{Meaning}
-use Rattle.craft_session.specs.Asks.{IsAptAsk}
 use Rattle.craft_session.specs.Desks.{put_down}
 use Rattle.craft_session.specs.Gated.{NothingAsked}
 use Rattle.craft_session.specs.Hearing.{AskedIs, IsAsked, unasked}
@@ -15,7 +10,7 @@ use Rattle.craft_session.specs.Noted.{UsersNoted}
 use Rattle.craft_session.specs.Readings.{IsAptIn, asked_in, wanted_in}
 use Rattle.craft_session.proofs.Asking.{asked_beside}
 use Rattle.craft_session.proofs.Consulted.{asked_nothing}
-use Rattle.craft_session.proofs.Ends.{by_stop, never, still}
+use Rattle.craft_session.proofs.Ends.{still}
 use Rattle.craft_session.proofs.Noted.{noted_nothing, noted_session}
 use Rattle.craft_session.proofs.user_commands.consult.Goals as goal
 
@@ -60,8 +55,8 @@ returns-in-LogIn g c =
       stopped = still _ _ refl;
     }
 
-pub returns-in_err-ask_users : goal.returns-in_err-ask_users
-returns-in_err-ask_users g c =
+pub returns-in-Users : goal.returns-in-Users
+returns-in-Users g c =
     let user = c.args.user.now in
     let unit = c.args.unit.now in
     let ask = c.args.ask.now in
@@ -72,35 +67,11 @@ returns-in_err-ask_users g c =
     let seen = c.ask_users.new.users.seat.seen in
     let gate = g.G.Gate.asked c.args.gate.now c.ask_users.new.gate in
     let noted = g.N.Notes.noted c.args.notes.now c.ask_users.new.notes in
-    let stop = c.from_residual.ensures.0 in
     let is = c.in-Users.is in
     record {
       same = r.same;
-      asked = by_stop (λ (x : Result (Unit {0}) Stopped). AskedIs seat (wanted_in user unit op c.args.meaning) (asked_in user unit ask op c.args.meaning) rows seen gate (put_down x ask)) c.from_residual.result stop
-          (subst (λ (m : Meaning). AskedIs seat (wanted_in user unit op m) (asked_in user unit ask op m) rows seen gate (Err _)) (sym is) (subst (λ (x : Result Ask Stopped). AskedIs seat (wanted_in user unit op _) (asked_in user unit ask op _) rows seen gate x) c.in_err-ask_users.was r.asked));
-      noted = by_stop (λ (x : Result (Unit {0}) Stopped). UsersNoted noted user c.args.tag.now (wanted_in user unit op c.args.meaning) (put_down x ask)) c.from_residual.result stop
-          (subst (λ (x : Result Ask Stopped). UsersNoted noted user c.args.tag.now (wanted_in user unit op c.args.meaning) x) c.in_err-ask_users.was (subst (λ (m : Meaning). UsersNoted noted user c.args.tag.now (wanted_in user unit op m) c.ask_users.result) (sym is) r.noted));
-      apt = λ d fit. by_stop (λ (x : Result (Unit {0}) Stopped). IfOk (put_down x ask) (IsAptAsk d)) c.from_residual.result stop tt;
-      stopped = subst (λ (b : Bool). RoseOnlyFor (g.G.Gate.stops c.args.gate.now) (g.G.Gate.stops c.ask_users.new.gate) (b ≡ true)) (ap is_err c.in_err-ask_users.was ∙ sym stop) r.stopped;
-    }
-
-pub returns-in-Users : goal.returns-in-Users
-returns-in-Users g c =
-    let user = c.args.user.now in
-    let unit = c.args.unit.now in
-    let ask = c.args.ask.now in
-    let op = c.args.users.now.asked.op in
-    let seat = c.args.users.now.seat in
-    let r = c.in_ok-ask_users.ensures in
-    let rows = c.ask_users.new.users.rows.items in
-    let seen = c.ask_users.new.users.seat.seen in
-    let gate = g.G.Gate.asked c.args.gate.now c.ask_users.new.gate in
-    let noted = g.N.Notes.noted c.args.notes.now c.ask_users.new.notes in
-    let is = c.in-Users.is in
-    record {
-      same = c.ask_users.ensures.same;
-      asked = subst (λ (m : Meaning). AskedIs seat (wanted_in user unit op m) (asked_in user unit ask op m) rows seen gate (Ok _)) (sym is) r.asked;
-      noted = subst (λ (m : Meaning). UsersNoted noted user c.args.tag.now (wanted_in user unit op m) (Ok _)) (sym is) r.noted;
+      asked = subst (λ (m : Meaning). AskedIs seat (wanted_in user unit op m) (asked_in user unit ask op m) rows seen gate (put_down c.ask_users.result c.ask_users.new.ask)) (sym is) r.asked;
+      noted = subst (λ (m : Meaning). UsersNoted noted user c.args.tag.now (wanted_in user unit op m) (put_down c.ask_users.result c.ask_users.new.ask)) (sym is) r.noted;
       apt = λ d fit. r.apt d;
-      stopped = still _ _ (r.stopped.only (λ e. never e));
+      stopped = r.stopped;
     }
