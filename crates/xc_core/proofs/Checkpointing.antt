@@ -67,7 +67,7 @@ pub draft_left : (told : Type 0) (old new : DiskState) (before after : Book) (b 
     → LeavesOnly old new (IsOldOrDoubted b doubt)
 draft_left told old new before after b doubt shape home t result lines drafts = may_called told old before b doubt shape home t new drafts.any_moment
 
--- the rows of a table and its legs, behind a header of its equipment, stand for it
+-- the rows of a table and its legs, after a header of its equipment, stand for it
 pub rows_so_far : (b : Past) (t : Board) (c : Colouring) (book : Book) (lines : List (List ℕ)) → IsTable b t c → IsPlaced t c → IsOfShape t → AllByRecursion FitsConn t.conns → modules_in t.shape (draft_of book.spare).equipped ≡ t.equipped → lines ≡ checkpoint t c → IsSoFar b (next_head book) lines
 rows_so_far b t c book lines is placed of_shape fits equipment lines_are =
     let stand = checkpoints_stand t c (draft_of book.spare).equipped placed of_shape fits equipment in
@@ -160,7 +160,7 @@ drafted_as (Tried d) e none = absurd (never refl e)
 pub draft_begun : (book : Book) → is_drafted book.spare ≡ true → (draft_of book.spare).rows ≡ 0 → book ≡ record book { spare = Drafted (record { equipped = (draft_of book.spare).equipped; rows = 0 }) }
 draft_begun book drafted none = λ i. record book { spare = drafted_as book.spare drafted none i }
 
--- behind the last row there is none
+-- after the last row there is none
 pub all_rows : (rs : List (List ℕ)) (i : ℕ) → slice_get rs i ≡ None → i ≤ length rs → (i ≡ length rs) × (take i rs ≡ rs)
 all_rows [] zero none low = (refl, refl)
 all_rows [] (suc i) none low = absurd (let z : ⊥ = omega arith in z)

@@ -1,4 +1,4 @@
--- The Provisioner behind a stop, and its recovery on the way.
+-- The Provisioner after a stop, and its recovery on the way.
 use Rattle.std.proofs.Common.{append-nil, ◌≡◌, inl, inr, ℕ, ◌+◌, ◌<◌, ◌≤◌, ◌^◌, true, false, List, [], ◌∷◌, ◌++◌, length, Option, Some, None, sym, refl, ap, ◌∙◌, subst, arith}
 use Rattle.std.specs.List.{AllByRecursion}
 use Rattle.dxc_num.specs.Dimensions.{Dimensions}
@@ -56,7 +56,7 @@ use Rattle.xc_core.proofs.Rolling.{within}
 abbrev no_work : Work
 no_work = record { ops = record { items = [] } }
 
--- what stands behind where a change is taken up
+-- what there is after a change was taken up
 module _ (b : Past) (doubt : Option Op) where
   pub taken_few : (lacking : Option Change) (g : Past) → b.fold.switches ≤ 2 ^ 48 → TakesUp b doubt lacking g → g.fold.switches ≤ 2 ^ 48
   taken_few None g few is = subst (λ (x : Past). x.fold.switches ≤ 2 ^ 48) (sym is) few
@@ -67,7 +67,7 @@ module _ (b : Past) (doubt : Option Op) where
   op_same : {x y : Op} → Some x ≡ Some y → x ≡ y
   op_same e = cc
 
-  -- the list with the change's record comes to what stands behind it, by its work at last
+  -- the list with the change's record comes to what there is after it, by its work at last
   pub taken_more : (c : Change) (g : Past) → TakesUp b doubt (Some c) g → (head : Head) (records : List (List ℕ)) → IsListOf b doubt (Some c) head records → ComesTo b.fold.table.shape head records g.fold.table g.fold.colours g.fold.work
   taken_more c g (op, asked, granted, met, is) head records (x, ask, held) =
       let t = b.fold.table in
@@ -279,7 +279,7 @@ module _ {D : Type 0} (told : Type 0) (state : D → DiskState) (b : Past) where
             doubt = refl;
           }
 
-  -- behind a work alone nothing comes
+  -- after a work alone nothing comes
   pub alone_left : (c : Colouring) (m : Mover) (r : RollingAt) → r.behind ≡ Nothing → left_of c m r ≡ rest_of r
   alone_left c m r alone = ap (λ (x : Behind). rest_of r ++ left_behind c (legs_then m r) x) alone ∙ append-nil (rest_of r)
 

@@ -128,7 +128,7 @@ bad_record d h a b book i t c left same disk whole mended still old new bad =
       },
     )
 
--- the moments of an opening, and of looks behind it
+-- the moments of an opening, and of looks after it
 pub leaves_opened : (shelf : Contents) (a b c : DiskState) (result : Result Book JournalWhy) → IsDisk b → ((IsNew a.reads_as → ⊥) → OpensOld shelf.shape a b result) → (IsNew a.reads_as → OpensNew shelf.shape (made_head shelf.equipped) a b result)
     → Looks b c → LeavesOpened shelf a c
 leaves_opened shelf a b c result disk old new looks = record {

@@ -1,4 +1,4 @@
--- What was read of the journal, beside what stands behind the changes, and where the registers are on its last work.
+-- What was read of the journal, beside what there is after the changes, and where the registers are on its last work.
 use Rattle.std.specs.Prelude.{IfSome}
 use Rattle.std.proofs.Common.{◌≡◌, ◌≢◌, inr, ℕ, ◌<◌, ◌≤◌, ◌^◌, List, length, Option, Some, None, sym, refl, ap, ◌∙◌, subst, arith}
 use Rattle.dxc_disk.specs.Disks.{DiskState}
@@ -85,7 +85,7 @@ module _ {D : Type 0} (told : Type 0) (state : D → DiskState) (b : Past) (p : 
     abbrev way : HasWay b p
     way = (h.listed_is t).known.way
 
-    -- what was read is what the journal lists, which comes to what stands behind the way
+    -- what was read is what the journal lists, which comes to what there is after the way
     read_by : (l : Option Change) (g : Past) → TakesUp b p.doubt l g → IsListOf b p.doubt l p.journal.1.head h.records → (p.replayed.table ≡ g.fold.table) × (p.replayed.matrix ≡ g.fold.colours) × IsWorkOf state b p h.halted.past p.replayed.matrix ops way_shape l g
     read_by None g taken is =
         let came : IsSoFar b p.journal.1.head h.records = is in

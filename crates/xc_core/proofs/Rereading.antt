@@ -262,7 +262,7 @@ none_bad d e records u t a c ops i comes low reached bad =
     let next = parts.2 in
     bad next.0 next.1 (subst (λ (f : Folded). Makes (version_number v) f.table f.colours (as_read v (get_or records i [])) next.0 next.1) same next.2)
 
--- What a replay behind a reading that succeeded comes to.
+-- What a replay after a reading that succeeded comes to.
 module _ {D : Type 0} (told : Type 0) (state : D → DiskState) (b : Past) (p : Provisioner D) (h : IsHalted told state b p) (j : D × Book) (replayed : Replayed) (whole_book : IsWhole j.1) (shape : j.1.shape ≡ p.journal.1.shape) (room : HasRoom p.journal.1.shape replayed)
     (whole : j.1.to_mend ≡ false) (still : j.1.turning ≡ false) (kept : told → IsKept (state j.0) j.1) (settled : told → IsSettled (state j.0)) (stands : told → Stands p.journal.1.shape j.1.head (listed j.1 (state j.0).reads_as) (state p.journal.0).reads_as)
     (found : told → MayStand p.journal.1 (listed p.journal.1 (state p.journal.0).reads_as) (doubted p.journal.1 (state p.journal.0).reads_as) (rows p.journal.1 (state p.journal.0).reads_as) (state p.journal.0).reads_as) where
@@ -299,7 +299,7 @@ module _ {D : Type 0} (told : Type 0) (state : D → DiskState) (b : Past) (p : 
       let same : w.past.fold.table.shape ≡ j.1.shape = (taken_placed b p.doubt h.past.placed w.lacking w.past w.taken).0 ∙ (h.past.shape ∙ sym shape) in
       none_bad j.1.shape j.1.head records w.past.fold.table replayed.table w.past.fold.colours replayed.matrix came.0 i (subst (λ (d : Dimensions). ComesTo d j.1.head records w.past.fold.table w.past.fold.colours came.0) same came.1) bad.0 bad.1 bad.2
 
--- what a replay read, of the journal behind it
+-- what a replay read, of the journal after it
 pub lift_read : (told : Type 0) (k l : Book) (file now : List ℕ) (t : Board) (c : Colouring) (result : Result Work ReplayFault) → l ≡ k → (told → now ≡ file)
     → IfOk result (λ w. (records : List (List ℕ)) × (length records ≡ k.count) × (told → records ≡ listed k file) × ComesTo k.shape k.head records t c w.ops.items)
     → IfOk result (λ w. (records : List (List ℕ)) × (length records ≡ l.count) × (told → records ≡ listed l now) × ComesTo l.shape l.head records t c w.ops.items)
@@ -319,7 +319,7 @@ lift_replay k l t c result same is = subst (λ (x : Book). (records : List (List
 pub read_room : (d : Dimensions) (e : Head) (records : List (List ℕ)) (result : Result Work ReplayFault) (t : Board) (c : Colouring) (s : Replayed) (f : Dimensions) → d ≡ f → HasRoom f s → Replays d e records result t c → HasRoom f (record s { matrix = c; table = t })
 read_room d e records result t c s f same room is = let r = replays_shape d e records result t c is in record { matrix = r.1 ∙ same; table = r.0 ∙ same; expected = room.expected }
 
--- the journal behind a reading that succeeded: mid is the one between
+-- the journal after a reading that succeeded: mid is the one between
 pub record IsReadAnew {D : Type 0} (told : Type 0) (state : D → DiskState) (old mid new : D × Book) : Type 0 where
   pub shape : mid.1.shape ≡ old.1.shape
   pub to_mend : mid.1.to_mend ≡ false
@@ -355,6 +355,6 @@ module _ {D : Type 0} (told : Type 0) (state : D → DiskState) (b : Past) (p : 
   pub anew_good : told → (result : Result Work ReplayFault) (i : ℕ) → Replays j.1.shape j.1.head (listed j.1 (state j.0).reads_as) result replayed.table replayed.matrix → result ≢ Err (BadRecord i)
   anew_good = never_bad told state b p h j replayed read_book read_shape room read_whole read_still r.kept r.settled r.stands r.found
 
--- what a reading keeps, it keeps behind a look
+-- what a reading keeps, it keeps after a look
 pub read_on : (a b c : DiskState) (book : Book) → IsDisk b → Keeps a b book → Looks b c → Keeps a c book
 read_on a b c book disk keeps looks = looked_on a b c (λ x. Continues book.shape book.head (listed book a.reads_as) x ⊎ ((is_tried book.spare ≡ true) × Stands book.shape (next_head book) (rows book a.reads_as) x)) disk keeps looks

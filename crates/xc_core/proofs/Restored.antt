@@ -53,7 +53,7 @@ module _ {D : Type 0} (told : Type 0) (state : D → DiskState) (counts : (d : D
   pub was_ready : (own : ℕ) (asked : Op) → ((p.halted ≡ true) ⊎ (asked ≡ Restart) → ⊥) → HeldIs told state o own h asked (with_home (In d) s) held.Waits
   was_ready own asked not = (stands_back told state counts o s h st (In d) is, inr (λ same. not (inr same), elim (found_stage told state o s h st d is) [ inl a ↦ a.1 | inr b ↦ absurd (not (inl b.0.halted)) ]))
 
-  -- it keeps what stands behind the changes
+  -- it keeps what there is after the changes
   pub keeps_found : KeepsPast st.now p
   keeps_found = elim (found_stage told state o s h st d is) [ inl a ↦ a.0.past | inr a ↦ a.0.past ]
 
@@ -65,7 +65,7 @@ module _ {D : Type 0} (told : Type 0) (state : D → DiskState) (counts : (d : D
       (subst (λ (x : Provisioner D). IsReadyOrHalted told state st.now h x) (sym same) (stage_replayed told state st.now p (record p.replayed { expected = e }) room h (found_stage told state o s h st d is)))
       (ap (λ (x : Provisioner D). x.replayed.expected) same ∙ copied)
 
--- what settling and recovering left of a Provisioner that was taken out: m behind the one, q behind both
+-- what settling and recovering left of a Provisioner that was taken out: m after the one, q after both
 module _ {D : Type 0} (told : Type 0) (state : D → DiskState) (o : Opening) (own : ℕ) (asked : Op) (h : List Entry) (p m : Provisioner D) (x : HasHeld told state o own asked h p) (driven : IsDriven asked)
     (ground : ground_of m ≡ ground_of p) (kept : StillDoubts p m) (later : (state p.journal.0).faults ≤ (state m.journal.0).faults) (spent : Spends 3 (state p.journal.0) (state m.journal.0)) where
   -- the settling failed

@@ -50,7 +50,7 @@ abbrev pub IsCold : Size → Mover → List LegOp → Colouring → ℕ → Type
 IsCold z m ops c switches = (before : Colouring) (s : ℕ) → IsLastWork before ops c → s ≤ length (ops_writes ops) → IsMidway z before (ops_writes ops) s m → length m.log + switches_in (drop s (ops_writes ops)) ≢ switches
 
 module _ {D : Type 0} (told : Type 0) (state : D → DiskState) where
-  -- what the journal lists is what stands behind a way on which the registers are, and no crash takes anything back
+  -- what the journal lists is what there is after a way on which the registers are, and no crash takes anything back
   pub record IsListed (b : Past) (p : Provisioner D) : Type 0 where
     pub known : IsKnown told state b p
     pub journalled : IsJournalled told (state p.journal.0) p.journal.1 (IsListOf b p.doubt known.way.lacking)
@@ -66,7 +66,7 @@ module _ {D : Type 0} (told : Type 0) (state : D → DiskState) where
     pub records_are : told → records ≡ listed p.journal.1 (state p.journal.0).reads_as
     pub comes : ComesTo p.journal.1.shape p.journal.1.head records p.replayed.table p.replayed.matrix ops
 
-  -- they give what stands behind then
+  -- they give what there is then
   pub record Finds (b : Past) (p : Provisioner D) (lacking : Option Change) (g : Past) (ops : List LegOp) : Type 0 where
     pub records : List (List ℕ)
     pub number : length records ≡ p.journal.1.count
@@ -101,7 +101,7 @@ ResumedIs z m ops c switches (recovered.Cold r) = IsCold z m ops c switches × I
 ResumedIs z m ops c switches (recovered.Astray i) = ⊥
 ResumedIs z m ops c switches recovered.Fault = ⊥
 
--- the rest of a work behind so many writes, if so many switches will have been made; or a cold rolling, from this phase on
+-- the rest of a work after so many writes, if so many switches will have been made; or a cold rolling, from this phase on
 abbrev pub RestIs : Work → ℕ → Phase → ℕ → ℕ → Recovered → Type 0
 RestIs w made phase now switches (recovered.Warm r) = (r ≡ record { work = w; step = made; behind = Nothing }) × (now + switches_in (drop made (writes_of w)) ≡ switches)
 RestIs w made phase now switches (recovered.Cold r) = (now + switches_in (drop made (writes_of w)) ≢ switches) × IsColdFrom phase r

@@ -52,13 +52,13 @@ pub record Saw (o : Opening) (seen : List Gv) (h : List Entry) : Type 0 where
 abbrev pub Rests : ℕ → List Entry → Type 0
 Rests own h = (t : Entry) → holder None h ≡ Some t → t.place ≢ own
 
--- behind the history stand others' entries, and then this one
+-- after the history stand others' entries, and then this one
 pub record Turned (o : Opening) (own : ℕ) (h : List Entry) (e : Entry) (then_seen : List Gv) : Type 0 where
   pub later : List Entry
   pub others : Each (λ x. x.place ≢ own) later
   pub saw : Saw o then_seen ((h ++ later) ++ e ∷ [])
 
--- behind it stand others' entries alone
+-- after it stand others' entries alone
 pub record TurnedBack (o : Opening) (own : ℕ) (h : List Entry) (then_seen : List Gv) : Type 0 where
   pub later : List Entry
   pub others : Each (λ x. x.place ≢ own) later
@@ -82,7 +82,7 @@ IsOfStop None h = Unit {0}
 IsOfStop (Some c) h = IsStopped h
 
 module _ {D : Type 0} (told : Type 0) (state : D → DiskState) where
-  -- a place has the Provisioner out for this operation, and all that stands behind it is as when it was taken
+  -- a place has the Provisioner out for this operation, and all that stands after it is as when it was taken
   pub record IsOut (o : Opening) (own : ℕ) (op : Op) (h : List Entry) (p : Provisioner D) : Type 0 where
     pub now : Past
     pub reckoned : ReckonsTo o.first (changes_of h) now

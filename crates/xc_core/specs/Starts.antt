@@ -59,7 +59,7 @@ pub record IsStart {D : Type 0} (told : Type 0) (state : D → DiskState) (shelf
   pub comes : ComesTo journal.1.shape journal.1.head records x.table x.p.matrix x.last.ops.items
   pub room : HasRoom shelf.shape x.p.replayed
 
--- the same, with its Provisioner behind a box
+-- the same, with its Provisioner in a box
 pub record IsHoused {D : Type 0} (x : Start D) (h : Housed D) : Type 0 where
   pub table : h.beside.table ≡ x.table
   pub reports : h.beside.reports ≡ x.reports

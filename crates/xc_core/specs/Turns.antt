@@ -82,14 +82,14 @@ abbrev pub MayNotRestart : Op → List Entry → Type 0
 MayNotRestart asked h = IsLent h ⊎ ((asked ≢ Restart) × (IsStopped h → ⊥))
 
 module _ {D : Type 0} (told : Type 0) (state : D → DiskState) where
-  -- the state of a turn in which a change was to begin, behind the history
+  -- the state of a turn in which a change was to begin, after the history
   abbrev pub TakenIs : Opening → ℕ → List Entry → Op → State D → Took D → Type 0
   TakenIs o own h op s (Rolling d bytes) = StandsFor told state o s (h ++ entry own op Taken ∷ []) × HasPlan told state o own (h ++ entry own op Taken ∷ []) d.value.p (plan_of op d.value.rolling bytes)
   TakenIs o own h op s (Denied q) = StandsFor told state o s (h ++ entry own op (refused q) ∷ []) × (IsStopped h → ⊥) × (IsFault q → ⊥)
   TakenIs o own h op s Halted = StandsFor told state o s h × IsRestartDue h
   TakenIs o own h op s Waits = StandsFor told state o s h × IsLent h
 
-  -- what the place has seen behind it
+  -- what the place has seen after it
   abbrev pub TookIs : Opening → ℕ → List Entry → Op → List Gv → Took D → Type 0
   TookIs o own h op then_seen (Rolling d bytes) = (t : Turned o own h (entry own op Taken) then_seen) × HasPlan told state o own ((h ++ t.later) ++ entry own op Taken ∷ []) d.value.p (plan_of op d.value.rolling bytes)
   TookIs o own h op then_seen (Denied q) = (t : Turned o own h (entry own op (refused q)) then_seen) × (IsStopped (h ++ t.later) → ⊥) × (IsFault q → ⊥)
@@ -101,7 +101,7 @@ module _ {D : Type 0} (told : Type 0) (state : D → DiskState) where
   HeldIs o own h asked s (held.Held d) = StandsFor told state o s (h ++ entry own Restart Taken ∷ []) × HasHeld told state o own asked (h ++ entry own Restart Taken ∷ []) d.value.p
   HeldIs o own h asked s held.Waits = StandsFor told state o s h × MayNotRestart asked h
 
-  -- what the place has seen behind it
+  -- what the place has seen after it
   abbrev pub HoldIs : Opening → ℕ → List Entry → Op → List Gv → Held D → Type 0
   HoldIs o own h asked then_seen (held.Held d) = (t : Turned o own h (entry own Restart Taken) then_seen) × HasHeld told state o own asked ((h ++ t.later) ++ entry own Restart Taken ∷ []) d.value.p
   HoldIs o own h asked then_seen held.Waits = (t : TurnedBack o own h then_seen) × MayNotRestart asked (h ++ t.later)
@@ -140,7 +140,7 @@ RestartCutIs o own h asked then_seen = (t : Turned o own h (entry own Restart Cu
 abbrev pub RowsAre : Opening → ℕ → List Entry → Selection → List Gv → List Conn → Type 0
 RowsAre o own h which then_seen given = (t : Turned o own h (entry own (Rows which) Answered) then_seen) × (given ≡ rows (table_after o.first.fold.table (h ++ t.later)) which)
 
--- the changes behind the cursor, of those before the place's entry, and how many those are
+-- the changes after the cursor, of those before the place's entry, and how many those are
 abbrev pub LookIs : Opening → ℕ → List Entry → ℕ → List Gv → Looked → List Change → Type 0
 LookIs o own h cursor then_seen looked given = (t : Turned o own h (entry own (Look cursor) Answered) then_seen) × SinceIs (recent_of (changes_of (h ++ t.later))) (min cursor (length (changes_of (h ++ t.later)))) looked.since given × (looked.newest ≡ length (changes_of (h ++ t.later)))
 

@@ -38,7 +38,7 @@ const MOST_SWITCHES: u64 = 1 << 48;
 
 // How many switches will have been made with the rest of the last record's work, which led to the matrix. None: the registers are at no stage
 // of it, or there are no numbers for so many.
-fn switches_behind(
+fn switches_after(
     matrix: &mut Matrix,
     mover: &mut MoverSeat,
     fabric: &Fabric,
@@ -105,7 +105,7 @@ impl Core {
             Ok(read) => read,
             Err(fault) => return Adopted::Open(fault),
         };
-        let found = switches_behind(&mut read.p.matrix, &mut read.p.mover, fabric, &read.last);
+        let found = switches_after(&mut read.p.matrix, &mut read.p.mover, fabric, &read.last);
         let Some(switches) = found else {
             let (disk, mover) = release(read.p);
             return Adopted::Strange(disk, mover);

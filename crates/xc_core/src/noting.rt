@@ -11,7 +11,7 @@ ghost use Rattle.xc_core.specs.Reckonings.{Past};
 ghost use Rattle.xc_core.specs.Journals.{IsCounted, IsOldOrOneMore};
 ghost use Rattle.xc_core.specs.Provisioners.{IsHome, ground_of};
 ghost use Rattle.xc_core.specs.Begins.{IsCopied, MayNote, plan_of};
-ghost use Rattle.xc_core.specs.Gathered.{NotedAs, planned_behind};
+ghost use Rattle.xc_core.specs.Gathered.{NotedAs, planned_after};
 
 use crate::keep::make_ready;
 use crate::provisioner::Provisioner;
@@ -51,7 +51,7 @@ pub fn note<D: Disk, G: Gate>(
     ensures asked { G.asked gate.old gate.new (Journal ∷ []) }
     ensures noted { (b : Past) → let plan = plan_of op.now rolling.value bytes.now in
         MayNote D.told D.state b p.old plan
-        → NotedAs D.Disk (planned_behind b plan) p.old p.new result }
+        → NotedAs D.Disk (planned_after b plan) p.old p.new result }
     // A crash at any moment leaves the changes so far, or one more.
     ensures any_moment { D.told → (b : Past)
         → MayNote D.told D.state b p.old (plan_of op.now rolling.value bytes.now) → LeavesOnly

@@ -40,7 +40,7 @@ pub fn rows<D: Disk + Drop, R: Wait>(
     turns.leave(pass, turn, Entry { place, op, outcome });
 }
 
-/// Gives the changes behind a number; none where that is past the newest.
+/// Gives the changes after a number; none where that is past the newest.
 pub fn look<D: Disk + Drop, R: Wait>(
     pass: &mut Pass,
     turns: &Turnstile<State<D>>,

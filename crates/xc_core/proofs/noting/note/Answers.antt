@@ -28,7 +28,7 @@ use Rattle.xc_core.proofs.noting.note.Goals.{After-append, After-make_ready}
 rolling_no_fault : ◌≢◌ {A = Result Noted Stopped} (Ok noted.Rolling) (Ok noted.Fault)
 rolling_no_fault is = cc
 
--- the place behind the call that made it ready
+-- the place after the call that made it ready
 abbrev made_ready : (g : given.Over) → After-append g → After-make_ready g
 made_ready g c = c.before.before.before.before.before
 
@@ -102,7 +102,7 @@ returns-in-Ok-append-clause-any_moment g c = λ told b m. appended_left g c.befo
 pub returns-in-Err-append-clause-any_moment : goal.returns-in-Err-append-clause-any_moment
 returns-in-Err-append-clause-any_moment g c = λ told b m. appended_left g c.before told b m
 
--- behind a journal that was made ready
+-- after a journal that was made ready
 appended_counted : (g : given.Over) (c : After-append g) → g.D.Disk.told → (b : Past) → IsHome g.D.Disk.told g.D.Disk.state b c.args.p.now → IsCopied b c.args.p.now → LeavesOnly (g.D.Disk.state c.args.p.now.journal.0) (g.D.Disk.state c.append.new.self.0) (IsCounted (g.D.Disk.state c.args.p.now.journal.0) c.args.p.now.journal.1 b.fold.table c.args.p.now.matrix)
 appended_counted g c told b h copied =
     let q = c.args.p.now in

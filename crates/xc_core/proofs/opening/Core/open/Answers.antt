@@ -43,7 +43,7 @@ join_all-requires-clause-proper g c =
     let r = c.in-Ok.ensures.ok in
     subst IsProperColouring (sym (ap (λ (p : Provisioner g.row.D.Denot). p.matrix) e)) (matrix_proper g.D.Disk.told g.D.Disk.state c.args.shelf.now (g.D.Disk.state c.args.disk) c.args.mover c.in-Ok.read r (λ told. g.met.D.Disk.is_disk r.journal.0 told))
 
--- the box behind the joins, as its origin has it
+-- the box after the joins, as its origin has it
 abbrev joined_in : (g : given.Over) → goal.After-begun g → Boxed g.row.D.Denot
 joined_in g c = with_value c.in-Ok-house.housed.driver (record { p = c.join_all.new.p; rolling = c.deref_mut.result.now.rolling })
 

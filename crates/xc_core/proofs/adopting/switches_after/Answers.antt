@@ -1,7 +1,7 @@
 use Rattle.std.proofs.Common.{◌≡◌, length, ap, ◌∙◌, arith}
 use Rattle.fabric_words.specs.Seats.{MoverAt}
 use Rattle.xc_core.proofs.Staged.{switches_at, switches_past}
-use Rattle.xc_core.proofs.adopting.switches_behind.Goals as goal
+use Rattle.xc_core.proofs.adopting.switches_after.Goals as goal
 
 pub returns-then-all-gt-MOST_SWITCHES-clause-switches : goal.returns-then-all-gt-MOST_SWITCHES-clause-switches
 returns-then-all-gt-MOST_SWITCHES-clause-switches c =
