@@ -5,7 +5,6 @@ use Rattle.std.specs.Arc.{arc_value}
 use Rattle.dxc_causes.specs.Causes.{Counted, Rose}
 use Rattle.dxc_disk.specs.declared.mem_disk.MemDisk.{MemDisk}
 use Rattle.dxc_disk.specs.Disks.{DiskState}
-use Rattle.dxc_disk.specs.MemView.{mem_state}
 use Rattle.dxc_num.specs.Dimensions.{ports}
 use Rattle.dxc_outside.specs.Links.{LinkState}
 use Rattle.dxc_model.specs.declared.entry.Entry.{Entry}
@@ -28,7 +27,6 @@ use Rattle.craft_session.specs.Seats.{PlaceAt, SeatAt, seat_at}
 use Rattle.craft_session.proofs.Scripts.{script_seen}
 use Rattle.dxc_load.specs.declared.disk.LoadDisk.{LoadDisk}
 use Rattle.dxc_load.specs.declared.summary.Summary.{Summary}
-use Rattle.dxc_load.specs.Storing.{load_disk}
 use Rattle.dxc_load.specs.Sending.{fabric_of, link_state, unread}
 use Rattle.dxc_args.specs.declared.status.Status.{Status}
 use Rattle.dxc_args.specs.declared.status.Status.TheVariants.{BadWords}

@@ -6,7 +6,6 @@ use Rattle.dxc_disk.specs.declared.mem_disk.MemDisk.{MemDisk}
 use Rattle.dxc_disk.specs.MemView.{mem_state}
 use Rattle.dxc_model.specs.declared.user.SessionUser.{SessionUser}
 use Rattle.dxc_model.specs.Equipment.{empty_table}
-use Rattle.dxc_model.specs.Tables.{Board}
 use Rattle.dxc_num.specs.Dimensions.{Dimensions}
 use Rattle.dxc_outside.specs.declared.clock.Moment.{Moment}
 use Rattle.dxc_outside.specs.Links.{LinkState}

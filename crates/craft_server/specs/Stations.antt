@@ -1,7 +1,5 @@
 -- What `script` does with what it is lent.
-use Rattle.std.specs.Prelude.{◌≡◌, ◌⊎◌, ℕ, List}
-use Rattle.dxc_outside.specs.declared.clock.Moment.{Moment}
-use Rattle.dxc_outside.specs.Links.{LinkState}
+use Rattle.std.specs.Prelude.{◌≡◌, ◌⊎◌}
 use Rattle.dxc_model.specs.declared.user.SessionUser.TheVariants.{Nobody}
 use Rattle.dxc_args.specs.declared.status.Status.{Status}
 use Rattle.dxc_element.specs.Openings.{Named, Opens, Sources, sources}

@@ -1,7 +1,6 @@
 -- What a trial did: one session of the user of a new element, alone on new journals in memory.
 use Rattle.std.specs.Prelude.{◌≡◌, ◌⊎◌, ℕ, List, [], Result, MatchResult}
 use Rattle.std.specs.Arc.{arc_value}
-use Rattle.dxc_disk.specs.declared.mem_disk.MemDisk.{MemDisk}
 use Rattle.dxc_disk.specs.Disks.{DiskState}
 use Rattle.dxc_disk.specs.MemView.{mem_state}
 use Rattle.dxc_model.specs.Equipment.{empty_table}

@@ -1,5 +1,5 @@
 //! Sessions and frame workers, side by side.
-ghost use Rattle.std.specs.Prelude.{◌≡◌, ◌≤◌, ◌⊎◌, ◌+◌, ◌++◌, [], ℕ, vec_len, None, IsSome};
+ghost use Rattle.std.specs.Prelude.{◌≡◌, ◌⊎◌, ◌+◌, ◌++◌, [], ℕ, vec_len, None, IsSome};
 ghost use Rattle.dxc_outside.specs.Asked.{AskedFor};
 ghost use Rattle.dxc_outside.specs.Jobs.{any_jobs};
 ghost use Rattle.dxc_jobs.specs.Framed.{RanFrames};

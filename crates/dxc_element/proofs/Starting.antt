@@ -1,5 +1,5 @@
 -- A controller that was opened, or wasn't.
-use Rattle.std.proofs.Common.{◌≡◌, ◌≢◌, ◌⊎◌, ◌≤◌, ℕ, Bool, List, length, length-append, codes, Option, Some, Result, Ok, Err, inl, inr, refl, sym, ◌∙◌, ap, subst, arith}
+use Rattle.std.proofs.Common.{◌≡◌, ◌≢◌, ◌⊎◌, ◌≤◌, ℕ, List, length, length-append, codes, Option, Some, Result, Ok, Err, inl, inr, sym, ◌∙◌, ap, subst, arith}
 use Rattle.std.specs.Prelude.{MatchResult, IfSome}
 use Rattle.std.specs.Arc.{arc_value}
 use Rattle.dxc_causes.specs.Causes.{HasCause, Rose}
@@ -27,7 +27,7 @@ use Rattle.xc_core.specs.States.{Opening, opening_of}
 use Rattle.xc_recovery.proofs.LastWorks.{comes_shape}
 use Rattle.dxc_element.specs.declared.opening.Controller.{Controller}
 use Rattle.dxc_args.specs.declared.status.Status.{Status}
-use Rattle.dxc_args.specs.declared.status.Status.TheVariants.{CannotOpen, NoMemory}
+use Rattle.dxc_args.specs.declared.status.Status.TheVariants.{NoMemory}
 use Rattle.dxc_jobs.proofs.Counting.{rose_behind}
 use Rattle.dxc_element.specs.Openings.{AreUsersNotStarted, AreUsersStarted, Began, Found, HasController, HasOpening, HasUsers, IsKept, IsStarted, IsTaken, IsUnopened, Named, NoController, NoUsers, NotStarted, Opens, Sources, StartFails, users_name}
 

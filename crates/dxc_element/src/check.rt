@@ -1,5 +1,5 @@
 //! What a journal came to, for whoever audits it.
-ghost use Rattle.std.specs.Prelude.{◌≡◌, ◌≢◌, ◌≤◌, flat_map, length, vec_capacity};
+ghost use Rattle.std.specs.Prelude.{◌≡◌, ◌≢◌, ◌≤◌, flat_map, vec_capacity};
 ghost use Rattle.std.specs.List.{AllByRecursion};
 ghost use Rattle.dxc_num.specs.Dimensions.{ports};
 ghost use Rattle.dxc_outside.specs.Asked.{AskedFor};

@@ -1,6 +1,5 @@
 //! A controller whose journals a standby has copies of.
-ghost use Rattle.std.specs.Prelude.{◌≡◌, ◌≢◌, ◌⊎◌, ◌≤◌, ◌<◌, ◌∷◌, [], ℕ, IsOk, List, MatchResult};
-ghost use Rattle.dxc_causes.specs.Causes.{Rose};
+ghost use Rattle.std.specs.Prelude.{◌≡◌, ◌≢◌, ◌≤◌, ◌<◌, ◌∷◌, [], ℕ, IsOk, List, MatchResult};
 ghost use Rattle.dxc_outside.specs.Asked.{AskedFor, shelf_named, journal_named, peer_named};
 ghost use Rattle.dxc_element.specs.Lenders.{lender};
 ghost use Rattle.dxc_element.specs.Openings.{named, sources, users_name as name_of_users, wanted};

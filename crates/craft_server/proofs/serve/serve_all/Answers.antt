@@ -4,7 +4,6 @@ use Rattle.standby_link.specs.declared.mirror_disk.MirrorDisk.{MirrorDisk}
 use Rattle.standby_link.proofs.LineSteps.{none_some}
 use Rattle.user_admin.specs.Histories.{Opening as UsersOpening}
 use Rattle.xc_core.specs.States.{Opening, opening_of}
-use Rattle.dxc_args.specs.declared.status.Status.{Status}
 use Rattle.dxc_outside.specs.Asked.{Asking, AskedFor}
 use Rattle.dxc_outside.proofs.Asking.{all_made, asked_behind, asked_within}
 use Rattle.dxc_jobs.specs.Missing.{IsOfNoOpening}
@@ -15,7 +14,7 @@ use Rattle.dxc_element.proofs.Mirroring.{serves}
 use Rattle.dxc_element.proofs.Starting.{begun, users_began}
 use Rattle.dxc_element.proofs.Wording.{not_mirrored_ends, not_opened_ends}
 use Rattle.craft_server.specs.Askings.{opened_asked, serve_asked, site_asked}
-use Rattle.craft_server.specs.Serving.{ServedSite, SiteAt, jobs_told, names_in, site_at, site_in}
+use Rattle.craft_server.specs.Serving.{ServedSite, jobs_told, names_in, site_at, site_in}
 use Rattle.craft_server.proofs.Mirroring.{alone_by, mirrored_by}
 use Rattle.craft_server.proofs.Serves.{served_on}
 use Rattle.craft_server.proofs.Starting.{ready}

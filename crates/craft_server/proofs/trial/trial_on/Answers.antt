@@ -1,4 +1,4 @@
-use Rattle.std.proofs.Common.{◌≡◌, ◌<◌, ◌∙◌, List, Result, arith, ap, inl, inr, length, refl, subst, sym}
+use Rattle.std.proofs.Common.{◌≡◌, ◌∙◌, List, Result, arith, ap, inl, inr, length, refl, subst, sym}
 use Rattle.dxc_model.specs.declared.user.SessionUser.{SessionUser}
 use Rattle.shelf_file.specs.Contents.{Contents, UserEntry}
 use Rattle.shelf_file.specs.Users.{logged_in}
