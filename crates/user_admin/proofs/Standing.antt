@@ -215,12 +215,15 @@ not_by_disk = by_users (λ q. refused q ≡ Denied q) refl refl refl refl refl
 pub asked_none : (op : UserOp) (users : Users) (q : Cause) → refusal op users ≡ Some q → asked_before q ≡ []
 asked_none = by_users (λ q. asked_before q ≡ []) refl refl refl refl refl
 
+abbrev pub denies : Cause → Result UserDone Stopped
+denies q = Ok (done.Denied q)
+
 abbrev stands_against : Result UserDone Stopped → Bool
 stands_against (Ok (done.Denied DiskFault)) = true
 stands_against _ = false
 
-pub other_than_disk : (op : UserOp) (users : Users) (q : Cause) → refusal op users ≡ Some q → Ok (done.Denied q) ≡ Ok (done.Denied DiskFault) → ⊥
-other_than_disk op users q is same = never (by_users (λ q. stands_against (Ok (done.Denied q)) ≡ false) refl refl refl refl refl op users q is) (ap stands_against same)
+pub other_than_disk : (op : UserOp) (users : Users) (q : Cause) → refusal op users ≡ Some q → denies q ≡ denies DiskFault → ⊥
+other_than_disk op users q is same = never (by_users (λ q. stands_against (denies q) ≡ false) refl refl refl refl refl op users q is) (ap stands_against same)
 
 -- what a state that stands for a history may keep
 pub record MayKeep (l : Lists) : Type 0 where

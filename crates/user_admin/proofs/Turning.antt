@@ -1,5 +1,5 @@
 -- What a place sees in a turn, and behind it.
-use Rattle.std.proofs.Common.{◌≡◌, ◌≢◌, ◌<◌, ℕ, Bool, true, Option, None, Some, Result, Ok, Err, List, [], ◌∷◌, ◌++◌, append-nil, append_assoc, refl, sym, ◌∙◌, ap, subst}
+use Rattle.std.proofs.Common.{◌≡◌, ◌≢◌, ◌<◌, ℕ, Bool, true, false, Option, None, Some, Result, Ok, Err, List, [], ◌∷◌, ◌++◌, append-nil, append_assoc, refl, sym, ◌∙◌, ap, subst}
 use Rattle.std.proofs.lemmas.List.{map-append}
 use Rattle.std.specs.Prelude.{slice_get}
 use Rattle.std.specs.declared.snapshot.Snapshot.{Snapshot}
@@ -29,7 +29,8 @@ use Rattle.user_admin.specs.Marks.{entered, entries_of, entry_in, mark_for, plac
 use Rattle.user_admin.specs.Shared.{HasKeeper, PlannedIs, SharedFor, SharedStands, opening_at}
 use Rattle.user_admin.specs.declared.occupants.Occupant.{Occupant}
 use Rattle.user_admin.specs.Occupants.{is_out, occupants_after}
-use Rattle.user_admin.specs.Turns.{AreNumbered, HasPass, IsHistory, IsTaken, LookedAt, Saw, TakenIs, TookIs, Turned, TurnedBack, codes}
+use Rattle.user_admin.specs.Turns.{AreNumbered, HasPass, IsHistory, IsTaken, LookedAt, Saw, TakenIs, TookIs, TriedIs, Turned, TurnedBack, codes}
+use Rattle.journal_core.proofs.HeaderSteps.{never}
 use Rattle.user_admin.proofs.Marking.{each_entries, entries_append, entries_one, entries_took, no_mark, others_entries, same_mark}
 
 -- a pass that comes back from a turn
@@ -211,6 +212,16 @@ took_behind o own h op mid then_seen how b next = behind how next
     behind (Ok (took.Denied q)) then = turned _ (then (h ++ b.later) b.saw)
     behind (Err e) then = back_behind o own h mid then_seen b then
 
+-- by what a change that was tried came to
+pub tried_some : (o : Opening) (own : ℕ) (h : List UserEntry) (op : UserOp) (seen : List Gv) (x : Option UserTook) (how : UserTook) → x ≡ Some how → TriedIs o own h op seen (Ok x) → TookIs o own h op seen (Ok how)
+tried_some o own h op seen x how is t = subst (λ (y : Option UserTook). TriedIs o own h op seen (Ok y)) is t
+
+pub tried_none : (o : Opening) (own : ℕ) (h : List UserEntry) (op : UserOp) (seen : List Gv) (x : Option UserTook) → x ≡ None → TriedIs o own h op seen (Ok x) → TurnedBack o own h seen
+tried_none o own h op seen x is t = subst (λ (y : Option UserTook). TriedIs o own h op seen (Ok y)) is t
+
+pub takes_as : {D : Type 0} (told : Type 0) (state : D → DiskState) (o : Opening) (own : ℕ) (h : List UserEntry) (op : UserOp) (seen : List Gv) (p q : Planned D) → p ≡ q → TakenIs told state o own h op seen (Ok p) → TakenIs told state o own h op seen (Ok q)
+takes_as {D} told state o own h op seen p q is t = subst (λ (x : Planned D). TakenIs told state o own h op seen (Ok x)) is t
+
 -- the keeper was taken out in one turn, and brought home in another
 pub turned_taken : {D : Type 0} (told : Type 0) (state : D → DiskState) (o : Opening) (own : ℕ) (h : List UserEntry) (op : UserOp) (mid then_seen : List Gv) (k : UserState D) (c : UserChange) (e : UserEntry) (t : IsTaken told state o own h op mid k c) → Turned o own (entries_of t.marks) e then_seen → Turned o own h e then_seen
 turned_taken told state o own h op mid then_seen k c e t r = record {
@@ -218,6 +229,10 @@ turned_taken told state o own h op mid then_seen k c e t r = record {
   others = each_append (λ (x : UserEntry). x.place ≢ own) t.later r.later t.others r.others;
   saw = subst (λ (g : List UserEntry). Saw o then_seen g) (ap (λ (g : List UserEntry). (g ++ r.later) ++ e ∷ []) t.entries_are ∙ ap (λ (g : List UserEntry). g ++ e ∷ []) (append_assoc h t.later r.later)) r.saw;
 }
+
+-- a gate that didn't stop
+pub stood : (a b : ℕ) → RoseOnlyFor a b (false ≡ true) → b ≡ a
+stood a b rose = rose.only (never refl)
 
 -- a gate that wasn't asked before
 pub rose_behind : (a b c : ℕ) (came : Type 0) → b ≡ a → RoseOnlyFor b c came → RoseOnlyFor a c came

@@ -171,13 +171,17 @@ pub(crate) fn mark_of<D: Disk>(
 ) -> Option<UserMark>
     ensures { result ≡ mark_for place op.now planned.now }
 {
+    let planned = match planned {
+        Ok(planned) => planned,
+        Err(Stopped) => return None,
+    };
     match planned {
-        Ok(Planned::Taken(_, _)) => Some(UserMark::Took(place)),
-        Ok(Planned::Denied(cause)) => Some(UserMark::Entered {
+        Planned::Taken(_, _) => Some(UserMark::Took(place)),
+        Planned::Denied(cause) => Some(UserMark::Entered {
             place,
             op: Snapshot::of(op),
             outcome: refused(*cause),
         }),
-        Ok(Planned::Waits) | Err(Stopped) => None,
+        Planned::Waits => None,
     }
 }

@@ -48,9 +48,10 @@ pub fn change<D: Disk + Drop, G: Gate, R: Wait>(
     ensures stopped { RoseOnlyFor (G.stops gate.old) (G.stops gate.new) (IsErr result) }
     ensures asked { G.asked gate.old gate.new (asked_at_turn result) }
 {
-    match try_change(pass, turns, &op, gate, rt)? {
-        Some(took) => Ok(took),
-        None => {
+    match try_change(pass, turns, &op, gate, rt) {
+        Ok(Some(took)) => Ok(took),
+        Err(Stopped) => Err(Stopped),
+        Ok(None) => {
             turns.stand_in_line(rt);
             let took = change_in_line(pass, turns, &op, gate, rt);
             turns.step_aside();
@@ -80,9 +81,10 @@ fn change_in_line<D: Disk + Drop, G: Gate, R: Wait>(
 {
     let mut rest = Rest::new();
     for _ in rt.forever() {
-        match try_change(pass, turns, op, gate, rt)? {
-            Some(took) => return Ok(took),
-            None => rest.again(0, rt),
+        match try_change(pass, turns, op, gate, rt) {
+            Ok(Some(took)) => return Ok(took),
+            Err(Stopped) => return Err(Stopped),
+            Ok(None) => rest.again(0, rt),
         }
     }
     unreachable!()
@@ -106,10 +108,11 @@ fn try_change<D: Disk + Drop, G: Gate, R: Wait>(
     ensures stopped { RoseOnlyFor (G.stops gate.old) (G.stops gate.new) (IsErr result) }
     ensures asked { G.asked gate.old gate.new (asked_in result) }
 {
-    let (mut keeper, change) = match take(pass, turns, op, gate, rt)? {
-        Planned::Taken(keeper, change) => (keeper, change),
-        Planned::Denied(cause) => return Ok(Some(UserTook::Denied(cause))),
-        Planned::Waits => return Ok(None),
+    let (mut keeper, change) = match take(pass, turns, op, gate, rt) {
+        Ok(Planned::Taken(keeper, change)) => (keeper, change),
+        Ok(Planned::Denied(cause)) => return Ok(Some(UserTook::Denied(cause))),
+        Ok(Planned::Waits) => return Ok(None),
+        Err(Stopped) => return Err(Stopped),
     };
     let state = &mut *keeper;
     match state.note(&change) {
