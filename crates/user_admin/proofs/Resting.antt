@@ -51,7 +51,7 @@ pub nothing_rests : (own : ℕ) → SawRest own []
 nothing_rests own [] is = none_some own
 nothing_rests own (m ∷ ms) is = cc
 
--- a turn of the pass p, behind which it is q
+-- a turn of the pass p, after which it is q
 module _ {D : Type 0} (told : Type 0) (state : D → DiskState) (o : Opening) (by passes : ℕ) (p q : Token) (in_turn : List Gv) (x : SharedUsers D) (is : by ≡ p.number) (same : q.number ≡ p.number) (f : Found mark_coded.code (opening_at state) place_of (SharedStands told state) by passes o p.seen x in_turn) where
   found_rests : IsAtRest p → Rests p.number (f.begun ++ f.later)
   found_rests rests = rests_behind p.number f.begun f.later (rests f.begun f.before) (subst (λ (n : ℕ). Each (λ m. place_of m ≢ n) f.later) is f.others)

@@ -47,7 +47,7 @@ paid_more o h e passes paid = λ enough.
 
 module _ {D : Type 0} (told : Type 0) (state : D → DiskState) (disks : (d : D) → told → IsDisk (state d)) (counts : (d : D) → CountsOn (state d)) where
   module _ (o : Opening) (ms : List UserMark) where
-    -- the keeper, behind an entry that passes by
+    -- the keeper, after an entry that passes by
     keeper_more : (n : ℕ) (op : Snapshot UserOp) (out : UserOutcome) → PassesBy out → MayCome o.shelf.sid op.value (users_after o (entries_of ms)) out → (x : Option (Boxed D)) → KeeperIs told state o ms x → KeeperIs told state o (ms ++ Entered n op out ∷ []) x
     keeper_more n op out passes may (Some k) home = (
       holder_append None ms (Entered n op out ∷ []) ∙ stays_by (holder None ms) out passes ∙ home.0,

@@ -61,7 +61,7 @@ legal_from sid m (x ∷ xs) e l may = (l.0, legal_from sid (after (change_in x.o
 pub legal_more : (o : Opening) (h : List UserEntry) (e : UserEntry) → IsLegal o h → MayCome o.shelf.sid e.op (users_after o h) e.outcome → IsLegal o (h ++ e ∷ [])
 legal_more o h e l may = record { opened = l.opened; entries = legal_from o.shelf.sid o.users h e l.entries may }
 
--- what is in doubt stays so behind an entry that changes nothing
+-- what is in doubt stays so after an entry that changes nothing
 pub doubt_more : (o : Opening) (h : List UserEntry) (e : UserEntry) (c : UserChange) → change_in e.outcome ≡ [] → IsInDoubt o h c → IsInDoubt o (h ++ e ∷ []) c
 doubt_more o h e c none d = record {
   before = d.before;
@@ -248,7 +248,7 @@ module _ {D : Type 0} (told : Type 0) (state : D → DiskState) (o : Opening) (s
   pub home_at : (doubt : Option UserChange) → IsAtHome told (state s.journal.0) s.journal.1 (shelf_users o.shelf) (users_after o h) doubt → IsAtHome told (state s.journal.0) s.journal.1 s.lists.value.described s.lists.value.users doubt
   home_at doubt home = subst (λ (w : Users × Users). IsAtHome told (state s.journal.0) s.journal.1 w.0 w.1 doubt) (λ i. (sym st.of_shelf.described i, sym st.users i)) home
 
-  -- a state behind it, of the same shelf
+  -- a state after it, of the same shelf
   module _ (t : UserState D) (sid : t.sid ≡ s.sid) (described : t.lists.value.described ≡ s.lists.value.described) (shape : t.journal.1.shape ≡ s.journal.1.shape) (disk : told → IsDisk (state t.journal.0)) (counts : CountsOn (state t.journal.0)) (whole : IsWhole t.journal.1) where
     of_shelf_on : IsOfShelf o t
     of_shelf_on = record { sid = sid ∙ st.of_shelf.sid; described = described ∙ st.of_shelf.described; shape = shape ∙ st.of_shelf.shape; few = st.of_shelf.few; spelled = st.of_shelf.spelled }

@@ -1,4 +1,4 @@
--- What a place sees in a turn, and behind it.
+-- What a place sees in a turn, and after it.
 use Rattle.std.proofs.Common.{◌≡◌, ◌≢◌, ◌<◌, ℕ, Bool, true, false, Option, None, Some, Result, Ok, Err, List, [], ◌∷◌, ◌++◌, append-nil, append_assoc, refl, sym, ◌∙◌, ap, subst}
 use Rattle.std.proofs.lemmas.List.{map-append}
 use Rattle.std.specs.Prelude.{slice_get}
@@ -40,7 +40,7 @@ pass_back t p q pass free id number numbered = ((free, id, subst (λ (n : ℕ). 
 pub same_marks : (seen : List Gv) (ms ns : List UserMark) → seen ≡ codes ms → seen ≡ codes ns → ms ≡ ns
 same_marks seen ms ns first then = map_once mark_coded.code mark_coded.inj ms ns (sym first ∙ then)
 
--- nothing was seen behind it
+-- nothing was seen after it
 pub turned_none : (o : Opening) (own : ℕ) (h : List UserEntry) (seen : List Gv) → Saw o seen h → TurnedBack o own h seen
 turned_none o own h seen saw = record { later = []; others = tt; saw = subst (λ (g : List UserEntry). Saw o seen g) (sym (append-nil h)) saw }
 
@@ -63,7 +63,7 @@ module _ {D : Type 0} (told : Type 0) (state : D → DiskState) where
   pub history_of : (o : Opening) (s : SharedUsers D) (ms : List UserMark) → SharedFor told state o s ms → IsHistory o (entries_of ms)
   history_of o s ms st = record { legal = st.legal; paid = st.paid }
 
-  -- a turn of the place finds a state that stands for what had been left, and for what others left behind it
+  -- a turn of the place finds a state that stands for what had been left, and for what others left after it
   pub record FoundAt (o : Opening) (own : ℕ) (ms : List UserMark) (x : SharedUsers D) (in_turn : List Gv) : Type 0 where
     pub later : List UserMark
     pub others : Each (λ m. place_of m ≢ own) later
@@ -76,7 +76,7 @@ module _ {D : Type 0} (told : Type 0) (state : D → DiskState) where
     leaves : (y : SharedUsers D) (l : List UserMark) → y.first ≡ x.first → SharedFor told state o y l → SharedStands told state y l
     leaves y l is st = subst (λ (z : Opening). SharedFor told state z y l) (sym (ap (λ (s : Snapshot (UserState D)). opening_of state s.value) is ∙ f.opening_is)) st
 
-    -- the entries among it, behind a history that was seen
+    -- the entries among it, after a history that was seen
     module _ (h : List UserEntry) (entries_are : entries_of ms ≡ h) where
       pub entries_found : entries_of (ms ++ f.later) ≡ h ++ entries_of f.later
       entries_found = entries_append ms f.later ∙ ap (λ (g : List UserEntry). g ++ entries_of f.later) entries_are
@@ -163,7 +163,7 @@ module _ {D : Type 0} (told : Type 0) (state : D → DiskState) where
     pub ends_at : (ms : List UserMark) (saw : seen ≡ codes ms) (y : SharedUsers D) (m : UserMark) → y.first ≡ x.first → SharedFor told state o y ((ms ++ (at_turn ms saw).later) ++ m ∷ []) → (l : List UserMark) × (in_turn ≡ codes l) × SharedStands told state y (l ++ m ∷ [])
     ends_at ms saw y m first st = let t = at_turn ms saw in (ms ++ t.later, t.codes_are, leaves o own ms x in_turn t y ((ms ++ t.later) ++ m ∷ []) first st)
 
-    -- what the place knows behind its entry
+    -- what the place knows after its entry
     abbrev pub ended : (h : List UserEntry) (saw : Saw o seen h) (y : SharedUsers D) (n : ℕ) (op : Snapshot UserOp) (what : UserOp) (out : UserOutcome) (then_seen : List Gv) → n ≡ own → op.value ≡ what → ((l : List UserMark) → SharedFor told state o x l → SharedFor told state o y (l ++ Entered n op out ∷ [])) → then_seen ≡ in_turn ++ mark_coded.code (Entered n op out) ∷ [] → Turned o own h (entry own what out) then_seen
     ended h saw y n op what out then_seen number same on seen_is =
         turned_at o own saw.marks x in_turn (at_turn saw.marks saw.codes_are) h saw.entries_are y (Entered n op out) (entry own what out) then_seen (λ i. entry (number i) (same i) out ∷ []) (on (saw.marks ++ (at_turn saw.marks saw.codes_are).later) (at_turn saw.marks saw.codes_are).stands) seen_is
@@ -180,7 +180,7 @@ module _ {D : Type 0} (told : Type 0) (state : D → DiskState) where
           is ∙ ap (λ (os : List Occupant). is_out (slice_get os own)) (t.stands.occupants ∙ ap occupants_after (entries_found o own saw.marks x in_turn t h saw.entries_are)),
         )
 
-    -- the pass behind it
+    -- the pass after it
     pub ends_pass : {X : Type 0} (t : Gate X) (p q : Token) (m : UserMark) → passes ≡ t.passes → own ≡ p.number → HasPass t p → (q.free ≡ true) × (q.id ≡ t.id) × (q.number ≡ p.number) → place_of m ≡ own → q.seen ≡ in_turn ++ mark_coded.code m ∷ [] → HasPass t q × (q.number ≡ p.number)
     ends_pass t p q m all place pass back number seen_is =
         pass_back t p q pass back.0 back.1 back.2 (subst (λ (k : ℕ). AreNumbered k q.seen) all (numbered_own o by passes seen in_turn x f own m q.seen number (subst (λ (k : ℕ). own < k) (sym all) (subst (λ (k : ℕ). k < t.passes) (sym place) pass.2)) seen_is))

@@ -22,7 +22,7 @@ module _ (told : Type 0) (s : DiskState) (book : Book) (shelf users : Users) whe
     pub fits : Fits change users
     pub reads : told → Means shelf (doubted book s.reads_as) change
 
-  -- The list leads from the shelf's users to these, and so do the rows of a turn that was tried; a record may stand behind the list, that
+  -- The list leads from the shelf's users to these, and so do the rows of a turn that was tried; a record may stand after the list, that
   -- of the change in doubt.
   pub record IsAtHome (doubt : Option UserChange) : Type 0 where
     pub kept : told → IsKept s book

@@ -93,7 +93,7 @@ pub record LeavesOpened (shelf : Contents) (a b : DiskState) : Type 0 where
   pub found : ¬ IsNew a.reads_as → LeavesOnly a b (λ c. a.may_leave c ⊎ StandsAlike shelf.shape a.reads_as c)
   pub made : IsNew a.reads_as → IsSettled a → LeavesOnly a b (IsFresh (header shelf.shape (made_head shelf.equipped)))
 
--- what denied an operation: the disk alone does so behind the gate
+-- what denied an operation: the disk alone does so after the gate
 abbrev pub asked_before : Cause → List GatePlace
 asked_before DiskFault = place.Journal ∷ []
 asked_before _ = []

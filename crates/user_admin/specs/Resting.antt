@@ -21,7 +21,7 @@ SawRest own seen = (ms : List UserMark) → seen ≡ codes ms → Rests own ms
 abbrev pub IsAtRest : Token → Type 0
 IsAtRest p = SawRest p.number p.seen
 
--- nor behind a turn in which a change was to begin, unless the place took it out there
+-- nor after a turn in which a change was to begin, unless the place took it out there
 abbrev pub RestsUnlessTaken : {D : Type 0} → Result (Planned D) Stopped → Token → Type 0
 RestsUnlessTaken (Ok (Taken k c)) p = Unit {0}
 RestsUnlessTaken (Ok (Denied q)) p = IsAtRest p

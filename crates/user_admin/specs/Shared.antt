@@ -29,7 +29,7 @@ use Rattle.user_admin.specs.Marks.{ArePassing, KeepsTurns, entered, entries_of, 
 abbrev pub opening_at : {D : Type 0} → (D → DiskState) → SharedUsers D → Opening
 opening_at state s = opening_of state s.first.value
 
--- the keeper behind a box, as a turn finds it or hands it out
+-- the keeper in a box, as a turn finds it or hands it out
 abbrev pub Boxed : Type 0 → Type 0
 Boxed D = Box (UserState D) Global
 

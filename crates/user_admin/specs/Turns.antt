@@ -46,13 +46,13 @@ pub record Saw (o : Opening) (seen : List Gv) (h : List UserEntry) : Type 0 wher
   pub entries_are : entries_of marks ≡ h
   pub history : IsHistory o h
 
--- behind the history stand others' entries, and then this one
+-- after the history stand others' entries, and then this one
 pub record Turned (o : Opening) (own : ℕ) (h : List UserEntry) (e : UserEntry) (then_seen : List Gv) : Type 0 where
   pub later : List UserEntry
   pub others : Each (λ x. x.place ≢ own) later
   pub saw : Saw o then_seen ((h ++ later) ++ e ∷ [])
 
--- behind it stand others' entries alone
+-- after it stand others' entries alone
 pub record TurnedBack (o : Opening) (own : ℕ) (h : List UserEntry) (then_seen : List Gv) : Type 0 where
   pub later : List UserEntry
   pub others : Each (λ x. x.place ≢ own) later
@@ -86,7 +86,7 @@ LoggedIn o own h a then_seen found = (t : Turned o own h (entry own (login_op a.
 abbrev pub Cancels : Opening → ℕ → List UserEntry → List ℕ → List Gv → Type 0
 Cancels o own h uid then_seen = Turned o own h (entry own (Cancel uid) outcome.Answered) then_seen
 
--- behind others' entries alone: whether the sessions were ended of who logged in at the place last
+-- after others' entries alone: whether the sessions were ended of who logged in at the place last
 abbrev pub LookedAt : Opening → ℕ → List UserEntry → List Gv → Bool → Type 0
 LookedAt o own h then_seen cancelled = (t : TurnedBack o own h then_seen) × (cancelled ≡ is_cancelled own (h ++ t.later))
 
@@ -121,7 +121,7 @@ abbrev pub OutAfter : {D : Type 0} → DiskOf D → Gate (SharedUsers D) → Tok
 OutAfter g t p P = (ms : List UserMark) → p.seen ≡ codes ms → P (view g.state t p) ms
 
 module _ {D : Type 0} (told : Type 0) (state : D → DiskState) where
-  -- behind the history stand others' entries, and then the place took the keeper out
+  -- after the history stand others' entries, and then the place took the keeper out
   pub record IsTaken (o : Opening) (own : ℕ) (h : List UserEntry) (op : UserOp) (then_seen : List Gv) (k : UserState D) (c : UserChange) : Type 0 where
     pub marks : List UserMark
     pub codes_are : then_seen ≡ codes marks

@@ -132,7 +132,7 @@ impl<D: Disk + Drop> SharedUsers<D> {
         self.keeper = Some(keeper);
     }
 
-    /// Puts down who is where behind an operation of the place that is answered.
+    /// Puts down who is where after an operation of the place that is answered.
     #[inline(always)]
     pub(crate) fn answer(&mut self, place: u16, op: &UserOp)
         ensures { self.new ≡ record self.old

@@ -1,4 +1,4 @@
--- A state stands for some history behind each change.
+-- A state stands for some history after each change.
 use Rattle.std.proofs.Common.{ℕ, Result, Ok, Err, List, [], ◌∷◌, ◌++◌}
 use Rattle.dxc_disk.specs.Disks.{DiskState}
 use Rattle.dxc_outside.specs.declared.stopped.Stopped.{Stopped}
