@@ -1,5 +1,5 @@
 -- What a file stands for that a primary's disk read at a moment of its commands on users.
-use Rattle.std.proofs.Common.{Bool, ◌≡◌, ◌⊎◌, inl, inr, ⊎_elim, ℕ, zero, suc, ◌+◌, ◌-◌, ◌≤◌, ◌<◌, List, [], ◌∷◌, ◌++◌, length, take, Option, Some, None, IfSome, nat_eq, if◌then◌else◌, slice_get, refl, sym, ◌∙◌, ap, subst, arith, length-append, append_assoc}
+use Rattle.std.proofs.Common.{Bool, ◌≡◌, ◌⊎◌, inl, inr, ⊎_elim, ℕ, zero, suc, ◌+◌, ◌-◌, ◌≤◌, ◌<◌, List, [], ◌∷◌, ◌++◌, length, take, Some, None, IfSome, nat_eq, if◌then◌else◌, slice_get, refl, sym, ◌∙◌, ap, subst, arith, length-append, append_assoc}
 use Rattle.std.proofs.lemmas.Bool.{cases_lt}
 use Rattle.std.proofs.lemmas.List.{append-nil}
 use Rattle.std.proofs.Math.Dec.{eqb-suc-zero}
@@ -19,7 +19,7 @@ use Rattle.user_admin.specs.declared.op.UserEntry.{UserEntry}
 use Rattle.user_admin.specs.declared.state.UserState.{UserState}
 use Rattle.user_admin.specs.Files.{FoldsTo, IsFileOn}
 use Rattle.user_admin.specs.Histories.{Opening}
-use Rattle.user_admin.specs.States.{IsFileAfter, IsFileOf, StandsFor, opening_of}
+use Rattle.user_admin.specs.States.{IsFileAfter, IsFileOf, StandsFor}
 use Rattle.user_admin.specs.Users.{shelf_users}
 use Rattle.user_laws.specs.Mirrorings.{AreCommands, Command, CopiesStand, HasStarted, IsCommand, IsMirroredSince, MayBe, Says, StandbysStand, StandbysStandSince, StandsAt, StandsForFirst, StartsAreCommands, Task, change, entered_in, read_by, start}
 
