@@ -9,8 +9,8 @@ ghost use Rattle.standby_link.specs.Mirrors.{joining};
 ghost use Rattle.standby_link.specs.Moves.{IsSmall, SendsFile, TookHaves, first_line, mirrored};
 
 use crate::known_disk::KnownDisk;
-use crate::line::{Line, MOST};
-use dxc_disk::Disk;
+use crate::line::Line;
+use dxc_disk::{Disk, MOST_WRITTEN};
 use dxc_outside::Link;
 
 /// Joins somebody who stands by anew, if anybody does.
@@ -85,10 +85,10 @@ fn send_file<D: Disk, K: Link>(disk: &mut D, line: &mut Line<K>)
         line.end();
         return;
     };
-    let mut piece = [0; MOST];
+    let mut piece = [0; MOST_WRITTEN];
     let mut at = 0;
     while at < length {
-        let count = (length - at).min(MOST as u64) as usize;
+        let count = (length - at).min(MOST_WRITTEN as u64) as usize;
         if disk.read(at, &mut piece[..count]).is_err() {
             line.end();
             return;
@@ -110,10 +110,10 @@ fn read_on<D: Disk>(disk: &mut D, from: u64, end: u64)
     ensures faults { (D.state disk.old).faults ≤ (D.state disk.new).faults }
     ensures room { Spends (end - from) (D.state disk.old) (D.state disk.new) }
 {
-    let mut piece = [0; MOST];
+    let mut piece = [0; MOST_WRITTEN];
     let mut at = from;
     while at < end {
-        let count = (end - at).min(MOST as u64) as usize;
+        let count = (end - at).min(MOST_WRITTEN as u64) as usize;
         if disk.read(at, &mut piece[..count]).is_err() {
             return;
         }

@@ -5,10 +5,8 @@ ghost use Rattle.standby_link.specs.Lines.{line_at, Sends, SendsOne, Syncs, IsHu
 
 use crate::ear::Ear;
 use crate::spell::{ITEM, spell_sync, spell_write};
+use dxc_disk::MOST_WRITTEN;
 use dxc_outside::{Got, Link, Lost, Sent, write_all};
-
-/// The most bytes that one item carries.
-pub(crate) const MOST: usize = 4096;
 
 /// A primary's end of the link to its standby. Once it is lost it is hung up, and nothing more is sent until somebody stands by anew.
 #[derive(Drop)]
@@ -51,7 +49,7 @@ impl<K: Link> Line<K> {
         }
         let mut sent = 0;
         while sent < from.len() {
-            let end = from.len().min(sent + MOST);
+            let end = from.len().min(sent + MOST_WRITTEN);
             self.send_write(place.wrapping_add(sent as u64), &from[sent..end]);
             if self.lost.is_some() {
                 return;

@@ -10,9 +10,7 @@ use crate::made::Made;
 use crate::spell::{HEAD, ITEM};
 use byteorder::{BigEndian, ByteOrder};
 use dxc_disk::Disk;
-use dxc_outside::{Got, Link, Sent, write_all};
-
-const READS: u64 = 1 << 32;
+use dxc_outside::{Got, Link, MOST_READS, Sent, write_all};
 
 /// Makes on the disk, which is to be empty, what a primary sends over the link, and answers each Sync with a Have. It ends
 /// as the link ends, by a fault, by bytes that are no item, or after 2^32 reads. It takes no memory.
@@ -80,7 +78,7 @@ fn serve<K: Link, D: Disk>(link: &mut K, disk: &mut D) -> StandbyEnd
         last: 0,
         synced: 0,
     };
-    for _ in 0..READS {
+    for _ in 0..MOST_READS {
         match turn(&mut inbox, held, &mut made, link, disk) {
             Ok(left) => held = left,
             Err(end) => return end,
