@@ -2,6 +2,7 @@
 use Rattle.std.specs.Prelude.{◌≡◌, ◌≢◌, ◌<◌, ℕ, Bool, true, List, [], ◌∷◌, ◌++◌, map, Option, Some, None, Result, Ok, Err, MatchResult}
 use base.Stored.{Gv}
 use Rattle.turnstile.specs.Passing.{Gate, Token}
+use Rattle.turnstile.specs.Places.{AfterBy, AreNumberedBy, HasPassBy, HasSeenBy, TurnedBackBy, TurnedBy, ViewOf, view_of}
 use Rattle.turnstile.specs.Turning.{Each}
 use Rattle.arrayvec.specs.ArrayVec.{ArrayVec}
 use Rattle.dxc_disk.specs.Disks.{DiskState}
@@ -47,24 +48,20 @@ pub record Saw (o : Opening) (seen : List Gv) (h : List UserEntry) : Type 0 wher
   pub history : IsHistory o h
 
 -- after the history stand others' entries, and then this one
-pub record Turned (o : Opening) (own : ℕ) (h : List UserEntry) (e : UserEntry) (then_seen : List Gv) : Type 0 where
-  pub later : List UserEntry
-  pub others : Each (λ x. x.place ≢ own) later
-  pub saw : Saw o then_seen ((h ++ later) ++ e ∷ [])
+abbrev pub Turned : Opening → ℕ → List UserEntry → UserEntry → List Gv → Type 0
+Turned = TurnedBy Saw (λ e. e.place)
 
 -- after it stand others' entries alone
-pub record TurnedBack (o : Opening) (own : ℕ) (h : List UserEntry) (then_seen : List Gv) : Type 0 where
-  pub later : List UserEntry
-  pub others : Each (λ x. x.place ≢ own) later
-  pub saw : Saw o then_seen (h ++ later)
+abbrev pub TurnedBack : Opening → ℕ → List UserEntry → List Gv → Type 0
+TurnedBack = TurnedBackBy Saw (λ e. e.place)
 
 -- all that was seen carries the number of one of so many passes
 abbrev pub AreNumbered : ℕ → List Gv → Type 0
-AreNumbered passes seen = (ms : List UserMark) → seen ≡ codes ms → Each (λ m. place_of m < passes) ms
+AreNumbered = AreNumberedBy codes place_of
 
 -- the pass is one of the turnstile's, no turn of it is out, and what it has seen are entries of the turnstile's passes
 abbrev pub HasPass : {X : Type 0} → Gate X → Token → Type 0
-HasPass t p = (p.free ≡ true) × (p.id ≡ t.id) × (p.number < t.passes) × AreNumbered t.passes p.seen
+HasPass = HasPassBy codes place_of
 
 -- the change was made, or the operation denied, or the gate stopped before anything was done
 abbrev pub TookIs : Opening → ℕ → List UserEntry → UserOp → List Gv → Result UserTook Stopped → Type 0
@@ -98,20 +95,19 @@ abbrev pub RowsDenied : Opening → ℕ → List UserEntry → Option (List ℕ)
 RowsDenied o own h which then_seen q = Turned o own h (entry own (Rows which) (refused q)) then_seen
 
 -- where the history began, and whose pass it is
-pub record View : Type 0 where
-  pub opening : Opening
-  pub own : ℕ
+abbrev pub View : Type 0
+View = ViewOf Opening
 
 abbrev pub view : {D : Type 0} → (D → DiskState) → Gate (SharedUsers D) → Token → View
-view state t p = record { opening = opening_at state t.first; own = p.number }
+view state = view_of (opening_at state) Saw
 
--- it is a history
+-- what the pass has seen is a history
 abbrev pub HasSeen : {D : Type 0} → DiskOf D → Gate (SharedUsers D) → Token → Type 0
-HasSeen g t p = (h : List UserEntry) × Saw (opening_at g.state t.first) p.seen h
+HasSeen g = HasSeenBy (opening_at g.state) Saw
 
 -- after each history that was seen this holds
 abbrev pub After : {D : Type 0} → DiskOf D → Gate (SharedUsers D) → Token → (View → List UserEntry → Type 0) → Type 0
-After g t p P = (h : List UserEntry) → Saw (opening_at g.state t.first) p.seen h → P (view g.state t p) h
+After g = AfterBy (opening_at g.state) Saw
 
 -- of what turns left
 abbrev pub OutUpon : {D : Type 0} → DiskOf D → Gate (SharedUsers D) → Token → (View → List UserMark → Type 0) → Type 0

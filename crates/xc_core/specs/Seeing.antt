@@ -2,7 +2,7 @@
 use Rattle.std.specs.Prelude.{◌≡◌, ◌≢◌, ◌⊎◌, ℕ, ◌+◌, ◌≤◌, min, slice_index, true, List, [], ◌∷◌, ◌++◌, map, Option, Some, None}
 use Rattle.std.specs.Coded.{Coded}
 use base.Stored.{Gv}
-use Rattle.turnstile.specs.Turning.{Each}
+use Rattle.turnstile.specs.Places.{TurnedBy, TurnedBackBy}
 use Rattle.dxc_causes.specs.Causes.{last}
 use Rattle.dxc_disk.specs.Disks.{DiskState}
 use Rattle.dxc_model.specs.contracts.entry.Entry as entry_row
@@ -53,16 +53,12 @@ abbrev pub Rests : ℕ → List Entry → Type 0
 Rests own h = (t : Entry) → holder None h ≡ Some t → t.place ≢ own
 
 -- after the history stand others' entries, and then this one
-pub record Turned (o : Opening) (own : ℕ) (h : List Entry) (e : Entry) (then_seen : List Gv) : Type 0 where
-  pub later : List Entry
-  pub others : Each (λ x. x.place ≢ own) later
-  pub saw : Saw o then_seen ((h ++ later) ++ e ∷ [])
+abbrev pub Turned : Opening → ℕ → List Entry → Entry → List Gv → Type 0
+Turned = TurnedBy Saw place_of
 
 -- after it stand others' entries alone
-pub record TurnedBack (o : Opening) (own : ℕ) (h : List Entry) (then_seen : List Gv) : Type 0 where
-  pub later : List Entry
-  pub others : Each (λ x. x.place ≢ own) later
-  pub saw : Saw o then_seen (h ++ later)
+abbrev pub TurnedBack : Opening → ℕ → List Entry → List Gv → Type 0
+TurnedBack = TurnedBackBy Saw place_of
 
 -- how a denied operation is entered: what the table denies is Denied, all else Failed
 abbrev pub refused : Cause → Outcome

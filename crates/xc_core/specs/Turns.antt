@@ -3,7 +3,7 @@ use Rattle.std.specs.Prelude.{◌≡◌, ◌≢◌, ◌<◌, ◌⊎◌, ℕ, tru
 use Rattle.std.specs.List.{range_with_len}
 use base.Stored.{Gv}
 use Rattle.turnstile.specs.Passing.{Gate, Token}
-use Rattle.turnstile.specs.Turning.{Each}
+use Rattle.turnstile.specs.Places.{AreNumberedBy, HasPassBy}
 use Rattle.dxc_disk.specs.Disks.{DiskState}
 use Rattle.dxc_disk.specs.declared.disk.Disk.{Ghosts as DiskOf}
 use Rattle.dxc_outside.specs.declared.stopped.Stopped.{Stopped}
@@ -38,15 +38,15 @@ use Rattle.xc_core.specs.declared.state.Home.{Home}
 use Rattle.xc_core.specs.declared.state.Home.TheVariants.{In, Out}
 use Rattle.xc_core.specs.Begins.{plan_of}
 use Rattle.xc_core.specs.States.{IsLent, IsNeverAstray, Opening, StandsFor}
-use Rattle.xc_core.specs.Seeing.{HasFailed, HasHeld, HasPlan, HasRestart, HasStopped, IsDueFor, IsOfStop, Turned, TurnedBack, codes, entry, refused}
+use Rattle.xc_core.specs.Seeing.{HasFailed, HasHeld, HasPlan, HasRestart, HasStopped, IsDueFor, IsOfStop, Turned, TurnedBack, codes, entry, place_of, refused}
 
 -- each entry that was seen carries the number of one of so many passes
 abbrev pub AreNumbered : ℕ → List Gv → Type 0
-AreNumbered passes seen = (h : List Entry) → seen ≡ codes h → Each (λ e. e.place < passes) h
+AreNumbered = AreNumberedBy codes place_of
 
 -- the pass is one of the turnstile's, no turn of it is out, and what it has seen are entries of the turnstile's passes
 abbrev pub HasPass : {X : Type 0} → Gate X → Token → Type 0
-HasPass t p = (p.free ≡ true) × (p.id ≡ t.id) × (p.number < t.passes) × AreNumbered t.passes p.seen
+HasPass = HasPassBy codes place_of
 
 -- of a disk that tells its content, no operation that was seen failed because the journal reads otherwise than it was written
 abbrev pub SawNoneAstray : Type 0 → List Gv → Type 0

@@ -2,6 +2,7 @@
 use Rattle.std.specs.Prelude.{◌≡◌, ◌⊎◌, ℕ, List, [], ◌∷◌, ◌++◌, Option, Some, None, Result}
 use Rattle.std.specs.List.{AllByRecursion}
 use Rattle.turnstile.specs.Passing.{Gate, Token}
+use Rattle.turnstile.specs.Places.{AfterBy, HasSeenBy, UponBy, ViewOf, view_of}
 use Rattle.dxc_num.specs.Dimensions.{Dimensions}
 use Rattle.dxc_disk.specs.declared.disk.Disk.{Ghosts as DiskOf}
 use Rattle.dxc_outside.specs.declared.stopped.Stopped.{Stopped}
@@ -31,29 +32,28 @@ use Rattle.xc_core.specs.States.{Opening, StandsFor, opening_of}
 use Rattle.xc_core.specs.Turns.{CutIs, DoneIs, FailedIs, HeldIs, HoldIs, InventoryIs, LookIs, MarkIs, RereadIs, RestartCutIs, RestartedIs, RowsAre, TakenIs, TookIs}
 
 -- where the history began, and whose pass it is
-pub record View : Type 0 where
-  pub opening : Opening
-  pub own : ℕ
+abbrev pub View : Type 0
+View = ViewOf Opening
 
 -- of this pass of the turnstile
 abbrev pub view : {D : Type 0} → DiskOf D → Gate (State D) → Token → View
-view g t p = record { opening = opening_of g.state t.first; own = p.number }
+view g = view_of (opening_of g.state) Saw
 
 -- the shape of the turnstile's table
 abbrev pub shape_in : {D : Type 0} → DiskOf D → Gate (State D) → Dimensions
 shape_in g t = (opening_of g.state t.first).first.fold.table.shape
 
--- it is a history
+-- what the pass has seen is a history
 abbrev pub HasSeen : {D : Type 0} → DiskOf D → Gate (State D) → Token → Type 0
-HasSeen g t p = (h : List Entry) × Saw (opening_of g.state t.first) p.seen h
+HasSeen g = HasSeenBy (opening_of g.state) Saw
 
 -- after a history that was seen this holds
 abbrev pub Upon : {D : Type 0} → DiskOf D → Gate (State D) → Token → (View → List Entry → Type 0) → Type 0
-Upon g t p P = (h : List Entry) × Saw (opening_of g.state t.first) p.seen h × P (view g t p) h
+Upon g = UponBy (opening_of g.state) Saw
 
 -- after each history that was seen this holds
 abbrev pub After : {D : Type 0} → DiskOf D → Gate (State D) → Token → (View → List Entry → Type 0) → Type 0
-After g t p P = (h : List Entry) → Saw (opening_of g.state t.first) p.seen h → P (view g t p) h
+After g = AfterBy (opening_of g.state) Saw
 
 -- the place hasn't got the Provisioner out
 abbrev pub AtRest : View → List Entry → Type 0
