@@ -19,7 +19,7 @@ use Rattle.craft_session.proofs.Reading.{read_session}
 use Rattle.craft_session.proofs.meaning.read.Goals as goal
 
 pub returns-in_default : goal.returns-in_default
-returns-in_default g c =
+returns-in_default c =
     let s = c.args.shelf.now in
     let user = c.args.user.now in
     record {
@@ -28,13 +28,13 @@ returns-in_default g c =
     }
 
 pub frequent_of-requires-clause-tagged : goal.frequent_of-requires-clause-tagged
-frequent_of-requires-clause-tagged g c = c.is_some-tagged.ensures ∙ (ap (λ (t : Option (List ℕ)). is_some t) c.ctag_in.ensures ∙ tagged_is c.args.unit.now c.in-Ok.found.block.items c.in-Ok.ensures)
+frequent_of-requires-clause-tagged c = c.is_some-tagged.ensures ∙ (ap (λ (t : Option (List ℕ)). is_some t) c.ctag_in.ensures ∙ tagged_is c.args.unit.now c.in-Ok.found.block.items c.in-Ok.ensures)
 
 pub read_in-requires-clause-tagged : goal.read_in-requires-clause-tagged
-read_in-requires-clause-tagged g c = c.is_some-tagged.ensures ∙ ap (λ (t : Option (List ℕ)). is_some t) c.ctag_in.ensures
+read_in-requires-clause-tagged c = c.is_some-tagged.ensures ∙ ap (λ (t : Option (List ℕ)). is_some t) c.ctag_in.ensures
 
 pub returns-in-Ok-frequent_of : goal.returns-in-Ok-frequent_of
-returns-in-Ok-frequent_of g c =
+returns-in-Ok-frequent_of c =
     let s = c.args.shelf.now in
     let user = c.args.user.now in
     let bs = map (block_at c.args.unit.now) c.in-Ok.found.block.items in
@@ -51,7 +51,7 @@ returns-in-Ok-frequent_of g c =
     }
 
 pub returns-in_default-cause : goal.returns-in_default-cause
-returns-in_default-cause g c =
+returns-in_default-cause c =
     let s = c.args.shelf.now in
     let user = c.args.user.now in
     let bs = map (block_at c.args.unit.now) c.in-Ok.found.block.items in
@@ -67,7 +67,7 @@ returns-in_default-cause g c =
     }
 
 pub returns : goal.returns
-returns g c =
+returns c =
     let s = c.args.shelf.now in
     let user = c.args.user.now in
     record {

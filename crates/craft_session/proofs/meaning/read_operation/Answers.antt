@@ -9,7 +9,7 @@ use Rattle.craft_session.proofs.Codes.{is_command}
 use Rattle.craft_session.proofs.meaning.read_operation.Goals as goal
 
 pub returns-clause-meaning : goal.returns-clause-meaning
-returns-clause-meaning g c = c.user_command_of.ensures.meaning ∙ ap (λ (s : List ℕ). user_meaning s c.args.user.now (map (block_at c.args.unit.now) c.args.found.now.block.items)) c.sid.ensures
+returns-clause-meaning c = c.user_command_of-asked.ensures.meaning ∙ ap (λ (s : List ℕ). user_meaning s c.args.user.now (map (block_at c.args.unit.now) c.args.found.now.block.items)) c.sid.ensures
 
 pub returns-clause-command : goal.returns-clause-command
-returns-clause-command g c = let bs = map (block_at c.args.unit.now) c.args.found.now.block.items in subst (λ (r : Result UserOp Cause). IfOk r IsCommand) (sym c.user_command_of.ensures.meaning) (is_command c.sid.result.now c.args.user.now bs)
+returns-clause-command c = let bs = map (block_at c.args.unit.now) c.args.found.now.block.items in subst (λ (r : Result UserOp Cause). IfOk r IsCommand) (sym c.user_command_of-asked.ensures.meaning) (is_command c.sid.result.now c.args.user.now bs)

@@ -1,4 +1,4 @@
-use Rattle.std.proofs.Common.{List, ◌∙◌, length, refl, sym, ap, subst, inl, inr}
+use Rattle.std.proofs.Common.{List, Ok, ◌∙◌, length, refl, sym, ap, subst, inl, inr}
 use Rattle.dxc_model.specs.declared.entry.Entry.{Entry}
 use Rattle.dxc_model.specs.declared.op.Op.TheVariants.{Restart}
 use Rattle.roll_engine.specs.Rollings.{rest_of}
@@ -6,6 +6,9 @@ use Rattle.xc_core.specs.declared.provisioner.Driver.{Driver}
 use Rattle.xc_core.specs.Provisioners.{Ground}
 use Rattle.xc_core.specs.Seeing.{HasFailed, HasHeld}
 use Rattle.xc_core.specs.States.{opening_of}
+use Rattle.xc_core.specs.declared.resuming.Reread.{Reread}
+use Rattle.xc_core.specs.Askings.{RereadAsked}
+use Rattle.xc_core.specs.Turns.{RereadIs}
 use Rattle.xc_core.proofs.Turning.{saw_once}
 use Rattle.craft_session.specs.declared.mend.Mended.TheVariants.{Denied}
 use Rattle.craft_session.proofs.Changing.{mended_cut, mended_fault}
@@ -29,14 +32,14 @@ resume-requires-clause-restart g c =
     let w = c.requires.held in
     let v = c.deref_mut-held.result.now in
     let x = subst (λ (y : Driver g.row.D.Denot). HasHeld g.D.Disk.told g.D.Disk.state (opening_of g.D.Disk.state c.args.turns.now.first) c.args.pass.now.number c.args.asked.now w.0 y.p) (sym c.deref_mut-held.ensures.value) w.2 in
-    (w.0, w.1, c.in-Ok-Warm.ensures.reread (opening_of g.D.Disk.state c.args.turns.now.first) c.args.pass.now.number w.0 x)
+    (w.0, w.1, subst (λ (x : Reread). RereadIs g.D.Disk.told g.D.Disk.state (opening_of g.D.Disk.state c.args.turns.now.first) c.args.pass.now.number c.args.asked.now w.0 c.read_anew.new.p (Ok x)) c.in-Ok-Warm.field-0-is (c.in-Ok-Warm.ensures.reread (opening_of g.D.Disk.state c.args.turns.now.first) c.args.pass.now.number w.0 x))
 
 pub fail-requires-clause-failed : goal.fail-requires-clause-failed
 fail-requires-clause-failed g c =
     let w = c.requires.held in
     let v = c.deref_mut-held.result.now in
     let x = subst (λ (y : Driver g.row.D.Denot). HasHeld g.D.Disk.told g.D.Disk.state (opening_of g.D.Disk.state c.args.turns.now.first) c.args.pass.now.number c.args.asked.now w.0 y.p) (sym c.deref_mut-held.ensures.value) w.2 in
-    (w.0, w.1, (Restart, c.in-Ok-Failed.ensures.reread (opening_of g.D.Disk.state c.args.turns.now.first) c.args.pass.now.number w.0 x))
+    (w.0, w.1, (Restart, subst (λ (x : Reread). RereadIs g.D.Disk.told g.D.Disk.state (opening_of g.D.Disk.state c.args.turns.now.first) c.args.pass.now.number c.args.asked.now w.0 c.read_anew.new.p (Ok x)) c.in-Ok-Failed.field-0-is (c.in-Ok-Failed.ensures.reread (opening_of g.D.Disk.state c.args.turns.now.first) c.args.pass.now.number w.0 x)))
 
 pub cut_restart-requires-clause-restart : goal.cut_restart-requires-clause-restart
 cut_restart-requires-clause-restart g c =
@@ -55,8 +58,8 @@ returns-in-Ok-Warm g c =
       astray = r.astray;
       stopped = rose_after _ _ _ _ unstopped r.stopped;
       mended = r.mended;
-      asked = mended_by g.G.Gate.asked g.G.Gate.asked_on c.args.gate.now c.read_anew.new.gate c.resume.new.gate (length (rest_of c.in-Ok-Warm.rolling)) c.resume.result c.in-Ok-Warm.ensures.asked r.asked;
-      entered = λ h saw. entered_noted g.G.Gate.asked g.G.Gate.asked_on c.args.gate.now c.read_anew.new.gate c.resume.new.gate (opening_of g.D.Disk.state c.args.turns.now.first) c.args.pass.now.number h c.resume.new.pass.seen c.in-Ok-Warm.ensures.asked (r.entered h saw);
+      asked = mended_by g.G.Gate.asked g.G.Gate.asked_on c.args.gate.now c.read_anew.new.gate c.resume.new.gate (length (rest_of c.in-Ok-Warm.rolling)) c.resume.result (subst (λ (x : Reread). RereadAsked (g.G.Gate.asked c.args.gate.now c.read_anew.new.gate) (Ok x)) c.in-Ok-Warm.field-0-is c.in-Ok-Warm.ensures.asked) r.asked;
+      entered = λ h saw. entered_noted g.G.Gate.asked g.G.Gate.asked_on c.args.gate.now c.read_anew.new.gate c.resume.new.gate (opening_of g.D.Disk.state c.args.turns.now.first) c.args.pass.now.number h c.resume.new.pass.seen (subst (λ (x : Reread). RereadAsked (g.G.Gate.asked c.args.gate.now c.read_anew.new.gate) (Ok x)) c.in-Ok-Warm.field-0-is c.in-Ok-Warm.ensures.asked) (r.entered h saw);
     }
 
 pub returns-in-Ok-Failed : goal.returns-in-Ok-Failed
@@ -71,9 +74,9 @@ returns-in-Ok-Failed g c =
           let v = c.deref_mut-held.result.now in
           let x = subst (λ (y : Driver g.row.D.Denot). HasHeld g.D.Disk.told g.D.Disk.state (opening_of g.D.Disk.state c.args.turns.now.first) c.args.pass.now.number c.args.asked.now w.0 y.p) (sym c.deref_mut-held.ensures.value) w.2 in
           let same = saw_once (opening_of g.D.Disk.state c.args.turns.now.first) c.args.pass.now.seen w.0 h w.1 saw in
-          mended_fault (opening_of g.D.Disk.state c.args.turns.now.first) c.args.pass.now.number h g.D.Disk.told g.D.Disk.state c.args.asked.now c.fail.new.pass.seen c.in-Ok-Failed.cause c.read_anew.new.p (subst (λ (l : List Entry). HasFailed g.D.Disk.told g.D.Disk.state (opening_of g.D.Disk.state c.args.turns.now.first) c.args.pass.now.number Restart c.args.asked.now c.in-Ok-Failed.cause l c.read_anew.new.p) same (c.in-Ok-Failed.ensures.reread (opening_of g.D.Disk.state c.args.turns.now.first) c.args.pass.now.number w.0 x)) (c.fail.ensures.failed h saw);
-      asked = failed_asked (g.G.Gate.asked c.args.gate.now c.read_anew.new.gate) c.in-Ok-Failed.cause c.in-Ok-Failed.ensures.asked;
-      entered = λ h saw. entered_fault (opening_of g.D.Disk.state c.args.turns.now.first) c.args.pass.now.number (g.G.Gate.asked c.args.gate.now c.read_anew.new.gate) h c.fail.new.pass.seen c.args.asked.now c.in-Ok-Failed.cause (elim (failed_first (g.G.Gate.asked c.args.gate.now c.read_anew.new.gate) c.in-Ok-Failed.cause c.in-Ok-Failed.ensures.asked) [ inl none ↦ inl (none.0, none.1, λ later others. still_out (opening_of g.D.Disk.state c.args.turns.now.first) c.args.pass.now.number c.args.pass.now.seen h c.requires.held.0 later saw c.requires.held.1 others Restart c.requires.held.2.out.held) | inr one ↦ inr one ]) (c.fail.ensures.failed h saw).0;
+          mended_fault (opening_of g.D.Disk.state c.args.turns.now.first) c.args.pass.now.number h g.D.Disk.told g.D.Disk.state c.args.asked.now c.fail.new.pass.seen c.in-Ok-Failed.cause c.read_anew.new.p (subst (λ (l : List Entry). HasFailed g.D.Disk.told g.D.Disk.state (opening_of g.D.Disk.state c.args.turns.now.first) c.args.pass.now.number Restart c.args.asked.now c.in-Ok-Failed.cause l c.read_anew.new.p) same (subst (λ (x : Reread). RereadIs g.D.Disk.told g.D.Disk.state (opening_of g.D.Disk.state c.args.turns.now.first) c.args.pass.now.number c.args.asked.now w.0 c.read_anew.new.p (Ok x)) c.in-Ok-Failed.field-0-is (c.in-Ok-Failed.ensures.reread (opening_of g.D.Disk.state c.args.turns.now.first) c.args.pass.now.number w.0 x))) (c.fail.ensures.failed h saw);
+      asked = failed_asked (g.G.Gate.asked c.args.gate.now c.read_anew.new.gate) c.in-Ok-Failed.cause (subst (λ (x : Reread). RereadAsked (g.G.Gate.asked c.args.gate.now c.read_anew.new.gate) (Ok x)) c.in-Ok-Failed.field-0-is c.in-Ok-Failed.ensures.asked);
+      entered = λ h saw. entered_fault (opening_of g.D.Disk.state c.args.turns.now.first) c.args.pass.now.number (g.G.Gate.asked c.args.gate.now c.read_anew.new.gate) h c.fail.new.pass.seen c.args.asked.now c.in-Ok-Failed.cause (elim (failed_first (g.G.Gate.asked c.args.gate.now c.read_anew.new.gate) c.in-Ok-Failed.cause (subst (λ (x : Reread). RereadAsked (g.G.Gate.asked c.args.gate.now c.read_anew.new.gate) (Ok x)) c.in-Ok-Failed.field-0-is c.in-Ok-Failed.ensures.asked)) [ inl none ↦ inl (none.0, none.1, λ later others. still_out (opening_of g.D.Disk.state c.args.turns.now.first) c.args.pass.now.number c.args.pass.now.seen h c.requires.held.0 later saw c.requires.held.1 others Restart c.requires.held.2.out.held) | inr one ↦ inr one ]) (c.fail.ensures.failed h saw).0;
     }
 
 pub returns-in-Err : goal.returns-in-Err

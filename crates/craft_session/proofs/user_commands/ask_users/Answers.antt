@@ -23,8 +23,8 @@ on_users-requires-clause-named g c = subst (λ (r : Result UserOp Cause). IfOk r
 pub on_users-requires-clause-command : goal.on_users-requires-clause-command
 on_users-requires-clause-command g c = subst (λ (r : Result UserOp Cause). IfOk r IsCommand) (sym c.take.ensures ∙ c.in-Ok.is) c.requires.command
 
-pub returns-in_err-on_users : goal.returns-in_err-on_users
-returns-in_err-on_users g c =
+pub returns-in_err-ask-in-Ok : goal.returns-in_err-ask-in-Ok
+returns-in_err-ask-in-Ok g c =
     let seat = c.args.users.now.seat in
     let was = c.args.users.now.asked.op in
     let a = c.args.ask.now in
@@ -39,18 +39,18 @@ returns-in_err-on_users g c =
       same = r.same;
       asked = by_stop (λ (x : Result (Unit {0}) Stopped). AskedIs seat (users_want was) (λ y. users_ask y was) rows seen gate (put_down x a)) c.from_residual.result stop
           (subst (λ (o : Result UserOp Cause). AskedIs seat (users_want o) (λ y. users_ask y o) rows seen gate (Err the_stop)) given
-          (subst (λ (x : Result Ask Stopped). AskedIs seat (op_wants c.in-Ok.op) heard_ask rows seen gate x) c.in_err-on_users.was r.asked));
+          (subst (λ (x : Result Ask Stopped). AskedIs seat (op_wants c.in-Ok.op) heard_ask rows seen gate x) c.in_err-ask-in-Ok.was r.asked));
       noted = by_stop (λ (x : Result (Unit {0}) Stopped). UsersNoted noted c.args.user.now c.args.tag.now (users_want was) (put_down x a)) c.from_residual.result stop
           (subst (λ (o : Result UserOp Cause). UsersNoted noted c.args.user.now c.args.tag.now (users_want o) (Err the_stop)) given
-          (subst (λ (x : Result Ask Stopped). UsersNoted noted c.args.user.now c.args.tag.now (op_wants c.in-Ok.op) x) c.in_err-on_users.was r.noted));
+          (subst (λ (x : Result Ask Stopped). UsersNoted noted c.args.user.now c.args.tag.now (op_wants c.in-Ok.op) x) c.in_err-ask-in-Ok.was r.noted));
       apt = λ d. by_stop (λ (x : Result (Unit {0}) Stopped). IfOk (put_down x a) (IsAptAsk d)) c.from_residual.result stop tt;
-      stopped = rose_by _ _ _ _ r.stopped (ap is_err c.in_err-on_users.was) stop;
+      stopped = rose_by _ _ _ _ r.stopped (ap is_err c.in_err-ask-in-Ok.was) stop;
     }
 
-pub returns-in-Ok : goal.returns-in-Ok
-returns-in-Ok g c =
+pub returns-in_ok-ask-in-Ok : goal.returns-in_ok-ask-in-Ok
+returns-in_ok-ask-in-Ok g c =
     let seat = c.args.users.now.seat in
-    let r = c.in_ok-on_users.ensures in
+    let r = c.in_ok-ask-in-Ok.ensures in
     let given = sym (sym c.take.ensures ∙ c.in-Ok.is) in
     let gate = g.G.Gate.asked c.args.gate.now c.on_users.new.gate in
     let noted = g.N.Notes.noted c.args.notes.now c.on_users.new.notes in
@@ -58,8 +58,8 @@ returns-in-Ok g c =
     let seen = c.on_users.new.users.seat.seen in
     record {
       same = c.on_users.ensures.same;
-      asked = subst (λ (o : Result UserOp Cause). AskedIs seat (users_want o) (λ y. users_ask y o) rows seen gate (Ok _)) given r.asked;
-      noted = subst (λ (o : Result UserOp Cause). UsersNoted noted c.args.user.now c.args.tag.now (users_want o) (Ok _)) given r.noted;
+      asked = subst (λ (o : Result UserOp Cause). AskedIs seat (users_want o) (λ y. users_ask y o) rows seen gate (Ok c.in_ok-ask-in-Ok.field-0)) given r.asked;
+      noted = subst (λ (o : Result UserOp Cause). UsersNoted noted c.args.user.now c.args.tag.now (users_want o) (Ok c.in_ok-ask-in-Ok.field-0)) given r.noted;
       apt = r.apt;
       stopped = still _ _ (r.stopped.only (λ e. never e));
     }

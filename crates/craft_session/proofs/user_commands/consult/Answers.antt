@@ -49,7 +49,7 @@ returns-in-LogIn g c =
       same = c.log_in.ensures.same;
       asked = subst (λ (m : Meaning). IsAsked seat (wanted_in user unit op m) (asked_in user unit c.args.ask.now op m) a rows seen (g.G.Gate.asked c.args.gate.now c.args.gate.now)) (sym is)
           (asked_beside seat _ _ a rows seen (g.G.Gate.asked c.args.gate.now c.args.gate.now) (g.G.Gate.unasked c.args.gate.now)
-          (subst (λ (w : List ℕ × List ℕ). IsAsked seat (login_wants user w.0 w.1) (λ x. log_in user (named_by w.0 x)) a rows seen NothingAsked) (λ i. (c.text.ensures i, c.text-2.ensures i)) c.log_in.ensures.asked));
+          (subst (λ (w : List ℕ × List ℕ). IsAsked seat (login_wants user w.0 w.1) (λ x. log_in user (named_by w.0 x)) a rows seen NothingAsked) (λ i. (c.text.ensures i, c.text-in-LogIn.ensures i)) c.log_in.ensures.asked));
       noted = subst (λ (m : Meaning). UsersNoted (g.N.Notes.noted c.args.notes.now c.args.notes.now) user c.args.tag.now (wanted_in user unit op m) (Ok a)) (sym is) (noted_session (g.N.Notes.noted c.args.notes.now c.args.notes.now) user c.args.tag.now (acts (text_at unit c.in-LogIn.uid) (text_at unit c.in-LogIn.pid)) a (g.N.Notes.unnoted c.args.notes.now));
       apt = λ d fit. c.log_in.ensures.apt d;
       stopped = still _ _ refl;
