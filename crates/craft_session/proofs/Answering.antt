@@ -156,7 +156,7 @@ pub unheard_of : (s : Contents) (k : LinkState) (c : List Moment) (u : Input) (s
 unheard_of s k c u seat users before after x seen attending = record { link = refl; clock = refl; stopped = inr (record { unasked = x; seen = seen; attending = attending }) }
 
 -- what a call does to a session stands for the language and the seat that the session began with
-module _ {Shelf : Type 0} (value : Shelf → Contents) (first : SessionUser) (told clock_told : Type 0) (j j2 : LinkState) (d d2 : List Moment) (now after : Now) (due : Bool) (r r2 : Reader) (how : Progress) (old new : Shelf) (was is_now : SeatAt) (users_was users_now : UserSeatAt) where
+module _ {Shelf : Type 0} (value : Shelf → Contents) (first : SessionUser) (told clock_told : Type 0) (j j2 : LinkState) (d d2 : List Moment) (now after : Now) (due : Bool) (r r2 : Reader) (how : Result Progress Stopped) (old new : Shelf) (was is_now : SeatAt) (users_was users_now : UserSeatAt) where
   pub moved_goes : (ahead more : List ℕ) → new ≡ old → IsSameSeat was is_now → IsSameUserSeat users_was users_now
       → ((k : LinkState) (c : List Moment) (b : Beginning) → IsAt b is_now users_now → Stands (language_for first (value new)) told clock_told k j c d b now due More r ahead → Goes (language_for first (value new)) told clock_told k j2 c d2 b after how false r2 more)
       → (k : LinkState) (c : List Moment) (b : Beginning) → IsAt b was users_was → Stands (language_for first (value old)) told clock_told k j c d b now due More r ahead → Goes (language_for first (value old)) told clock_told k j2 c d2 b after how false r2 more

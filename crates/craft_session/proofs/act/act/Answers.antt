@@ -1,8 +1,9 @@
 use Rattle.std.specs.Prelude.{IfOk, is_err}
-use Rattle.std.proofs.Common.{◌≡◌, ℕ, Bool, true, [], false, Some, Result, refl, sym, ◌∙◌, ap, subst}
+use Rattle.std.proofs.Common.{◌≡◌, ℕ, Bool, true, [], false, Some, Result, Ok, refl, sym, ◌∙◌, ap, subst}
 use Rattle.dxc_causes.specs.Stops.{RoseOnlyFor}
 use Rattle.dxc_outside.specs.declared.stopped.Stopped.{Stopped}
 use Rattle.craft_session.specs.declared.ask.Acted.{Acted}
+use Rattle.craft_session.specs.declared.change.Changed.{Changed}
 use Rattle.craft_session.specs.declared.ask.Ask.TheVariants.{Allows}
 use Rattle.craft_session.specs.Acting.{ActedIs, Acts}
 use Rattle.craft_session.specs.Asks.{IsAptActed, completed, user_after}
@@ -106,75 +107,75 @@ returns-in-Shows g c = record {
 pub returns-in-Done : goal.returns-in-Done
 returns-in-Done g c = record {
   same = c.restart.ensures.same;
-  acts = λ h saw. rw c.in-Restarts.is (acts_restarted _ _ h _ _ _ (c.in-Done.ensures.restarted h saw) refl);
+  acts = λ h saw. rw c.in-Restarts.is (acts_restarted _ _ h _ _ _ (c.restart.ensures.restarted h saw) (c.in_ok-restart-in-Restarts.was ∙ ap (λ (p : Changed). Ok p) c.in-Done.is));
   of_shape = tt;
   user = sym (ap (user_after c.args.attending.now.user) c.in-Restarts.is);
   room = refl;
-  stopped = still _ _ (c.in-Done.ensures.stopped.only (λ e. never e));
+  stopped = still _ _ (c.in_ok-restart-in-Restarts.ensures.stopped.only (λ e. never e));
   entered = c.restart.ensures.entered;
 }
 
 pub returns-in-Denied : goal.returns-in-Denied
 returns-in-Denied g c = record {
   same = c.restart.ensures.same;
-  acts = λ h saw. rw c.in-Restarts.is (acts_unrestarted _ _ h _ _ _ (c.in-Denied.ensures.restarted h saw) c.in-Denied.cause refl);
+  acts = λ h saw. rw c.in-Restarts.is (acts_unrestarted _ _ h _ _ _ (c.restart.ensures.restarted h saw) c.in-Denied.cause (c.in_ok-restart-in-Restarts.was ∙ ap (λ (p : Changed). Ok p) c.in-Denied.is));
   of_shape = tt;
   user = sym (ap (user_after c.args.attending.now.user) c.in-Restarts.is);
   room = refl;
-  stopped = still _ _ (c.in-Denied.ensures.stopped.only (λ e. never e));
+  stopped = still _ _ (c.in_ok-restart-in-Restarts.ensures.stopped.only (λ e. never e));
   entered = c.restart.ensures.entered;
 }
 
-pub returns-in_err-restart : goal.returns-in_err-restart
-returns-in_err-restart g c =
+pub returns-in_err-restart-in-Restarts : goal.returns-in_err-restart-in-Restarts
+returns-in_err-restart-in-Restarts g c =
     let seat = c.args.seat.now in
     let stop = c.from_residual.ensures.0 in
     record {
       same = c.restart.ensures.same;
       acts = λ h saw.
           by_stop (λ (r : Result Acted Stopped). ActedIs seat.opening seat.place h c.args.attending.now c.args.ask.now r c.args.rows.now.items c.args.attending.now c.restart.new.self.seen) c.from_residual.result stop
-          (rw c.in-Restarts.is (acts_cut _ _ h _ _ _ (c.restart.ensures.restarted h saw) c.in_err-restart.was));
+          (rw c.in-Restarts.is (acts_cut _ _ h _ _ _ (c.restart.ensures.restarted h saw) c.in_err-restart-in-Restarts.was));
       of_shape = by_stop (λ (r : Result Acted Stopped). IfOk r (IsAptActed seat.opening.first.fold.table.shape c.args.rows.now.items)) c.from_residual.result stop tt;
       user = sym (ap (user_after c.args.attending.now.user) c.in-Restarts.is);
       room = refl;
-      stopped = subst (λ (b : Bool). RoseOnlyFor (g.G.Gate.stops c.args.gate.now) (g.G.Gate.stops c.restart.new.gate) (b ≡ true)) (ap is_err c.in_err-restart.was ∙ sym stop) c.restart.ensures.stopped;
+      stopped = subst (λ (b : Bool). RoseOnlyFor (g.G.Gate.stops c.args.gate.now) (g.G.Gate.stops c.restart.new.gate) (b ≡ true)) (ap is_err c.in_err-restart-in-Restarts.was ∙ sym stop) c.restart.ensures.stopped;
       entered = c.restart.ensures.entered;
     }
 
-pub returns-in-Done-change : goal.returns-in-Done-change
-returns-in-Done-change g c = record {
+pub returns-in-Done-2 : goal.returns-in-Done-2
+returns-in-Done-2 g c = record {
   same = c.change.ensures.same;
-  acts = λ h saw. rw c.in-Changes.is (acts_done _ _ h _ c.in-Changes.op _ _ (c.in-Done-change.ensures.changed h saw) refl);
+  acts = λ h saw. rw c.in-Changes.is (acts_done _ _ h _ c.in-Changes.op _ _ (c.change.ensures.changed h saw) (c.in_ok-change-in-Changes.was ∙ ap (λ (p : Changed). Ok p) c.in-Done-2.is));
   of_shape = tt;
   user = sym (ap (user_after c.args.attending.now.user) c.in-Changes.is);
   room = refl;
-  stopped = still _ _ (c.in-Done-change.ensures.stopped.only (λ e. never e));
+  stopped = still _ _ (c.in_ok-change-in-Changes.ensures.stopped.only (λ e. never e));
   entered = c.change.ensures.entered;
 }
 
-pub returns-in-Denied-change : goal.returns-in-Denied-change
-returns-in-Denied-change g c = record {
+pub returns-in-Denied-2 : goal.returns-in-Denied-2
+returns-in-Denied-2 g c = record {
   same = c.change.ensures.same;
-  acts = λ h saw. rw c.in-Changes.is (acts_refused _ _ h _ c.in-Changes.op _ _ (c.in-Denied-change.ensures.changed h saw) c.in-Denied-change.cause refl);
+  acts = λ h saw. rw c.in-Changes.is (acts_refused _ _ h _ c.in-Changes.op _ _ (c.change.ensures.changed h saw) c.in-Denied-2.cause (c.in_ok-change-in-Changes.was ∙ ap (λ (p : Changed). Ok p) c.in-Denied-2.is));
   of_shape = tt;
   user = sym (ap (user_after c.args.attending.now.user) c.in-Changes.is);
   room = refl;
-  stopped = still _ _ (c.in-Denied-change.ensures.stopped.only (λ e. never e));
+  stopped = still _ _ (c.in_ok-change-in-Changes.ensures.stopped.only (λ e. never e));
   entered = c.change.ensures.entered;
 }
 
-pub returns-in_err-change : goal.returns-in_err-change
-returns-in_err-change g c =
+pub returns-in_err-change-in-Changes : goal.returns-in_err-change-in-Changes
+returns-in_err-change-in-Changes g c =
     let seat = c.args.seat.now in
-    let stop = c.from_residual.ensures.0 in
+    let stop = c.from_residual-in_err-change-in-Changes.ensures.0 in
     record {
       same = c.change.ensures.same;
       acts = λ h saw.
-          by_stop (λ (r : Result Acted Stopped). ActedIs seat.opening seat.place h c.args.attending.now c.args.ask.now r c.args.rows.now.items c.args.attending.now c.change.new.self.seen) c.from_residual.result stop
-          (rw c.in-Changes.is (acts_stopped _ _ h _ c.in-Changes.op _ _ (c.change.ensures.changed h saw) c.in_err-change.was));
-      of_shape = by_stop (λ (r : Result Acted Stopped). IfOk r (IsAptActed seat.opening.first.fold.table.shape c.args.rows.now.items)) c.from_residual.result stop tt;
+          by_stop (λ (r : Result Acted Stopped). ActedIs seat.opening seat.place h c.args.attending.now c.args.ask.now r c.args.rows.now.items c.args.attending.now c.change.new.self.seen) c.from_residual-in_err-change-in-Changes.result stop
+          (rw c.in-Changes.is (acts_stopped _ _ h _ c.in-Changes.op _ _ (c.change.ensures.changed h saw) c.in_err-change-in-Changes.was));
+      of_shape = by_stop (λ (r : Result Acted Stopped). IfOk r (IsAptActed seat.opening.first.fold.table.shape c.args.rows.now.items)) c.from_residual-in_err-change-in-Changes.result stop tt;
       user = sym (ap (user_after c.args.attending.now.user) c.in-Changes.is);
       room = refl;
-      stopped = subst (λ (b : Bool). RoseOnlyFor (g.G.Gate.stops c.args.gate.now) (g.G.Gate.stops c.change.new.gate) (b ≡ true)) (ap is_err c.in_err-change.was ∙ sym stop) c.change.ensures.stopped;
+      stopped = subst (λ (b : Bool). RoseOnlyFor (g.G.Gate.stops c.args.gate.now) (g.G.Gate.stops c.change.new.gate) (b ≡ true)) (ap is_err c.in_err-change-in-Changes.was ∙ sym stop) c.change.ensures.stopped;
       entered = c.change.ensures.entered;
     }

@@ -106,16 +106,16 @@ loop-preserved-in-Ready g c = record {
       let d = mended_back (opening_of g.D.Disk.state c.args.turns.now.first) c.args.pass.now.number h c.loop.pass.seen c.take.new.pass.seen b (turned_back_passed (opening_of g.D.Disk.state c.args.turns.now.first) c.args.pass.now.number (h ++ b.front) c.take.new.pass.seen (took_halted (opening_of g.D.Disk.state c.args.turns.now.first) c.args.pass.now.number (h ++ b.front) g.D.Disk.told g.D.Disk.state c.args.op.now c.take.new.pass.seen c.take.result k c.in-Halted.is)) in
       let m = subst (λ (n : ℕ). MendedIs (opening_of g.D.Disk.state c.args.turns.now.first) n (h ++ d.front) c.args.op.now c.mend.new.pass.seen c.mend.result) (c.take.ensures.pass.1 ∙ c.loop.invariant.number) (c.mend.ensures.mended (h ++ d.front) d.saw) in
       elim c.in-Ready.is [
-        | inl is ↦ mends_ready (opening_of g.D.Disk.state c.args.turns.now.first) c.args.pass.now.number h (opening_of g.D.Disk.state c.args.turns.now.first).first.fold.table.shape c.args.op.now c.requires.apt c.take.new.pass.seen c.mend.new.pass.seen d c.mend.result m (c.in_ok-mend.was ∙ ap (λ (p : Mended). Ok p) is)
-        | inr is ↦ mends_wait (opening_of g.D.Disk.state c.args.turns.now.first) c.args.pass.now.number h (opening_of g.D.Disk.state c.args.turns.now.first).first.fold.table.shape c.args.op.now c.requires.apt c.take.new.pass.seen c.mend.new.pass.seen d c.mend.result m (c.in_ok-mend.was ∙ ap (λ (p : Mended). Ok p) is)
+        | inl is ↦ mends_ready (opening_of g.D.Disk.state c.args.turns.now.first) c.args.pass.now.number h (opening_of g.D.Disk.state c.args.turns.now.first).first.fold.table.shape c.args.op.now c.requires.apt c.take.new.pass.seen c.mend.new.pass.seen d c.mend.result m (c.in_ok-mend-in-Halted.was ∙ ap (λ (p : Mended). Ok p) is)
+        | inr is ↦ mends_wait (opening_of g.D.Disk.state c.args.turns.now.first) c.args.pass.now.number h (opening_of g.D.Disk.state c.args.turns.now.first).first.fold.table.shape c.args.op.now c.requires.apt c.take.new.pass.seen c.mend.new.pass.seen d c.mend.result m (c.in_ok-mend-in-Halted.was ∙ ap (λ (p : Mended). Ok p) is)
       ];
-  gate = c.in_ok-mend.ensures.stopped.only (λ e. never e) ∙ c.loop.invariant.gate;
-  asked = elim c.in-Ready.is [ inl is ↦ mending_more g.G.Gate.asked g.G.Gate.asked_on c.args.gate.now c.loop.gate c.mend.new.gate c.loop.invariant.asked.0 c.loop.invariant.asked.1 (nothing_more g.G.Gate.asked g.G.Gate.asked_on c.args.gate.now c.loop.gate c.loop.gate c.loop.invariant.asked.0 c.loop.invariant.asked.2 (g.G.Gate.unasked c.loop.gate)) c.mend.result (c.in_ok-mend.was ∙ ap (λ (p : Mended). Ok p) is) c.mend.ensures.asked | inr is ↦ mending_none g.G.Gate.asked g.G.Gate.asked_on c.args.gate.now c.loop.gate c.mend.new.gate c.loop.invariant.asked.0 c.loop.invariant.asked.1 (nothing_more g.G.Gate.asked g.G.Gate.asked_on c.args.gate.now c.loop.gate c.loop.gate c.loop.invariant.asked.0 c.loop.invariant.asked.2 (g.G.Gate.unasked c.loop.gate)) c.mend.result (c.in_ok-mend.was ∙ ap (λ (p : Mended). Ok p) is) c.mend.ensures.asked ];
+  gate = c.in_ok-mend-in-Halted.ensures.stopped.only (λ e. never e) ∙ c.loop.invariant.gate;
+  asked = elim c.in-Ready.is [ inl is ↦ mending_more g.G.Gate.asked g.G.Gate.asked_on c.args.gate.now c.loop.gate c.mend.new.gate c.loop.invariant.asked.0 c.loop.invariant.asked.1 (nothing_more g.G.Gate.asked g.G.Gate.asked_on c.args.gate.now c.loop.gate c.loop.gate c.loop.invariant.asked.0 c.loop.invariant.asked.2 (g.G.Gate.unasked c.loop.gate)) c.mend.result (c.in_ok-mend-in-Halted.was ∙ ap (λ (p : Mended). Ok p) is) c.mend.ensures.asked | inr is ↦ mending_none g.G.Gate.asked g.G.Gate.asked_on c.args.gate.now c.loop.gate c.mend.new.gate c.loop.invariant.asked.0 c.loop.invariant.asked.1 (nothing_more g.G.Gate.asked g.G.Gate.asked_on c.args.gate.now c.loop.gate c.loop.gate c.loop.invariant.asked.0 c.loop.invariant.asked.2 (g.G.Gate.unasked c.loop.gate)) c.mend.result (c.in_ok-mend-in-Halted.was ∙ ap (λ (p : Mended). Ok p) is) c.mend.ensures.asked ];
   entered = λ h saw. entered_on g.G.Gate.asked g.G.Gate.asked_on c.args.gate.now c.loop.gate c.mend.new.gate _ _ _ _ _ _ _ _ _ (c.take.ensures.pass.1 ∙ c.loop.invariant.number) (entered_take_on g.G.Gate.asked g.G.Gate.asked_on c.args.gate.now c.loop.gate c.loop.gate _ _ _ _ _ _ g.D.Disk.told g.D.Disk.state c.args.op.now c.take.result _ (ap takes_out c.in-Halted.is) c.loop.invariant.number (c.loop.invariant.entered h saw) (g.G.Gate.unasked c.loop.gate) c.take.ensures.took) c.mend.ensures.entered;
 }
 
-pub returns-in-Denied-mend : goal.returns-in-Denied-mend
-returns-in-Denied-mend g c =
+pub returns-in-Denied-2 : goal.returns-in-Denied-2
+returns-in-Denied-2 g c =
     let k = c.loop.invariant in
     let t = c.take.ensures in
     let m = c.mend.ensures in
@@ -123,19 +123,19 @@ returns-in-Denied-mend g c =
     record {
       pass = (m.pass.0, m.pass.1 ∙ t.pass.1 ∙ k.number);
       astray = m.astray;
-      stopped = still _ _ (c.in-Denied-mend.ensures.stopped.only (λ e. never e) ∙ unstopped);
+      stopped = still _ _ (c.in_ok-mend-in-Halted.ensures.stopped.only (λ e. never e) ∙ unstopped);
       changed = λ h saw.
           let b = c.loop.invariant.mended h saw in
           let k = subst (λ (n : ℕ). TookIs g.D.Disk.told g.D.Disk.state (opening_of g.D.Disk.state c.args.turns.now.first) n (h ++ b.front) c.args.op.now c.take.new.pass.seen c.take.result) c.loop.invariant.number (c.take.ensures.took (h ++ b.front) b.saw) in
           let d = mended_back (opening_of g.D.Disk.state c.args.turns.now.first) c.args.pass.now.number h c.loop.pass.seen c.take.new.pass.seen b (turned_back_passed (opening_of g.D.Disk.state c.args.turns.now.first) c.args.pass.now.number (h ++ b.front) c.take.new.pass.seen (took_halted (opening_of g.D.Disk.state c.args.turns.now.first) c.args.pass.now.number (h ++ b.front) g.D.Disk.told g.D.Disk.state c.args.op.now c.take.new.pass.seen c.take.result k c.in-Halted.is)) in
           let m = subst (λ (n : ℕ). MendedIs (opening_of g.D.Disk.state c.args.turns.now.first) n (h ++ d.front) c.args.op.now c.mend.new.pass.seen c.mend.result) (c.take.ensures.pass.1 ∙ c.loop.invariant.number) (c.mend.ensures.mended (h ++ d.front) d.saw) in
-          changed_on (opening_of g.D.Disk.state c.args.turns.now.first) c.args.pass.now.number h c.args.op.now c.take.new.pass.seen c.mend.new.pass.seen d (Ok (Denied c.in-Denied-mend.cause)) (mend_denied (opening_of g.D.Disk.state c.args.turns.now.first) c.args.pass.now.number (h ++ d.front) (opening_of g.D.Disk.state c.args.turns.now.first).first.fold.table.shape c.args.op.now c.requires.apt c.mend.new.pass.seen c.in-Denied-mend.cause (subst (λ (z : Result Mended Stopped). MendedIs (opening_of g.D.Disk.state c.args.turns.now.first) c.args.pass.now.number (h ++ d.front) c.args.op.now c.mend.new.pass.seen z) (c.in_ok-mend.was ∙ ap (λ (p : Mended). Ok p) c.in-Denied-mend.is) m));
-      asked = mending_denied g.G.Gate.asked g.G.Gate.asked_on c.args.gate.now c.loop.gate c.mend.new.gate c.loop.invariant.asked.0 c.loop.invariant.asked.1 (nothing_more g.G.Gate.asked g.G.Gate.asked_on c.args.gate.now c.loop.gate c.loop.gate c.loop.invariant.asked.0 c.loop.invariant.asked.2 (g.G.Gate.unasked c.loop.gate)) c.mend.result c.in-Denied-mend.cause (c.in_ok-mend.was ∙ ap (λ (p : Mended). Ok p) c.in-Denied-mend.is) c.mend.ensures.asked;
+          changed_on (opening_of g.D.Disk.state c.args.turns.now.first) c.args.pass.now.number h c.args.op.now c.take.new.pass.seen c.mend.new.pass.seen d (Ok (Denied c.in-Denied-2.cause)) (mend_denied (opening_of g.D.Disk.state c.args.turns.now.first) c.args.pass.now.number (h ++ d.front) (opening_of g.D.Disk.state c.args.turns.now.first).first.fold.table.shape c.args.op.now c.requires.apt c.mend.new.pass.seen c.in-Denied-2.cause (subst (λ (z : Result Mended Stopped). MendedIs (opening_of g.D.Disk.state c.args.turns.now.first) c.args.pass.now.number (h ++ d.front) c.args.op.now c.mend.new.pass.seen z) (c.in_ok-mend-in-Halted.was ∙ ap (λ (p : Mended). Ok p) c.in-Denied-2.is) m));
+      asked = mending_denied g.G.Gate.asked g.G.Gate.asked_on c.args.gate.now c.loop.gate c.mend.new.gate c.loop.invariant.asked.0 c.loop.invariant.asked.1 (nothing_more g.G.Gate.asked g.G.Gate.asked_on c.args.gate.now c.loop.gate c.loop.gate c.loop.invariant.asked.0 c.loop.invariant.asked.2 (g.G.Gate.unasked c.loop.gate)) c.mend.result c.in-Denied-2.cause (c.in_ok-mend-in-Halted.was ∙ ap (λ (p : Mended). Ok p) c.in-Denied-2.is) c.mend.ensures.asked;
       entered = λ h saw. entered_on g.G.Gate.asked g.G.Gate.asked_on c.args.gate.now c.loop.gate c.mend.new.gate _ _ _ _ _ _ _ _ _ (t.pass.1 ∙ k.number) (entered_take_on g.G.Gate.asked g.G.Gate.asked_on c.args.gate.now c.loop.gate c.loop.gate _ _ _ _ _ _ g.D.Disk.told g.D.Disk.state c.args.op.now c.take.result _ (ap takes_out c.in-Halted.is) k.number (k.entered h saw) (g.G.Gate.unasked c.loop.gate) t.took) m.entered;
     }
 
-pub returns-in_err-mend : goal.returns-in_err-mend
-returns-in_err-mend g c =
+pub returns-in_err-mend-in-Halted : goal.returns-in_err-mend-in-Halted
+returns-in_err-mend-in-Halted g c =
     let k = c.loop.invariant in
     let t = c.take.ensures in
     let m = c.mend.ensures in
@@ -143,14 +143,14 @@ returns-in_err-mend g c =
     record {
       pass = (m.pass.0, m.pass.1 ∙ t.pass.1 ∙ k.number);
       astray = m.astray;
-      stopped = rose_by _ _ _ _ (rose_after _ _ _ _ k.gate m.stopped) (ap is_err c.in_err-mend.was) stop;
+      stopped = rose_by _ _ _ _ (rose_after _ _ _ _ k.gate m.stopped) (ap is_err c.in_err-mend-in-Halted.was) stop;
       changed = λ h saw.
           let b = c.loop.invariant.mended h saw in
           let k = subst (λ (n : ℕ). TookIs g.D.Disk.told g.D.Disk.state (opening_of g.D.Disk.state c.args.turns.now.first) n (h ++ b.front) c.args.op.now c.take.new.pass.seen c.take.result) c.loop.invariant.number (c.take.ensures.took (h ++ b.front) b.saw) in
           let d = mended_back (opening_of g.D.Disk.state c.args.turns.now.first) c.args.pass.now.number h c.loop.pass.seen c.take.new.pass.seen b (turned_back_passed (opening_of g.D.Disk.state c.args.turns.now.first) c.args.pass.now.number (h ++ b.front) c.take.new.pass.seen (took_halted (opening_of g.D.Disk.state c.args.turns.now.first) c.args.pass.now.number (h ++ b.front) g.D.Disk.told g.D.Disk.state c.args.op.now c.take.new.pass.seen c.take.result k c.in-Halted.is)) in
           let m = subst (λ (n : ℕ). MendedIs (opening_of g.D.Disk.state c.args.turns.now.first) n (h ++ d.front) c.args.op.now c.mend.new.pass.seen c.mend.result) (c.take.ensures.pass.1 ∙ c.loop.invariant.number) (c.mend.ensures.mended (h ++ d.front) d.saw) in
           by_stop (λ (r : Result Changed Stopped). ChangedIs (opening_of g.D.Disk.state c.args.turns.now.first) c.args.pass.now.number h c.args.op.now c.mend.new.pass.seen r) c.from_residual.result stop
-          (changed_on (opening_of g.D.Disk.state c.args.turns.now.first) c.args.pass.now.number h c.args.op.now c.take.new.pass.seen c.mend.new.pass.seen d (Err the_stop) (mend_stopped (opening_of g.D.Disk.state c.args.turns.now.first) c.args.pass.now.number (h ++ d.front) (opening_of g.D.Disk.state c.args.turns.now.first).first.fold.table.shape c.args.op.now c.requires.apt c.mend.new.pass.seen (subst (λ (z : Result Mended Stopped). MendedIs (opening_of g.D.Disk.state c.args.turns.now.first) c.args.pass.now.number (h ++ d.front) c.args.op.now c.mend.new.pass.seen z) c.in_err-mend.was m)));
-      asked = by_stop (λ (r : Result Changed Stopped). ChangeAsked (g.G.Gate.asked c.args.gate.now c.mend.new.gate) r) c.from_residual.result stop (mending_stopped g.G.Gate.asked g.G.Gate.asked_on c.args.gate.now c.loop.gate c.mend.new.gate c.loop.invariant.asked.0 c.loop.invariant.asked.1 (nothing_more g.G.Gate.asked g.G.Gate.asked_on c.args.gate.now c.loop.gate c.loop.gate c.loop.invariant.asked.0 c.loop.invariant.asked.2 (g.G.Gate.unasked c.loop.gate)) c.mend.result c.in_err-mend.was c.mend.ensures.asked);
+          (changed_on (opening_of g.D.Disk.state c.args.turns.now.first) c.args.pass.now.number h c.args.op.now c.take.new.pass.seen c.mend.new.pass.seen d (Err the_stop) (mend_stopped (opening_of g.D.Disk.state c.args.turns.now.first) c.args.pass.now.number (h ++ d.front) (opening_of g.D.Disk.state c.args.turns.now.first).first.fold.table.shape c.args.op.now c.requires.apt c.mend.new.pass.seen (subst (λ (z : Result Mended Stopped). MendedIs (opening_of g.D.Disk.state c.args.turns.now.first) c.args.pass.now.number (h ++ d.front) c.args.op.now c.mend.new.pass.seen z) c.in_err-mend-in-Halted.was m)));
+      asked = by_stop (λ (r : Result Changed Stopped). ChangeAsked (g.G.Gate.asked c.args.gate.now c.mend.new.gate) r) c.from_residual.result stop (mending_stopped g.G.Gate.asked g.G.Gate.asked_on c.args.gate.now c.loop.gate c.mend.new.gate c.loop.invariant.asked.0 c.loop.invariant.asked.1 (nothing_more g.G.Gate.asked g.G.Gate.asked_on c.args.gate.now c.loop.gate c.loop.gate c.loop.invariant.asked.0 c.loop.invariant.asked.2 (g.G.Gate.unasked c.loop.gate)) c.mend.result c.in_err-mend-in-Halted.was c.mend.ensures.asked);
       entered = λ h saw. entered_on g.G.Gate.asked g.G.Gate.asked_on c.args.gate.now c.loop.gate c.mend.new.gate _ _ _ _ _ _ _ _ _ (t.pass.1 ∙ k.number) (entered_take_on g.G.Gate.asked g.G.Gate.asked_on c.args.gate.now c.loop.gate c.loop.gate _ _ _ _ _ _ g.D.Disk.told g.D.Disk.state c.args.op.now c.take.result _ (ap takes_out c.in-Halted.is) k.number (k.entered h saw) (g.G.Gate.unasked c.loop.gate) t.took) m.entered;
     }

@@ -66,7 +66,7 @@ returns-in-Ok-Cut g c =
     let b : Beginning = record { opening = seat.opening; users = c.args.desk.now.users.seat.opening; place = seat.place; before = h.0; users_before = p.0 } in
     let s = c.serve_piece-progress.ensures in
     let going : (g.K.Link.state c.serve_piece-progress.new.link).ended ≡ false = s.link.wrote.ended ∙ c.in-Bytes.ensures.read.ended in
-    let breaks = goes_cut_is _ _ _ _ _ _ _ _ _ _ _ _ _ c.in-Ok-Cut.is (moved_goes arc_value c.args.desk.now.attending.user g.K.Link.told g.C.Timestamps.told _ (g.K.Link.state c.serve_piece-progress.new.link) (g.C.Timestamps.coming c.loop.clock) (g.C.Timestamps.coming c.serve_piece-progress.new.clock) (now c.is_cancelled.new.desk) (now c.serve_piece-progress.new.desk) false c.is_cancelled.new.desk.reader c.serve_piece-progress.new.desk.reader c.serve_piece-progress.result c.args.desk.now.shelf c.is_cancelled.new.desk.shelf c.args.desk.now.seat c.is_cancelled.new.desk.seat c.args.desk.now.users.seat c.is_cancelled.new.desk.users.seat _ [] (c.is_cancelled.ensures.shelf ∙ c.loop.invariant.shelf) moved.here.seat_is moved.here.users_are (c.serve_piece-progress.ensures.goes c.args.desk.now.attending.user) _ _ b (refl, refl, refl, c.args.desk.now.same_place) (stands_piece _ _ _ _ _ _ _ _ _ _ _ _ _ _ (moved.here.stands b (refl, refl, refl, c.args.desk.now.same_place) h.1 p.1) c.in-Bytes.ensures.read (grind (arith, common_steps)))) in
+    let breaks = goes_cut_is _ _ _ _ _ _ _ _ _ _ _ _ _ (c.in-Ok-Cut.is ∙ ap (λ (p : Progress). Ok p) c.in-Ok-Cut.field-0-is) (moved_goes arc_value c.args.desk.now.attending.user g.K.Link.told g.C.Timestamps.told _ (g.K.Link.state c.serve_piece-progress.new.link) (g.C.Timestamps.coming c.loop.clock) (g.C.Timestamps.coming c.serve_piece-progress.new.clock) (now c.is_cancelled.new.desk) (now c.serve_piece-progress.new.desk) false c.is_cancelled.new.desk.reader c.serve_piece-progress.new.desk.reader c.serve_piece-progress.result c.args.desk.now.shelf c.is_cancelled.new.desk.shelf c.args.desk.now.seat c.is_cancelled.new.desk.seat c.args.desk.now.users.seat c.is_cancelled.new.desk.users.seat _ [] (c.is_cancelled.ensures.shelf ∙ c.loop.invariant.shelf) moved.here.seat_is moved.here.users_are (c.serve_piece-progress.ensures.goes c.args.desk.now.attending.user) _ _ b (refl, refl, refl, c.args.desk.now.same_place) (stands_piece _ _ _ _ _ _ _ _ _ _ _ _ _ _ (moved.here.stands b (refl, refl, refl, c.args.desk.now.same_place) h.1 p.1) c.in-Bytes.ensures.read (grind (arith, common_steps)))) in
     record {
       shelf = s.shelf ∙ (c.is_cancelled.ensures.shelf ∙ c.loop.invariant.shelf);
       seat = (s.seat.0 ∙ moved.here.seat_is.0, s.seat.1 ∙ moved.here.seat_is.1, s.seat.2 ∙ moved.here.seat_is.2, s.seat.3 ∙ moved.here.seat_is.3);
@@ -86,7 +86,7 @@ returns-in-Ok-Cut g c =
       no_read_fault = λ is. s.link.wrote.read_faults ∙ c.in-Bytes.ensures.read.no_fault (bytes_came _) ∙ c.loop.invariant.faults;
       write_fault = λ is. breaks.rose;
       stopped = λ is. write_no _ is refl;
-      unstopped = λ is. stayed_ok Cut c.serve_piece-progress.result _ _ c.in-Ok-Cut.is s.stopped ∙ c.loop.invariant.gate;
+      unstopped = λ is. stayed_ok Cut c.serve_piece-progress.result _ _ (c.in-Ok-Cut.is ∙ ap (λ (p : Progress). Ok p) c.in-Ok-Cut.field-0-is) s.stopped ∙ c.loop.invariant.gate;
       later = later_behind _ _ _ c.loop.invariant.gate s.stopped.later;
       spent = λ is. write_no _ is refl;
       few = few_more _ _ _ _ _ _ c.loop.invariant.counted c.in-Bytes.ensures.read.reads s.link.wrote.reads c.loop-test.true;
@@ -244,7 +244,7 @@ loop-preserved g c =
         shelf = w.serve_piece-progress.ensures.shelf ∙ (c.is_cancelled.ensures.shelf ∙ c.loop.invariant.shelf);
         seat = (w.serve_piece-progress.ensures.seat.0 ∙ moved.here.seat_is.0, w.serve_piece-progress.ensures.seat.1 ∙ moved.here.seat_is.1, w.serve_piece-progress.ensures.seat.2 ∙ moved.here.seat_is.2, w.serve_piece-progress.ensures.seat.3 ∙ moved.here.seat_is.3);
         users = (w.serve_piece-progress.ensures.users.0 ∙ moved.here.users_are.0, w.serve_piece-progress.ensures.users.1 ∙ moved.here.users_are.1, w.serve_piece-progress.ensures.users.2 ∙ moved.here.users_are.2, w.serve_piece-progress.ensures.users.3 ∙ moved.here.users_are.3);
-        stands = λ b at saw users. goes_on_is _ _ _ _ _ _ _ _ _ _ _ _ w.in-Ok-On.is (moved_goes arc_value c.args.desk.now.attending.user g.K.Link.told g.C.Timestamps.told _ (g.K.Link.state w.serve_piece-progress.new.link) (g.C.Timestamps.coming c.loop.clock) (g.C.Timestamps.coming w.serve_piece-progress.new.clock) (now c.is_cancelled.new.desk) (now w.serve_piece-progress.new.desk) false c.is_cancelled.new.desk.reader w.serve_piece-progress.new.desk.reader w.serve_piece-progress.result c.args.desk.now.shelf c.is_cancelled.new.desk.shelf c.args.desk.now.seat c.is_cancelled.new.desk.seat c.args.desk.now.users.seat c.is_cancelled.new.desk.users.seat _ [] (c.is_cancelled.ensures.shelf ∙ c.loop.invariant.shelf) moved.here.seat_is moved.here.users_are (w.serve_piece-progress.ensures.goes c.args.desk.now.attending.user) _ _ b at (stands_piece _ _ _ _ _ _ _ _ _ _ _ _ _ _ (moved.here.stands b at saw users) w.in-Bytes.ensures.read (grind (arith, common_steps))));
+        stands = λ b at saw users. goes_on_is _ _ _ _ _ _ _ _ _ _ _ _ (w.in-Ok-On.is ∙ ap (λ (p : Progress). Ok p) w.in-Ok-On.field-0-is) (moved_goes arc_value c.args.desk.now.attending.user g.K.Link.told g.C.Timestamps.told _ (g.K.Link.state w.serve_piece-progress.new.link) (g.C.Timestamps.coming c.loop.clock) (g.C.Timestamps.coming w.serve_piece-progress.new.clock) (now c.is_cancelled.new.desk) (now w.serve_piece-progress.new.desk) false c.is_cancelled.new.desk.reader w.serve_piece-progress.new.desk.reader w.serve_piece-progress.result c.args.desk.now.shelf c.is_cancelled.new.desk.shelf c.args.desk.now.seat c.is_cancelled.new.desk.seat c.args.desk.now.users.seat c.is_cancelled.new.desk.users.seat _ [] (c.is_cancelled.ensures.shelf ∙ c.loop.invariant.shelf) moved.here.seat_is moved.here.users_are (w.serve_piece-progress.ensures.goes c.args.desk.now.attending.user) _ _ b at (stands_piece _ _ _ _ _ _ _ _ _ _ _ _ _ _ (moved.here.stands b at saw users) w.in-Bytes.ensures.read (grind (arith, common_steps))));
         prompt = prompt_more (language_for c.args.desk.now.attending.user (arc_value c.args.desk.now.shelf)) g.K.Link.begun g.K.Link.told g.C.Timestamps.told (g.K.Link.state c.args.link.now) (g.C.Timestamps.coming c.args.clock.now) c.args.desk.now.seat c.args.desk.now.users.seat (g.K.Link.state c.loop.link) (g.K.Link.state w.serve_piece-progress.new.link) _ (g.C.Timestamps.coming c.loop.clock) (now c.is_cancelled.new.desk) c.is_cancelled.new.desk.reader c.loop.invariant.prompt w.in-Bytes.ensures.begun moved.here.stands w.in-Bytes.ensures.read.reads w.serve_piece-progress.ensures.link.wrote.reads;
         heeds = λ limits. heeds_more (language_for c.args.desk.now.attending.user (arc_value c.args.desk.now.shelf)) g.K.Link.begun g.K.Link.told g.C.Timestamps.told (g.K.Link.state c.args.link.now) (g.C.Timestamps.coming c.args.clock.now) c.args.desk.now.seat c.args.desk.now.users.seat (g.K.Link.state c.loop.link) (g.K.Link.state w.serve_piece-progress.new.link) _ (g.C.Timestamps.coming c.loop.clock) (now c.is_cancelled.new.desk) c.is_cancelled.new.desk.reader (c.loop.invariant.heeds limits) w.in-Bytes.ensures.begun (λ b at saw users. (moved.here.stands b at saw users, moved.unended c.if-is_cancelled.false limits b at saw users)) w.in-Bytes.ensures.read.reads w.serve_piece-progress.ensures.link.wrote.reads;
         timely = λ b at saw users.
@@ -252,7 +252,7 @@ loop-preserved g c =
             (timely_moved arc_value (telling g.K.Link.told g.C.Timestamps.told g.C.Timestamps.stamped) (g.C.Timestamps.coming c.loop.clock) _ _ (in_hand c.is_cancelled.new.desk.attending false More c.is_cancelled.new.desk.reader _) c.args.desk.now.shelf c.is_cancelled.new.desk.shelf c.args.desk.now.seat c.is_cancelled.new.desk.seat c.args.desk.now.users.seat c.is_cancelled.new.desk.users.seat (c.is_cancelled.ensures.shelf ∙ c.loop.invariant.shelf) moved.here.seat_is moved.here.users_are w.serve_piece-progress.ensures.timely c.args.desk.now.attending.user _ _ b at
             (stands_piece _ _ _ _ _ _ _ _ _ _ _ _ _ _ (moved.here.stands b at saw users) w.in-Bytes.ensures.read (grind (arith, common_steps))))
             (went_to g.K.Link.told b _ (g.K.Link.state w.serve_piece-progress.new.link) c.is_cancelled.new.desk.seat c.is_cancelled.new.desk.users.seat (moved.here.seat_is.0 ∙ at.0, moved.here.seat_is.1 ∙ at.1, moved.here.users_are.0 ∙ at.2, moved.here.users_are.1 ∙ at.3) w.serve_piece-progress.ensures.link _ _ _ w.serve_piece-progress.ensures.asked);
-        gate = stayed_ok On w.serve_piece-progress.result _ _ w.in-Ok-On.is w.serve_piece-progress.ensures.stopped ∙ c.loop.invariant.gate;
+        gate = stayed_ok On w.serve_piece-progress.result _ _ (w.in-Ok-On.is ∙ ap (λ (p : Progress). Ok p) w.in-Ok-On.field-0-is) w.serve_piece-progress.ensures.stopped ∙ c.loop.invariant.gate;
         counted = rw w.serve_piece-progress.ensures.link.wrote.reads (counted_more _ _ _ _ c.loop.invariant.counted w.in-Bytes.ensures.read.reads);
         faults = w.serve_piece-progress.ensures.link.wrote.read_faults ∙ w.in-Bytes.ensures.read.no_fault (bytes_came _) ∙ c.loop.invariant.faults;
         not_ended = λ _. w.serve_piece-progress.ensures.link.wrote.ended ∙ w.in-Bytes.ensures.read.ended;
@@ -269,7 +269,7 @@ loop-preserved g c =
         seat = (w.report.ensures.seat.0 ∙ moved.here.seat_is.0, w.report.ensures.seat.1 ∙ moved.here.seat_is.1, w.report.ensures.seat.2 ∙ moved.here.seat_is.2, w.report.ensures.seat.3 ∙ moved.here.seat_is.3);
         users = (ap (λ (u : UserDesk g.row.U.Denot). u.seat.opening) w.report.ensures.users ∙ moved.here.users_are.0, ap (λ (u : UserDesk g.row.U.Denot). u.seat.place) w.report.ensures.users ∙ moved.here.users_are.1, ap (λ (u : UserDesk g.row.U.Denot). u.seat.places) w.report.ensures.users ∙ moved.here.users_are.2, ap (λ (u : UserDesk g.row.U.Denot). u.seat.turnstile) w.report.ensures.users ∙ moved.here.users_are.3);
         stands = λ b at saw users. subst (λ (r : Reader). Stands (language_for c.args.desk.now.attending.user (arc_value c.args.desk.now.shelf)) g.K.Link.told g.C.Timestamps.told (g.K.Link.state c.args.link.now) (g.K.Link.state w.report.new.link) (g.C.Timestamps.coming c.args.clock.now) (g.C.Timestamps.coming w.report.new.clock) b (now w.report.new.desk) false More r []) (sym w.report.ensures.reader)
-            (goes_on_is _ _ _ _ _ _ _ _ _ _ _ _ (ap (λ (p : Progress). Ok p) w.in-On.is) (moved_goes arc_value c.args.desk.now.attending.user g.K.Link.told g.C.Timestamps.told _ (g.K.Link.state w.report.new.link) (g.C.Timestamps.coming c.loop.clock) (g.C.Timestamps.coming w.report.new.clock) (now c.is_cancelled.new.desk) (now w.report.new.desk) (is_some c.is_cancelled.new.desk.attending.watch) c.is_cancelled.new.desk.reader c.is_cancelled.new.desk.reader w.report.result c.args.desk.now.shelf c.is_cancelled.new.desk.shelf c.args.desk.now.seat c.is_cancelled.new.desk.seat c.args.desk.now.users.seat c.is_cancelled.new.desk.users.seat [] [] (c.is_cancelled.ensures.shelf ∙ c.loop.invariant.shelf) moved.here.seat_is moved.here.users_are (λ k c1 b1. w.report.ensures.goes c.is_cancelled.new.desk.reader [] c.args.desk.now.attending.user k c1 b1) _ _ b at (stands_quiet _ _ _ _ _ _ _ _ _ _ _ _ (moved.here.stands b at saw users) w.in-Quiet.ensures.read)));
+            (goes_on_is _ _ _ _ _ _ _ _ _ _ _ _ (ap (λ (p : Progress). Ok p) w.in-On.is) (moved_goes arc_value c.args.desk.now.attending.user g.K.Link.told g.C.Timestamps.told _ (g.K.Link.state w.report.new.link) (g.C.Timestamps.coming c.loop.clock) (g.C.Timestamps.coming w.report.new.clock) (now c.is_cancelled.new.desk) (now w.report.new.desk) (is_some c.is_cancelled.new.desk.attending.watch) c.is_cancelled.new.desk.reader c.is_cancelled.new.desk.reader (Ok w.report.result) c.args.desk.now.shelf c.is_cancelled.new.desk.shelf c.args.desk.now.seat c.is_cancelled.new.desk.seat c.args.desk.now.users.seat c.is_cancelled.new.desk.users.seat [] [] (c.is_cancelled.ensures.shelf ∙ c.loop.invariant.shelf) moved.here.seat_is moved.here.users_are (λ k c1 b1. w.report.ensures.goes c.is_cancelled.new.desk.reader [] c.args.desk.now.attending.user k c1 b1) _ _ b at (stands_quiet _ _ _ _ _ _ _ _ _ _ _ _ (moved.here.stands b at saw users) w.in-Quiet.ensures.read)));
         prompt = prompt_more (language_for c.args.desk.now.attending.user (arc_value c.args.desk.now.shelf)) g.K.Link.begun g.K.Link.told g.C.Timestamps.told (g.K.Link.state c.args.link.now) (g.C.Timestamps.coming c.args.clock.now) c.args.desk.now.seat c.args.desk.now.users.seat (g.K.Link.state c.loop.link) (g.K.Link.state w.report.new.link) _ (g.C.Timestamps.coming c.loop.clock) (now c.is_cancelled.new.desk) c.is_cancelled.new.desk.reader c.loop.invariant.prompt w.in-Quiet.ensures.begun moved.here.stands w.in-Quiet.ensures.read.reads w.report.ensures.link.wrote.reads;
         heeds = λ limits. heeds_more (language_for c.args.desk.now.attending.user (arc_value c.args.desk.now.shelf)) g.K.Link.begun g.K.Link.told g.C.Timestamps.told (g.K.Link.state c.args.link.now) (g.C.Timestamps.coming c.args.clock.now) c.args.desk.now.seat c.args.desk.now.users.seat (g.K.Link.state c.loop.link) (g.K.Link.state w.report.new.link) _ (g.C.Timestamps.coming c.loop.clock) (now c.is_cancelled.new.desk) c.is_cancelled.new.desk.reader (c.loop.invariant.heeds limits) w.in-Quiet.ensures.begun (λ b at saw users. (moved.here.stands b at saw users, moved.unended c.if-is_cancelled.false limits b at saw users)) w.in-Quiet.ensures.read.reads w.report.ensures.link.wrote.reads;
         timely = λ b at saw users.
@@ -302,7 +302,7 @@ returns-in-Cut g c =
     let b : Beginning = record { opening = seat.opening; users = c.args.desk.now.users.seat.opening; place = seat.place; before = h.0; users_before = p.0 } in
     let cut : ◌≡◌ {A = Result Progress Stopped} (Ok c.report.result) (Ok Cut) = ap (λ (p : Progress). Ok p) c.in-Cut.is in
     let going : (g.K.Link.state c.report.new.link).ended ≡ false = c.report.ensures.link.wrote.ended ∙ c.in-Quiet.ensures.read.ended in
-    let breaks = goes_cut_is _ _ _ _ _ _ _ _ _ _ _ _ _ cut (moved_goes arc_value c.args.desk.now.attending.user g.K.Link.told g.C.Timestamps.told _ (g.K.Link.state c.report.new.link) (g.C.Timestamps.coming c.loop.clock) (g.C.Timestamps.coming c.report.new.clock) (now c.is_cancelled.new.desk) (now c.report.new.desk) (is_some c.is_cancelled.new.desk.attending.watch) c.is_cancelled.new.desk.reader c.is_cancelled.new.desk.reader c.report.result c.args.desk.now.shelf c.is_cancelled.new.desk.shelf c.args.desk.now.seat c.is_cancelled.new.desk.seat c.args.desk.now.users.seat c.is_cancelled.new.desk.users.seat [] [] (c.is_cancelled.ensures.shelf ∙ c.loop.invariant.shelf) moved.here.seat_is moved.here.users_are (λ k c1 b1. c.report.ensures.goes c.is_cancelled.new.desk.reader [] c.args.desk.now.attending.user k c1 b1) _ _ b (refl, refl, refl, c.args.desk.now.same_place) (stands_quiet _ _ _ _ _ _ _ _ _ _ _ _ (moved.here.stands b (refl, refl, refl, c.args.desk.now.same_place) h.1 p.1) c.in-Quiet.ensures.read)) in
+    let breaks = goes_cut_is _ _ _ _ _ _ _ _ _ _ _ _ _ cut (moved_goes arc_value c.args.desk.now.attending.user g.K.Link.told g.C.Timestamps.told _ (g.K.Link.state c.report.new.link) (g.C.Timestamps.coming c.loop.clock) (g.C.Timestamps.coming c.report.new.clock) (now c.is_cancelled.new.desk) (now c.report.new.desk) (is_some c.is_cancelled.new.desk.attending.watch) c.is_cancelled.new.desk.reader c.is_cancelled.new.desk.reader (Ok c.report.result) c.args.desk.now.shelf c.is_cancelled.new.desk.shelf c.args.desk.now.seat c.is_cancelled.new.desk.seat c.args.desk.now.users.seat c.is_cancelled.new.desk.users.seat [] [] (c.is_cancelled.ensures.shelf ∙ c.loop.invariant.shelf) moved.here.seat_is moved.here.users_are (λ k c1 b1. c.report.ensures.goes c.is_cancelled.new.desk.reader [] c.args.desk.now.attending.user k c1 b1) _ _ b (refl, refl, refl, c.args.desk.now.same_place) (stands_quiet _ _ _ _ _ _ _ _ _ _ _ _ (moved.here.stands b (refl, refl, refl, c.args.desk.now.same_place) h.1 p.1) c.in-Quiet.ensures.read)) in
     record {
       shelf = c.report.ensures.shelf ∙ (c.is_cancelled.ensures.shelf ∙ c.loop.invariant.shelf);
       seat = (c.report.ensures.seat.0 ∙ moved.here.seat_is.0, c.report.ensures.seat.1 ∙ moved.here.seat_is.1, c.report.ensures.seat.2 ∙ moved.here.seat_is.2, c.report.ensures.seat.3 ∙ moved.here.seat_is.3);

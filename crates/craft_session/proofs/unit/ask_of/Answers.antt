@@ -15,8 +15,8 @@ use Rattle.craft_session.proofs.Ends.{still}
 use Rattle.craft_session.proofs.Noted.{noted_nothing}
 use Rattle.craft_session.proofs.unit.ask_of.Goals as goal
 
-pub read-requires-clause-short : goal.read-requires-clause-short
-read-requires-clause-short g c = subst (λ (bs : List ℕ). length bs ≤ 2047) (sym c.unit-unit.ensures) (c.requires.short c.in-Whole.is)
+pub read-meaning-requires : goal.read-meaning-requires
+read-meaning-requires g c = record { short = subst (λ (bs : List ℕ). length bs ≤ 2047) (sym c.unit-unit.ensures) (c.requires.short c.in-Whole.is) }
 
 pub consult-requires-clause-apt : goal.consult-requires-clause-apt
 consult-requires-clause-apt g c = (c.deref.result.now.shape, c.read-meaning.ensures.read.apt)
