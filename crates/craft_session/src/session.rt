@@ -32,7 +32,8 @@ use std::sync::Wait;
 
 const READS: u64 = 1 << 32;
 
-/// Answers the units that end in the first bytes of the piece, so many, and writes over a PID in them.
+/// Answers the units that end in the first bytes of the piece, so many, writes over a PID in them, and lets the next one go on who waits in the line
+/// of those who change something.
 fn serve_piece<K: Link, C: Timestamps, G: Gate, N: Notes, D: Disk + Drop, U: Disk + Drop, R: Wait>(
     desk: &mut Desk<D, U>,
     link: &mut K,
@@ -68,6 +69,7 @@ fn serve_piece<K: Link, C: Timestamps, G: Gate, N: Notes, D: Disk + Drop, U: Dis
 {
     let progress = serve_units(desk, link, clock, gate, notes, rt, &piece[..count]);
     desk.forget(piece);
+    desk.seat.call_next();
     progress
 }
 
@@ -208,15 +210,13 @@ pub(crate) fn serve<
         }
         let user = desk.attending.user;
         let read = match link.read(piece) {
-            Got::Bytes(count) => {
-                let progress = serve_piece(desk, link, clock, gate, notes, rt, piece, count);
-                desk.seat.call_next();
-                match progress {
-                    Ok(Progress::On) => BYTES,
-                    Ok(Progress::Cut) => return SessionEnd::WriteFault,
-                    Err(Stopped) => return SessionEnd::Stopped,
-                }
-            }
+            Got::Bytes(count) => match serve_piece(
+                desk, link, clock, gate, notes, rt, piece, count,
+            ) {
+                Ok(Progress::On) => BYTES,
+                Ok(Progress::Cut) => return SessionEnd::WriteFault,
+                Err(Stopped) => return SessionEnd::Stopped,
+            },
             Got::Quiet => match report(desk, link, clock, rt) {
                 Progress::On => QUIET,
                 Progress::Cut => return SessionEnd::WriteFault,

@@ -26,8 +26,10 @@ returns-in-Ok c =
     let fit = subst (λ (r : Result Command Cause). IfOk r (IsAptCommand c.shape.result unit)) c.in-Ok.is c.command_with.ensures.apt in
     let is : meaning s.shape s.sid user bs ≡ Ok (asked_by unit c.in-Ok.command) = sym (ap₂ (λ (d : Dimensions) (sid : List ℕ). meaning d sid user bs) c.shape.ensures c.sid.ensures) ∙ meant in
     let r = read_as unit c.on_command.result c.on_command.new.ask c.args.asked.now.op in
-    record { read = subst (λ (m : Result Asked Cause). IsReadAs s.shape user (command_wants s user bs m) (λ x. command_ask s user x bs m) r) (sym is)
-    (subst (λ (d : Dimensions). IsReadAs d user (session_wants user (asked_by unit c.in-Ok.command)) (λ x. session_ask user x (asked_by unit c.in-Ok.command)) r) c.shape.ensures (c.on_command.ensures.read c.shape.result c.args.asked.now.op fit)) }
+    record {
+      read = subst (λ (m : Result Asked Cause). IsReadAs s.shape user (command_wants s user bs m) (λ x. command_ask s user x bs m) r) (sym is)
+          (subst (λ (d : Dimensions). IsReadAs d user (session_wants user (asked_by unit c.in-Ok.command)) (λ x. session_ask user x (asked_by unit c.in-Ok.command)) r) c.shape.ensures (c.on_command.ensures.read c.shape.result c.args.asked.now.op fit));
+    }
 
 pub returns-in-UnknownCommand : goal.returns-in-UnknownCommand
 returns-in-UnknownCommand c =

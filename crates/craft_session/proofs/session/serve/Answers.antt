@@ -64,41 +64,41 @@ returns-in-Ok-Cut g c =
     let p = c.seen-2.ensures.history in
     let seat = c.args.desk.now.seat in
     let b : Beginning = record { opening = seat.opening; users = c.args.desk.now.users.seat.opening; place = seat.place; before = h.0; users_before = p.0 } in
-    let s = c.serve_piece-progress.ensures in
-    let going : (g.K.Link.state c.serve_piece-progress.new.link).ended ≡ false = s.link.wrote.ended ∙ c.in-Bytes.ensures.read.ended in
-    let breaks = goes_cut_is _ _ _ _ _ _ _ _ _ _ _ _ _ (c.in-Ok-Cut.is ∙ ap (λ (p : Progress). Ok p) c.in-Ok-Cut.field-0-is) (moved_goes arc_value c.args.desk.now.attending.user g.K.Link.told g.C.Timestamps.told _ (g.K.Link.state c.serve_piece-progress.new.link) (g.C.Timestamps.coming c.loop.clock) (g.C.Timestamps.coming c.serve_piece-progress.new.clock) (now c.is_cancelled.new.desk) (now c.serve_piece-progress.new.desk) false c.is_cancelled.new.desk.reader c.serve_piece-progress.new.desk.reader c.serve_piece-progress.result c.args.desk.now.shelf c.is_cancelled.new.desk.shelf c.args.desk.now.seat c.is_cancelled.new.desk.seat c.args.desk.now.users.seat c.is_cancelled.new.desk.users.seat _ [] (c.is_cancelled.ensures.shelf ∙ c.loop.invariant.shelf) moved.here.seat_is moved.here.users_are (c.serve_piece-progress.ensures.goes c.args.desk.now.attending.user) _ _ b (refl, refl, refl, c.args.desk.now.same_place) (stands_piece _ _ _ _ _ _ _ _ _ _ _ _ _ _ (moved.here.stands b (refl, refl, refl, c.args.desk.now.same_place) h.1 p.1) c.in-Bytes.ensures.read (grind (arith, common_steps)))) in
+    let s = c.serve_piece.ensures in
+    let going : (g.K.Link.state c.serve_piece.new.link).ended ≡ false = s.link.wrote.ended ∙ c.in-Bytes.ensures.read.ended in
+    let breaks = goes_cut_is _ _ _ _ _ _ _ _ _ _ _ _ _ (c.in-Ok-Cut.is ∙ ap (λ (p : Progress). Ok p) c.in-Ok-Cut.field-0-is) (moved_goes arc_value c.args.desk.now.attending.user g.K.Link.told g.C.Timestamps.told _ (g.K.Link.state c.serve_piece.new.link) (g.C.Timestamps.coming c.loop.clock) (g.C.Timestamps.coming c.serve_piece.new.clock) (now c.is_cancelled.new.desk) (now c.serve_piece.new.desk) false c.is_cancelled.new.desk.reader c.serve_piece.new.desk.reader c.serve_piece.result c.args.desk.now.shelf c.is_cancelled.new.desk.shelf c.args.desk.now.seat c.is_cancelled.new.desk.seat c.args.desk.now.users.seat c.is_cancelled.new.desk.users.seat _ [] (c.is_cancelled.ensures.shelf ∙ c.loop.invariant.shelf) moved.here.seat_is moved.here.users_are (c.serve_piece.ensures.goes c.args.desk.now.attending.user) _ _ b (refl, refl, refl, c.args.desk.now.same_place) (stands_piece _ _ _ _ _ _ _ _ _ _ _ _ _ _ (moved.here.stands b (refl, refl, refl, c.args.desk.now.same_place) h.1 p.1) c.in-Bytes.ensures.read (grind (arith, common_steps)))) in
     record {
       shelf = s.shelf ∙ (c.is_cancelled.ensures.shelf ∙ c.loop.invariant.shelf);
       seat = (s.seat.0 ∙ moved.here.seat_is.0, s.seat.1 ∙ moved.here.seat_is.1, s.seat.2 ∙ moved.here.seat_is.2, s.seat.3 ∙ moved.here.seat_is.3);
       users = (s.users.0 ∙ moved.here.users_are.0, s.users.1 ∙ moved.here.users_are.1, s.users.2 ∙ moved.here.users_are.2, s.users.3 ∙ moved.here.users_are.3);
       hung_up = s.hung_up ∙ c.in-Bytes.ensures.hung_up ∙ c.loop.invariant.hung_up;
       session = record { before = h.0; users_before = p.0; saw = h.1; users_saw = p.1; attending = _; session = breaks };
-      prompt = prompt_more (language_for c.args.desk.now.attending.user (arc_value c.args.desk.now.shelf)) g.K.Link.begun g.K.Link.told g.C.Timestamps.told (g.K.Link.state c.args.link.now) (g.C.Timestamps.coming c.args.clock.now) c.args.desk.now.seat c.args.desk.now.users.seat (g.K.Link.state c.loop.link) (g.K.Link.state c.serve_piece-progress.new.link) _ (g.C.Timestamps.coming c.loop.clock) (now c.is_cancelled.new.desk) c.is_cancelled.new.desk.reader c.loop.invariant.prompt c.in-Bytes.ensures.begun moved.here.stands c.in-Bytes.ensures.read.reads s.link.wrote.reads;
-      heeds = λ limits. heeds_more (language_for c.args.desk.now.attending.user (arc_value c.args.desk.now.shelf)) g.K.Link.begun g.K.Link.told g.C.Timestamps.told (g.K.Link.state c.args.link.now) (g.C.Timestamps.coming c.args.clock.now) c.args.desk.now.seat c.args.desk.now.users.seat (g.K.Link.state c.loop.link) (g.K.Link.state c.serve_piece-progress.new.link) _ (g.C.Timestamps.coming c.loop.clock) (now c.is_cancelled.new.desk) c.is_cancelled.new.desk.reader (c.loop.invariant.heeds limits) c.in-Bytes.ensures.begun (λ b at saw users. (moved.here.stands b at saw users, moved.unended c.if-is_cancelled.false limits b at saw users)) c.in-Bytes.ensures.read.reads s.link.wrote.reads;
+      prompt = prompt_more (language_for c.args.desk.now.attending.user (arc_value c.args.desk.now.shelf)) g.K.Link.begun g.K.Link.told g.C.Timestamps.told (g.K.Link.state c.args.link.now) (g.C.Timestamps.coming c.args.clock.now) c.args.desk.now.seat c.args.desk.now.users.seat (g.K.Link.state c.loop.link) (g.K.Link.state c.serve_piece.new.link) _ (g.C.Timestamps.coming c.loop.clock) (now c.is_cancelled.new.desk) c.is_cancelled.new.desk.reader c.loop.invariant.prompt c.in-Bytes.ensures.begun moved.here.stands c.in-Bytes.ensures.read.reads s.link.wrote.reads;
+      heeds = λ limits. heeds_more (language_for c.args.desk.now.attending.user (arc_value c.args.desk.now.shelf)) g.K.Link.begun g.K.Link.told g.C.Timestamps.told (g.K.Link.state c.args.link.now) (g.C.Timestamps.coming c.args.clock.now) c.args.desk.now.seat c.args.desk.now.users.seat (g.K.Link.state c.loop.link) (g.K.Link.state c.serve_piece.new.link) _ (g.C.Timestamps.coming c.loop.clock) (now c.is_cancelled.new.desk) c.is_cancelled.new.desk.reader (c.loop.invariant.heeds limits) c.in-Bytes.ensures.begun (λ b at saw users. (moved.here.stands b at saw users, moved.unended c.if-is_cancelled.false limits b at saw users)) c.in-Bytes.ensures.read.reads s.link.wrote.reads;
       timely = λ b at saw users.
           timely_read (language_for c.args.desk.now.attending.user (arc_value c.args.desk.now.shelf)) (telling g.K.Link.told g.C.Timestamps.told g.C.Timestamps.stamped) (starting (g.K.Link.state c.args.link.now) (g.C.Timestamps.coming c.args.clock.now) b) (g.K.Link.state c.args.link.now) (g.K.Link.state c.loop.link) c.is_cancelled.new.desk.seat.seen c.is_cancelled.new.desk.users.seat.seen (moved.here.timely b at saw users) _ _ _ _ c.in-Bytes.ensures.read
-          (timely_moved arc_value (telling g.K.Link.told g.C.Timestamps.told g.C.Timestamps.stamped) (g.C.Timestamps.coming c.loop.clock) _ _ (in_hand c.is_cancelled.new.desk.attending false More c.is_cancelled.new.desk.reader _) c.args.desk.now.shelf c.is_cancelled.new.desk.shelf c.args.desk.now.seat c.is_cancelled.new.desk.seat c.args.desk.now.users.seat c.is_cancelled.new.desk.users.seat (c.is_cancelled.ensures.shelf ∙ c.loop.invariant.shelf) moved.here.seat_is moved.here.users_are c.serve_piece-progress.ensures.timely c.args.desk.now.attending.user _ _ b at
+          (timely_moved arc_value (telling g.K.Link.told g.C.Timestamps.told g.C.Timestamps.stamped) (g.C.Timestamps.coming c.loop.clock) _ _ (in_hand c.is_cancelled.new.desk.attending false More c.is_cancelled.new.desk.reader _) c.args.desk.now.shelf c.is_cancelled.new.desk.shelf c.args.desk.now.seat c.is_cancelled.new.desk.seat c.args.desk.now.users.seat c.is_cancelled.new.desk.users.seat (c.is_cancelled.ensures.shelf ∙ c.loop.invariant.shelf) moved.here.seat_is moved.here.users_are c.serve_piece.ensures.timely c.args.desk.now.attending.user _ _ b at
           (stands_piece _ _ _ _ _ _ _ _ _ _ _ _ _ _ (moved.here.stands b at saw users) c.in-Bytes.ensures.read (grind (arith, common_steps))))
-          (went_to g.K.Link.told b _ (g.K.Link.state c.serve_piece-progress.new.link) c.is_cancelled.new.desk.seat c.is_cancelled.new.desk.users.seat (moved.here.seat_is.0 ∙ at.0, moved.here.seat_is.1 ∙ at.1, moved.here.users_are.0 ∙ at.2, moved.here.users_are.1 ∙ at.3) c.serve_piece-progress.ensures.link _ _ _ c.serve_piece-progress.ensures.asked);
+          (went_to g.K.Link.told b _ (g.K.Link.state c.serve_piece.new.link) c.is_cancelled.new.desk.seat c.is_cancelled.new.desk.users.seat (moved.here.seat_is.0 ∙ at.0, moved.here.seat_is.1 ∙ at.1, moved.here.users_are.0 ∙ at.2, moved.here.users_are.1 ∙ at.3) c.serve_piece.ensures.link _ _ _ c.serve_piece.ensures.asked);
       end = ((λ is. write_no _ is refl), (λ ended. unheld _ going ended));
       all_read = λ t is. write_no _ is refl;
       read_fault = λ is. write_no _ is refl;
       no_read_fault = λ is. s.link.wrote.read_faults ∙ c.in-Bytes.ensures.read.no_fault (bytes_came _) ∙ c.loop.invariant.faults;
       write_fault = λ is. breaks.rose;
       stopped = λ is. write_no _ is refl;
-      unstopped = λ is. stayed_ok Cut c.serve_piece-progress.result _ _ (c.in-Ok-Cut.is ∙ ap (λ (p : Progress). Ok p) c.in-Ok-Cut.field-0-is) s.stopped ∙ c.loop.invariant.gate;
+      unstopped = λ is. stayed_ok Cut c.serve_piece.result _ _ (c.in-Ok-Cut.is ∙ ap (λ (p : Progress). Ok p) c.in-Ok-Cut.field-0-is) s.stopped ∙ c.loop.invariant.gate;
       later = later_behind _ _ _ c.loop.invariant.gate s.stopped.later;
       spent = λ is. write_no _ is refl;
       few = few_more _ _ _ _ _ _ c.loop.invariant.counted c.in-Bytes.ensures.read.reads s.link.wrote.reads c.loop-test.true;
-      asked = are_entered_on g.G.Gate.asked g.G.Gate.asked_on c.args.desk.now.seat c.is_cancelled.new.desk.seat c.args.desk.now.users.seat c.is_cancelled.new.desk.users.seat c.args.gate.now c.loop.gate c.serve_piece-progress.new.gate _ _ moved.here.entered moved.here.seat_is moved.here.users_are s.asked;
-      noted = noted_more (arc_value c.args.desk.now.shelf) (telling g.K.Link.told g.C.Timestamps.told g.C.Timestamps.stamped) g.N.Notes.noted g.N.Notes.noted_on c.args.notes.now c.loop.notes c.serve_piece-progress.new.notes (stood (g.K.Link.state c.args.link.now) (g.C.Timestamps.coming c.args.clock.now) c.args.desk.now.seat c.args.desk.now.users.seat c.args.desk.now.attending) (stood _ (g.C.Timestamps.coming c.loop.clock) c.is_cancelled.new.desk.seat c.is_cancelled.new.desk.users.seat c.is_cancelled.new.desk.attending) (stood (g.K.Link.state c.serve_piece-progress.new.link) (g.C.Timestamps.coming c.serve_piece-progress.new.clock) c.serve_piece-progress.new.desk.seat c.serve_piece-progress.new.desk.users.seat c.serve_piece-progress.new.desk.attending) (noted_read (arc_value c.args.desk.now.shelf) (telling g.K.Link.told g.C.Timestamps.told g.C.Timestamps.stamped) (stood (g.K.Link.state c.args.link.now) (g.C.Timestamps.coming c.args.clock.now) c.args.desk.now.seat c.args.desk.now.users.seat c.args.desk.now.attending) (g.K.Link.state c.loop.link) _ (g.C.Timestamps.coming c.loop.clock) c.is_cancelled.new.desk.seat c.is_cancelled.new.desk.users.seat c.is_cancelled.new.desk.attending (g.N.Notes.noted c.args.notes.now c.loop.notes) _ _ noted_here c.in-Bytes.ensures.read) (noted_moved arc_value (telling g.K.Link.told g.C.Timestamps.told g.C.Timestamps.stamped) (stood _ (g.C.Timestamps.coming c.loop.clock) c.is_cancelled.new.desk.seat c.is_cancelled.new.desk.users.seat c.is_cancelled.new.desk.attending) (stood (g.K.Link.state c.serve_piece-progress.new.link) (g.C.Timestamps.coming c.serve_piece-progress.new.clock) c.serve_piece-progress.new.desk.seat c.serve_piece-progress.new.desk.users.seat c.serve_piece-progress.new.desk.attending) (g.N.Notes.noted c.loop.notes c.serve_piece-progress.new.notes) c.args.desk.now.shelf c.is_cancelled.new.desk.shelf (c.is_cancelled.ensures.shelf ∙ c.loop.invariant.shelf) c.serve_piece-progress.ensures.noted);
+      asked = are_entered_on g.G.Gate.asked g.G.Gate.asked_on c.args.desk.now.seat c.is_cancelled.new.desk.seat c.args.desk.now.users.seat c.is_cancelled.new.desk.users.seat c.args.gate.now c.loop.gate c.serve_piece.new.gate _ _ moved.here.entered moved.here.seat_is moved.here.users_are s.asked;
+      noted = noted_more (arc_value c.args.desk.now.shelf) (telling g.K.Link.told g.C.Timestamps.told g.C.Timestamps.stamped) g.N.Notes.noted g.N.Notes.noted_on c.args.notes.now c.loop.notes c.serve_piece.new.notes (stood (g.K.Link.state c.args.link.now) (g.C.Timestamps.coming c.args.clock.now) c.args.desk.now.seat c.args.desk.now.users.seat c.args.desk.now.attending) (stood _ (g.C.Timestamps.coming c.loop.clock) c.is_cancelled.new.desk.seat c.is_cancelled.new.desk.users.seat c.is_cancelled.new.desk.attending) (stood (g.K.Link.state c.serve_piece.new.link) (g.C.Timestamps.coming c.serve_piece.new.clock) c.serve_piece.new.desk.seat c.serve_piece.new.desk.users.seat c.serve_piece.new.desk.attending) (noted_read (arc_value c.args.desk.now.shelf) (telling g.K.Link.told g.C.Timestamps.told g.C.Timestamps.stamped) (stood (g.K.Link.state c.args.link.now) (g.C.Timestamps.coming c.args.clock.now) c.args.desk.now.seat c.args.desk.now.users.seat c.args.desk.now.attending) (g.K.Link.state c.loop.link) _ (g.C.Timestamps.coming c.loop.clock) c.is_cancelled.new.desk.seat c.is_cancelled.new.desk.users.seat c.is_cancelled.new.desk.attending (g.N.Notes.noted c.args.notes.now c.loop.notes) _ _ noted_here c.in-Bytes.ensures.read) (noted_moved arc_value (telling g.K.Link.told g.C.Timestamps.told g.C.Timestamps.stamped) (stood _ (g.C.Timestamps.coming c.loop.clock) c.is_cancelled.new.desk.seat c.is_cancelled.new.desk.users.seat c.is_cancelled.new.desk.attending) (stood (g.K.Link.state c.serve_piece.new.link) (g.C.Timestamps.coming c.serve_piece.new.clock) c.serve_piece.new.desk.seat c.serve_piece.new.desk.users.seat c.serve_piece.new.desk.attending) (g.N.Notes.noted c.loop.notes c.serve_piece.new.notes) c.args.desk.now.shelf c.is_cancelled.new.desk.shelf (c.is_cancelled.ensures.shelf ∙ c.loop.invariant.shelf) c.serve_piece.ensures.noted);
       unattended = λ is. write_no _ is refl;
       attended = λ endless is. write_no _ is refl;
       alone = λ endless is. write_no _ is refl;
       idle = λ is. write_no _ is refl;
       endless = λ endless is. write_no _ is refl;
-      let_go = λ limits. let_go_behind (c.args.patience ≡ Limited) (language_for c.args.desk.now.attending.user (arc_value c.args.desk.now.shelf)) g.K.Link.begun g.K.Link.told g.C.Timestamps.told (g.K.Link.state c.args.link.now) (g.C.Timestamps.coming c.args.clock.now) c.args.desk.now.seat c.args.desk.now.users.seat (g.K.Link.state c.loop.link) (g.K.Link.state c.serve_piece-progress.new.link) _ (g.C.Timestamps.coming c.loop.clock) (now c.is_cancelled.new.desk) c.is_cancelled.new.desk.reader c.in-Bytes.ensures.begun moved.here.stands c.in-Bytes.ensures.read.reads c.serve_piece-progress.ensures.link.wrote.reads c.loop.counter c.loop.waited (λ limits nobody. c.is_over.ensures.lasts c.if-is_over.false limits (ap (λ (a : Attending). a.user) (sym c.is_cancelled.ensures.attending) ∙ nobody)) c.loop.invariant.waits limits;
-      awake = λ limits. awake_behind (c.args.patience ≡ Limited) ((arc_value c.args.desk.now.shelf).idle) (language_for c.args.desk.now.attending.user (arc_value c.args.desk.now.shelf)) g.K.Link.begun g.K.Link.told g.C.Timestamps.told (g.K.Link.state c.args.link.now) (g.C.Timestamps.coming c.args.clock.now) c.args.desk.now.seat c.args.desk.now.users.seat (g.K.Link.state c.loop.link) (g.K.Link.state c.serve_piece-progress.new.link) _ (g.C.Timestamps.coming c.loop.clock) (now c.is_cancelled.new.desk) c.is_cancelled.new.desk.reader c.in-Bytes.ensures.begun moved.here.stands c.in-Bytes.ensures.read.reads c.serve_piece-progress.ensures.link.wrote.reads c.loop.counter c.loop.silent (subst (λ (i : IdleLimits). IsInTime i c.is_cancelled.new.desk.attending.user c.loop.silent) (c.idle-limits.ensures ∙ ap (λ (s : Contents). s.idle) c.deref.ensures) (subst (λ (a : Attending). IsInTime c.idle-limits.result a.user c.loop.silent) (sym c.is_cancelled.ensures.attending) (c.is_idle.ensures.awake c.if-is_idle.false limits))) idles_here;
+      let_go = λ limits. let_go_behind (c.args.patience ≡ Limited) (language_for c.args.desk.now.attending.user (arc_value c.args.desk.now.shelf)) g.K.Link.begun g.K.Link.told g.C.Timestamps.told (g.K.Link.state c.args.link.now) (g.C.Timestamps.coming c.args.clock.now) c.args.desk.now.seat c.args.desk.now.users.seat (g.K.Link.state c.loop.link) (g.K.Link.state c.serve_piece.new.link) _ (g.C.Timestamps.coming c.loop.clock) (now c.is_cancelled.new.desk) c.is_cancelled.new.desk.reader c.in-Bytes.ensures.begun moved.here.stands c.in-Bytes.ensures.read.reads c.serve_piece.ensures.link.wrote.reads c.loop.counter c.loop.waited (λ limits nobody. c.is_over.ensures.lasts c.if-is_over.false limits (ap (λ (a : Attending). a.user) (sym c.is_cancelled.ensures.attending) ∙ nobody)) c.loop.invariant.waits limits;
+      awake = λ limits. awake_behind (c.args.patience ≡ Limited) ((arc_value c.args.desk.now.shelf).idle) (language_for c.args.desk.now.attending.user (arc_value c.args.desk.now.shelf)) g.K.Link.begun g.K.Link.told g.C.Timestamps.told (g.K.Link.state c.args.link.now) (g.C.Timestamps.coming c.args.clock.now) c.args.desk.now.seat c.args.desk.now.users.seat (g.K.Link.state c.loop.link) (g.K.Link.state c.serve_piece.new.link) _ (g.C.Timestamps.coming c.loop.clock) (now c.is_cancelled.new.desk) c.is_cancelled.new.desk.reader c.in-Bytes.ensures.begun moved.here.stands c.in-Bytes.ensures.read.reads c.serve_piece.ensures.link.wrote.reads c.loop.counter c.loop.silent (subst (λ (i : IdleLimits). IsInTime i c.is_cancelled.new.desk.attending.user c.loop.silent) (c.idle-limits.ensures ∙ ap (λ (s : Contents). s.idle) c.deref.ensures) (subst (λ (a : Attending). IsInTime c.idle-limits.result a.user c.loop.silent) (sym c.is_cancelled.ensures.attending) (c.is_idle.ensures.awake c.if-is_idle.false limits))) idles_here;
     }
 
 pub returns-in-Err : goal.returns-in-Err
@@ -110,20 +110,20 @@ returns-in-Err g c =
     let p = c.seen-2.ensures.history in
     let seat = c.args.desk.now.seat in
     let b : Beginning = record { opening = seat.opening; users = c.args.desk.now.users.seat.opening; place = seat.place; before = h.0; users_before = p.0 } in
-    let s = c.serve_piece-progress.ensures in
-    let going : (g.K.Link.state c.serve_piece-progress.new.link).ended ≡ false = s.link.wrote.ended ∙ c.in-Bytes.ensures.read.ended in
+    let s = c.serve_piece.ensures in
+    let going : (g.K.Link.state c.serve_piece.new.link).ended ≡ false = s.link.wrote.ended ∙ c.in-Bytes.ensures.read.ended in
     record {
       shelf = s.shelf ∙ (c.is_cancelled.ensures.shelf ∙ c.loop.invariant.shelf);
       seat = (s.seat.0 ∙ moved.here.seat_is.0, s.seat.1 ∙ moved.here.seat_is.1, s.seat.2 ∙ moved.here.seat_is.2, s.seat.3 ∙ moved.here.seat_is.3);
       users = (s.users.0 ∙ moved.here.users_are.0, s.users.1 ∙ moved.here.users_are.1, s.users.2 ∙ moved.here.users_are.2, s.users.3 ∙ moved.here.users_are.3);
-      session = record { before = h.0; users_before = p.0; saw = h.1; users_saw = p.1; attending = _; session = goes_stopped_is _ _ _ _ _ _ _ _ _ _ _ _ _ _ c.in-Err.is (moved_goes arc_value c.args.desk.now.attending.user g.K.Link.told g.C.Timestamps.told _ (g.K.Link.state c.serve_piece-progress.new.link) (g.C.Timestamps.coming c.loop.clock) (g.C.Timestamps.coming c.serve_piece-progress.new.clock) (now c.is_cancelled.new.desk) (now c.serve_piece-progress.new.desk) false c.is_cancelled.new.desk.reader c.serve_piece-progress.new.desk.reader c.serve_piece-progress.result c.args.desk.now.shelf c.is_cancelled.new.desk.shelf c.args.desk.now.seat c.is_cancelled.new.desk.seat c.args.desk.now.users.seat c.is_cancelled.new.desk.users.seat _ [] (c.is_cancelled.ensures.shelf ∙ c.loop.invariant.shelf) moved.here.seat_is moved.here.users_are (c.serve_piece-progress.ensures.goes c.args.desk.now.attending.user) _ _ b (refl, refl, refl, c.args.desk.now.same_place) (stands_piece _ _ _ _ _ _ _ _ _ _ _ _ _ _ (moved.here.stands b (refl, refl, refl, c.args.desk.now.same_place) h.1 p.1) c.in-Bytes.ensures.read (grind (arith, common_steps)))) };
-      prompt = prompt_more (language_for c.args.desk.now.attending.user (arc_value c.args.desk.now.shelf)) g.K.Link.begun g.K.Link.told g.C.Timestamps.told (g.K.Link.state c.args.link.now) (g.C.Timestamps.coming c.args.clock.now) c.args.desk.now.seat c.args.desk.now.users.seat (g.K.Link.state c.loop.link) (g.K.Link.state c.serve_piece-progress.new.link) _ (g.C.Timestamps.coming c.loop.clock) (now c.is_cancelled.new.desk) c.is_cancelled.new.desk.reader c.loop.invariant.prompt c.in-Bytes.ensures.begun moved.here.stands c.in-Bytes.ensures.read.reads s.link.wrote.reads;
-      heeds = λ limits. heeds_more (language_for c.args.desk.now.attending.user (arc_value c.args.desk.now.shelf)) g.K.Link.begun g.K.Link.told g.C.Timestamps.told (g.K.Link.state c.args.link.now) (g.C.Timestamps.coming c.args.clock.now) c.args.desk.now.seat c.args.desk.now.users.seat (g.K.Link.state c.loop.link) (g.K.Link.state c.serve_piece-progress.new.link) _ (g.C.Timestamps.coming c.loop.clock) (now c.is_cancelled.new.desk) c.is_cancelled.new.desk.reader (c.loop.invariant.heeds limits) c.in-Bytes.ensures.begun (λ b at saw users. (moved.here.stands b at saw users, moved.unended c.if-is_cancelled.false limits b at saw users)) c.in-Bytes.ensures.read.reads s.link.wrote.reads;
+      session = record { before = h.0; users_before = p.0; saw = h.1; users_saw = p.1; attending = _; session = goes_stopped_is _ _ _ _ _ _ _ _ _ _ _ _ _ _ c.in-Err.is (moved_goes arc_value c.args.desk.now.attending.user g.K.Link.told g.C.Timestamps.told _ (g.K.Link.state c.serve_piece.new.link) (g.C.Timestamps.coming c.loop.clock) (g.C.Timestamps.coming c.serve_piece.new.clock) (now c.is_cancelled.new.desk) (now c.serve_piece.new.desk) false c.is_cancelled.new.desk.reader c.serve_piece.new.desk.reader c.serve_piece.result c.args.desk.now.shelf c.is_cancelled.new.desk.shelf c.args.desk.now.seat c.is_cancelled.new.desk.seat c.args.desk.now.users.seat c.is_cancelled.new.desk.users.seat _ [] (c.is_cancelled.ensures.shelf ∙ c.loop.invariant.shelf) moved.here.seat_is moved.here.users_are (c.serve_piece.ensures.goes c.args.desk.now.attending.user) _ _ b (refl, refl, refl, c.args.desk.now.same_place) (stands_piece _ _ _ _ _ _ _ _ _ _ _ _ _ _ (moved.here.stands b (refl, refl, refl, c.args.desk.now.same_place) h.1 p.1) c.in-Bytes.ensures.read (grind (arith, common_steps)))) };
+      prompt = prompt_more (language_for c.args.desk.now.attending.user (arc_value c.args.desk.now.shelf)) g.K.Link.begun g.K.Link.told g.C.Timestamps.told (g.K.Link.state c.args.link.now) (g.C.Timestamps.coming c.args.clock.now) c.args.desk.now.seat c.args.desk.now.users.seat (g.K.Link.state c.loop.link) (g.K.Link.state c.serve_piece.new.link) _ (g.C.Timestamps.coming c.loop.clock) (now c.is_cancelled.new.desk) c.is_cancelled.new.desk.reader c.loop.invariant.prompt c.in-Bytes.ensures.begun moved.here.stands c.in-Bytes.ensures.read.reads s.link.wrote.reads;
+      heeds = λ limits. heeds_more (language_for c.args.desk.now.attending.user (arc_value c.args.desk.now.shelf)) g.K.Link.begun g.K.Link.told g.C.Timestamps.told (g.K.Link.state c.args.link.now) (g.C.Timestamps.coming c.args.clock.now) c.args.desk.now.seat c.args.desk.now.users.seat (g.K.Link.state c.loop.link) (g.K.Link.state c.serve_piece.new.link) _ (g.C.Timestamps.coming c.loop.clock) (now c.is_cancelled.new.desk) c.is_cancelled.new.desk.reader (c.loop.invariant.heeds limits) c.in-Bytes.ensures.begun (λ b at saw users. (moved.here.stands b at saw users, moved.unended c.if-is_cancelled.false limits b at saw users)) c.in-Bytes.ensures.read.reads s.link.wrote.reads;
       timely = λ b at saw users.
           timely_read (language_for c.args.desk.now.attending.user (arc_value c.args.desk.now.shelf)) (telling g.K.Link.told g.C.Timestamps.told g.C.Timestamps.stamped) (starting (g.K.Link.state c.args.link.now) (g.C.Timestamps.coming c.args.clock.now) b) (g.K.Link.state c.args.link.now) (g.K.Link.state c.loop.link) c.is_cancelled.new.desk.seat.seen c.is_cancelled.new.desk.users.seat.seen (moved.here.timely b at saw users) _ _ _ _ c.in-Bytes.ensures.read
-          (timely_moved arc_value (telling g.K.Link.told g.C.Timestamps.told g.C.Timestamps.stamped) (g.C.Timestamps.coming c.loop.clock) _ _ (in_hand c.is_cancelled.new.desk.attending false More c.is_cancelled.new.desk.reader _) c.args.desk.now.shelf c.is_cancelled.new.desk.shelf c.args.desk.now.seat c.is_cancelled.new.desk.seat c.args.desk.now.users.seat c.is_cancelled.new.desk.users.seat (c.is_cancelled.ensures.shelf ∙ c.loop.invariant.shelf) moved.here.seat_is moved.here.users_are c.serve_piece-progress.ensures.timely c.args.desk.now.attending.user _ _ b at
+          (timely_moved arc_value (telling g.K.Link.told g.C.Timestamps.told g.C.Timestamps.stamped) (g.C.Timestamps.coming c.loop.clock) _ _ (in_hand c.is_cancelled.new.desk.attending false More c.is_cancelled.new.desk.reader _) c.args.desk.now.shelf c.is_cancelled.new.desk.shelf c.args.desk.now.seat c.is_cancelled.new.desk.seat c.args.desk.now.users.seat c.is_cancelled.new.desk.users.seat (c.is_cancelled.ensures.shelf ∙ c.loop.invariant.shelf) moved.here.seat_is moved.here.users_are c.serve_piece.ensures.timely c.args.desk.now.attending.user _ _ b at
           (stands_piece _ _ _ _ _ _ _ _ _ _ _ _ _ _ (moved.here.stands b at saw users) c.in-Bytes.ensures.read (grind (arith, common_steps))))
-          (went_to g.K.Link.told b _ (g.K.Link.state c.serve_piece-progress.new.link) c.is_cancelled.new.desk.seat c.is_cancelled.new.desk.users.seat (moved.here.seat_is.0 ∙ at.0, moved.here.seat_is.1 ∙ at.1, moved.here.users_are.0 ∙ at.2, moved.here.users_are.1 ∙ at.3) c.serve_piece-progress.ensures.link _ _ _ c.serve_piece-progress.ensures.asked);
+          (went_to g.K.Link.told b _ (g.K.Link.state c.serve_piece.new.link) c.is_cancelled.new.desk.seat c.is_cancelled.new.desk.users.seat (moved.here.seat_is.0 ∙ at.0, moved.here.seat_is.1 ∙ at.1, moved.here.users_are.0 ∙ at.2, moved.here.users_are.1 ∙ at.3) c.serve_piece.ensures.link _ _ _ c.serve_piece.ensures.asked);
       hung_up = s.hung_up ∙ c.in-Bytes.ensures.hung_up ∙ c.loop.invariant.hung_up;
       end = ((λ is. stop_no _ is refl), (λ ended. unheld _ going ended));
       all_read = λ t is. stop_no _ is refl;
@@ -135,15 +135,15 @@ returns-in-Err g c =
       later = later_behind _ _ _ c.loop.invariant.gate s.stopped.later;
       spent = λ is. stop_no _ is refl;
       few = few_more _ _ _ _ _ _ c.loop.invariant.counted c.in-Bytes.ensures.read.reads s.link.wrote.reads c.loop-test.true;
-      asked = are_entered_on g.G.Gate.asked g.G.Gate.asked_on c.args.desk.now.seat c.is_cancelled.new.desk.seat c.args.desk.now.users.seat c.is_cancelled.new.desk.users.seat c.args.gate.now c.loop.gate c.serve_piece-progress.new.gate _ _ moved.here.entered moved.here.seat_is moved.here.users_are s.asked;
-      noted = noted_more (arc_value c.args.desk.now.shelf) (telling g.K.Link.told g.C.Timestamps.told g.C.Timestamps.stamped) g.N.Notes.noted g.N.Notes.noted_on c.args.notes.now c.loop.notes c.serve_piece-progress.new.notes (stood (g.K.Link.state c.args.link.now) (g.C.Timestamps.coming c.args.clock.now) c.args.desk.now.seat c.args.desk.now.users.seat c.args.desk.now.attending) (stood _ (g.C.Timestamps.coming c.loop.clock) c.is_cancelled.new.desk.seat c.is_cancelled.new.desk.users.seat c.is_cancelled.new.desk.attending) (stood (g.K.Link.state c.serve_piece-progress.new.link) (g.C.Timestamps.coming c.serve_piece-progress.new.clock) c.serve_piece-progress.new.desk.seat c.serve_piece-progress.new.desk.users.seat c.serve_piece-progress.new.desk.attending) (noted_read (arc_value c.args.desk.now.shelf) (telling g.K.Link.told g.C.Timestamps.told g.C.Timestamps.stamped) (stood (g.K.Link.state c.args.link.now) (g.C.Timestamps.coming c.args.clock.now) c.args.desk.now.seat c.args.desk.now.users.seat c.args.desk.now.attending) (g.K.Link.state c.loop.link) _ (g.C.Timestamps.coming c.loop.clock) c.is_cancelled.new.desk.seat c.is_cancelled.new.desk.users.seat c.is_cancelled.new.desk.attending (g.N.Notes.noted c.args.notes.now c.loop.notes) _ _ noted_here c.in-Bytes.ensures.read) (noted_moved arc_value (telling g.K.Link.told g.C.Timestamps.told g.C.Timestamps.stamped) (stood _ (g.C.Timestamps.coming c.loop.clock) c.is_cancelled.new.desk.seat c.is_cancelled.new.desk.users.seat c.is_cancelled.new.desk.attending) (stood (g.K.Link.state c.serve_piece-progress.new.link) (g.C.Timestamps.coming c.serve_piece-progress.new.clock) c.serve_piece-progress.new.desk.seat c.serve_piece-progress.new.desk.users.seat c.serve_piece-progress.new.desk.attending) (g.N.Notes.noted c.loop.notes c.serve_piece-progress.new.notes) c.args.desk.now.shelf c.is_cancelled.new.desk.shelf (c.is_cancelled.ensures.shelf ∙ c.loop.invariant.shelf) c.serve_piece-progress.ensures.noted);
+      asked = are_entered_on g.G.Gate.asked g.G.Gate.asked_on c.args.desk.now.seat c.is_cancelled.new.desk.seat c.args.desk.now.users.seat c.is_cancelled.new.desk.users.seat c.args.gate.now c.loop.gate c.serve_piece.new.gate _ _ moved.here.entered moved.here.seat_is moved.here.users_are s.asked;
+      noted = noted_more (arc_value c.args.desk.now.shelf) (telling g.K.Link.told g.C.Timestamps.told g.C.Timestamps.stamped) g.N.Notes.noted g.N.Notes.noted_on c.args.notes.now c.loop.notes c.serve_piece.new.notes (stood (g.K.Link.state c.args.link.now) (g.C.Timestamps.coming c.args.clock.now) c.args.desk.now.seat c.args.desk.now.users.seat c.args.desk.now.attending) (stood _ (g.C.Timestamps.coming c.loop.clock) c.is_cancelled.new.desk.seat c.is_cancelled.new.desk.users.seat c.is_cancelled.new.desk.attending) (stood (g.K.Link.state c.serve_piece.new.link) (g.C.Timestamps.coming c.serve_piece.new.clock) c.serve_piece.new.desk.seat c.serve_piece.new.desk.users.seat c.serve_piece.new.desk.attending) (noted_read (arc_value c.args.desk.now.shelf) (telling g.K.Link.told g.C.Timestamps.told g.C.Timestamps.stamped) (stood (g.K.Link.state c.args.link.now) (g.C.Timestamps.coming c.args.clock.now) c.args.desk.now.seat c.args.desk.now.users.seat c.args.desk.now.attending) (g.K.Link.state c.loop.link) _ (g.C.Timestamps.coming c.loop.clock) c.is_cancelled.new.desk.seat c.is_cancelled.new.desk.users.seat c.is_cancelled.new.desk.attending (g.N.Notes.noted c.args.notes.now c.loop.notes) _ _ noted_here c.in-Bytes.ensures.read) (noted_moved arc_value (telling g.K.Link.told g.C.Timestamps.told g.C.Timestamps.stamped) (stood _ (g.C.Timestamps.coming c.loop.clock) c.is_cancelled.new.desk.seat c.is_cancelled.new.desk.users.seat c.is_cancelled.new.desk.attending) (stood (g.K.Link.state c.serve_piece.new.link) (g.C.Timestamps.coming c.serve_piece.new.clock) c.serve_piece.new.desk.seat c.serve_piece.new.desk.users.seat c.serve_piece.new.desk.attending) (g.N.Notes.noted c.loop.notes c.serve_piece.new.notes) c.args.desk.now.shelf c.is_cancelled.new.desk.shelf (c.is_cancelled.ensures.shelf ∙ c.loop.invariant.shelf) c.serve_piece.ensures.noted);
       unattended = λ is. stop_no _ is refl;
       attended = λ endless is. stop_no _ is refl;
       alone = λ endless is. stop_no _ is refl;
       idle = λ is. stop_no _ is refl;
       endless = λ endless is. stop_no _ is refl;
-      let_go = λ limits. let_go_behind (c.args.patience ≡ Limited) (language_for c.args.desk.now.attending.user (arc_value c.args.desk.now.shelf)) g.K.Link.begun g.K.Link.told g.C.Timestamps.told (g.K.Link.state c.args.link.now) (g.C.Timestamps.coming c.args.clock.now) c.args.desk.now.seat c.args.desk.now.users.seat (g.K.Link.state c.loop.link) (g.K.Link.state c.serve_piece-progress.new.link) _ (g.C.Timestamps.coming c.loop.clock) (now c.is_cancelled.new.desk) c.is_cancelled.new.desk.reader c.in-Bytes.ensures.begun moved.here.stands c.in-Bytes.ensures.read.reads c.serve_piece-progress.ensures.link.wrote.reads c.loop.counter c.loop.waited (λ limits nobody. c.is_over.ensures.lasts c.if-is_over.false limits (ap (λ (a : Attending). a.user) (sym c.is_cancelled.ensures.attending) ∙ nobody)) c.loop.invariant.waits limits;
-      awake = λ limits. awake_behind (c.args.patience ≡ Limited) ((arc_value c.args.desk.now.shelf).idle) (language_for c.args.desk.now.attending.user (arc_value c.args.desk.now.shelf)) g.K.Link.begun g.K.Link.told g.C.Timestamps.told (g.K.Link.state c.args.link.now) (g.C.Timestamps.coming c.args.clock.now) c.args.desk.now.seat c.args.desk.now.users.seat (g.K.Link.state c.loop.link) (g.K.Link.state c.serve_piece-progress.new.link) _ (g.C.Timestamps.coming c.loop.clock) (now c.is_cancelled.new.desk) c.is_cancelled.new.desk.reader c.in-Bytes.ensures.begun moved.here.stands c.in-Bytes.ensures.read.reads c.serve_piece-progress.ensures.link.wrote.reads c.loop.counter c.loop.silent (subst (λ (i : IdleLimits). IsInTime i c.is_cancelled.new.desk.attending.user c.loop.silent) (c.idle-limits.ensures ∙ ap (λ (s : Contents). s.idle) c.deref.ensures) (subst (λ (a : Attending). IsInTime c.idle-limits.result a.user c.loop.silent) (sym c.is_cancelled.ensures.attending) (c.is_idle.ensures.awake c.if-is_idle.false limits))) idles_here;
+      let_go = λ limits. let_go_behind (c.args.patience ≡ Limited) (language_for c.args.desk.now.attending.user (arc_value c.args.desk.now.shelf)) g.K.Link.begun g.K.Link.told g.C.Timestamps.told (g.K.Link.state c.args.link.now) (g.C.Timestamps.coming c.args.clock.now) c.args.desk.now.seat c.args.desk.now.users.seat (g.K.Link.state c.loop.link) (g.K.Link.state c.serve_piece.new.link) _ (g.C.Timestamps.coming c.loop.clock) (now c.is_cancelled.new.desk) c.is_cancelled.new.desk.reader c.in-Bytes.ensures.begun moved.here.stands c.in-Bytes.ensures.read.reads c.serve_piece.ensures.link.wrote.reads c.loop.counter c.loop.waited (λ limits nobody. c.is_over.ensures.lasts c.if-is_over.false limits (ap (λ (a : Attending). a.user) (sym c.is_cancelled.ensures.attending) ∙ nobody)) c.loop.invariant.waits limits;
+      awake = λ limits. awake_behind (c.args.patience ≡ Limited) ((arc_value c.args.desk.now.shelf).idle) (language_for c.args.desk.now.attending.user (arc_value c.args.desk.now.shelf)) g.K.Link.begun g.K.Link.told g.C.Timestamps.told (g.K.Link.state c.args.link.now) (g.C.Timestamps.coming c.args.clock.now) c.args.desk.now.seat c.args.desk.now.users.seat (g.K.Link.state c.loop.link) (g.K.Link.state c.serve_piece.new.link) _ (g.C.Timestamps.coming c.loop.clock) (now c.is_cancelled.new.desk) c.is_cancelled.new.desk.reader c.in-Bytes.ensures.begun moved.here.stands c.in-Bytes.ensures.read.reads c.serve_piece.ensures.link.wrote.reads c.loop.counter c.loop.silent (subst (λ (i : IdleLimits). IsInTime i c.is_cancelled.new.desk.attending.user c.loop.silent) (c.idle-limits.ensures ∙ ap (λ (s : Contents). s.idle) c.deref.ensures) (subst (λ (a : Attending). IsInTime c.idle-limits.result a.user c.loop.silent) (sym c.is_cancelled.ensures.attending) (c.is_idle.ensures.awake c.if-is_idle.false limits))) idles_here;
     }
 
 pub returns-in-End : goal.returns-in-End
@@ -241,28 +241,28 @@ loop-preserved g c =
     let noted_here = noted_beside (arc_value c.args.desk.now.shelf) (telling g.K.Link.told g.C.Timestamps.told g.C.Timestamps.stamped) (stood (g.K.Link.state c.args.link.now) (g.C.Timestamps.coming c.args.clock.now) c.args.desk.now.seat c.args.desk.now.users.seat c.args.desk.now.attending) (stood (g.K.Link.state c.loop.link) (g.C.Timestamps.coming c.loop.clock) c.loop.desk.seat c.loop.desk.users.seat c.loop.desk.attending) (stood (g.K.Link.state c.loop.link) (g.C.Timestamps.coming c.loop.clock) c.is_cancelled.new.desk.seat c.is_cancelled.new.desk.users.seat c.is_cancelled.new.desk.attending) (g.N.Notes.noted c.args.notes.now c.loop.notes) c.loop.invariant.noted (beside_look g.K.Link.told (g.K.Link.state c.loop.link) (g.C.Timestamps.coming c.loop.clock) c.args.patience c.is_cancelled.result c.loop.desk.seat c.is_cancelled.new.desk.seat c.loop.desk.users.seat c.is_cancelled.new.desk.users.seat c.loop.desk.attending c.is_cancelled.new.desk.attending c.is_cancelled.ensures.seat c.is_cancelled.ensures.users c.is_cancelled.ensures.heeded c.is_cancelled.ensures.attending) in
     elim c.match-read.branch [
       | in-Bytes+in-Ok-On w ↦ rw (w.desk-is, w.link-is, w.clock-is, w.gate-is, w.notes-is) (record {
-        shelf = w.serve_piece-progress.ensures.shelf ∙ (c.is_cancelled.ensures.shelf ∙ c.loop.invariant.shelf);
-        seat = (w.serve_piece-progress.ensures.seat.0 ∙ moved.here.seat_is.0, w.serve_piece-progress.ensures.seat.1 ∙ moved.here.seat_is.1, w.serve_piece-progress.ensures.seat.2 ∙ moved.here.seat_is.2, w.serve_piece-progress.ensures.seat.3 ∙ moved.here.seat_is.3);
-        users = (w.serve_piece-progress.ensures.users.0 ∙ moved.here.users_are.0, w.serve_piece-progress.ensures.users.1 ∙ moved.here.users_are.1, w.serve_piece-progress.ensures.users.2 ∙ moved.here.users_are.2, w.serve_piece-progress.ensures.users.3 ∙ moved.here.users_are.3);
-        stands = λ b at saw users. goes_on_is _ _ _ _ _ _ _ _ _ _ _ _ (w.in-Ok-On.is ∙ ap (λ (p : Progress). Ok p) w.in-Ok-On.field-0-is) (moved_goes arc_value c.args.desk.now.attending.user g.K.Link.told g.C.Timestamps.told _ (g.K.Link.state w.serve_piece-progress.new.link) (g.C.Timestamps.coming c.loop.clock) (g.C.Timestamps.coming w.serve_piece-progress.new.clock) (now c.is_cancelled.new.desk) (now w.serve_piece-progress.new.desk) false c.is_cancelled.new.desk.reader w.serve_piece-progress.new.desk.reader w.serve_piece-progress.result c.args.desk.now.shelf c.is_cancelled.new.desk.shelf c.args.desk.now.seat c.is_cancelled.new.desk.seat c.args.desk.now.users.seat c.is_cancelled.new.desk.users.seat _ [] (c.is_cancelled.ensures.shelf ∙ c.loop.invariant.shelf) moved.here.seat_is moved.here.users_are (w.serve_piece-progress.ensures.goes c.args.desk.now.attending.user) _ _ b at (stands_piece _ _ _ _ _ _ _ _ _ _ _ _ _ _ (moved.here.stands b at saw users) w.in-Bytes.ensures.read (grind (arith, common_steps))));
-        prompt = prompt_more (language_for c.args.desk.now.attending.user (arc_value c.args.desk.now.shelf)) g.K.Link.begun g.K.Link.told g.C.Timestamps.told (g.K.Link.state c.args.link.now) (g.C.Timestamps.coming c.args.clock.now) c.args.desk.now.seat c.args.desk.now.users.seat (g.K.Link.state c.loop.link) (g.K.Link.state w.serve_piece-progress.new.link) _ (g.C.Timestamps.coming c.loop.clock) (now c.is_cancelled.new.desk) c.is_cancelled.new.desk.reader c.loop.invariant.prompt w.in-Bytes.ensures.begun moved.here.stands w.in-Bytes.ensures.read.reads w.serve_piece-progress.ensures.link.wrote.reads;
-        heeds = λ limits. heeds_more (language_for c.args.desk.now.attending.user (arc_value c.args.desk.now.shelf)) g.K.Link.begun g.K.Link.told g.C.Timestamps.told (g.K.Link.state c.args.link.now) (g.C.Timestamps.coming c.args.clock.now) c.args.desk.now.seat c.args.desk.now.users.seat (g.K.Link.state c.loop.link) (g.K.Link.state w.serve_piece-progress.new.link) _ (g.C.Timestamps.coming c.loop.clock) (now c.is_cancelled.new.desk) c.is_cancelled.new.desk.reader (c.loop.invariant.heeds limits) w.in-Bytes.ensures.begun (λ b at saw users. (moved.here.stands b at saw users, moved.unended c.if-is_cancelled.false limits b at saw users)) w.in-Bytes.ensures.read.reads w.serve_piece-progress.ensures.link.wrote.reads;
+        shelf = w.serve_piece.ensures.shelf ∙ (c.is_cancelled.ensures.shelf ∙ c.loop.invariant.shelf);
+        seat = (w.serve_piece.ensures.seat.0 ∙ moved.here.seat_is.0, w.serve_piece.ensures.seat.1 ∙ moved.here.seat_is.1, w.serve_piece.ensures.seat.2 ∙ moved.here.seat_is.2, w.serve_piece.ensures.seat.3 ∙ moved.here.seat_is.3);
+        users = (w.serve_piece.ensures.users.0 ∙ moved.here.users_are.0, w.serve_piece.ensures.users.1 ∙ moved.here.users_are.1, w.serve_piece.ensures.users.2 ∙ moved.here.users_are.2, w.serve_piece.ensures.users.3 ∙ moved.here.users_are.3);
+        stands = λ b at saw users. goes_on_is _ _ _ _ _ _ _ _ _ _ _ _ (w.in-Ok-On.is ∙ ap (λ (p : Progress). Ok p) w.in-Ok-On.field-0-is) (moved_goes arc_value c.args.desk.now.attending.user g.K.Link.told g.C.Timestamps.told _ (g.K.Link.state w.serve_piece.new.link) (g.C.Timestamps.coming c.loop.clock) (g.C.Timestamps.coming w.serve_piece.new.clock) (now c.is_cancelled.new.desk) (now w.serve_piece.new.desk) false c.is_cancelled.new.desk.reader w.serve_piece.new.desk.reader w.serve_piece.result c.args.desk.now.shelf c.is_cancelled.new.desk.shelf c.args.desk.now.seat c.is_cancelled.new.desk.seat c.args.desk.now.users.seat c.is_cancelled.new.desk.users.seat _ [] (c.is_cancelled.ensures.shelf ∙ c.loop.invariant.shelf) moved.here.seat_is moved.here.users_are (w.serve_piece.ensures.goes c.args.desk.now.attending.user) _ _ b at (stands_piece _ _ _ _ _ _ _ _ _ _ _ _ _ _ (moved.here.stands b at saw users) w.in-Bytes.ensures.read (grind (arith, common_steps))));
+        prompt = prompt_more (language_for c.args.desk.now.attending.user (arc_value c.args.desk.now.shelf)) g.K.Link.begun g.K.Link.told g.C.Timestamps.told (g.K.Link.state c.args.link.now) (g.C.Timestamps.coming c.args.clock.now) c.args.desk.now.seat c.args.desk.now.users.seat (g.K.Link.state c.loop.link) (g.K.Link.state w.serve_piece.new.link) _ (g.C.Timestamps.coming c.loop.clock) (now c.is_cancelled.new.desk) c.is_cancelled.new.desk.reader c.loop.invariant.prompt w.in-Bytes.ensures.begun moved.here.stands w.in-Bytes.ensures.read.reads w.serve_piece.ensures.link.wrote.reads;
+        heeds = λ limits. heeds_more (language_for c.args.desk.now.attending.user (arc_value c.args.desk.now.shelf)) g.K.Link.begun g.K.Link.told g.C.Timestamps.told (g.K.Link.state c.args.link.now) (g.C.Timestamps.coming c.args.clock.now) c.args.desk.now.seat c.args.desk.now.users.seat (g.K.Link.state c.loop.link) (g.K.Link.state w.serve_piece.new.link) _ (g.C.Timestamps.coming c.loop.clock) (now c.is_cancelled.new.desk) c.is_cancelled.new.desk.reader (c.loop.invariant.heeds limits) w.in-Bytes.ensures.begun (λ b at saw users. (moved.here.stands b at saw users, moved.unended c.if-is_cancelled.false limits b at saw users)) w.in-Bytes.ensures.read.reads w.serve_piece.ensures.link.wrote.reads;
         timely = λ b at saw users.
             timely_read (language_for c.args.desk.now.attending.user (arc_value c.args.desk.now.shelf)) (telling g.K.Link.told g.C.Timestamps.told g.C.Timestamps.stamped) (starting (g.K.Link.state c.args.link.now) (g.C.Timestamps.coming c.args.clock.now) b) (g.K.Link.state c.args.link.now) (g.K.Link.state c.loop.link) c.is_cancelled.new.desk.seat.seen c.is_cancelled.new.desk.users.seat.seen (moved.here.timely b at saw users) _ _ _ _ w.in-Bytes.ensures.read
-            (timely_moved arc_value (telling g.K.Link.told g.C.Timestamps.told g.C.Timestamps.stamped) (g.C.Timestamps.coming c.loop.clock) _ _ (in_hand c.is_cancelled.new.desk.attending false More c.is_cancelled.new.desk.reader _) c.args.desk.now.shelf c.is_cancelled.new.desk.shelf c.args.desk.now.seat c.is_cancelled.new.desk.seat c.args.desk.now.users.seat c.is_cancelled.new.desk.users.seat (c.is_cancelled.ensures.shelf ∙ c.loop.invariant.shelf) moved.here.seat_is moved.here.users_are w.serve_piece-progress.ensures.timely c.args.desk.now.attending.user _ _ b at
+            (timely_moved arc_value (telling g.K.Link.told g.C.Timestamps.told g.C.Timestamps.stamped) (g.C.Timestamps.coming c.loop.clock) _ _ (in_hand c.is_cancelled.new.desk.attending false More c.is_cancelled.new.desk.reader _) c.args.desk.now.shelf c.is_cancelled.new.desk.shelf c.args.desk.now.seat c.is_cancelled.new.desk.seat c.args.desk.now.users.seat c.is_cancelled.new.desk.users.seat (c.is_cancelled.ensures.shelf ∙ c.loop.invariant.shelf) moved.here.seat_is moved.here.users_are w.serve_piece.ensures.timely c.args.desk.now.attending.user _ _ b at
             (stands_piece _ _ _ _ _ _ _ _ _ _ _ _ _ _ (moved.here.stands b at saw users) w.in-Bytes.ensures.read (grind (arith, common_steps))))
-            (went_to g.K.Link.told b _ (g.K.Link.state w.serve_piece-progress.new.link) c.is_cancelled.new.desk.seat c.is_cancelled.new.desk.users.seat (moved.here.seat_is.0 ∙ at.0, moved.here.seat_is.1 ∙ at.1, moved.here.users_are.0 ∙ at.2, moved.here.users_are.1 ∙ at.3) w.serve_piece-progress.ensures.link _ _ _ w.serve_piece-progress.ensures.asked);
-        gate = stayed_ok On w.serve_piece-progress.result _ _ (w.in-Ok-On.is ∙ ap (λ (p : Progress). Ok p) w.in-Ok-On.field-0-is) w.serve_piece-progress.ensures.stopped ∙ c.loop.invariant.gate;
-        counted = rw w.serve_piece-progress.ensures.link.wrote.reads (counted_more _ _ _ _ c.loop.invariant.counted w.in-Bytes.ensures.read.reads);
-        faults = w.serve_piece-progress.ensures.link.wrote.read_faults ∙ w.in-Bytes.ensures.read.no_fault (bytes_came _) ∙ c.loop.invariant.faults;
-        not_ended = λ _. w.serve_piece-progress.ensures.link.wrote.ended ∙ w.in-Bytes.ensures.read.ended;
-        hung_up = w.serve_piece-progress.ensures.hung_up ∙ w.in-Bytes.ensures.hung_up ∙ c.loop.invariant.hung_up;
+            (went_to g.K.Link.told b _ (g.K.Link.state w.serve_piece.new.link) c.is_cancelled.new.desk.seat c.is_cancelled.new.desk.users.seat (moved.here.seat_is.0 ∙ at.0, moved.here.seat_is.1 ∙ at.1, moved.here.users_are.0 ∙ at.2, moved.here.users_are.1 ∙ at.3) w.serve_piece.ensures.link _ _ _ w.serve_piece.ensures.asked);
+        gate = stayed_ok On w.serve_piece.result _ _ (w.in-Ok-On.is ∙ ap (λ (p : Progress). Ok p) w.in-Ok-On.field-0-is) w.serve_piece.ensures.stopped ∙ c.loop.invariant.gate;
+        counted = rw w.serve_piece.ensures.link.wrote.reads (counted_more _ _ _ _ c.loop.invariant.counted w.in-Bytes.ensures.read.reads);
+        faults = w.serve_piece.ensures.link.wrote.read_faults ∙ w.in-Bytes.ensures.read.no_fault (bytes_came _) ∙ c.loop.invariant.faults;
+        not_ended = λ _. w.serve_piece.ensures.link.wrote.ended ∙ w.in-Bytes.ensures.read.ended;
+        hung_up = w.serve_piece.ensures.hung_up ∙ w.in-Bytes.ensures.hung_up ∙ c.loop.invariant.hung_up;
         room = search rules;
-        asked = are_entered_on g.G.Gate.asked g.G.Gate.asked_on c.args.desk.now.seat c.is_cancelled.new.desk.seat c.args.desk.now.users.seat c.is_cancelled.new.desk.users.seat c.args.gate.now c.loop.gate w.serve_piece-progress.new.gate _ _ moved.here.entered moved.here.seat_is moved.here.users_are w.serve_piece-progress.ensures.asked;
-        noted = noted_more (arc_value c.args.desk.now.shelf) (telling g.K.Link.told g.C.Timestamps.told g.C.Timestamps.stamped) g.N.Notes.noted g.N.Notes.noted_on c.args.notes.now c.loop.notes w.serve_piece-progress.new.notes (stood (g.K.Link.state c.args.link.now) (g.C.Timestamps.coming c.args.clock.now) c.args.desk.now.seat c.args.desk.now.users.seat c.args.desk.now.attending) (stood _ (g.C.Timestamps.coming c.loop.clock) c.is_cancelled.new.desk.seat c.is_cancelled.new.desk.users.seat c.is_cancelled.new.desk.attending) (stood (g.K.Link.state w.serve_piece-progress.new.link) (g.C.Timestamps.coming w.serve_piece-progress.new.clock) w.serve_piece-progress.new.desk.seat w.serve_piece-progress.new.desk.users.seat w.serve_piece-progress.new.desk.attending) (noted_read (arc_value c.args.desk.now.shelf) (telling g.K.Link.told g.C.Timestamps.told g.C.Timestamps.stamped) (stood (g.K.Link.state c.args.link.now) (g.C.Timestamps.coming c.args.clock.now) c.args.desk.now.seat c.args.desk.now.users.seat c.args.desk.now.attending) (g.K.Link.state c.loop.link) _ (g.C.Timestamps.coming c.loop.clock) c.is_cancelled.new.desk.seat c.is_cancelled.new.desk.users.seat c.is_cancelled.new.desk.attending (g.N.Notes.noted c.args.notes.now c.loop.notes) _ _ noted_here w.in-Bytes.ensures.read) (noted_moved arc_value (telling g.K.Link.told g.C.Timestamps.told g.C.Timestamps.stamped) (stood _ (g.C.Timestamps.coming c.loop.clock) c.is_cancelled.new.desk.seat c.is_cancelled.new.desk.users.seat c.is_cancelled.new.desk.attending) (stood (g.K.Link.state w.serve_piece-progress.new.link) (g.C.Timestamps.coming w.serve_piece-progress.new.clock) w.serve_piece-progress.new.desk.seat w.serve_piece-progress.new.desk.users.seat w.serve_piece-progress.new.desk.attending) (g.N.Notes.noted c.loop.notes w.serve_piece-progress.new.notes) c.args.desk.now.shelf c.is_cancelled.new.desk.shelf (c.is_cancelled.ensures.shelf ∙ c.loop.invariant.shelf) w.serve_piece-progress.ensures.noted);
+        asked = are_entered_on g.G.Gate.asked g.G.Gate.asked_on c.args.desk.now.seat c.is_cancelled.new.desk.seat c.args.desk.now.users.seat c.is_cancelled.new.desk.users.seat c.args.gate.now c.loop.gate w.serve_piece.new.gate _ _ moved.here.entered moved.here.seat_is moved.here.users_are w.serve_piece.ensures.asked;
+        noted = noted_more (arc_value c.args.desk.now.shelf) (telling g.K.Link.told g.C.Timestamps.told g.C.Timestamps.stamped) g.N.Notes.noted g.N.Notes.noted_on c.args.notes.now c.loop.notes w.serve_piece.new.notes (stood (g.K.Link.state c.args.link.now) (g.C.Timestamps.coming c.args.clock.now) c.args.desk.now.seat c.args.desk.now.users.seat c.args.desk.now.attending) (stood _ (g.C.Timestamps.coming c.loop.clock) c.is_cancelled.new.desk.seat c.is_cancelled.new.desk.users.seat c.is_cancelled.new.desk.attending) (stood (g.K.Link.state w.serve_piece.new.link) (g.C.Timestamps.coming w.serve_piece.new.clock) w.serve_piece.new.desk.seat w.serve_piece.new.desk.users.seat w.serve_piece.new.desk.attending) (noted_read (arc_value c.args.desk.now.shelf) (telling g.K.Link.told g.C.Timestamps.told g.C.Timestamps.stamped) (stood (g.K.Link.state c.args.link.now) (g.C.Timestamps.coming c.args.clock.now) c.args.desk.now.seat c.args.desk.now.users.seat c.args.desk.now.attending) (g.K.Link.state c.loop.link) _ (g.C.Timestamps.coming c.loop.clock) c.is_cancelled.new.desk.seat c.is_cancelled.new.desk.users.seat c.is_cancelled.new.desk.attending (g.N.Notes.noted c.args.notes.now c.loop.notes) _ _ noted_here w.in-Bytes.ensures.read) (noted_moved arc_value (telling g.K.Link.told g.C.Timestamps.told g.C.Timestamps.stamped) (stood _ (g.C.Timestamps.coming c.loop.clock) c.is_cancelled.new.desk.seat c.is_cancelled.new.desk.users.seat c.is_cancelled.new.desk.attending) (stood (g.K.Link.state w.serve_piece.new.link) (g.C.Timestamps.coming w.serve_piece.new.clock) w.serve_piece.new.desk.seat w.serve_piece.new.desk.users.seat w.serve_piece.new.desk.attending) (g.N.Notes.noted c.loop.notes w.serve_piece.new.notes) c.args.desk.now.shelf c.is_cancelled.new.desk.shelf (c.is_cancelled.ensures.shelf ∙ c.loop.invariant.shelf) w.serve_piece.ensures.noted);
         vacant = λ limits none. absurd (omega (arith, none));
-        waits = waits_more (c.args.patience ≡ Limited) (language_for c.args.desk.now.attending.user (arc_value c.args.desk.now.shelf)) g.K.Link.begun g.K.Link.told g.C.Timestamps.told (g.K.Link.state c.args.link.now) (g.C.Timestamps.coming c.args.clock.now) c.args.desk.now.seat c.args.desk.now.users.seat (g.K.Link.state c.loop.link) (g.K.Link.state w.serve_piece-progress.new.link) _ (g.C.Timestamps.coming c.loop.clock) (now c.is_cancelled.new.desk) c.is_cancelled.new.desk.reader w.in-Bytes.ensures.begun moved.here.stands w.in-Bytes.ensures.read.reads w.serve_piece-progress.ensures.link.wrote.reads c.loop.counter c.loop.waited 1 c.waited_after-waited.result (c.waited_after-waited.ensures ∙ ap (λ (n : ℕ). waited_after c.is_cancelled.new.desk.attending.user c.loop.waited n) w.read-is) (λ limits nobody. c.is_over.ensures.lasts c.if-is_over.false limits (ap (λ (a : Attending). a.user) (sym c.is_cancelled.ensures.attending) ∙ nobody)) (omega arith) (omega arith) c.loop.invariant.waits;
-        idles = idles_heard (c.args.patience ≡ Limited) ((arc_value c.args.desk.now.shelf).idle) (language_for c.args.desk.now.attending.user (arc_value c.args.desk.now.shelf)) g.K.Link.begun g.K.Link.told g.C.Timestamps.told (g.K.Link.state c.args.link.now) (g.C.Timestamps.coming c.args.clock.now) c.args.desk.now.seat c.args.desk.now.users.seat (g.K.Link.state c.loop.link) (g.K.Link.state w.serve_piece-progress.new.link) _ (g.C.Timestamps.coming c.loop.clock) (now c.is_cancelled.new.desk) c.is_cancelled.new.desk.reader w.in-Bytes.ensures.begun moved.here.stands w.in-Bytes.ensures.read.reads w.serve_piece-progress.ensures.link.wrote.reads w.serve_piece-progress.new.desk.attending.user c.loop.counter c.loop.silent c.silent_after-silent.result (λ t. byte_came _ _ _ _ w.in-Bytes.ensures.read.fits (w.in-Bytes.ensures.read.left t)) (c.silent_after-silent.ensures ∙ ap (λ (n : ℕ). silent_after c.loop.silent n) w.read-is) (λ limits. subst (λ (i : IdleLimits). IsInTime i c.is_cancelled.new.desk.attending.user c.loop.silent) (c.idle-limits.ensures ∙ ap (λ (s : Contents). s.idle) c.deref.ensures) (subst (λ (a : Attending). IsInTime c.idle-limits.result a.user c.loop.silent) (sym c.is_cancelled.ensures.attending) (c.is_idle.ensures.awake c.if-is_idle.false limits))) idles_here;
+        waits = waits_more (c.args.patience ≡ Limited) (language_for c.args.desk.now.attending.user (arc_value c.args.desk.now.shelf)) g.K.Link.begun g.K.Link.told g.C.Timestamps.told (g.K.Link.state c.args.link.now) (g.C.Timestamps.coming c.args.clock.now) c.args.desk.now.seat c.args.desk.now.users.seat (g.K.Link.state c.loop.link) (g.K.Link.state w.serve_piece.new.link) _ (g.C.Timestamps.coming c.loop.clock) (now c.is_cancelled.new.desk) c.is_cancelled.new.desk.reader w.in-Bytes.ensures.begun moved.here.stands w.in-Bytes.ensures.read.reads w.serve_piece.ensures.link.wrote.reads c.loop.counter c.loop.waited 1 c.waited_after-waited.result (c.waited_after-waited.ensures ∙ ap (λ (n : ℕ). waited_after c.is_cancelled.new.desk.attending.user c.loop.waited n) w.read-is) (λ limits nobody. c.is_over.ensures.lasts c.if-is_over.false limits (ap (λ (a : Attending). a.user) (sym c.is_cancelled.ensures.attending) ∙ nobody)) (omega arith) (omega arith) c.loop.invariant.waits;
+        idles = idles_heard (c.args.patience ≡ Limited) ((arc_value c.args.desk.now.shelf).idle) (language_for c.args.desk.now.attending.user (arc_value c.args.desk.now.shelf)) g.K.Link.begun g.K.Link.told g.C.Timestamps.told (g.K.Link.state c.args.link.now) (g.C.Timestamps.coming c.args.clock.now) c.args.desk.now.seat c.args.desk.now.users.seat (g.K.Link.state c.loop.link) (g.K.Link.state w.serve_piece.new.link) _ (g.C.Timestamps.coming c.loop.clock) (now c.is_cancelled.new.desk) c.is_cancelled.new.desk.reader w.in-Bytes.ensures.begun moved.here.stands w.in-Bytes.ensures.read.reads w.serve_piece.ensures.link.wrote.reads w.serve_piece.new.desk.attending.user c.loop.counter c.loop.silent c.silent_after-silent.result (λ t. byte_came _ _ _ _ w.in-Bytes.ensures.read.fits (w.in-Bytes.ensures.read.left t)) (c.silent_after-silent.ensures ∙ ap (λ (n : ℕ). silent_after c.loop.silent n) w.read-is) (λ limits. subst (λ (i : IdleLimits). IsInTime i c.is_cancelled.new.desk.attending.user c.loop.silent) (c.idle-limits.ensures ∙ ap (λ (s : Contents). s.idle) c.deref.ensures) (subst (λ (a : Attending). IsInTime c.idle-limits.result a.user c.loop.silent) (sym c.is_cancelled.ensures.attending) (c.is_idle.ensures.awake c.if-is_idle.false limits))) idles_here;
       })
       | in-Quiet+in-On w ↦ rw (w.desk-is, w.link-is, w.clock-is, w.gate-is, w.notes-is) (record {
         shelf = w.report.ensures.shelf ∙ (c.is_cancelled.ensures.shelf ∙ c.loop.invariant.shelf);
