@@ -2,7 +2,7 @@ use Rattle.std.proofs.Common.{◌≡◌, ◌∙◌, List, ap, rules, subst, sym}
 use Rattle.std.specs.List.{AllByRecursion}
 use Rattle.dxc_model.specs.declared.conn.Conn.{Conn}
 use Rattle.dxc_model.specs.declared.op.Selection.TheVariants.{All}
-use Rattle.dxc_model.specs.Tables.{rows}
+use Rattle.dxc_model.specs.Tables.{is_selected, rows}
 use Rattle.dxc_num.specs.Dimensions.{Dimensions}
 use Rattle.tl1_answer.specs.Texts.{IsOfShape}
 use Rattle.xc_core.specs.declared.state.Home.{Home}
@@ -12,7 +12,7 @@ use Rattle.dxc_element.proofs.check.check.Goals as goal
 
 pub write_rows-requires : goal.write_rows-requires
 write_rows-requires g c =
-    let of_shape = subst (λ (d : Dimensions). AllByRecursion (IsOfShape d) (rows c.args.state.now.table All)) (sym c.shape-shape.ensures.value) (listed _ _ _ c.shape-shape.ensures.of_shape.ports) in
+    let of_shape = subst (λ (d : Dimensions). AllByRecursion (IsOfShape d) (rows c.args.state.now.table All)) (sym c.shape-shape.ensures.value) (listed _ (is_selected c.args.state.now.table.shape All) _ c.shape-shape.ensures.of_shape.ports) in
     subst (λ (l : List Conn). AllByRecursion (IsOfShape c.shape-shape.result) l) (sym (c.deref.ensures.value ∙ c.rows.ensures.rows)) of_shape
 
 pub returns-clause-sent : goal.returns-clause-sent
