@@ -1,4 +1,4 @@
-use Rattle.std.proofs.Common.{List, Ok, ◌∙◌, length, refl, sym, ap, subst, inl, inr}
+use Rattle.std.proofs.Common.{List, Ok, length, refl, sym, ap, subst, inl, inr}
 use Rattle.dxc_model.specs.declared.cause.Cause.TheVariants.{DiskFault}
 use Rattle.dxc_model.specs.declared.entry.Entry.{Entry}
 use Rattle.dxc_model.specs.Histories.{IsStopped}
@@ -11,7 +11,6 @@ use Rattle.xc_core.specs.Seeing.{HasPlan, HasTaken}
 use Rattle.xc_core.specs.States.{opening_of}
 use Rattle.xc_core.proofs.Homing.{plan_failed, plan_noted}
 use Rattle.xc_core.proofs.Turning.{saw_once}
-use Rattle.craft_session.specs.declared.change.Changed.TheVariants.{Denied}
 use Rattle.craft_session.proofs.Changing.{changed_cut, changed_fault}
 use Rattle.craft_session.proofs.Ends.{rose_after, rose_by, still, went_on}
 use Rattle.craft_session.proofs.Gated.{entered_fault, entered_noted, entered_unnoted}

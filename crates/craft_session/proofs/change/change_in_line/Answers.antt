@@ -1,4 +1,4 @@
-use Rattle.std.proofs.Common.{le_of_eq, ℕ, false, List, Option, [], ◌++◌, refl, ◌∙◌, subst, inl}
+use Rattle.std.proofs.Common.{ℕ, false, List, Option, [], ◌++◌, refl, ◌∙◌, subst, inl}
 use Rattle.dxc_model.specs.declared.entry.Entry.{Entry}
 use Rattle.xc_core.specs.Seeing.{Saw, TurnedBack}
 use Rattle.xc_core.specs.Turns.{TookIs}
@@ -6,7 +6,6 @@ use Rattle.xc_core.specs.declared.turns.Took.TheVariants as took
 use Rattle.xc_core.specs.States.{opening_of}
 use Rattle.xc_core.specs.Views.{Denies, view}
 use Rattle.dxc_model.specs.declared.cause.Cause.{Cause}
-use Rattle.craft_session.specs.declared.change.Changed.TheVariants.{Denied}
 use Rattle.craft_session.specs.Askings.{no_mending}
 use Rattle.craft_session.specs.Changing.{ChangedIs}
 use Rattle.craft_session.proofs.Changing.{changed_on, took_denied, turned_back_mended}

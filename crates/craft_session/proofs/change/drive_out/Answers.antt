@@ -7,8 +7,7 @@ use Rattle.xc_core.specs.States.{opening_of}
 use Rattle.xc_core.proofs.Away.{taken_rolls}
 use Rattle.craft_session.specs.Askings.{AskedToStop, asked_for}
 use Rattle.craft_session.proofs.Changing.{changed_cut, changed_done}
-use Rattle.craft_session.specs.declared.change.Changed.TheVariants.{Done}
-use Rattle.craft_session.proofs.Ends.{never, rose_by, still}
+use Rattle.craft_session.proofs.Ends.{never, still}
 use Rattle.craft_session.proofs.Gated.{entered_change, entered_stop, work_in_hand}
 use Rattle.craft_session.proofs.change.drive_out.Goals as goal
 

@@ -10,7 +10,6 @@ use Rattle.xc_core.specs.declared.resuming.Reread.{Reread}
 use Rattle.xc_core.specs.Askings.{RereadAsked}
 use Rattle.xc_core.specs.Turns.{RereadIs}
 use Rattle.xc_core.proofs.Turning.{saw_once}
-use Rattle.craft_session.specs.declared.mend.Mended.TheVariants.{Denied}
 use Rattle.craft_session.proofs.Changing.{mended_cut, mended_fault}
 use Rattle.craft_session.proofs.Ends.{rose_after, rose_by, still, went_on}
 use Rattle.craft_session.proofs.Gated.{entered_fault, entered_noted, entered_unnoted, still_out}

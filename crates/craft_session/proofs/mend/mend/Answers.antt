@@ -4,7 +4,6 @@ use Rattle.dxc_model.specs.declared.op.Op.TheVariants.{Restart}
 use Rattle.xc_core.specs.Seeing.{HasHeld, entry}
 use Rattle.xc_core.specs.States.{opening_of}
 use Rattle.craft_session.specs.Changing.{MendedIs}
-use Rattle.craft_session.specs.declared.mend.Mended.TheVariants.{Waits}
 use Rattle.craft_session.proofs.Changing.{held_out, held_waits, mended_on_turns, taken_passed}
 use Rattle.craft_session.proofs.Ends.{still}
 use Rattle.craft_session.proofs.Gated.{entered_hold, entered_on, holds_out}

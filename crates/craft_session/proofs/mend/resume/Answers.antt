@@ -8,7 +8,6 @@ use Rattle.xc_core.proofs.Restarting.{restart_rolls}
 use Rattle.craft_session.proofs.Changing.{mended_cut, mended_ready}
 use Rattle.roll_engine.specs.Rollings.{rest_of}
 use Rattle.craft_session.specs.Askings.{AskedToStop, asked_for}
-use Rattle.craft_session.specs.declared.mend.Mended.TheVariants.{Ready}
 use Rattle.craft_session.proofs.Ends.{never, still}
 use Rattle.craft_session.proofs.Gated.{entered_restart, entered_stop, still_out}
 use Rattle.craft_session.proofs.mend.resume.Goals as goal

@@ -10,7 +10,6 @@ use Rattle.craft_session.specs.Changing.{MendedIs, WarmRestartIs}
 use Rattle.craft_session.proofs.Gated.{entered_none, entered_on}
 use Rattle.craft_session.proofs.Gating.{mend_on}
 use Rattle.craft_session.proofs.Changing.{passed_none, warm_denied, warm_done, warm_stopped, warm_waits}
-use Rattle.craft_session.specs.declared.change.Changed.TheVariants.{Denied, Done}
 use Rattle.craft_session.proofs.Ends.{by_stop, never, rose_after, rose_by, still}
 use Rattle.craft_session.proofs.mend.warm_restart.Goals as goal
 

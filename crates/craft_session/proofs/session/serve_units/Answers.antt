@@ -1,4 +1,4 @@
-use Rattle.std.proofs.Common.{◌≡◌, ◌+◌, false, ℕ, List, [], drop, length, length-drop, Result, Ok, Err, ap, refl, sym, ◌∙◌, arith, subst}
+use Rattle.std.proofs.Common.{◌≡◌, ◌+◌, false, ℕ, List, [], drop, length, length-drop, Result, Ok, ap, refl, sym, ◌∙◌, arith, subst}
 use Rattle.std.specs.Prelude.{IsErr}
 use Rattle.std.proofs.lemmas.List.{take_rest}
 use Rattle.std.specs.Arc.{arc_value}

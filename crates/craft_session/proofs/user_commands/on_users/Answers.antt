@@ -1,4 +1,4 @@
-use Rattle.std.proofs.Common.{◌≡◌, ℕ, List, Some, Ok, refl, sym, ◌∙◌, ap, subst, inl, inr}
+use Rattle.std.proofs.Common.{ℕ, List, Some, Ok, sym, ◌∙◌, ap, subst}
 use Rattle.craft_session.specs.declared.ask.Ask.TheVariants.{Completes}
 use Rattle.craft_session.specs.Gated.{NothingAsked}
 use Rattle.craft_session.specs.Hearing.{IsAsked, Wanted}
@@ -8,8 +8,7 @@ use Rattle.tl1_users.specs.declared.op.UserOp.{UserOp}
 use Rattle.tl1_users.specs.declared.op.UserOp.TheVariants as op
 use Rattle.dxc_notes.specs.declared.command.UserChange.TheVariants as change
 use Rattle.craft_session.proofs.Asking.{asked_beside, asked_cancelled}
-use Rattle.craft_session.proofs.Consulted.{asked_nothing}
-use Rattle.craft_session.proofs.Noted.{noted_change, noted_nothing}
+use Rattle.craft_session.proofs.Noted.{noted_change}
 use Rattle.craft_session.proofs.user_commands.on_users.Goals as goal
 
 pub returns-in-Rows-clause-asked : goal.returns-in-Rows-clause-asked
