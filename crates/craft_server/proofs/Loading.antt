@@ -10,7 +10,7 @@ use Rattle.dxc_outside.specs.Links.{LinkState}
 use Rattle.dxc_model.specs.declared.entry.Entry.{Entry}
 use Rattle.fabric_words.specs.contracts.fabric.Fabric as fabric_row
 use Rattle.shelf_file.specs.Contents.{Contents}
-use Rattle.turnstile.specs.Passing.{Gate, Token}
+use Rattle.turnstile.specs.Passing.{TurnstileView, Token}
 use Rattle.turnstile.specs.Turning.{Each}
 use Rattle.user_admin.specs.Histories.{Opening as UsersOpening}
 use Rattle.user_admin.specs.Openings.{IsOpening as IsUsersOpening}
@@ -77,9 +77,9 @@ not_spent true reads e is ended counted few = let no : Spent ≡ End = sym is �
 not_spent false reads e is ended counted few = let low = few refl in absurd (omega (arith, counted.reached, low))
 
 -- what the pass finds that a place gave up
-module _ {D : Type 0} (state : D → DiskState) (p : Token) (t u : Gate (State D)) (s : SeatAt) (same : u ≡ t) (is : seat_at state p t ≡ s) where
+module _ {D : Type 0} (state : D → DiskState) (p : Token) (t u : TurnstileView (State D)) (s : SeatAt) (same : u ≡ t) (is : seat_at state p t ≡ s) where
   given_up : seat_at state p u ≡ s
-  given_up = ap (λ (v : Gate (State D)). seat_at state p v) same ∙ is
+  given_up = ap (λ (v : TurnstileView (State D)). seat_at state p v) same ∙ is
 
   pub room_given : (room : ℕ) → ports s.opening.first.fold.table.shape ≤ room → ports (opening_of state u.first).first.fold.table.shape ≤ room
   room_given room enough = subst (λ (x : SeatAt). ports x.opening.first.fold.table.shape ≤ room) (sym given_up) enough

@@ -21,7 +21,7 @@ use dxc_disk::Disk;
 use dxc_element::{Controller, Element, Names, open, open_mirrored};
 use dxc_jobs::{FrameJob, frame_jobs, run_all};
 use dxc_leaving::LetGo;
-use dxc_notes::Noted;
+use dxc_notes::{Noted, PLACES};
 use dxc_outside::{Gate, Lines, Listener, Opener, Spawner, Started};
 use std::alloc::Global;
 use std::sync::Wait;
@@ -74,7 +74,7 @@ where
 }
 
 /// The most sessions at a time.
-const SESSIONS: u16 = 16;
+const SESSIONS: u16 = PLACES as u16;
 
 /// Where the sessions and the workers of `serve` run.
 #[derive(Clone, Copy)]

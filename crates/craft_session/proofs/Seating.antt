@@ -2,7 +2,7 @@
 use Rattle.std.proofs.Common.{◌≡◌, ◌≢◌, ℕ, List, [], ◌∷◌, ◌++◌, Option, Result, Ok, Err, refl, sym, ◌∙◌, subst, inl, inr}
 use Rattle.std.specs.Prelude.{MatchResult}
 use base.Stored.{Gv}
-use Rattle.turnstile.specs.Passing.{Gate, Token}
+use Rattle.turnstile.specs.Passing.{TurnstileView, Token}
 use Rattle.dxc_disk.specs.Disks.{DiskState}
 use Rattle.dxc_outside.specs.declared.stopped.Stopped.{Stopped}
 use Rattle.dxc_model.specs.declared.cause.Cause.{Cause}
@@ -74,22 +74,22 @@ restarted_ended o own h seen (Err e) x = passed_ended o own h (entry own Restart
 
 module _ {D : Type 0} (told : Type 0) (state : D → DiskState) where
   -- what was seen, at the turnstile as a call is lent it
-  pub saw_there : (p : Token) (t u : Gate (State D)) (h : List Entry) → u ≡ t → Saw (opening_of state t.first) p.seen h → Saw (opening_of state u.first) p.seen h
-  saw_there p t u h is saw = subst (λ (x : Gate (State D)). Saw (opening_of state x.first) p.seen h) (sym is) saw
+  pub saw_there : (p : Token) (t u : TurnstileView (State D)) (h : List Entry) → u ≡ t → Saw (opening_of state t.first) p.seen h → Saw (opening_of state u.first) p.seen h
+  saw_there p t u h is saw = subst (λ (x : TurnstileView (State D)). Saw (opening_of state x.first) p.seen h) (sym is) saw
 
-  pub seated_on : (p q : Token) (t u : Gate (State D)) (i : FabricId) → u ≡ t → IsSeated told state p t i → HasPass u q → q.number ≡ p.number → Ended (opening_of state u.first) p.number q.seen → SawNoneAstray told q.seen → IsSeated told state q t i
+  pub seated_on : (p q : Token) (t u : TurnstileView (State D)) (i : FabricId) → u ≡ t → IsSeated told state p t i → HasPass u q → q.number ≡ p.number → Ended (opening_of state u.first) p.number q.seen → SawNoneAstray told q.seen → IsSeated told state q t i
   seated_on p q t u i is seat pass number end never =
-      let there = subst (λ (x : Gate (State D)). IsSeated told state p x i) (sym is) seat in
-      subst (λ (x : Gate (State D)). IsSeated told state q x i) is (pass, there.1, (end.before ++ end.last ∷ [], end.saw, rests_now q.number end.before end.last (end.mine ∙ sym number) end.settled), never)
+      let there = subst (λ (x : TurnstileView (State D)). IsSeated told state p x i) (sym is) seat in
+      subst (λ (x : TurnstileView (State D)). IsSeated told state q x i) is (pass, there.1, (end.before ++ end.last ∷ [], end.saw, rests_now q.number end.before end.last (end.mine ∙ sym number) end.settled), never)
 
 -- a seat at the users after one of its turns
 module _ {U : Type 0} (state : U → DiskState) where
-  pub users_saw_there : (p : Token) (t u : Gate (SharedUsers U)) (h : List UserEntry) → u ≡ t → SawUsers (users_opening state t.first) p.seen h → SawUsers (users_opening state u.first) p.seen h
-  users_saw_there p t u h is saw = subst (λ (x : Gate (SharedUsers U)). SawUsers (users_opening state x.first) p.seen h) (sym is) saw
+  pub users_saw_there : (p : Token) (t u : TurnstileView (SharedUsers U)) (h : List UserEntry) → u ≡ t → SawUsers (users_opening state t.first) p.seen h → SawUsers (users_opening state u.first) p.seen h
+  users_saw_there p t u h is saw = subst (λ (x : TurnstileView (SharedUsers U)). SawUsers (users_opening state x.first) p.seen h) (sym is) saw
 
   -- what was seen then is a history
-  pub user_seated_on : (q : Token) (t u : Gate (SharedUsers U)) → u ≡ t → HasUsersPass u q → ((h : List UserEntry) × SawUsers (users_opening state u.first) q.seen h) → IsAtRest q → IsUserSeated state q t
-  user_seated_on q t u is pass saw rests = subst (λ (x : Gate (SharedUsers U)). IsUserSeated state q x) is (pass, saw, rests)
+  pub user_seated_on : (q : Token) (t u : TurnstileView (SharedUsers U)) → u ≡ t → HasUsersPass u q → ((h : List UserEntry) × SawUsers (users_opening state u.first) q.seen h) → IsAtRest q → IsUserSeated state q t
+  user_seated_on q t u is pass saw rests = subst (λ (x : TurnstileView (SharedUsers U)). IsUserSeated state q x) is (pass, saw, rests)
 
 pub turn_seen : (o : UsersOpening) (own : ℕ) (h : List UserEntry) (e : UserEntry) (seen : List Gv) → UsersTurned o own h e seen → (g : List UserEntry) × SawUsers o seen g
 turn_seen o own h e seen t = ((h ++ t.later) ++ e ∷ [], t.saw)

@@ -12,6 +12,7 @@ use crate::seat::Seat;
 use crate::secrets::{Operation, Secrets};
 use crate::users::{UserDesk, UserSeat};
 use arrayvec::ArrayVec;
+use dbchg_reports::KEPT;
 use dxc_causes::NoMemory;
 use dxc_disk::Disk;
 use dxc_model::{Change, Conn, SessionUser};
@@ -29,9 +30,6 @@ use xc_core::State;
 
 /// The most bytes of one read.
 const PIECE: usize = 4096;
-
-/// The most changes that reports are made of.
-const KEPT: usize = 1024;
 
 /// What the sessions of one place need: the shelf, its seats at the state and at the users, and all buffers. Contracts see
 /// shelf and seats.

@@ -27,10 +27,8 @@ use crate::timestamps::Timestamps;
 use crate::unit::serve_unit;
 use dxc_disk::Disk;
 use dxc_notes::Notes;
-use dxc_outside::{Gate, Got, Link, Stopped};
+use dxc_outside::{Gate, Got, Link, MOST_READS, Stopped};
 use std::sync::Wait;
-
-const READS: u64 = 1 << 32;
 
 /// Answers the units that end in the first bytes of the piece, so many, writes over a PID in them, and lets the next one go on who waits in the line
 /// of those who change something.
@@ -198,7 +196,7 @@ pub(crate) fn serve<
     let limits = desk.shelf.idle();
     let mut waited = 0;
     let mut silent = 0;
-    for _ in 0..READS {
+    for _ in 0..MOST_READS {
         if patience.is_over(&desk.attending, waited) {
             return SessionEnd::Unattended;
         }

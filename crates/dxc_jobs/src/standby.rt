@@ -16,7 +16,7 @@ use std::alloc::Global;
 use std::sync::Wait;
 
 /// So many accepts in a row may not fail.
-const FAILURES: u8 = 16;
+pub const ACCEPT_FAILURES: u8 = 16;
 
 /// Makes on the journal of that name, which is to be new, what a primary sends over a link that comes at the address. A caller that goes
 /// and has left nothing in the copy is passed over; after any other nobody is let in. What is left is let go.
@@ -152,7 +152,7 @@ fn stand_by<K: Link, D: Disk>(link: &mut K, disk: &mut D) -> StandbyEnd
 fn first_link<L: Listener, R: Wait>(listener: &mut L, rt: &R) -> Came<L::Link>
     ensures { IsFirst L.told L.Link.state (L.state listener.old) (L.state listener.new) result }
 {
-    for _ in 0..FAILURES {
+    for _ in 0..ACCEPT_FAILURES {
         match listener.accept(rt) {
             Came::Link(link) => return Came::Link(link),
             Came::End => return Came::End,

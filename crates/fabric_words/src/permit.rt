@@ -32,7 +32,8 @@ impl MoverSeat {
     #[inline(always)]
     pub fn ask<G: Gate>(&self, gate: &mut G) -> Result<Permit, Stopped>
         ensures permit { IfOk result (λ p. p ≡ self.now.mover.written) }
-        ensures stopped { RoseOnlyFor (G.stops gate.old) (G.stops gate.new) (result ≡ Err the_stop) }
+        ensures stopped { RoseOnlyFor (G.stops gate.old) (G.stops gate.new)
+            (result ≡ Err the_stop) }
         ensures asked { G.asked gate.old gate.new (Register ∷ []) }
     {
         gate.pass(GatePlace::Register)?;

@@ -1,7 +1,7 @@
 -- What a place knows of the users' history, and what its turns come to.
 use Rattle.std.specs.Prelude.{◌≡◌, ◌≢◌, ◌<◌, ℕ, Bool, true, List, [], ◌∷◌, ◌++◌, map, Option, Some, None, Result, Ok, Err, MatchResult}
 use base.Stored.{Gv}
-use Rattle.turnstile.specs.Passing.{Gate, Token}
+use Rattle.turnstile.specs.Passing.{TurnstileView, Token}
 use Rattle.turnstile.specs.Places.{AfterBy, AreNumberedBy, HasPassBy, HasSeenBy, TurnedBackBy, TurnedBy, ViewOf, view_of}
 use Rattle.turnstile.specs.Turning.{Each}
 use Rattle.arrayvec.specs.ArrayVec.{ArrayVec}
@@ -60,7 +60,7 @@ abbrev pub AreNumbered : ℕ → List Gv → Type 0
 AreNumbered = AreNumberedBy codes place_of
 
 -- the pass is one of the turnstile's, no turn of it is out, and what it has seen are entries of the turnstile's passes
-abbrev pub HasPass : {X : Type 0} → Gate X → Token → Type 0
+abbrev pub HasPass : {X : Type 0} → TurnstileView X → Token → Type 0
 HasPass = HasPassBy codes place_of
 
 -- the change was made, or the operation denied, or the gate stopped before anything was done
@@ -98,22 +98,22 @@ RowsDenied o own h which then_seen q = Turned o own h (entry own (Rows which) (r
 abbrev pub View : Type 0
 View = ViewOf Opening
 
-abbrev pub view : {D : Type 0} → (D → DiskState) → Gate (SharedUsers D) → Token → View
+abbrev pub view : {D : Type 0} → (D → DiskState) → TurnstileView (SharedUsers D) → Token → View
 view state = view_of (opening_at state) Saw
 
 -- what the pass has seen is a history
-abbrev pub HasSeen : {D : Type 0} → DiskOf D → Gate (SharedUsers D) → Token → Type 0
+abbrev pub HasSeen : {D : Type 0} → DiskOf D → TurnstileView (SharedUsers D) → Token → Type 0
 HasSeen g = HasSeenBy (opening_at g.state) Saw
 
 -- after each history that was seen this holds
-abbrev pub After : {D : Type 0} → DiskOf D → Gate (SharedUsers D) → Token → (View → List UserEntry → Type 0) → Type 0
+abbrev pub After : {D : Type 0} → DiskOf D → TurnstileView (SharedUsers D) → Token → (View → List UserEntry → Type 0) → Type 0
 After g = AfterBy (opening_at g.state) Saw
 
 -- of what turns left
-abbrev pub OutUpon : {D : Type 0} → DiskOf D → Gate (SharedUsers D) → Token → (View → List UserMark → Type 0) → Type 0
+abbrev pub OutUpon : {D : Type 0} → DiskOf D → TurnstileView (SharedUsers D) → Token → (View → List UserMark → Type 0) → Type 0
 OutUpon g t p P = (ms : List UserMark) × (p.seen ≡ codes ms) × P (view g.state t p) ms
 
-abbrev pub OutAfter : {D : Type 0} → DiskOf D → Gate (SharedUsers D) → Token → (View → List UserMark → Type 0) → Type 0
+abbrev pub OutAfter : {D : Type 0} → DiskOf D → TurnstileView (SharedUsers D) → Token → (View → List UserMark → Type 0) → Type 0
 OutAfter g t p P = (ms : List UserMark) → p.seen ≡ codes ms → P (view g.state t p) ms
 
 module _ {D : Type 0} (told : Type 0) (state : D → DiskState) where

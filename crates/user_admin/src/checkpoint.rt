@@ -3,7 +3,7 @@ ghost use Rattle.std.specs.Prelude.{◌≡◌, ◌≤◌, ◌+◌, ◌++◌, [],
 ghost use Rattle.std.specs.FinMap.{len};
 ghost use Rattle.dxc_causes.specs.Causes.{HasCause};
 ghost use Rattle.dxc_disk.specs.Disks.{IsSound, Spends};
-ghost use Rattle.journal_core.specs.declared.spare.Spare.TheVariants.{Drafted, Open};
+ghost use Rattle.journal_core.specs.declared.spare.SpareArea.TheVariants.{Drafted, Open};
 ghost use Rattle.journal_core.specs.Books.{IsReady, IsWhole, draft_of, is_drafted, rows};
 ghost use Rattle.user_admin.specs.Users.{Users};
 ghost use Rattle.user_admin.specs.Changes.{most_users};

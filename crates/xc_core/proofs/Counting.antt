@@ -8,7 +8,7 @@ use Rattle.dxc_model.specs.Equipment.{modules_in}
 use Rattle.dxc_model.specs.Tables.{Board}
 use Rattle.journal_core.specs.declared.book.Book.{Book}
 use Rattle.journal_core.specs.declared.head.Head.{Head}
-use Rattle.journal_core.specs.declared.spare.Spare.TheVariants.{Tried}
+use Rattle.journal_core.specs.declared.spare.SpareArea.TheVariants.{Tried}
 use Rattle.journal_core.specs.declared.version.Version.TheVariants.{Two}
 use Rattle.journal_core.specs.Headers.{Stands, next_generation}
 use Rattle.journal_core.specs.Books.{IsKept, IsWhole, doubted, draft_of, is_tried, listed, next_head, rows, turned}

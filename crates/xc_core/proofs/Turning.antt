@@ -3,7 +3,7 @@ use Rattle.std.proofs.Common.{◌≡◌, ◌≢◌, ◌≤◌, ◌<◌, ℕ, ari
 use Rattle.std.proofs.lemmas.Bool.Decides.{eqb_tells}
 use Rattle.std.proofs.lemmas.List.{map-append}
 use base.Stored.{Gv}
-use Rattle.turnstile.specs.Passing.{Gate, Token}
+use Rattle.turnstile.specs.Passing.{TurnstileView, Token}
 use Rattle.turnstile.specs.Turning.{Each, Found}
 use Rattle.turnstile.proofs.Lists.{each_append, map_once}
 use Rattle.dxc_disk.specs.Disks.{DiskState}
@@ -95,7 +95,7 @@ never_behind [] l never = never
 never_behind (e ∷ es) l never = never_behind es l never.1
 
 -- a pass that comes back from a turn
-pub pass_back : {X : Type 0} (t : Gate X) (p q : Token) → HasPass t p → q.free ≡ true → q.id ≡ t.id → q.number ≡ p.number → AreNumbered t.passes q.seen → HasPass t q × (q.number ≡ p.number)
+pub pass_back : {X : Type 0} (t : TurnstileView X) (p q : Token) → HasPass t p → q.free ≡ true → q.id ≡ t.id → q.number ≡ p.number → AreNumbered t.passes q.seen → HasPass t q × (q.number ≡ p.number)
 pass_back t p q pass free id number numbered = ((free, id, subst (λ (n : ℕ). n < t.passes) (sym number) pass.2, numbered), number)
 
 -- operation and outcome of an entry

@@ -2,7 +2,7 @@
 use Rattle.std.specs.Prelude.{◌≡◌, ◌≢◌, ◌<◌, ◌⊎◌, ℕ, true, List, [], ◌∷◌, ◌++◌, filter, length, min, Option, Some, None, Result, Ok, Err, IfSome}
 use Rattle.std.specs.List.{range_with_len}
 use base.Stored.{Gv}
-use Rattle.turnstile.specs.Passing.{Gate, Token}
+use Rattle.turnstile.specs.Passing.{TurnstileView, Token}
 use Rattle.turnstile.specs.Places.{AreNumberedBy, HasPassBy}
 use Rattle.dxc_disk.specs.Disks.{DiskState}
 use Rattle.dxc_disk.specs.declared.disk.Disk.{Ghosts as DiskOf}
@@ -45,7 +45,7 @@ abbrev pub AreNumbered : ℕ → List Gv → Type 0
 AreNumbered = AreNumberedBy codes place_of
 
 -- the pass is one of the turnstile's, no turn of it is out, and what it has seen are entries of the turnstile's passes
-abbrev pub HasPass : {X : Type 0} → Gate X → Token → Type 0
+abbrev pub HasPass : {X : Type 0} → TurnstileView X → Token → Type 0
 HasPass = HasPassBy codes place_of
 
 -- of a disk that tells its content, no operation that was seen failed because the journal reads otherwise than it was written

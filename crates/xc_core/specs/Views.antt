@@ -1,7 +1,7 @@
 -- What a pass has seen of a turnstile's history, and what holds after it.
 use Rattle.std.specs.Prelude.{◌≡◌, ◌⊎◌, ℕ, List, [], ◌∷◌, ◌++◌, Option, Some, None, Result}
 use Rattle.std.specs.List.{AllByRecursion}
-use Rattle.turnstile.specs.Passing.{Gate, Token}
+use Rattle.turnstile.specs.Passing.{TurnstileView, Token}
 use Rattle.turnstile.specs.Places.{AfterBy, HasSeenBy, UponBy, ViewOf, view_of}
 use Rattle.dxc_num.specs.Dimensions.{Dimensions}
 use Rattle.dxc_disk.specs.declared.disk.Disk.{Ghosts as DiskOf}
@@ -36,23 +36,23 @@ abbrev pub View : Type 0
 View = ViewOf Opening
 
 -- of this pass of the turnstile
-abbrev pub view : {D : Type 0} → DiskOf D → Gate (State D) → Token → View
+abbrev pub view : {D : Type 0} → DiskOf D → TurnstileView (State D) → Token → View
 view g = view_of (opening_of g.state) Saw
 
 -- the shape of the turnstile's table
-abbrev pub shape_in : {D : Type 0} → DiskOf D → Gate (State D) → Dimensions
+abbrev pub shape_in : {D : Type 0} → DiskOf D → TurnstileView (State D) → Dimensions
 shape_in g t = (opening_of g.state t.first).first.fold.table.shape
 
 -- what the pass has seen is a history
-abbrev pub HasSeen : {D : Type 0} → DiskOf D → Gate (State D) → Token → Type 0
+abbrev pub HasSeen : {D : Type 0} → DiskOf D → TurnstileView (State D) → Token → Type 0
 HasSeen g = HasSeenBy (opening_of g.state) Saw
 
 -- after a history that was seen this holds
-abbrev pub Upon : {D : Type 0} → DiskOf D → Gate (State D) → Token → (View → List Entry → Type 0) → Type 0
+abbrev pub Upon : {D : Type 0} → DiskOf D → TurnstileView (State D) → Token → (View → List Entry → Type 0) → Type 0
 Upon g = UponBy (opening_of g.state) Saw
 
 -- after each history that was seen this holds
-abbrev pub After : {D : Type 0} → DiskOf D → Gate (State D) → Token → (View → List Entry → Type 0) → Type 0
+abbrev pub After : {D : Type 0} → DiskOf D → TurnstileView (State D) → Token → (View → List Entry → Type 0) → Type 0
 After g = AfterBy (opening_of g.state) Saw
 
 -- the place hasn't got the Provisioner out

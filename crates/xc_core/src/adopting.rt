@@ -14,6 +14,7 @@ use crate::recovery::stage_on;
 use crate::start::{begun, house, read_journal};
 use crate::state::State;
 use dxc_disk::Disk;
+use fabric_core::MOST_SWITCHES;
 use fabric_words::{Fabric, MoverSeat};
 use paull_matrix::Matrix;
 use roll_plan::Work;
@@ -32,9 +33,6 @@ pub enum Adopted<D: Disk> {
     /// The journal couldn't be opened or read.
     Open(OpenFault<D>),
 }
-
-// The most switches that a fabric makes.
-const MOST_SWITCHES: u64 = 1 << 48;
 
 // How many switches will have been made with the rest of the last record's work, which led to the matrix. None: the registers are at no stage
 // of it, or there are no numbers for so many.
